@@ -1,0 +1,4 @@
+pub mod History
+pub mod Verdicts
+pub mod Lines
+pub mod Standing

@@ -1,0 +1,38 @@
+-- Where a checker stands after a history.
+use Rattle.std.specs.Prelude.{◌≡◌, ℕ, ◌-◌, ◌<◌, Bool, true, false, List, length, drop, IsPermutation}
+use Rattle.trace_record.specs.declared.event.Event.{Event}
+use Rattle.shadow_map.specs.Shows.{Shows}
+use Rattle.asan_check.specs.declared.checker.Checker.{Checker}
+use Rattle.asan_check.specs.declared.report.Report.{Report}
+use Rattle.asan_check.specs.History.{live, held, marks}
+use Rattle.asan_check.specs.Verdicts.{verdicts_of}
+
+module _ {A : Type 0} where
+  -- what a contract sees of a checker: whether it has failed, how many events it has checked, and its reports
+  abbrev pub has_failed : Checker A → Bool
+  has_failed c = c.failed
+
+  abbrev pub checked_of : Checker A → ℕ
+  checked_of c = c.checked
+
+  abbrev pub reports_of : Checker A → List Report
+  reports_of c = c.reports.items
+
+  -- the checker stands where this history leads, with this bound on its quarantine: it hasn't failed, its shadow and its
+  -- book show what the history left, and its reports are the verdicts on it
+  pub record Stands (bound : ℕ) (c : Checker A) (past : List Event) : Type 0 where
+    pub running : has_failed c ≡ false
+    pub shadow : Shows c.shadow (marks bound past)
+    pub live_blocks : IsPermutation c.book.live (live bound past)
+    pub queue : c.book.queue ≡ held bound past
+    pub bound_is : c.book.bound ≡ bound
+    pub count : checked_of c ≡ length past
+    pub reports : reports_of c ≡ verdicts_of bound past
+
+  -- the checker has failed within this history: its reports are the verdicts on the events that it had checked by then,
+  -- which are the first of the history and so the last of the list
+  pub record FailedAt (bound : ℕ) (c : Checker A) (past : List Event) : Type 0 where
+    pub failed : has_failed c ≡ true
+    pub bound_is : c.book.bound ≡ bound
+    pub within : checked_of c < length past
+    pub reports : reports_of c ≡ verdicts_of bound (drop (length past - checked_of c) past)

@@ -1,0 +1,75 @@
+-- What the checker says of each event of a history.
+--
+-- The check of an access is that of the paper of 2012. The classes, the verdicts on frees and mallocs, and that the replay
+-- goes on after a report are this project's choice (profile).
+use Rattle.std.specs.Prelude.{ℕ, ◌+◌, ◌*◌, ◌/◌, Bool, true, false, ◌||◌, ◌==◌, if◌then◌else◌, List, [], ◌∷◌, ◌++◌, length, Option, Some, None, option_to_list, reverse}
+use Rattle.std.specs.List.{list_any}
+use Rattle.std.specs.Option.{option_map}
+use Rattle.trace_record.specs.declared.event.Event.{Event}
+use Rattle.trace_record.specs.declared.event.Event.TheVariants as event
+use Rattle.trace_record.specs.declared.event.Access.{Access}
+use Rattle.shadow_map.specs.States.{State, Addressable, HeapRedzone, Freed, UserPoison, addressable_front, state_of, lift, bad_byte_of}
+use Rattle.heap_book.specs.Spans.{starts_at}
+use Rattle.asan_check.specs.declared.report.Class.{Class}
+use Rattle.asan_check.specs.declared.report.Class.TheVariants as class
+use Rattle.asan_check.specs.declared.report.Fault.{Fault}
+use Rattle.asan_check.specs.declared.report.Fault.TheVariants as fault
+use Rattle.asan_check.specs.declared.report.Report.{Report}
+use Rattle.asan_check.specs.History.{block_of, live, held, admits, marks}
+
+-- the class that a state tells
+abbrev pub class_of_state : State → Class
+class_of_state Addressable = class.UnknownCrash
+class_of_state HeapRedzone = class.HeapBufferOverflow
+class_of_state Freed = class.HeapUseAfterFree
+class_of_state UserPoison = class.UseAfterPoison
+
+-- whether a granule has no addressable byte
+abbrev pub has_none_addressable : (ℕ → State) → ℕ → Bool
+has_none_addressable states granule = addressable_front states (8 * granule) 8 == 0
+
+-- the class of a bad access: that of the first byte of its granule if none of the granule's bytes is addressable, else
+-- that of the first byte of the next granule
+abbrev pub class_of : (ℕ → State) → ℕ → Class
+class_of states at =
+    let granule = at / 8
+    in class_of_state (states (8 * (if has_none_addressable states granule then granule else granule + 1)))
+
+-- what is wrong with a load or a store of memory in these states
+abbrev pub access_fault : (ℕ → State) → Bool → Access → Option Fault
+access_fault states is_store a =
+    option_map (λ bad. fault.Access is_store a.width a.at bad (class_of states a.at) (lift states (a.at / 8)))
+    (bad_byte_of states a.at a.width)
+
+-- what is wrong with a malloc after a history: nothing at address 0, which says that the allocator refused
+abbrev pub malloc_fault : ℕ → List Event → ℕ → ℕ → Option Fault
+malloc_fault bound past at size =
+    if at == 0 || admits bound past (record { at = at; size = size }) then None else Some (fault.BadMalloc at size)
+
+-- what is wrong with a free after a history: nothing at address 0 or where a live block starts
+abbrev pub free_fault : ℕ → List Event → ℕ → Option Fault
+free_fault bound past at =
+    if at == 0 || list_any (starts_at at) (live bound past) then None
+    else (if list_any (starts_at at) (held bound past) then Some (fault.DoubleFree at) else Some (fault.BadFree at))
+
+-- what is wrong with an event after a history, with this bound on the quarantine
+abbrev pub fault_of : ℕ → List Event → Event → Option Fault
+fault_of bound past (event.Load a) = access_fault (state_of (marks bound past)) false a
+fault_of bound past (event.Store a) = access_fault (state_of (marks bound past)) true a
+fault_of bound past (event.Malloc r) = malloc_fault bound past r.at r.size
+fault_of bound past (event.Free p) = free_fault bound past p.at
+fault_of bound past (event.Poison r) = None
+fault_of bound past (event.Unpoison r) = None
+
+-- the verdict on an event after a history: a report with the event's number, or nothing
+abbrev pub verdict : ℕ → List Event → Event → Option Report
+verdict bound past e = option_map (λ f. record { number = length past + 1; fault = f }) (fault_of bound past e)
+
+-- the verdicts on a history, oldest first: that of each event on the events before it, nothings left out
+abbrev pub verdicts_of : ℕ → List Event → List Report
+verdicts_of bound [] = []
+verdicts_of bound (e ∷ past) = verdicts_of bound past ++ option_to_list (verdict bound past e)
+
+-- the verdicts on events that stand in their order, oldest first
+abbrev pub verdicts : ℕ → List Event → List Report
+verdicts bound events = verdicts_of bound (reverse events)

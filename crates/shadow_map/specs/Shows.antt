@@ -1,0 +1,23 @@
+-- What a shadow shows.
+use Rattle.std.specs.Prelude.{◌≡◌, ℕ, ◌^◌, ◌<◌, nat_lt, if◌then◌else◌, List, unwrap_or}
+use Rattle.std.specs.Ordering.{nat_cmp}
+use Rattle.std.specs.BTreeMap.{get}
+use Rattle.shadow_map.specs.declared.shadow.Shadow.{Shadow}
+use Rattle.shadow_map.specs.States.{Mark, AreMarks, state_of, lift}
+
+module _ {A : Type 0} where
+  -- the shadow byte that the shadow keeps for a granule
+  unfoldable pub value_at : Shadow A → ℕ → ℕ
+  value_at shadow granule = unwrap_or (get nat_cmp shadow.granules granule) 0
+
+  -- the shadow shows what these marks have left: the shadow byte of every granule below 2^44; and they are marks that
+  -- calls may make
+  pub record Shows (shadow : Shadow A) (marks : List Mark) : Type 0 where
+    pub are_marks : AreMarks marks
+    pub values : (granule : ℕ) → granule < 2 ^ 44 → value_at shadow granule ≡ lift (state_of marks) granule
+
+  -- below a granule the shadow shows the one list of marks, and from it on the other
+  abbrev pub ShowsUpTo : ℕ → Shadow A → List Mark → List Mark → Type 0
+  ShowsUpTo place shadow new old =
+      (granule : ℕ) → granule < 2 ^ 44 →
+      value_at shadow granule ≡ (if nat_lt granule place then lift (state_of new) granule else lift (state_of old) granule)

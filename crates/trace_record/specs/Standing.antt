@@ -1,0 +1,37 @@
+-- Where a decoder stands in a text, and what its answers say.
+use Rattle.std.specs.Prelude.{◌≡◌, ℕ, List, [], ◌∷◌, ◌++◌, length, Option, Some, None}
+use Rattle.trace_record.specs.declared.event.Event.{Event}
+use Rattle.trace_record.specs.declared.end.End.{End}
+use Rattle.trace_record.specs.declared.decoder.Out.{Out}
+use Rattle.trace_record.specs.declared.decoder.Out.TheVariants as out
+use Rattle.trace_record.specs.Stream.{IsOpenWith, IsDecidedFate, IsDecidedByLast, Spells, offset_of}
+
+-- what a contract sees of a decoder: its event limit, the counts of good events and of the bytes of header and good
+-- records, the unfinished rest of the text, and the end that it has given, if one
+pub record Standing : Type 0 where
+  pub limit : ℕ
+  pub events : ℕ
+  pub offset : ℕ
+  pub rest : List ℕ
+  pub stop : Option End
+
+-- the decoder has read this open text and has given these events
+pub record StandsAt (d : Standing) (text : List ℕ) (events : List Event) : Type 0 where
+  pub running : d.stop ≡ None
+  pub reads : IsOpenWith d.limit text events d.rest
+  pub count : d.events ≡ length events
+  pub offset : d.offset ≡ offset_of text events
+
+-- the end that an answer gives
+abbrev pub stop_of : Out → Option End
+stop_of (out.Got e) = None
+stop_of out.Need = None
+stop_of (out.Stop end) = Some end
+
+-- what an answer says of the text that the decoder has read with it, where these were the events before: one event
+-- more and nothing unfinished; no event more; or the text spells this end, which its last byte decided
+abbrev pub Answers : Standing → List ℕ → List Event → Out → Type 0
+Answers d text events (out.Got e) = StandsAt d text (events ++ e ∷ []) × (d.rest ≡ [])
+Answers d text events out.Need = StandsAt d text events
+Answers d text events (out.Stop end) =
+    Spells d.limit text events end × IsDecidedFate end.fate × IsDecidedByLast d.limit text events

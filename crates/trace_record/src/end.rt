@@ -1,0 +1,41 @@
+/// What is wrong with a header or a record. Of a record that has several, the first in this order is told.
+#[derive(Clone, Copy, Debug, PartialEq, Eq)]
+pub enum Flaw {
+    /// The first eight bytes are not the header.
+    Header = 1,
+    /// A record begins with a byte that is no code.
+    Code,
+    /// The width of a load or store is not 1, 2, 4 or 8.
+    Width,
+    /// A malloc, poison or unpoison speaks of more than `LARGEST_REGION` bytes.
+    Size,
+    /// The record reaches past the last address.
+    Range,
+}
+
+/// How a stream ended.
+#[derive(Clone, Copy, Debug, PartialEq, Eq)]
+pub enum Fate {
+    /// The close was read.
+    Closed,
+    /// The header or a record has a flaw.
+    Malformed(Flaw),
+    /// The input ended inside the header or inside a record; an empty input too.
+    Truncated,
+    /// The input ended right behind the header or a whole record.
+    NoClose,
+    /// A read failed before anything else had ended the stream.
+    ReadFailed,
+    /// The limit's number of events was read, and the next byte is not the close.
+    TooMany,
+}
+
+/// The end of a stream.
+#[derive(Clone, Copy, Debug, PartialEq, Eq)]
+pub struct End {
+    pub fate: Fate,
+    /// How many whole good records were read.
+    pub events: u64,
+    /// How many bytes the header, the whole good records and the close take.
+    pub offset: u64,
+}

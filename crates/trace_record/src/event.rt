@@ -1,0 +1,131 @@
+ghost use Rattle.std.specs.Prelude.{◌≡◌, ◌+◌, ◌<◌, ◌≤◌, IsTrue, MatchResult, Some};
+ghost use Rattle.trace_record.specs.Ranges.{is_width, largest_region, address_end};
+
+use crate::end::Flaw;
+
+/// The first address past those that a process has.
+const ADDRESS_END: u64 = 1 << 47;
+
+/// The most bytes that a malloc, a poison or an unpoison may speak of.
+const LARGEST_REGION: u64 = 1 << 28;
+
+/// The bytes of a load or a store.
+#[derive(Clone, Copy, Debug)]
+pub struct Access {
+    pub at: u64,
+    pub width: u8,
+    pub ghost known_width: { IsTrue (is_width width) },
+    pub ghost in_range: { at + width ≤ address_end },
+}
+
+/// The bytes of a malloc, a poison or an unpoison.
+#[derive(Clone, Copy, Debug)]
+pub struct Region {
+    pub at: u64,
+    pub size: u64,
+    pub ghost small: { size ≤ largest_region },
+    pub ghost in_range: { at + size ≤ address_end },
+}
+
+/// The address of a free.
+#[derive(Clone, Copy, Debug)]
+pub struct Place {
+    pub at: u64,
+    pub ghost in_range: { at < address_end },
+}
+
+/// What a traced process did.
+#[derive(Clone, Copy, Debug)]
+pub enum Event {
+    Load(Access),
+    Store(Access),
+    Malloc(Region),
+    Free(Place),
+    Poison(Region),
+    Unpoison(Region),
+}
+
+impl Access {
+    ghost use Rattle.trace_record.specs.Flaws.{access_flaw};
+
+    /// The access of `width` bytes at the address `at`, or the first flaw of these numbers: `Width` unless the width
+    /// is 1, 2, 4 or 8, then `Range` if the access ends past 2^47.
+    pub fn new(at: u64, width: u8) -> Result<Access, Flaw>
+        ensures { MatchResult result (λ a. (a.at ≡ at) × (a.width ≡ width)) (λ f. access_flaw at width ≡ Some f) }
+    {
+        if !matches!(width, 1 | 2 | 4 | 8) {
+            return Err(Flaw::Width);
+        }
+        if at > ADDRESS_END - u64::from(width) {
+            return Err(Flaw::Range);
+        }
+        Ok(Access { at, width })
+    }
+
+    /// The address of its first byte.
+    pub fn at(&self) -> u64
+        ensures { result ≡ self.now.at }
+    {
+        self.at
+    }
+
+    /// How many bytes it has: 1, 2, 4 or 8.
+    pub fn width(&self) -> u8
+        ensures { result ≡ self.now.width }
+    {
+        self.width
+    }
+}
+
+impl Region {
+    ghost use Rattle.trace_record.specs.Flaws.{region_flaw};
+
+    /// The region of `size` bytes at the address `at`, or the first flaw of these numbers: `Size` if it has more than
+    /// 2^28 bytes, then `Range` if it ends past 2^47. A region of size 0 may lie at 2^47.
+    pub fn new(at: u64, size: u64) -> Result<Region, Flaw>
+        ensures { MatchResult result (λ r. (r.at ≡ at) × (r.size ≡ size)) (λ f. region_flaw at size ≡ Some f) }
+    {
+        if size > LARGEST_REGION {
+            return Err(Flaw::Size);
+        }
+        if at > ADDRESS_END - size {
+            return Err(Flaw::Range);
+        }
+        Ok(Region { at, size })
+    }
+
+    /// The address of its first byte.
+    pub fn at(&self) -> u64
+        ensures { result ≡ self.now.at }
+    {
+        self.at
+    }
+
+    /// How many bytes it has, at most 2^28.
+    pub fn size(&self) -> u64
+        ensures { result ≡ self.now.size }
+    {
+        self.size
+    }
+}
+
+impl Place {
+    ghost use Rattle.trace_record.specs.Flaws.{place_flaw};
+
+    /// The place at the address `at`, or the flaw `Range` if that is 2^47 or more.
+    pub fn new(at: u64) -> Result<Place, Flaw>
+        ensures { MatchResult result (λ p. p.at ≡ at) (λ f. place_flaw at ≡ Some f) }
+    {
+        if at >= ADDRESS_END {
+            return Err(Flaw::Range);
+        }
+        Ok(Place { at })
+    }
+
+    /// The address.
+    pub fn at(&self) -> u64
+        ensures { result ≡ self.now.at }
+    {
+        self.at
+    }
+}
