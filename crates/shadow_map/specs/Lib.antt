@@ -1,3 +1,6 @@
 pub mod States
 pub mod Checks
 pub mod Shows
+pub mod Calls
+pub mod Granules
+pub mod Laws

@@ -1,6 +1,32 @@
-//! The shadow of a process's memory: one byte for each granule of eight.
+//! The shadow of a process's memory: one byte for each granule of eight bytes, which tells what they are.
+//!
+//! A shadow byte is 0 where all eight bytes of its granule are addressable, and k from 1 to 7 where the first k are and
+//! the others are not. Where none is, it is a code: [`HEAP_REDZONE`], [`FREED`] or [`USER_POISON`]. So a shadow can only
+//! tell of a granule whose addressable bytes come first, and each call keeps to that:
+//!
+//! - [`Shadow::mark`] and [`Shadow::block`] set whole granules, but for the last one of a block, of which the first bytes
+//!   are addressable.
+//! - [`Shadow::poison`] gives its code to each granule that lies wholly in its region. Of a granule that lies there in
+//!   part it takes the addressable bytes in the region, if none past the region's end is addressable; else it leaves that
+//!   granule as it was.
+//! - [`Shadow::unpoison`] makes the bytes of its region addressable, and with each of them all bytes before it in its
+//!   granule.
+//!
+//! An access is checked as AddressSanitizer checks it, by the shadow byte of its first byte alone.
 #![tactic(auto)]
 
+mod granule;
+mod laws;
+mod marks;
 mod shadow;
+#[cfg(test)]
+mod tests;
 
+pub use granule::{FREED, HEAP_REDZONE, USER_POISON};
+pub use laws::{
+    addressable_bytes_lead, all_past_the_end_is_addressable, bad_byte_of_an_access,
+    first_unaddressable_of_a_region, shadow_byte_tells_the_granule,
+    shadow_check_finds_the_bad_byte,
+};
 pub use shadow::Shadow;
+pub use std::alloc::AllocError as NoMemory;

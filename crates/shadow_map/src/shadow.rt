@@ -1,17 +1,28 @@
-ghost use Rattle.std.specs.Prelude.{[]};
+//! The shadow, and what is asked of it.
+ghost use Rattle.std.specs.Prelude.{◌≡◌, ℕ, ◌+◌, ◌^◌, ◌<◌, ◌≤◌, ◌&&◌, not, nat_le, nat_lt, if◌then◌else◌, List, [], IsTrue, OnOk, OnErr};
+ghost use Rattle.shadow_map.specs.States.{Mark, is_addressable, state_of, lift, least_unaddressable, bad_byte_of};
+ghost use Rattle.shadow_map.specs.Checks.{is_width};
+ghost use Rattle.shadow_map.specs.Shows.{Shows, value_at};
 
+use crate::NoMemory;
+use crate::granule::{GRANULE, front};
 use std::alloc::{Allocator, Global};
 use std::collections::BTreeMap;
 
+/// How many granules the memory has whose bytes can be marked.
+const GRANULES: u64 = 1 << 44;
+
 /// The shadow bytes of a process's memory.
+///
+/// Addresses and sizes are in bytes, and granules are counted from address 0. A byte at 2^47 or past it is never marked,
+/// and counts as addressable.
 #[derive(Drop)]
 pub struct Shadow<A: Allocator + Copy = Global> {
+    // The shadow byte of each granule; one that is missing has 0.
     granules: BTreeMap<u64, u8, A>,
 }
 
 impl<A: Allocator + Copy> Shadow<A> {
-    ghost use Rattle.shadow_map.specs.Shows.{Shows};
-
     /// The shadow of memory of which every byte is addressable. Takes no memory.
     #[tactic(auto, unfolding(crate::specs::Shows::value_at))]
     pub fn new(alloc: A) -> Shadow<A>
@@ -20,5 +31,87 @@ impl<A: Allocator + Copy> Shadow<A> {
         Shadow {
             granules: BTreeMap::new(alloc),
         }
+    }
+
+    /// The shadow byte of a granule, and 0 for one at 2^44 or past it.
+    #[inline]
+    #[tactic(auto, unfolding(crate::specs::Shows::value_at))]
+    pub fn value(&self, granule: u64) -> u8
+        ensures kept { granule < 2 ^ 44 → result ≡ value_at self.now granule }
+        ensures past_the_end { 2 ^ 44 ≤ granule → result ≡ 0 }
+        ensures shown { (marks : List Mark) → Shows self.now marks → result ≡ lift (state_of marks) granule }
+    {
+        if granule >= GRANULES {
+            return 0;
+        }
+        self.granules.get(&granule).copied().unwrap_or(0)
+    }
+
+    /// The bad byte of an access of `width` bytes at `at`: the least of its bytes that is not addressable. Only the granule
+    /// of its first byte is looked at, so an access that is bad in the next one alone has none.
+    #[inline]
+    pub fn bad_byte(&self, at: u64, width: u8) -> Option<u64>
+        requires width { IsTrue (is_width width) }
+        requires end { at + width ≤ 2 ^ 47 }
+        ensures { (marks : List Mark) → Shows self.now marks → result ≡ bad_byte_of (state_of marks) at width }
+    {
+        self.bad_byte_in_granule(at, width as u64)
+    }
+
+    /// Whether a byte is not addressable.
+    #[inline]
+    pub fn is_poisoned(&self, at: u64) -> bool
+        ensures { (marks : List Mark) → Shows self.now marks → result ≡ not (is_addressable (state_of marks at)) }
+    {
+        (at % GRANULE) as u8 >= front(self.value(at / GRANULE))
+    }
+
+    /// The least of `size` bytes from `at` on that is not addressable. Takes a look-up for each granule before that byte.
+    pub fn first_poisoned(&self, at: u64, size: u64) -> Option<u64>
+        requires { at + size ≤ 2 ^ 47 }
+        ensures { (marks : List Mark) → Shows self.now marks → result ≡ least_unaddressable (state_of marks) at size }
+    {
+        let end = at + size;
+        let mut from = at;
+        while from < end {
+            if let Some(byte) = self.bad_byte_in_granule(from, end - from) {
+                return Some(byte);
+            }
+            from = (from / GRANULE + 1) * GRANULE;
+        }
+        None
+    }
+
+    /// The least of `size` bytes from `at` on, within the granule of `at`, that is not addressable.
+    #[inline]
+    fn bad_byte_in_granule(&self, at: u64, size: u64) -> Option<u64>
+        ensures { (marks : List Mark) → Shows self.now marks → result ≡ bad_byte_of (state_of marks) at size }
+    {
+        let place = at % GRANULE;
+        let bad = place.max(front(self.value(at / GRANULE)) as u64);
+        if bad < place + size.min(GRANULE - place) {
+            Some(at - place + bad)
+        } else {
+            None
+        }
+    }
+
+    /// Sets the shadow bytes of the granules from one up to another. Where a growth is refused, those below some granule
+    /// are set, and the others are as they were.
+    #[tactic(auto, unfolding(crate::specs::Shows::value_at))]
+    pub(crate) fn fill(&mut self, from: u64, to: u64, value: u8) -> Result<(), NoMemory>
+        requires order { from ≤ to }
+        requires end { to ≤ 2 ^ 44 }
+        ensures ok { OnOk result ((granule : ℕ) → value_at self.new granule
+            ≡ (if nat_le from granule && nat_lt granule to then value else value_at self.old granule)) }
+        ensures err { OnErr result ((place : ℕ) × (from ≤ place) × (place < to) × ((granule : ℕ) → value_at self.new granule
+            ≡ (if nat_le from granule && nat_lt granule place then value else value_at self.old granule))) }
+    {
+        for granule in from..to {
+            if self.value(granule) != value {
+                self.granules.insert(granule, value)?;
+            }
+        }
+        Ok(())
     }
 }

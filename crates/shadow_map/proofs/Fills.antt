@@ -1,0 +1,174 @@
+-- Granules after fills. A call goes from left to right: below some place it is done, and from there on nothing has changed.
+use Rattle.std.proofs.Common.{◌≡◌, ℕ, ◌+◌, ◌-◌, ◌*◌, ◌/◌, ◌%◌, ◌<◌, ◌≤◌, Bool, true, false, cond, eqb, leb, ltb, refl, ◌∙◌, arith, inl, inr}
+use Rattle.std.specs.Prelude.{min, ◌&&◌}
+use Rattle.std.proofs.lemmas.Bool.{cases_eq, cases_lt}
+use Rattle.std.proofs.lemmas.Bool.Decides.{nat_tests}
+use Rattle.shadow_map.specs.declared.granule.Change.{Change}
+use Rattle.shadow_map.specs.declared.granule.Change.TheVariants.{Poisoned, Unpoisoned}
+use Rattle.shadow_map.specs.Granules.{poisoned_byte, unpoisoned_byte, changed_byte, inside_byte, block_byte}
+
+-- the granules from one up to another have this byte now, and the others what they had
+abbrev pub IsFilled : (ℕ → ℕ) → (ℕ → ℕ) → ℕ → ℕ → ℕ → Type 0
+IsFilled before now from to byte = (g : ℕ) → now g ≡ cond (leb from g && ltb g to) byte (before g)
+
+-- below a place the new bytes, and from it on the old ones
+abbrev pub UpTo : (ℕ → ℕ) → (ℕ → ℕ) → (ℕ → ℕ) → ℕ → Type 0
+UpTo old new now place = (g : ℕ) → now g ≡ cond (ltb g place) (new g) (old g)
+
+pub upto_start : (old new : ℕ → ℕ) (a : ℕ) → ((g : ℕ) → g < a → new g ≡ old g) → UpTo old new old a
+upto_start old new a same g =
+    elim (cases_lt g a) [
+      | inl lt ↦ let below : ltb g a ≡ true = grind (arith, nat_tests) in rw (below, same g lt) refl
+      | inr ge ↦ let past : ltb g a ≡ false = grind (arith, nat_tests) in rw past refl
+    ]
+
+pub upto_end : (old new now : ℕ → ℕ) (a : ℕ) → UpTo old new now a → ((g : ℕ) → a ≤ g → new g ≡ old g) → (g : ℕ) → now g ≡ new g
+upto_end old new now a upto same g =
+    elim (cases_lt g a) [
+      | inl lt ↦ let below : ltb g a ≡ true = grind (arith, nat_tests) in upto g ∙ rw below refl
+      | inr ge ↦ let past : ltb g a ≡ false = grind (arith, nat_tests) in upto g ∙ rw (past, same g ge) refl
+    ]
+
+-- a fill of the granules from the place on
+pub upto_fill : (old new now next : ℕ → ℕ) (a b byte : ℕ) → a ≤ b → UpTo old new now a → ((g : ℕ) → a ≤ g → g < b → new g ≡ byte) →
+    IsFilled now next a b byte → UpTo old new next b
+upto_fill old new now next a b byte le upto inside each g =
+    elim (cases_lt g a) [
+      | inl lt ↦ let out : (leb a g && ltb g b) ≡ false = grind (arith, nat_tests) in
+          let before : ltb g a ≡ true = grind (arith, nat_tests) in
+          let also : ltb g b ≡ true = grind (arith, nat_tests) in
+          each g ∙ rw (out, upto g, before, also) refl
+      | inr ge ↦ elim (cases_lt g b) [
+        | inl lt ↦ let in_it : (leb a g && ltb g b) ≡ true = grind (arith, nat_tests) in
+            let also : ltb g b ≡ true = grind (arith, nat_tests) in
+            each g ∙ rw (in_it, also, inside g ge lt) refl
+        | inr past ↦ let out : (leb a g && ltb g b) ≡ false = grind (arith, nat_tests) in
+            let also : ltb g a ≡ false = grind (arith, nat_tests) in
+            let third : ltb g b ≡ false = grind (arith, nat_tests) in
+            each g ∙ rw (out, upto g, also, third) refl
+      ]
+    ]
+
+-- a change of the one granule at the place
+pub upto_one : (change : ℕ → ℕ → ℕ) (old now next : ℕ → ℕ) (a : ℕ) → UpTo old (λ g. change (old g) g) now a →
+    ((g : ℕ) → next g ≡ cond (eqb g a) (change (now g) g) (now g)) → UpTo old (λ g. change (old g) g) next (a + 1)
+upto_one change old now next a upto each g =
+    elim (cases_eq g a) [
+      | inl same ↦ let here : eqb g a ≡ true = grind (arith, nat_tests) in
+          let past : ltb g a ≡ false = grind (arith, nat_tests) in
+          let also : ltb g (a + 1) ≡ true = grind (arith, nat_tests) in
+          each g ∙ rw (here, upto g, past, also) refl
+      | inr other ↦ let here : eqb g a ≡ false = grind (arith, nat_tests) in
+          let both : ltb g (a + 1) ≡ ltb g a = grind (arith, nat_tests) in
+          each g ∙ rw (here, both) (upto g)
+    ]
+
+-- a fill that was broken off at a place, as a fill that is done below it
+pub torn_fill : (a b place byte old g : ℕ) → place < b → cond (leb a g && ltb g place) byte old ≡ cond (ltb g place) (cond (leb a g && ltb g b) byte old) old
+torn_fill a b place byte old g lt = grind (arith, nat_tests)
+
+-- what holds of the old and of the new bytes holds of a call that was broken off at a place
+pub either : (below : Bool) (now new old left right : ℕ) → now ≡ cond below new old → new ≡ left → old ≡ right → now ≡ cond below left right
+either true now new old left right is p q = is ∙ p
+either false now new old left right is p q = is ∙ q
+
+-- poison and unpoison of the granules before, within and past a region
+poison_before : (byte a e g : ℕ) → g < a / 8 → poisoned_byte byte (min 8 (a - 8 * g)) (min 8 (e - 8 * g)) ≡ byte
+poison_before byte a e g lt = grind (arith, nat_tests)
+
+poison_past : (byte a e g : ℕ) → a ≤ e → (e + 7) / 8 ≤ g → poisoned_byte byte (min 8 (a - 8 * g)) (min 8 (e - 8 * g)) ≡ byte
+poison_past byte a e g order le =
+    let from : min 8 (a - 8 * g) ≡ 0 = omega arith in
+    let to : min 8 (e - 8 * g) ≡ 0 = omega arith in
+    rw (from, to) (grind (arith, nat_tests))
+
+unpoison_nothing : (byte from to : ℕ) → to ≤ from → unpoisoned_byte byte from to ≡ byte
+unpoison_nothing byte from to le = let empty : ltb from to ≡ false = grind (arith, nat_tests) in rw empty refl
+
+pub change_before : (change : Change) (byte a e g : ℕ) → g < a / 8 → changed_byte change byte (min 8 (a - 8 * g)) (min 8 (e - 8 * g)) ≡ byte
+change_before Poisoned byte a e g lt = poison_before byte a e g lt
+change_before Unpoisoned byte a e g lt = unpoison_nothing byte _ _ (omega arith)
+
+pub change_within : (change : Change) (byte a e g : ℕ) → a / 8 + 1 ≤ g → g < (e + 7) / 8 - 1 →
+    changed_byte change byte (min 8 (a - 8 * g)) (min 8 (e - 8 * g)) ≡ inside_byte change
+change_within Poisoned byte a e g le lt =
+    let from : min 8 (a - 8 * g) ≡ 0 = omega arith in
+    let to : min 8 (e - 8 * g) ≡ 8 = omega arith in
+    rw (from, to) refl
+change_within Unpoisoned byte a e g le lt =
+    let from : min 8 (a - 8 * g) ≡ 0 = omega arith in
+    let to : min 8 (e - 8 * g) ≡ 8 = omega arith in
+    rw (from, to) (grind (arith, nat_tests))
+
+pub change_past : (change : Change) (byte a e g : ℕ) → a ≤ e → (e + 7) / 8 ≤ g →
+    changed_byte change byte (min 8 (a - 8 * g)) (min 8 (e - 8 * g)) ≡ byte
+change_past Poisoned byte a e g order le = poison_past byte a e g order le
+change_past Unpoisoned byte a e g order le = unpoison_nothing byte _ _ (omega arith)
+
+-- a change of a region from one address up to another: its first granule, those inside, its last one
+module _ (change : Change) (at end : ℕ) where
+  abbrev pub changed_granule : ℕ → ℕ → ℕ
+  changed_granule byte g = changed_byte change byte (min 8 (at - 8 * g)) (min 8 (end - 8 * g))
+
+  -- the region is changed below a place
+  abbrev pub IsChangeUpTo : (ℕ → ℕ) → (ℕ → ℕ) → ℕ → Type 0
+  IsChangeUpTo old now place = UpTo old (λ g. changed_granule (old g) g) now place
+
+  -- one granule is changed
+  abbrev pub IsEdge : (ℕ → ℕ) → (ℕ → ℕ) → ℕ → Type 0
+  IsEdge before now place = (g : ℕ) → now g ≡ cond (eqb g place) (changed_granule (before g) g) (before g)
+
+  pub first_changed : (old next : ℕ → ℕ) → IsEdge old next (at / 8) → IsChangeUpTo old next (at / 8 + 1)
+  first_changed old next each = upto_one changed_granule old old next (at / 8)
+      (upto_start old (λ g. changed_granule (old g) g) (at / 8) (λ g lt. change_before change (old g) at end g lt)) each
+
+  pub inside_changed : (old now next : ℕ → ℕ) (place : ℕ) → at / 8 + 1 ≤ place → place ≤ (end + 7) / 8 - 1 → IsChangeUpTo old now (at / 8 + 1) →
+      IsFilled now next (at / 8 + 1) place (inside_byte change) → IsChangeUpTo old next place
+  inside_changed old now next place le most upto each = upto_fill old (λ g. changed_granule (old g) g) now next (at / 8 + 1) place (inside_byte change) le upto
+      (λ g low lt. change_within change (old g) at end g low (omega arith)) each
+
+  pub all_changed : (old now next : ℕ → ℕ) (place : ℕ) → at ≤ end → (end + 7) / 8 ≤ place + 1 → IsChangeUpTo old now place → IsEdge now next place →
+      (g : ℕ) → next g ≡ changed_granule (old g) g
+  all_changed old now next place order last upto each = upto_end old (λ g. changed_granule (old g) g) next (place + 1) (upto_one changed_granule old now next place upto each)
+      (λ g le. change_past change (old g) at end g order (omega arith))
+
+-- a block, from its left redzone to its right one
+module _ (at size : ℕ) where
+  block_before : (byte g : ℕ) → g < at / 8 - 4 → block_byte at size g byte ≡ byte
+  block_before byte g lt = grind (arith, nat_tests)
+
+  block_left : (byte g : ℕ) → at / 8 - 4 ≤ g → g < at / 8 → block_byte at size g byte ≡ 0xfa
+  block_left byte g le lt = grind (arith, nat_tests)
+
+  block_body : (byte g : ℕ) → at / 8 ≤ g → g < at / 8 + size / 8 → block_byte at size g byte ≡ 0
+  block_body byte g le lt = grind (arith, nat_tests)
+
+  block_rest : (byte g : ℕ) → at / 8 + size / 8 ≤ g → g < at / 8 + (size + 7) / 8 → block_byte at size g byte ≡ size % 8
+  block_rest byte g le lt = grind (arith, nat_tests)
+
+  block_right : (byte g : ℕ) → at / 8 + (size + 7) / 8 ≤ g → g < at / 8 + (size + 7) / 8 + 4 → block_byte at size g byte ≡ 0xfa
+  block_right byte g le lt = grind (arith, nat_tests)
+
+  -- the block is marked below a place
+  abbrev pub IsBlockUpTo : (ℕ → ℕ) → (ℕ → ℕ) → ℕ → Type 0
+  IsBlockUpTo old now place = UpTo old (λ g. block_byte at size g (old g)) now place
+
+  module _ (old now next : ℕ → ℕ) where
+    pub after_left : IsFilled old next (at / 8 - 4) (at / 8) 0xfa → IsBlockUpTo old next (at / 8)
+    after_left each = upto_fill old (λ g. block_byte at size g (old g)) old next (at / 8 - 4) (at / 8) 0xfa (omega arith)
+        (upto_start old (λ g. block_byte at size g (old g)) (at / 8 - 4) (λ g lt. block_before (old g) g lt)) (λ g le lt. block_left (old g) g le lt) each
+
+    pub after_body : (place : ℕ) → at / 8 ≤ place → place ≤ at / 8 + size / 8 → IsBlockUpTo old now (at / 8) → IsFilled now next (at / 8) place 0 →
+        IsBlockUpTo old next place
+    after_body place le most upto each =
+        upto_fill old (λ g. block_byte at size g (old g)) now next (at / 8) place 0 le upto (λ g low lt. block_body (old g) g low (omega arith)) each
+
+    pub after_rest : (place : ℕ) → at / 8 + size / 8 ≤ place → place ≤ at / 8 + (size + 7) / 8 → IsBlockUpTo old now (at / 8 + size / 8) →
+        IsFilled now next (at / 8 + size / 8) place (size % 8) → IsBlockUpTo old next place
+    after_rest place le most upto each =
+        upto_fill old (λ g. block_byte at size g (old g)) now next (at / 8 + size / 8) place (size % 8) le upto (λ g low lt. block_rest (old g) g low (omega arith)) each
+
+    pub after_right : (place : ℕ) → at / 8 + (size + 7) / 8 ≤ place → place ≤ at / 8 + (size + 7) / 8 + 4 → IsBlockUpTo old now (at / 8 + (size + 7) / 8) →
+        IsFilled now next (at / 8 + (size + 7) / 8) place 0xfa → IsBlockUpTo old next place
+    after_right place le most upto each =
+        upto_fill old (λ g. block_byte at size g (old g)) now next (at / 8 + (size + 7) / 8) place 0xfa le upto (λ g low lt. block_right (old g) g low (omega arith)) each

@@ -1,0 +1,95 @@
+//! One granule: its shadow byte, and what a call makes of it.
+ghost use Rattle.std.specs.Prelude.{◌≡◌, ◌-◌, ◌*◌, ◌^◌, ◌<◌, ◌≤◌, min};
+ghost use Rattle.shadow_map.specs.Granules.{front_of, poisoned_byte, unpoisoned_byte, changed_byte, inside_byte};
+
+/// How many bytes a granule has.
+pub const GRANULE: u64 = 8;
+
+/// How many bytes of a granule are addressable where all are.
+const WHOLE: u8 = 8;
+
+/// The shadow byte of a granule whose bytes are a redzone of a block on the heap.
+pub const HEAP_REDZONE: u8 = 0xfa;
+
+/// The shadow byte of a granule whose bytes were freed.
+pub const FREED: u8 = 0xfd;
+
+/// The shadow byte of a granule whose bytes the user has poisoned.
+pub const USER_POISON: u8 = 0xf7;
+
+/// How many bytes of a granule are addressable, by its shadow byte. They are its first ones.
+#[inline]
+pub fn front(shadow: u8) -> u8
+    ensures { result ≡ front_of shadow }
+{
+    match shadow {
+        0 => WHOLE,
+        1..WHOLE => shadow,
+        _ => 0,
+    }
+}
+
+/// How many bytes of a granule lie before an address.
+pub fn part(address: u64, granule: u64) -> u8
+    requires { granule < 2 ^ 44 }
+    ensures { result ≡ min 8 (address - 8 * granule) }
+{
+    address.saturating_sub(GRANULE * granule).min(GRANULE) as u8
+}
+
+/// What a call makes of a region: poison, or addressable bytes.
+#[derive(Clone, Copy)]
+pub enum Change {
+    Poisoned,
+    Unpoisoned,
+}
+
+impl Change {
+    /// The shadow byte of a granule that lies in the region.
+    pub fn inside(self) -> u8
+        ensures { result ≡ inside_byte self }
+    {
+        match self {
+            Change::Poisoned => USER_POISON,
+            Change::Unpoisoned => 0,
+        }
+    }
+
+    /// The shadow byte of a granule whose bytes from one place up to another lie in the region, by the one before.
+    pub fn byte(self, shadow: u8, from: u8, to: u8) -> u8
+        requires { to ≤ 8 }
+        ensures { result ≡ changed_byte self shadow from to }
+    {
+        match self {
+            Change::Poisoned => poisoned(shadow, from, to),
+            Change::Unpoisoned => unpoisoned(shadow, from, to),
+        }
+    }
+}
+
+/// The shadow byte after poison of the bytes from one place up to another.
+fn poisoned(shadow: u8, from: u8, to: u8) -> u8
+    requires { to ≤ 8 }
+    ensures { result ≡ poisoned_byte shadow from to }
+{
+    let front = front(shadow);
+    if from == 0 && to == WHOLE {
+        USER_POISON
+    } else if front <= to && from < front && from < to {
+        if from == 0 { USER_POISON } else { from }
+    } else {
+        shadow
+    }
+}
+
+/// The shadow byte after the bytes from one place up to another, and those before them, are addressable.
+fn unpoisoned(shadow: u8, from: u8, to: u8) -> u8
+    requires { to ≤ 8 }
+    ensures { result ≡ unpoisoned_byte shadow from to }
+{
+    if from < to && front(shadow) < to {
+        if to == WHOLE { 0 } else { to }
+    } else {
+        shadow
+    }
+}

@@ -1,0 +1,126 @@
+//! The calls that mark memory.
+ghost use Rattle.std.specs.Prelude.{◌≡◌, ℕ, ◌+◌, ◌-◌, ◌*◌, ◌%◌, ◌^◌, ◌<◌, ◌≤◌, ◌==◌, min, nat_lt, if◌then◌else◌, IsTrue, OnOk, OnErr};
+ghost use Rattle.shadow_map.specs.States.{State, Fill, Block, Poison, Unpoison, code_of, redzone, rounded};
+ghost use Rattle.shadow_map.specs.Shows.{value_at};
+ghost use Rattle.shadow_map.specs.Calls.{is_code, Adds, AddsInPart};
+ghost use Rattle.shadow_map.specs.Granules.{block_byte, changed_byte};
+
+use crate::granule::{Change, GRANULE, HEAP_REDZONE, part};
+use crate::{NoMemory, Shadow};
+use std::alloc::Allocator;
+
+/// How many granules a redzone has.
+const REDZONE: u64 = 4;
+
+/// After `NoMemory` a call is done in part: there is a granule below which all are as after the call, and from which on all
+/// are as before it. A granule that keeps its shadow byte takes no memory.
+impl<A: Allocator + Copy> Shadow<A> {
+    /// Marks the whole granules from one address up to another by a code: [`HEAP_REDZONE`], [`FREED`] or [`USER_POISON`].
+    ///
+    /// [`FREED`]: crate::FREED
+    /// [`USER_POISON`]: crate::USER_POISON
+    pub fn mark(&mut self, from: u64, to: u64, code: u8) -> Result<(), NoMemory>
+        requires granules { (from % 8 ≡ 0) × (to % 8 ≡ 0) }
+        requires order { from ≤ to }
+        requires end { to ≤ 2 ^ 47 }
+        requires code { IsTrue (is_code code) }
+        ensures ok { OnOk result ((state : State) → code_of state ≡ code → Adds self.old self.new (Fill from to state)) }
+        ensures err { OnErr result ((state : State) → code_of state ≡ code → AddsInPart self.old self.new (Fill from to state)) }
+    {
+        self.fill(from / GRANULE, to / GRANULE, code)
+    }
+
+    /// Marks a block of `size` bytes at `at`, a multiple of 8: its bytes are addressable, and what is left of its last
+    /// granule is a heap redzone, as are the 32 bytes before its first granule and the 32 after its last.
+    pub fn block(&mut self, at: u64, size: u64) -> Result<(), NoMemory>
+        requires granules { at % 8 ≡ 0 }
+        requires room { redzone ≤ at }
+        requires end { at + rounded size + redzone ≤ 2 ^ 47 }
+        ensures ok { OnOk result (Adds self.old self.new (Block at size)) }
+        ensures err { OnErr result (AddsInPart self.old self.new (Block at size)) }
+    {
+        self.block_granules(at, size)
+    }
+
+    /// Poisons `size` bytes from `at` on. A granule that lies wholly in this region becomes user poison, whatever it was.
+    /// Of one that lies there in part the addressable bytes in the region become user poison, if none of its bytes at the
+    /// region's end or past it is addressable; otherwise it stays as it is.
+    pub fn poison(&mut self, at: u64, size: u64) -> Result<(), NoMemory>
+        requires { at + size ≤ 2 ^ 47 }
+        ensures ok { OnOk result (Adds self.old self.new (Poison at size)) }
+        ensures err { OnErr result (AddsInPart self.old self.new (Poison at size)) }
+    {
+        self.change(Change::Poisoned, at, size)
+    }
+
+    /// Makes `size` bytes from `at` on addressable, and with each of them all bytes before it in its granule.
+    pub fn unpoison(&mut self, at: u64, size: u64) -> Result<(), NoMemory>
+        requires { at + size ≤ 2 ^ 47 }
+        ensures ok { OnOk result (Adds self.old self.new (Unpoison at size)) }
+        ensures err { OnErr result (AddsInPart self.old self.new (Unpoison at size)) }
+    {
+        self.change(Change::Unpoisoned, at, size)
+    }
+
+    /// `block`, told by granules.
+    fn block_granules(&mut self, at: u64, size: u64) -> Result<(), NoMemory>
+        requires granules { at % 8 ≡ 0 }
+        requires room { redzone ≤ at }
+        requires end { at + rounded size + redzone ≤ 2 ^ 47 }
+        ensures ok { OnOk result ((granule : ℕ) → value_at self.new granule
+            ≡ block_byte at size granule (value_at self.old granule)) }
+        ensures err { OnErr result ((place : ℕ) × ((granule : ℕ) → value_at self.new granule
+            ≡ (if nat_lt granule place then block_byte at size granule (value_at self.old granule)
+            else value_at self.old granule))) }
+    {
+        let first = at / GRANULE;
+        let whole = first + size / GRANULE;
+        let stop = first + size.div_ceil(GRANULE);
+        self.fill(first - REDZONE, first, HEAP_REDZONE)?;
+        self.fill(first, whole, 0)?;
+        self.fill(whole, stop, (size % GRANULE) as u8)?;
+        self.fill(stop, stop + REDZONE, HEAP_REDZONE)
+    }
+
+    /// Changes a region: its whole granules by a fill, and the one at each end by itself.
+    fn change(&mut self, change: Change, at: u64, size: u64) -> Result<(), NoMemory>
+        requires { at + size ≤ 2 ^ 47 }
+        ensures ok { OnOk result ((granule : ℕ) → value_at self.new granule
+            ≡ changed_byte change (value_at self.old granule) (min 8 (at - 8 * granule)) (min 8 (at + size - 8 * granule))) }
+        ensures err { OnErr result ((place : ℕ) × ((granule : ℕ) → value_at self.new granule
+            ≡ (if nat_lt granule place
+            then changed_byte change (value_at self.old granule) (min 8 (at - 8 * granule)) (min 8 (at + size - 8 * granule))
+            else value_at self.old granule))) }
+    {
+        let end = at + size;
+        let first = at / GRANULE;
+        let stop = end.div_ceil(GRANULE);
+        if stop <= first {
+            return Ok(());
+        }
+        self.change_edge(change, at, end, first)?;
+        if stop == first + 1 {
+            return Ok(());
+        }
+        self.fill(first + 1, stop - 1, change.inside())?;
+        self.change_edge(change, at, end, stop - 1)
+    }
+
+    /// Changes the part of one granule that lies in a region.
+    fn change_edge(
+        &mut self,
+        change: Change,
+        at: u64,
+        end: u64,
+        granule: u64,
+    ) -> Result<(), NoMemory>
+        requires { granule < 2 ^ 44 }
+        ensures ok { OnOk result ((other : ℕ) → value_at self.new other ≡ (if other == granule
+            then changed_byte change (value_at self.old other) (min 8 (at - 8 * other)) (min 8 (end - 8 * other))
+            else value_at self.old other)) }
+        ensures err { OnErr result ((other : ℕ) → value_at self.new other ≡ value_at self.old other) }
+    {
+        let shadow = change.byte(self.value(granule), part(at, granule), part(end, granule));
+        self.fill(granule, granule + 1, shadow)
+    }
+}
