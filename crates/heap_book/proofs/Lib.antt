@@ -1,0 +1,5 @@
+pub mod Held
+pub mod NeverMeet
+pub mod Permutations
+pub mod Following
+pub mod Entries

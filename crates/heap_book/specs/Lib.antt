@@ -1,2 +1,5 @@
 pub mod Spans
 pub mod Blocks
+pub mod Admit
+pub mod Freed
+pub mod Slots

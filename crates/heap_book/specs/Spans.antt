@@ -2,7 +2,7 @@
 --
 -- Redzones, and a quarantine that is a queue with a bound, are those of the paper of 2012. The redzones' size, and that
 -- the quarantine counts the bytes of spans, are this project's choice (profile).
-use Rattle.std.specs.Prelude.{ℕ, ◌+◌, ◌-◌, ◌*◌, ◌/◌, ◌%◌, ◌^◌, Bool, not, ◌&&◌, ◌==◌, nat_lt, nat_le, if◌then◌else◌, List, [], ◌∷◌, sum_by}
+use Rattle.std.specs.Prelude.{◌≡◌, ℕ, ◌+◌, ◌-◌, ◌*◌, ◌/◌, ◌%◌, ◌^◌, ◌≤◌, Bool, not, ◌&&◌, ◌==◌, nat_lt, nat_le, if◌then◌else◌, List, [], ◌∷◌, sum_by}
 use Rattle.std.specs.List.{list_any}
 
 -- what a contract sees of a block: its address and its size
@@ -25,6 +25,10 @@ span_from b = b.at - redzone
 
 abbrev pub span_to : Extent → ℕ
 span_to b = b.at + rounded b.size + redzone
+
+-- a block starts at a granule, and has room for its redzones from 0 up to 2^47
+abbrev pub IsPlaced : Extent → Type 0
+IsPlaced b = (b.at % 8 ≡ 0) × (redzone ≤ b.at) × (span_to b ≤ 2 ^ 47)
 
 -- how many bytes the span has
 abbrev pub span_bytes : Extent → ℕ

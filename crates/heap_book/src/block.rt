@@ -1,58 +1,94 @@
-ghost use Rattle.std.specs.Prelude.{◌≡◌};
-ghost use Rattle.heap_book.specs.Spans.{span_from, span_to};
+ghost use Rattle.std.specs.Prelude.{◌≡◌, ◌+◌, ◌^◌, ◌≤◌, ◌↔◌, IsSome, IfSome};
+ghost use Rattle.heap_book.specs.Spans.{IsPlaced, span_from, span_to};
 
 use std::marker::Model;
 
-/// How many bytes a redzone has.
-const REDZONE: u64 = 32;
+/// How many bytes a granule has.
+const GRANULE: u64 = 8;
 
-/// A block that was admitted. Its span is its bytes, rounded up to a multiple of 8, and a redzone of 32 bytes on each
-/// side; it starts at 0 or above and ends at most at 2^47.
-#[derive(Clone, Copy)]
+/// How many bytes a redzone has.
+pub(crate) const REDZONE: u64 = 32;
+
+/// The first address past those of a process.
+const ADDRESS_END: u64 = 1 << 47;
+
+/// A block that was admitted. Its span is its bytes, rounded up to whole granules of 8, and a redzone of 32 bytes on each
+/// side. It starts at a granule, and its span has room from 0 up to 2^47.
+#[derive(Clone, Copy, Debug, PartialEq, Eq)]
 pub struct Block {
     at: u64,
     size: u64,
 }
 
 impl Model for Block {
-    ghost use Rattle.std.specs.Prelude.{◌≤◌, ◌^◌};
-    ghost use Rattle.heap_book.specs.Spans.{Extent, redzone, span_to};
+    ghost use Rattle.heap_book.specs.Spans.{Extent, IsPlaced};
 
     ghost Value = { Extent };
 
     ghost view = { λ b. record { at = b.at; size = b.size } };
 
-    ghost invariant = { λ b. (redzone ≤ b.at) × (span_to record { at = b.at; size = b.size } ≤ 2 ^ 47) };
+    ghost invariant = { λ b. IsPlaced record { at = b.at; size = b.size } };
 
     ghost inverse = { λ extent. record { at = extent.at; size = extent.size } };
 }
 
 impl Block {
+    /// The block of that many bytes at an address, if it starts at a granule and its redzones have room.
+    pub(crate) fn new(at: u64, size: u64) -> Option<Block>
+        requires { at + size ≤ 2 ^ 47 }
+        ensures some { IsSome result ↔ IsPlaced (record { at = at; size = size }) }
+        ensures block { IfSome result (λ block. block ≡ record { at = at; size = size }) }
+    {
+        let to = at + size.next_multiple_of(GRANULE) + REDZONE;
+        if at.is_multiple_of(GRANULE) && at >= REDZONE && to <= ADDRESS_END {
+            Some(Block { at, size })
+        } else {
+            None
+        }
+    }
+
+    /// A block of that many bytes at an address, which is known to have its place.
+    #[inline]
+    pub(crate) fn from_parts(at: u64, size: u64) -> Block
+        requires { IsPlaced (record { at = at; size = size }) }
+        ensures { result ≡ record { at = at; size = size } }
+    {
+        Block { at, size }
+    }
+
     /// The address of its first byte.
+    #[inline]
     pub fn at(&self) -> u64
-        ensures { result ≡ self.now.at }
+        ensures at { result ≡ self.now.at }
+        ensures placed { IsPlaced self.now }
     {
         self.at
     }
 
     /// How many bytes it has.
+    #[inline]
     pub fn size(&self) -> u64
-        ensures { result ≡ self.now.size }
+        ensures size { result ≡ self.now.size }
+        ensures placed { IsPlaced self.now }
     {
         self.size
     }
 
     /// The address of its span's first byte.
+    #[inline]
     pub fn from(&self) -> u64
-        ensures { result ≡ span_from self.now }
+        ensures from { result ≡ span_from self.now }
+        ensures placed { IsPlaced self.now }
     {
         self.at - REDZONE
     }
 
     /// The first address past its span.
+    #[inline]
     pub fn to(&self) -> u64
-        ensures { result ≡ span_to self.now }
+        ensures to { result ≡ span_to self.now }
+        ensures placed { IsPlaced self.now }
     {
-        self.at + self.size.next_multiple_of(8) + REDZONE
+        self.at + self.size.next_multiple_of(GRANULE) + REDZONE
     }
 }

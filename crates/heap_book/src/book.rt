@@ -1,21 +1,31 @@
+ghost use Rattle.std.specs.Prelude.{◌≡◌, ◌+◌, ◌^◌, ◌<◌, ◌≤◌, ◌↔◌, [], true, IsErr, IfOk, OnErr, IfSome, IfNone};
+ghost use Rattle.std.specs.List.{IsDistinct, list_any};
+ghost use Rattle.heap_book.specs.Spans.{Extent, may_be_admitted, meets, starts_at};
+ghost use Rattle.heap_book.specs.Blocks.{taken, queued_bytes, ReleasesOldest};
+ghost use Rattle.heap_book.specs.Admit.{IsAdmitAnswer, AfterAdmit};
+ghost use Rattle.heap_book.specs.Freed.{IsFreeAnswer, AfterFree};
+
+use crate::NoMemory;
+use crate::answers::{Admit, Bound, Freed};
 use crate::block::Block;
+use crate::spans::{Slot, is_free};
 use std::alloc::{Allocator, Global};
 use std::collections::{BTreeMap, VecDeque};
 use std::marker::Model;
 
-/// A block's size, and whether it is live.
-#[derive(Clone, Copy)]
-pub struct Slot {
-    pub size: u64,
-    pub live: bool,
-}
+/// The greatest bound that a quarantine may have, in bytes of spans.
+const MAX_BOUND: u64 = 1 << 40;
 
-/// The live blocks and those in quarantine.
+/// The live blocks of a process and those in quarantine.
 #[derive(Drop)]
 pub struct Book<A: Allocator + Copy = Global> {
+    /// The blocks that are live or in quarantine, by address.
     blocks: BTreeMap<u64, Slot, A>,
+    /// Those in quarantine, with the one that was freed first in front.
     queue: VecDeque<Block, A>,
+    /// How many bytes the spans of the queue have.
     queued: u64,
+    /// How many of them the quarantine may hold.
     bound: u64,
 }
 
@@ -24,7 +34,107 @@ impl<A: Allocator + Copy> Model for Book<A> {
 
     ghost Value = { Blocks };
 
-    ghost use Rattle.std.specs.Prelude.{[]};
+    ghost use Rattle.heap_book.specs.Slots.{live_of, IsKept};
 
-    ghost view = { λ b. record { live = []; queue = b.queue.items; bound = b.bound } };
+    ghost view = { λ b. record { live = live_of b.blocks.entries; queue = b.queue.items; bound = b.bound } };
+
+    ghost invariant = { λ b. IsKept b.blocks.entries b.queue.items b.queued };
+}
+
+impl<A: Allocator + Copy> Book<A> {
+    /// A book with no blocks, whose quarantine holds at most that many bytes of spans. Takes no memory.
+    ///
+    /// # Errors
+    ///
+    /// `Bound` exactly if the bound is over 2^40.
+    pub fn new(alloc: A, bound: u64) -> Result<Book<A>, Bound>
+        ensures err { IsErr result ↔ (2 ^ 40 < bound) }
+        ensures ok { IfOk result (λ book. book ≡ record { live = []; queue = []; bound = bound }) }
+    {
+        if bound > MAX_BOUND {
+            return Err(Bound);
+        }
+        Ok(Book {
+            blocks: BTreeMap::new(alloc),
+            queue: VecDeque::new(alloc),
+            queued: 0,
+            bound,
+        })
+    }
+
+    /// Takes in what a malloc gave: a block of `size` bytes at the address `at`, which ends at most at 2^47. The book notes
+    /// its place, and never touches its bytes.
+    ///
+    /// # Errors
+    ///
+    /// `NoMemory` only where the block would be admitted. The book is then as it was.
+    pub fn admit(&mut self, at: u64, size: u64) -> Result<Admit, NoMemory>
+        requires { at + size ≤ 2 ^ 47 }
+        ensures answer { let block : Extent = record { at = at; size = size } in
+            IfOk result (IsAdmitAnswer self.old block) }
+        ensures after { IfOk result (λ admit. AfterAdmit self.old admit self.new) }
+        ensures no_memory { let block : Extent = record { at = at; size = size } in
+            OnErr result (may_be_admitted (taken self.old) block ≡ true) }
+        ensures unchanged { OnErr result (self.new ≡ self.old) }
+    {
+        if at == 0 {
+            return Ok(Admit::Ignored);
+        }
+        let Some(block) = Block::new(at, size) else {
+            return Ok(Admit::Refused);
+        };
+        if !is_free(&self.blocks, &block) {
+            return Ok(Admit::Refused);
+        }
+        self.blocks.insert(at, Slot { size, live: true })?;
+        Ok(Admit::Admitted(block))
+    }
+
+    /// Takes in a free of an address. After `Held` the quarantine may have more than its bound: the caller then calls
+    /// [`evict`](Book::evict) until it answers `None`.
+    ///
+    /// # Errors
+    ///
+    /// `NoMemory` only where the answer would be `Held`. The book is then as it was.
+    pub fn free(&mut self, at: u64) -> Result<Freed, NoMemory>
+        ensures answer { IfOk result (IsFreeAnswer self.old at) }
+        ensures after { IfOk result (λ freed. AfterFree self.old freed self.new) }
+        ensures no_memory { OnErr result ((0 < at) × (list_any (starts_at at) self.old.live ≡ true)) }
+        ensures unchanged { OnErr result (self.new ≡ self.old) }
+    {
+        if at == 0 {
+            return Ok(Freed::Ignored);
+        }
+        let Some(slot) = self.blocks.get_mut(&at) else {
+            return Ok(Freed::Stranger);
+        };
+        if !slot.live {
+            return Ok(Freed::Twice);
+        }
+        let block = Block::from_parts(at, slot.size);
+        self.queue.push_back(block)?;
+        slot.live = false;
+        self.queued += block.to() - block.from();
+        Ok(Freed::Held(block))
+    }
+
+    /// Lets go of the block that was freed first and gives it, if the spans in quarantine have more bytes than the bound.
+    /// Takes no memory.
+    pub fn evict(&mut self) -> Option<Block>
+        ensures within { IfNone result (queued_bytes self.old ≤ self.old.bound) }
+        ensures past { IfSome result (λ _. self.old.bound < queued_bytes self.old) }
+        ensures unchanged { IfNone result (self.new ≡ self.old) }
+        ensures released { IfSome result (λ block. ReleasesOldest self.old block self.new) }
+
+        // True of every book: no two of its spans share a byte.
+        ensures apart { IsDistinct meets (taken self.old) }
+    {
+        if self.queued <= self.bound {
+            return None;
+        }
+        let block = self.queue.pop_front()?;
+        self.blocks.remove(&block.at());
+        self.queued -= block.to() - block.from();
+        Some(block)
+    }
 }
