@@ -1,0 +1,28 @@
+use crate::Refuser;
+use std::test::Fail;
+
+#[test]
+fn second_growth_is_refused(rt: HostRuntime) -> Result<(), Fail> {
+    let heap = Refuser::new(rt.alloc(), 2);
+    let mut numbers = Vec::with_capacity(&heap, 2)?;
+    numbers.push(10u64)?;
+    numbers.push(20)?;
+    assert!(rt; !heap.has_refused());
+    assert!(rt; numbers.push(30).is_err());
+    assert!(rt; heap.has_refused());
+    assert_eq!(rt; numbers.as_slice(), [10, 20].as_slice());
+    numbers.push(30)?;
+    assert_eq!(rt; numbers.as_slice(), [10, 20, 30].as_slice());
+    Ok(())
+}
+
+#[test]
+fn none_is_refused_at_turn_zero(rt: HostRuntime) -> Result<(), Fail> {
+    let heap = Refuser::new(rt.alloc(), 0);
+    let mut numbers = Vec::new(&heap);
+    for number in 0..100u64 {
+        numbers.push(number)?;
+    }
+    assert!(rt; !heap.has_refused());
+    Ok(())
+}
