@@ -1,17 +1,20 @@
--- An event is told by its numbers, and a record's bytes by the bytes that follow: no spelling begins another.
-use Rattle.std.proofs.Common.{◌≡◌, ◌≢◌, ℕ, ◌+◌, ◌^◌, ◌<◌, ◌≤◌, List, [], ◌∷◌, ◌++◌, length, take, drop, refl, sym, ap, subst, ◌∙◌, arith}
+-- An event is told by its numbers, which fit their bytes and have no flaw; numbers without a flaw are those of an event.
+use Rattle.std.proofs.Common.{◌≡◌, ℕ, ◌+◌, ◌^◌, ◌<◌, ◌≤◌, List, ◌++◌, None, refl, ap, subst, arith}
 use Rattle.std.specs.Prelude.{IsTrue}
 use Rattle.std.proofs.Math.Bridge.{le_prop}
 use Rattle.std.proofs.Props.{props}
-use Rattle.std.specs.Int.{w64, to_le_bytes, from_le_bytes}
-use Rattle.std.proofs.lemmas.Nat.{from_le_bytes-to_le_bytes_8}
+use Rattle.std.proofs.lemmas.Bool.Decides.{nat_tests}
 use Rattle.trace_record.specs.Ranges.{is_width}
+use Rattle.trace_record.specs.Flaws.{access_flaw, region_flaw, place_flaw}
 use Rattle.trace_record.specs.declared.event.Access.{Access}
 use Rattle.trace_record.specs.declared.event.Region.{Region}
 use Rattle.trace_record.specs.declared.event.Place.{Place}
 use Rattle.trace_record.specs.declared.event.Event.{Event}
 use Rattle.trace_record.specs.declared.event.Event.TheVariants as event
-use Rattle.trace_record.specs.Spelling.{spelling}
+use Rattle.trace_record.specs.declared.fields.Fields.{Fields}
+use Rattle.trace_record.specs.declared.fields.Fields.TheVariants as fields
+use Rattle.trace_record.specs.Spelling.{FitBytes, fields_of, flaw_of, spelling}
+use Rattle.trace_record.proofs.Numbers.{same_fields}
 
 IsTrue_prop : (width : ℕ) → IsProp (IsTrue (is_width width))
 IsTrue_prop width = hlevel props
@@ -34,32 +37,66 @@ same_place a b at =
     let here : P a.at = λ in_range i. record { at = a.at; in_range = le_prop a.in_range in_range i } in
     (subst P at here) b.in_range
 
--- the numbers of eight bytes each
-same_number : (m n : ℕ) (x y : List ℕ) → m < 2 ^ 64 → n < 2 ^ 64 → to_le_bytes w64 m ++ x ≡ to_le_bytes w64 n ++ y → (m ≡ n) × (x ≡ y)
-same_number m n x y lm ln e =
-    let front : to_le_bytes w64 m ≡ to_le_bytes w64 n = ap (take 8) e in
-    (sym (from_le_bytes-to_le_bytes_8 m lm) ∙ ap (from_le_bytes w64) front ∙ from_le_bytes-to_le_bytes_8 n ln, ap (drop 8) e)
+-- events with the same numbers are one
+pub same_event : (e f : Event) → fields_of e ≡ fields_of f → e ≡ f
+same_event (event.Load a) (event.Load b) is = ap event.Load (same_access a b (cc) (cc))
+same_event (event.Store a) (event.Store b) is = ap event.Store (same_access a b (cc) (cc))
+same_event (event.Malloc a) (event.Malloc b) is = ap event.Malloc (same_region a b (cc) (cc))
+same_event (event.Free a) (event.Free b) is = ap event.Free (same_place a b (cc))
+same_event (event.Poison a) (event.Poison b) is = ap event.Poison (same_region a b (cc) (cc))
+same_event (event.Unpoison a) (event.Unpoison b) is = ap event.Unpoison (same_region a b (cc) (cc))
+same_event _ _ is = absurd cc
 
-region_bytes : (a b : Region) (x y : List ℕ) → (to_le_bytes w64 a.at ++ to_le_bytes w64 a.size) ++ x ≡ (to_le_bytes w64 b.at ++ to_le_bytes w64 b.size) ++ y → (a ≡ b) × (x ≡ y)
-region_bytes a b x y e =
-    let first = same_number a.at b.at (to_le_bytes w64 a.size ++ x) (to_le_bytes w64 b.size ++ y) (let r = a.in_range in omega arith) (let r = b.in_range in omega arith) e in
-    let second = same_number a.size b.size x y (let r = a.small in omega arith) (let r = b.small in omega arith) first.1 in
-    (same_region a b first.0 second.0, second.1)
+width_small : (width : ℕ) → IsTrue (is_width width) → width < 2 ^ 8
+width_small width known = grind (arith, nat_tests)
 
-access_bytes : (a b : Access) (x y : List ℕ) → a.width ∷ to_le_bytes w64 a.at ++ x ≡ b.width ∷ to_le_bytes w64 b.at ++ y → (a ≡ b) × (x ≡ y)
-access_bytes a b x y e =
-    let width : a.width ≡ b.width = cc in
-    let first = same_number a.at b.at x y (let r = a.in_range in omega arith) (let r = b.in_range in omega arith) (ap (drop 1) e) in
-    (same_access a b first.0 width, first.1)
+-- an event's numbers fit their bytes
+pub event_fits : (e : Event) → FitBytes (fields_of e)
+event_fits (event.Load a) = (width_small a.width a.known_width, omega arith)
+event_fits (event.Store a) = (width_small a.width a.known_width, omega arith)
+event_fits (event.Malloc r) = (omega arith, omega arith)
+event_fits (event.Free p) = omega arith
+event_fits (event.Poison r) = (omega arith, omega arith)
+event_fits (event.Unpoison r) = (omega arith, omega arith)
+
+no_access_flaw : (at width : ℕ) → IsTrue (is_width width) → at + width ≤ 2 ^ 47 → access_flaw at width ≡ None
+no_access_flaw at width known in_range = grind (arith, nat_tests)
+
+no_region_flaw : (at size : ℕ) → size ≤ 2 ^ 28 → at + size ≤ 2 ^ 47 → region_flaw at size ≡ None
+no_region_flaw at size small in_range = grind (arith, nat_tests)
+
+no_place_flaw : (at : ℕ) → at < 2 ^ 47 → place_flaw at ≡ None
+no_place_flaw at in_range = grind (arith, nat_tests)
+
+-- an event's numbers have no flaw
+pub event_flawless : (e : Event) → flaw_of (fields_of e) ≡ None
+event_flawless (event.Load a) = no_access_flaw a.at a.width a.known_width a.in_range
+event_flawless (event.Store a) = no_access_flaw a.at a.width a.known_width a.in_range
+event_flawless (event.Malloc r) = no_region_flaw r.at r.size r.small r.in_range
+event_flawless (event.Free p) = no_place_flaw p.at p.in_range
+event_flawless (event.Poison r) = no_region_flaw r.at r.size r.small r.in_range
+event_flawless (event.Unpoison r) = no_region_flaw r.at r.size r.small r.in_range
+
+access_of : (at width : ℕ) → access_flaw at width ≡ None → IsTrue (is_width width) × (at + width ≤ 2 ^ 47)
+access_of at width none = (grind (arith, nat_tests), grind (arith, nat_tests))
+
+region_of : (at size : ℕ) → region_flaw at size ≡ None → (size ≤ 2 ^ 28) × (at + size ≤ 2 ^ 47)
+region_of at size none = (grind (arith, nat_tests), grind (arith, nat_tests))
+
+place_of : (at : ℕ) → place_flaw at ≡ None → at < 2 ^ 47
+place_of at none = grind (arith, nat_tests)
+
+-- numbers without a flaw are those of an event
+pub event_of : (x : Fields) → flaw_of x ≡ None → (e : Event) × (fields_of e ≡ x)
+event_of (fields.Load width at) none = let h = access_of at width none in (event.Load record { at = at; width = width; known_width = h.0; in_range = h.1 }, refl)
+event_of (fields.Store width at) none = let h = access_of at width none in (event.Store record { at = at; width = width; known_width = h.0; in_range = h.1 }, refl)
+event_of (fields.Malloc at size) none = let h = region_of at size none in (event.Malloc record { at = at; size = size; small = h.0; in_range = h.1 }, refl)
+event_of (fields.Free at) none = (event.Free record { at = at; in_range = place_of at none }, refl)
+event_of (fields.Poison at size) none = let h = region_of at size none in (event.Poison record { at = at; size = size; small = h.0; in_range = h.1 }, refl)
+event_of (fields.Unpoison at size) none = let h = region_of at size none in (event.Unpoison record { at = at; size = size; small = h.0; in_range = h.1 }, refl)
 
 -- no spelling begins another
 pub no_prefix : (e f : Event) (x y : List ℕ) → spelling e ++ x ≡ spelling f ++ y → (e ≡ f) × (x ≡ y)
-no_prefix (event.Load a) (event.Load b) x y e = let s = access_bytes a b x y (ap (drop 1) e) in (ap event.Load s.0, s.1)
-no_prefix (event.Store a) (event.Store b) x y e = let s = access_bytes a b x y (ap (drop 1) e) in (ap event.Store s.0, s.1)
-no_prefix (event.Malloc a) (event.Malloc b) x y e = let s = region_bytes a b x y (ap (drop 1) e) in (ap event.Malloc s.0, s.1)
-no_prefix (event.Poison a) (event.Poison b) x y e = let s = region_bytes a b x y (ap (drop 1) e) in (ap event.Poison s.0, s.1)
-no_prefix (event.Unpoison a) (event.Unpoison b) x y e = let s = region_bytes a b x y (ap (drop 1) e) in (ap event.Unpoison s.0, s.1)
-no_prefix (event.Free a) (event.Free b) x y e =
-    let s = same_number a.at b.at x y (let r = a.in_range in omega arith) (let r = b.in_range in omega arith) (ap (drop 1) e) in
-    (ap event.Free (same_place a b s.0), s.1)
-no_prefix _ _ x y e = absurd cc
+no_prefix e f x y is =
+    let same = same_fields (fields_of e) (fields_of f) x y (event_fits e) (event_fits f) is in
+    (same_event e f same.0, same.1)

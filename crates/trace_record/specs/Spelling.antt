@@ -1,5 +1,5 @@
 -- How events are spelled in bytes, and what a whole record says (the record layout is this project's choice, profile).
-use Rattle.std.specs.Prelude.{ℕ, ◌==◌, ◌||◌, if◌then◌else◌, List, [], ◌∷◌, ◌++◌, Option}
+use Rattle.std.specs.Prelude.{ℕ, ◌^◌, ◌<◌, ◌==◌, ◌||◌, if◌then◌else◌, List, [], ◌∷◌, ◌++◌, Option}
 use Rattle.std.specs.List.{flat_map}
 use Rattle.std.specs.Int.{w64, to_le_bytes}
 use Rattle.trace_record.specs.declared.event.Event.{Event}
@@ -25,6 +25,15 @@ bytes_of (fields.Malloc at size) = 3 ∷ to_le_bytes w64 at ++ to_le_bytes w64 s
 bytes_of (fields.Free at) = 4 ∷ to_le_bytes w64 at
 bytes_of (fields.Poison at size) = 5 ∷ to_le_bytes w64 at ++ to_le_bytes w64 size
 bytes_of (fields.Unpoison at size) = 6 ∷ to_le_bytes w64 at ++ to_le_bytes w64 size
+
+-- each number fits in its bytes
+abbrev pub FitBytes : Fields → Type 0
+FitBytes (fields.Load width at) = (width < 2 ^ 8) × (at < 2 ^ 64)
+FitBytes (fields.Store width at) = (width < 2 ^ 8) × (at < 2 ^ 64)
+FitBytes (fields.Malloc at size) = (at < 2 ^ 64) × (size < 2 ^ 64)
+FitBytes (fields.Free at) = at < 2 ^ 64
+FitBytes (fields.Poison at size) = (at < 2 ^ 64) × (size < 2 ^ 64)
+FitBytes (fields.Unpoison at size) = (at < 2 ^ 64) × (size < 2 ^ 64)
 
 -- how many bytes a record of a code has in all, or 0 where no record has this code
 abbrev pub record_length : ℕ → ℕ

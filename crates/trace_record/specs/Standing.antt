@@ -1,10 +1,11 @@
 -- Where a decoder stands in a text, and what its answers say.
-use Rattle.std.specs.Prelude.{◌≡◌, ℕ, List, [], ◌∷◌, ◌++◌, length, Option, Some, None}
+use Rattle.std.specs.Prelude.{◌≡◌, ℕ, ◌+◌, List, [], ◌∷◌, ◌++◌, length, Option, Some, None}
 use Rattle.trace_record.specs.declared.event.Event.{Event}
 use Rattle.trace_record.specs.declared.end.End.{End}
+use Rattle.trace_record.specs.declared.end.Fate.{Fate}
 use Rattle.trace_record.specs.declared.decoder.Out.{Out}
 use Rattle.trace_record.specs.declared.decoder.Out.TheVariants as out
-use Rattle.trace_record.specs.Stream.{IsOpenWith, IsDecidedFate, IsDecidedByLast, Spells, offset_of}
+use Rattle.trace_record.specs.Stream.{IsOpenWith, IsDecidedFate, IsDecidedByLast, Spells, offset_of, close_length}
 
 -- what a contract sees of a decoder: its event limit, the counts of good events and of the bytes of header and good
 -- records, the unfinished rest of the text, and the end that it has given, if one
@@ -21,6 +22,10 @@ pub record StandsAt (d : Standing) (text : List ℕ) (events : List Event) : Typ
   pub reads : IsOpenWith d.limit text events d.rest
   pub count : d.events ≡ length events
   pub offset : d.offset ≡ offset_of text events
+
+-- the end with this fate at what the decoder has read
+abbrev pub end_of : Standing → Fate → End
+end_of d fate = record { fate = fate; events = d.events; offset = d.offset + close_length fate }
 
 -- the end that an answer gives
 abbrev pub stop_of : Out → Option End

@@ -11,7 +11,7 @@ use Rattle.trace_record.specs.declared.end.Fate.TheVariants as fate
 use Rattle.trace_record.specs.declared.end.Flaw.{Flaw}
 use Rattle.trace_record.specs.declared.end.Flaw.TheVariants as flaw
 use Rattle.trace_record.specs.declared.fields.Fields.{Fields}
-use Rattle.trace_record.specs.Spelling.{header, close, bytes_of, spellings, flaw_of, record_length}
+use Rattle.trace_record.specs.Spelling.{header, close, bytes_of, FitBytes, spellings, flaw_of, record_length}
 
 -- the text begins with this front
 abbrev pub BeginsWith : List ℕ → List ℕ → Type 0
@@ -26,6 +26,7 @@ pub record IsUnknownCode (part : List ℕ) (byte : ℕ) : Type 0 where
 -- one whole record whose numbers have this first flaw
 pub record IsFlawedRecord (part : List ℕ) (f : Flaw) (numbers : Fields) : Type 0 where
   pub whole : part ≡ bytes_of numbers
+  pub fit : FitBytes numbers
   pub first : flaw_of numbers ≡ Some f
 
 -- a flawed record, with its first flaw: an unknown code, or a whole record with a flaw in its numbers

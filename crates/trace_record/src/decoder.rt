@@ -1,86 +1,95 @@
-ghost use Rattle.trace_record.specs.Spelling.{record_length};
-ghost use Rattle.std.specs.Prelude.{◌≡◌, ◌+◌, ◌*◌, ◌^◌, ◌<◌, ◌≤◌, ℕ, List, [], ◌∷◌, ◌++◌, length, take, ◌↔◌, MatchOption, IfSome, ◌⊎◌, Some, None};
+ghost use Rattle.std.specs.Prelude.{◌≡◌, ◌≢◌, ◌<◌, ◌≤◌, ◌↔◌, ◌⊎◌, ℕ, List, [], ◌++◌, length, take, IsSome, IfSome, IfOk, Some, None};
+ghost use Rattle.trace_record.specs.Ranges.{largest_limit};
+ghost use Rattle.trace_record.specs.Reading.{Says};
+ghost use Rattle.trace_record.specs.Spelling.{record_length, spelling};
 
 use crate::end::{End, Fate, Flaw};
 use crate::event::Event;
-use crate::fields::event_of;
-use crate::numbers::fields_in;
+use crate::fields::read_record;
+use crate::format::{
+    ACCESS_LENGTH, CLOSE, FREE, HEADER, HEADER_LENGTH, LOAD, MALLOC, PLACE_LENGTH, POISON,
+    REGION_LENGTH, STORE, UNPOISON,
+};
+use crate::held::Held;
 use std::marker::Model;
 
-pub const HEADER: [u8; 8] = [0x41, 0x53, 0x54, 0x52, 1, 0, 0, 0];
+/// The greatest event limit.
+const LARGEST_LIMIT: u32 = 1 << 24;
 
-pub const CLOSE: u8 = 7;
-
+/// Reads one stream, whose bytes come in pieces of any lengths, record by record. It takes no memory: of what it has read
+/// it keeps two counts, and the bytes of a header or record that a piece cut.
 #[derive(Drop)]
 pub struct Decoder {
     limit: u32,
     events: u64,
     offset: u64,
-    held: [u8; 24],
-    held_len: usize,
+    held: Held,
     stop: Option<End>,
 }
 
 impl Model for Decoder {
     ghost use Rattle.trace_record.specs.Standing.{Standing};
+    ghost use Rattle.trace_record.specs.Sound.{IsSound};
 
     ghost Value = { Standing };
 
-    ghost use Rattle.std.specs.Prelude.{take};
-
-    ghost view = { λ a. record { limit = a.limit; events = a.events; offset = a.offset; rest = take a.held_len a.held; stop = a.stop } };
-
-    ghost use Rattle.trace_record.specs.Sound.{IsSound};
+    ghost view = { λ d. record { limit = d.limit; events = d.events; offset = d.offset; rest = d.held; stop = d.stop } };
 
     ghost invariant = { IsSound };
 }
 
-#[derive(Clone, Copy)]
+/// What a decoder answers to a piece.
+#[derive(Clone, Copy, Debug, PartialEq, Eq)]
 pub enum Out {
+    /// The next event. The bytes that were used end with its record.
     Got(Event),
+    /// The whole piece was used, and the stream goes on.
     Need,
+    /// The stream has ended. The byte that decided this is the last that was used.
     Stop(End),
 }
 
-#[derive(Clone, Copy)]
+/// An answer, and how many bytes of the piece it used.
+#[derive(Clone, Copy, Debug, PartialEq, Eq)]
 pub struct Step {
     pub used: usize,
     pub out: Out,
 }
 
 impl Decoder {
-    ghost use Rattle.trace_record.specs.Standing.{StandsAt};
+    ghost use Rattle.trace_record.specs.Standing.{StandsAt, Answers, stop_of, end_of};
+    ghost use Rattle.trace_record.specs.Stream.{Spells};
 
+    /// A decoder at the start of a stream that may have at most `limit` events, or None unless the limit is 1 to 2^24.
     pub fn new(limit: u32) -> Option<Decoder>
-        ensures { MatchOption result (¬ ((0 < limit) × (limit ≤ 2 ^ 24))) (λ d. (d.limit ≡ limit) × (0 < limit) × (limit ≤ 2 ^ 24) × StandsAt d [] []) }
+        ensures made { IsSome result ↔ ((0 < limit) × (limit ≤ largest_limit)) }
+        ensures at_start { IfSome result (λ d. (d.limit ≡ limit) × StandsAt d [] []) }
     {
-        if limit == 0 || limit > 0x100_0000 {
+        if limit == 0 || limit > LARGEST_LIMIT {
             return None;
         }
         Some(Decoder {
             limit,
             events: 0,
             offset: 0,
-            held: [0; 24],
-            held_len: 0,
+            held: Held::new(),
             stop: None,
         })
     }
 
-    ghost use Rattle.trace_record.specs.declared.event.Event.{Event as AnEvent};
-    ghost use Rattle.trace_record.specs.Standing.{Answers, stop_of};
-    ghost use Rattle.trace_record.specs.Stream.{Spells};
-
-    /// Takes what comes next of a text, up to the end of a record.
+    /// Reads what comes next of the stream: up to the end of its next record, or up to the byte that ends the stream, or
+    /// all of the piece where it has neither. Bytes behind that are not looked at, and are to be given again. After a
+    /// `Stop` each call answers the same `Stop`, uses no byte and leaves the decoder as it is.
     pub fn next(&mut self, piece: &[u8]) -> Step
         ensures used { result.used ≤ length piece.now }
         ensures need { result.out ≡ Out.Need → result.used ≡ length piece.now }
-        ensures got { (e : AnEvent) → result.out ≡ Out.Got e → 0 < result.used }
+        ensures got { (event : Event) → result.out ≡ Out.Got event → 0 < result.used }
         ensures limit { self.new.limit ≡ self.old.limit }
         ensures stop { self.new.stop ≡ stop_of result.out }
         ensures answers { (text : List ℕ) (events : List Event) → StandsAt self.old text events →
             Answers self.new (text ++ take result.used piece.now) events result.out }
-        ensures stopped { IfSome self.old.stop (λ end. (result ≡ record { used = 0; out = Out.Stop end }) × (self.new ≡ self.old)) }
+        ensures stopped { IfSome self.old.stop
+            (λ end. (result ≡ record { used = 0; out = Out.Stop end }) × (self.new ≡ self.old)) }
     {
         if let Some(end) = self.stop {
             return Step {
@@ -88,19 +97,24 @@ impl Decoder {
                 out: Out::Stop(end),
             };
         }
-        for (i, byte) in piece.iter().enumerate() {
-            match self.take_byte(*byte) {
-                Out::Need => {}
-                out => return Step { used: i + 1, out },
-            }
+        if self.offset >= HEADER_LENGTH as u64 {
+            return self.take_record(piece);
         }
-        Step {
-            used: piece.len(),
-            out: Out::Need,
+        let header = self.take_header(piece);
+        match header.out {
+            Out::Need if header.used < piece.len() => {
+                let record = self.take_record(&piece[header.used..]);
+                Step {
+                    used: header.used + record.used,
+                    out: record.out,
+                }
+            }
+            _ => header,
         }
     }
 
-    /// The end of a text that no more comes of.
+    /// The end where no more bytes come: `Truncated` inside the header or a record, and for an empty stream too, `NoClose`
+    /// right behind the header or a whole record. After a `Stop` it is that one's end.
     pub fn at_end(self) -> End
         ensures stopped { IfSome self.stop (λ end. result ≡ end) }
         ensures ends { (text : List ℕ) (events : List Event) → StandsAt self text events →
@@ -108,163 +122,221 @@ impl Decoder {
     {
         match self.stop {
             Some(end) => end,
-            None => {
-                let fate = if self.offset >= 8 && self.held_len == 0 {
-                    Fate::NoClose
-                } else {
-                    Fate::Truncated
-                };
-                End {
-                    fate,
-                    events: self.events,
-                    offset: self.offset,
-                }
+            None if self.offset >= HEADER_LENGTH as u64 && self.held.is_empty() => {
+                self.end(Fate::NoClose)
             }
+            None => self.end(Fate::Truncated),
         }
     }
 
-    /// Takes one byte of a text that nothing has ended.
-    fn take_byte(&mut self, byte: u8) -> Out
-        requires { self.old.stop ≡ None }
-        ensures limit { self.new.limit ≡ self.old.limit }
-        ensures stop { self.new.stop ≡ stop_of result }
-        ensures answers { (text : List ℕ) (events : List Event) → StandsAt self.old text events →
-            Answers self.new (text ++ byte ∷ []) events result }
+    /// The end where the next bytes cannot be read: `ReadFailed`, or after a `Stop` that one's end.
+    pub fn at_fault(self) -> End
+        ensures stopped { IfSome self.stop (λ end. result ≡ end) }
+        ensures ends { (text : List ℕ) (events : List Event) → StandsAt self text events →
+            Spells self.limit text events result × (result.fate ≡ Fate.ReadFailed) }
     {
-        if self.offset < 8 {
-            self.take_header_byte(byte)
-        } else {
-            self.take_record_byte(byte)
-        }
+        self.stop.unwrap_or(self.end(Fate::ReadFailed))
     }
 
-    fn take_header_byte(&mut self, byte: u8) -> Out
+    /// Takes bytes of the header. Cold: a stream has one.
+    #[cold]
+    fn take_header(&mut self, piece: &[u8]) -> Step
         requires running { self.old.stop ≡ None }
         requires in_header { self.old.offset < 8 }
+        ensures used { result.used ≤ length piece.now }
+        ensures whole { result.out ≡ Out.Need → result.used < length piece.now → 8 ≤ self.new.offset }
+        ensures got { (event : Event) → result.out ≡ Out.Got event → 0 < result.used }
         ensures limit { self.new.limit ≡ self.old.limit }
-        ensures stop { self.new.stop ≡ stop_of result }
+        ensures stop { self.new.stop ≡ stop_of result.out }
         ensures answers { (text : List ℕ) (events : List Event) → StandsAt self.old text events →
-            Answers self.new (text ++ byte ∷ []) events result }
+            Answers self.new (text ++ take result.used piece.now) events result.out }
     {
-        self.held[self.held_len] = byte;
-        self.held_len += 1;
-        if self.held_len < 8 {
-            return Out::Need;
+        let missing = HEADER_LENGTH - self.held.len();
+        if piece.len() < missing {
+            self.held.append(piece);
+            return Step {
+                used: piece.len(),
+                out: Out::Need,
+            };
         }
-        self.held_len = 0;
-        if self.held[..8] == HEADER[..] {
-            self.offset = 8;
-            Out::Need
+        self.held.append(&piece[..missing]);
+        let good = self.held.as_slice() == HEADER.as_slice();
+        self.held.clear();
+        if good {
+            self.offset = HEADER_LENGTH as u64;
+            Step {
+                used: missing,
+                out: Out::Need,
+            }
         } else {
-            let end = End {
-                fate: Fate::Malformed(Flaw::Header),
-                events: self.events,
-                offset: self.offset,
-            };
-            self.stop = Some(end);
-            Out::Stop(end)
+            Step {
+                used: missing,
+                out: self.stop(Fate::Malformed(Flaw::Header)),
+            }
         }
     }
 
-    fn take_record_byte(&mut self, byte: u8) -> Out
+    /// Takes bytes of one record.
+    fn take_record(&mut self, piece: &[u8]) -> Step
         requires running { self.old.stop ≡ None }
         requires in_records { 8 ≤ self.old.offset }
+        ensures used { result.used ≤ length piece.now }
+        ensures need { result.out ≡ Out.Need → result.used ≡ length piece.now }
+        ensures got { (event : Event) → result.out ≡ Out.Got event → 0 < result.used }
         ensures limit { self.new.limit ≡ self.old.limit }
-        ensures stop { self.new.stop ≡ stop_of result }
+        ensures stop { self.new.stop ≡ stop_of result.out }
         ensures answers { (text : List ℕ) (events : List Event) → StandsAt self.old text events →
-            Answers self.new (text ++ byte ∷ []) events result }
+            Answers self.new (text ++ take result.used piece.now) events result.out }
     {
-        if self.held_len == 0 {
-            self.take_code(byte)
+        if piece.is_empty() {
+            return Step {
+                used: 0,
+                out: Out::Need,
+            };
+        }
+        if self.held.is_empty() {
+            self.take_first(piece)
         } else {
-            self.take_more(byte)
+            self.take_more(piece)
         }
     }
 
-    fn take_code(&mut self, byte: u8) -> Out
+    /// Takes bytes of a record that begins with the piece.
+    fn take_first(&mut self, piece: &[u8]) -> Step
         requires running { self.old.stop ≡ None }
         requires in_records { 8 ≤ self.old.offset }
-        requires whole { self.old.rest ≡ [] }
+        requires none_held { self.old.rest ≡ [] }
+        requires begun { 0 < length piece.now }
+        ensures used { result.used ≤ length piece.now }
+        ensures need { result.out ≡ Out.Need → result.used ≡ length piece.now }
+        ensures got { (event : Event) → result.out ≡ Out.Got event → 0 < result.used }
         ensures limit { self.new.limit ≡ self.old.limit }
-        ensures stop { self.new.stop ≡ stop_of result }
+        ensures stop { self.new.stop ≡ stop_of result.out }
         ensures answers { (text : List ℕ) (events : List Event) → StandsAt self.old text events →
-            Answers self.new (text ++ byte ∷ []) events result }
+            Answers self.new (text ++ take result.used piece.now) events result.out }
     {
-        if byte == CLOSE {
-            let end = End {
-                fate: Fate::Closed,
-                events: self.events,
-                offset: self.offset + 1,
+        let code = piece[0];
+        let length = length_of(code);
+        if code == CLOSE {
+            return Step {
+                used: 1,
+                out: self.stop(Fate::Closed),
             };
-            self.stop = Some(end);
-            return Out::Stop(end);
         }
-        if self.events == self.limit as u64 {
-            let end = End {
-                fate: Fate::TooMany,
-                events: self.events,
-                offset: self.offset,
+        if self.events == u64::from(self.limit) {
+            return Step {
+                used: 1,
+                out: self.stop(Fate::TooMany),
             };
-            self.stop = Some(end);
-            return Out::Stop(end);
         }
-        if length_of(byte) == 0 {
-            let end = End {
-                fate: Fate::Malformed(Flaw::Code),
-                events: self.events,
-                offset: self.offset,
+        if length == 0 {
+            return Step {
+                used: 1,
+                out: self.stop(Fate::Malformed(Flaw::Code)),
             };
-            self.stop = Some(end);
-            return Out::Stop(end);
         }
-        self.held[0] = byte;
-        self.held_len = 1;
-        Out::Need
+        if piece.len() < length {
+            self.held.append(piece);
+            return Step {
+                used: piece.len(),
+                out: Out::Need,
+            };
+        }
+        let said = read_record(&piece[..length]);
+        self.finish(said, length, length)
     }
 
-    fn take_more(&mut self, byte: u8) -> Out
+    /// Takes more bytes of the record that is held. Cold: few records are cut.
+    #[cold]
+    fn take_more(&mut self, piece: &[u8]) -> Step
         requires running { self.old.stop ≡ None }
         requires in_records { 8 ≤ self.old.offset }
-        requires begun { 0 < length self.old.rest }
+        requires held { 0 < length self.old.rest }
+        ensures used { result.used ≤ length piece.now }
+        ensures need { result.out ≡ Out.Need → result.used ≡ length piece.now }
+        ensures got { (event : Event) → result.out ≡ Out.Got event → 0 < result.used }
         ensures limit { self.new.limit ≡ self.old.limit }
-        ensures stop { self.new.stop ≡ stop_of result }
+        ensures stop { self.new.stop ≡ stop_of result.out }
         ensures answers { (text : List ℕ) (events : List Event) → StandsAt self.old text events →
-            Answers self.new (text ++ byte ∷ []) events result }
+            Answers self.new (text ++ take result.used piece.now) events result.out }
     {
-        self.held[self.held_len] = byte;
-        self.held_len += 1;
-        let len = self.held_len;
-        if len < length_of(self.held[0]) {
-            return Out::Need;
+        let length = length_of(self.held.as_slice()[0]);
+        let missing = length - self.held.len();
+        if piece.len() < missing {
+            self.held.append(piece);
+            return Step {
+                used: piece.len(),
+                out: Out::Need,
+            };
         }
-        self.held_len = 0;
-        match event_of(fields_in(&self.held[..len])) {
+        self.held.append(&piece[..missing]);
+        let said = read_record(self.held.as_slice());
+        self.held.clear();
+        self.finish(said, length, missing)
+    }
+
+    /// Answers what a whole record said: its event, or the end of the stream for its first flaw.
+    fn finish(&mut self, said: Result<Event, Flaw>, size: usize, used: usize) -> Step
+        requires running { self.old.stop ≡ None }
+        requires in_records { 8 ≤ self.old.offset }
+        requires none_held { self.old.rest ≡ [] }
+        requires room { self.old.events < self.old.limit }
+        requires size { IfOk said (λ event. size ≡ length (spelling event)) }
+        ensures used { result.used ≡ used }
+        ensures decides { result.out ≢ Out.Need }
+        ensures limit { self.new.limit ≡ self.old.limit }
+        ensures stop { self.new.stop ≡ stop_of result.out }
+        ensures answers { (text : List ℕ) (events : List Event) (rest part : List ℕ) →
+            StandsAt (record self.old { rest = rest }) text events → Says (rest ++ part) said →
+            Answers self.new (text ++ part) events result.out }
+    {
+        match said {
             Ok(event) => {
                 self.events += 1;
-                self.offset += len as u64;
-                Out::Got(event)
+                self.offset += size as u64;
+                Step {
+                    used,
+                    out: Out::Got(event),
+                }
             }
-            Err(flaw) => {
-                let end = End {
-                    fate: Fate::Malformed(flaw),
-                    events: self.events,
-                    offset: self.offset,
-                };
-                self.stop = Some(end);
-                Out::Stop(end)
-            }
+            Err(flaw) => Step {
+                used,
+                out: self.stop(Fate::Malformed(flaw)),
+            },
+        }
+    }
+
+    /// Ends the stream.
+    fn stop(&mut self, fate: Fate) -> Out
+        ensures stops { self.new ≡ record self.old { stop = Some (end_of self.old fate) } }
+        ensures told { result ≡ Out.Stop (end_of self.old fate) }
+    {
+        let end = self.end(fate);
+        self.stop = Some(end);
+        Out::Stop(end)
+    }
+
+    /// The end with this fate, at what was read.
+    fn end(&self, fate: Fate) -> End
+        ensures { result ≡ end_of self.now fate }
+    {
+        let close = u64::from(fate == Fate::Closed);
+        End {
+            fate,
+            events: self.events,
+            offset: self.offset + close,
         }
     }
 }
 
-/// How many bytes a record of this code has, or 0 where there is none.
+/// How many bytes a record of this code has, or 0 where no record has it.
 fn length_of(code: u8) -> usize
     ensures { result ≡ record_length code }
 {
     match code {
-        1 | 2 => 10,
-        3 | 5 | 6 => 17,
-        4 => 9,
+        LOAD | STORE => ACCESS_LENGTH,
+        MALLOC | POISON | UNPOISON => REGION_LENGTH,
+        FREE => PLACE_LENGTH,
         _ => 0,
     }
 }

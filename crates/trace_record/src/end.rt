@@ -1,15 +1,22 @@
+use thiserror::Error;
+
 /// What is wrong with a header or a record. Of a record that has several, the first in this order is told.
-#[derive(Clone, Copy, Debug, PartialEq, Eq)]
+#[derive(Clone, Copy, Debug, PartialEq, Eq, Error)]
 pub enum Flaw {
     /// The first eight bytes are not the header.
+    #[error("the first eight bytes are not the header")]
     Header = 1,
     /// A record begins with a byte that is no code.
+    #[error("a record begins with an unknown code")]
     Code,
     /// The width of a load or store is not 1, 2, 4 or 8.
+    #[error("the width of an access is not 1, 2, 4 or 8")]
     Width,
-    /// A malloc, poison or unpoison speaks of more than `LARGEST_REGION` bytes.
+    /// A malloc, poison or unpoison speaks of more than 2^28 bytes.
+    #[error("a region has more than 268435456 bytes")]
     Size,
     /// The record reaches past the last address.
+    #[error("a record reaches past the last address")]
     Range,
 }
 

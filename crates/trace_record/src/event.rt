@@ -10,7 +10,7 @@ const ADDRESS_END: u64 = 1 << 47;
 const LARGEST_REGION: u64 = 1 << 28;
 
 /// The bytes of a load or a store.
-#[derive(Clone, Copy, Debug)]
+#[derive(Clone, Copy, Debug, PartialEq, Eq)]
 pub struct Access {
     pub at: u64,
     pub width: u8,
@@ -19,7 +19,7 @@ pub struct Access {
 }
 
 /// The bytes of a malloc, a poison or an unpoison.
-#[derive(Clone, Copy, Debug)]
+#[derive(Clone, Copy, Debug, PartialEq, Eq)]
 pub struct Region {
     pub at: u64,
     pub size: u64,
@@ -28,14 +28,14 @@ pub struct Region {
 }
 
 /// The address of a free.
-#[derive(Clone, Copy, Debug)]
+#[derive(Clone, Copy, Debug, PartialEq, Eq)]
 pub struct Place {
     pub at: u64,
     pub ghost in_range: { at < address_end },
 }
 
 /// What a traced process did.
-#[derive(Clone, Copy, Debug)]
+#[derive(Clone, Copy, Debug, PartialEq, Eq)]
 pub enum Event {
     Load(Access),
     Store(Access),

@@ -1,14 +1,23 @@
-//! The records of a trace: events and their ranges, a decoder that takes a stream in any pieces, and an encoder.
+//! The records of a trace: what a stream of bytes says that a process did, and how that is spelled in bytes.
 #![tactic(auto)]
 
 mod decoder;
+mod encoding;
 mod end;
 mod event;
 mod fields;
+mod format;
+mod held;
 mod laws;
-mod numbers;
+#[cfg(test)]
+mod tests;
 
-pub use decoder::{CLOSE, Decoder, HEADER, Out, Step};
+pub use decoder::{Decoder, Out, Step};
+pub use encoding::encode;
 pub use end::{End, Fate, Flaw};
 pub use event::{Access, Event, Place, Region};
-pub use laws::{no_prefix, one_reading};
+pub use format::{CLOSE, HEADER, RECORD_ROOM};
+pub use laws::{
+    decisions_stand, encoded_events_are_read, events_stand, spellings_are_prefix_free,
+    texts_have_one_reading, texts_spell_one_end, whole_records_say_one_thing,
+};

@@ -1,0 +1,215 @@
+-- Bytes can always be read: a whole record says something, and a text is open or decided.
+use Rattle.std.proofs.Common.{◌≡◌, ◌≢◌, ℕ, zero, suc, ◌+◌, ◌-◌, ◌^◌, ◌<◌, ◌≤◌, ◌⊎◌, List, [], ◌∷◌, ◌++◌, length, take, drop, get_or, Option, Some, None, Result, Ok, Err, refl, sym, ap, subst, ◌∙◌, arith, append_assoc, length-append, length-drop, inl, inr, eqb}
+use Rattle.std.specs.Prelude.{slice_index}
+use Rattle.std.specs.Int.{w64, to_le_bytes}
+use Rattle.std.proofs.lemmas.Nat.{le_bytes_8}
+use Rattle.std.proofs.lemmas.Bool.{cases_Bool, cases_eq, cases_lt, false≢true}
+use Rattle.std.proofs.lemmas.Bool.Decides.{nat_tests}
+use lib.Pointwise.{pointwise, bytes_decides}
+use Rattle.std.proofs.lemmas.List.{take-append-drop, take_all, length-take-le, flat_map_more}
+use Rattle.std.proofs.lemmas.List.Elements.{All-cons, All-head, All-tail, All-drop, All-take}
+use Rattle.trace_record.specs.declared.event.Event.{Event}
+use Rattle.trace_record.specs.declared.end.Fate.{Fate}
+use Rattle.trace_record.specs.declared.end.Fate.TheVariants as fate
+use Rattle.trace_record.specs.declared.end.Flaw.{Flaw}
+use Rattle.trace_record.specs.declared.end.Flaw.TheVariants as flaw
+use Rattle.trace_record.specs.declared.fields.Fields.{Fields}
+use Rattle.trace_record.specs.Spelling.{header, close, bytes_of, FitBytes, fields_of, flaw_of, spelling, spellings, record_length}
+use Rattle.trace_record.specs.Reading.{AreBytes, IsWholeRecord, Says, Reads}
+use Rattle.trace_record.specs.Stream.{IsFlawedRecord}
+use Rattle.trace_record.proofs.Numbers.{number, fields_at, same_fields}
+use Rattle.trace_record.proofs.Same.{event_of, event_fits, event_flawless, no_prefix}
+
+byte_at : (xs : List ℕ) (i : ℕ) → AreBytes xs → get_or xs i 0 < 256
+byte_at [] i bytes = omega arith
+byte_at (x ∷ xs) zero bytes = All-head (λ b. b < 256) x xs bytes
+byte_at (x ∷ xs) (suc i) bytes = byte_at xs i (All-tail (λ b. b < 256) x xs bytes)
+
+eight : (xs : List ℕ) → 8 ≤ length xs → length (take 8 xs) ≡ 8
+eight xs some = length-take-le 8 xs some
+
+-- the number of eight bytes is spelled by them, and fits
+number_back : (xs : List ℕ) → AreBytes xs → 8 ≤ length xs → to_le_bytes w64 (number xs) ≡ take 8 xs
+number_back xs bytes some = le_bytes_8 (take 8 xs) (number xs) (eight xs some) (λ i. byte_at (take 8 xs) i (All-take (λ b. b < 256) 8 xs bytes)) refl
+
+number_fits : (xs : List ℕ) → AreBytes xs → number xs < 2 ^ 64
+number_fits xs bytes =
+    let at : (i : ℕ) → get_or (take 8 xs) i 0 < 256 = λ i. byte_at (take 8 xs) i (All-take (λ b. b < 256) 8 xs bytes) in
+    omega (arith, at 0, at 1, at 2, at 3, at 4, at 5, at 6, at 7)
+
+access_back : (more : List ℕ) → AreBytes more → length more ≡ 9 → more ≡ slice_index more 0 ∷ to_le_bytes w64 (number (drop 1 more))
+access_back [] bytes len = absurd (omega arith)
+access_back (width ∷ at) bytes len =
+    let tail = All-tail (λ b. b < 256) width at bytes in
+    ap (λ (t : List ℕ). width ∷ t) (sym (number_back at tail (omega arith) ∙ take_all 8 at (omega arith)))
+
+region_back : (more : List ℕ) → AreBytes more → length more ≡ 16 → more ≡ to_le_bytes w64 (number more) ++ to_le_bytes w64 (number (drop 8 more))
+region_back more bytes len =
+    let size = drop 8 more in
+    let long : length size ≡ 8 = omega (arith, length-drop 8 more) in
+    let first = number_back more bytes (omega arith) in
+    let second = number_back size (All-drop (λ b. b < 256) 8 more bytes) (omega arith) ∙ take_all 8 size (omega arith) in
+    sym (take-append-drop 8 more) ∙ ap (λ (t : List ℕ). t ++ size) (sym first) ∙ ap (λ (t : List ℕ). to_le_bytes w64 (number more) ++ t) (sym second)
+
+place_back : (more : List ℕ) → AreBytes more → length more ≡ 8 → more ≡ to_le_bytes w64 (number more)
+place_back more bytes len = sym (number_back more bytes (omega arith) ∙ take_all 8 more (omega arith))
+
+none_past : (code : ℕ) → 6 < code → record_length code ≡ 0
+none_past code past = grind (arith, nat_tests)
+
+record Back (part : List ℕ) : Type 0 where
+  whole : part ≡ bytes_of (fields_at part)
+  fit : FitBytes (fields_at part)
+
+-- the numbers of a whole record spell it
+back : (part : List ℕ) → IsWholeRecord part → Back part
+back [] whole = absurd whole
+back (zero ∷ more) whole = absurd (let len : suc (length more) ≡ 0 = whole.1 in omega arith)
+back (suc zero ∷ more) whole =
+    let bytes = All-tail (λ b. b < 256) 1 more whole.0 in
+    let len : length more ≡ 9 = let e = whole.1 in omega arith in
+    record { whole = ap (λ (t : List ℕ). 1 ∷ t) (access_back more bytes len); fit = (byte_at more 0 bytes, number_fits (drop 1 more) (All-drop (λ b. b < 256) 1 more bytes)) }
+back (suc (suc zero) ∷ more) whole =
+    let bytes = All-tail (λ b. b < 256) 2 more whole.0 in
+    let len : length more ≡ 9 = let e = whole.1 in omega arith in
+    record { whole = ap (λ (t : List ℕ). 2 ∷ t) (access_back more bytes len); fit = (byte_at more 0 bytes, number_fits (drop 1 more) (All-drop (λ b. b < 256) 1 more bytes)) }
+back (suc (suc (suc zero)) ∷ more) whole =
+    let bytes = All-tail (λ b. b < 256) 3 more whole.0 in
+    let len : length more ≡ 16 = let e = whole.1 in omega arith in
+    record { whole = ap (λ (t : List ℕ). 3 ∷ t) (region_back more bytes len); fit = (number_fits more bytes, number_fits (drop 8 more) (All-drop (λ b. b < 256) 8 more bytes)) }
+back (suc (suc (suc (suc zero))) ∷ more) whole =
+    let bytes = All-tail (λ b. b < 256) 4 more whole.0 in
+    let len : length more ≡ 8 = let e = whole.1 in omega arith in
+    record { whole = ap (λ (t : List ℕ). 4 ∷ t) (place_back more bytes len); fit = number_fits more bytes }
+back (suc (suc (suc (suc (suc zero)))) ∷ more) whole =
+    let bytes = All-tail (λ b. b < 256) 5 more whole.0 in
+    let len : length more ≡ 16 = let e = whole.1 in omega arith in
+    record { whole = ap (λ (t : List ℕ). 5 ∷ t) (region_back more bytes len); fit = (number_fits more bytes, number_fits (drop 8 more) (All-drop (λ b. b < 256) 8 more bytes)) }
+back (suc (suc (suc (suc (suc (suc zero))))) ∷ more) whole =
+    let bytes = All-tail (λ b. b < 256) 6 more whole.0 in
+    let len : length more ≡ 16 = let e = whole.1 in omega arith in
+    record { whole = ap (λ (t : List ℕ). 6 ∷ t) (region_back more bytes len); fit = (number_fits more bytes, number_fits (drop 8 more) (All-drop (λ b. b < 256) 8 more bytes)) }
+back (suc (suc (suc (suc (suc (suc (suc code)))))) ∷ more) whole = absurd (let len = whole.1 in let none = none_past (suc (suc (suc (suc (suc (suc (suc code))))))) (omega arith) in omega arith)
+
+said_by : (part : List ℕ) (o : Option Flaw) → Back part → flaw_of (fields_at part) ≡ o → (said : Result Event Flaw) × Says part said
+said_by part None b is = let e = event_of (fields_at part) is in (Ok e.0, b.whole ∙ ap bytes_of (sym e.1))
+said_by part (Some f) b is = (Err f, (fields_at part, record { whole = b.whole; fit = b.fit; first = is }))
+
+-- no event is spelled as a flawed record
+says_not : (e : Event) (part : List ℕ) (x : Fields) (f : Flaw) → part ≡ spelling e → IsFlawedRecord part f x → ⊥
+says_not e part x f is bad =
+    let same : x ≡ fields_of e = (same_fields x (fields_of e) [] [] bad.fit (event_fits e) (ap (λ (t : List ℕ). t ++ []) (sym bad.whole ∙ is))).0 in
+    let none : flaw_of x ≡ None = ap flaw_of same ∙ event_flawless e in
+    let first : flaw_of x ≡ Some f = bad.first in
+    cc
+
+-- a whole record says something
+pub says : (part : List ℕ) → IsWholeRecord part → (said : Result Event Flaw) × Says part said
+says part whole = said_by part (flaw_of (fields_at part)) (back part whole) refl
+
+-- two things that a record says are one
+pub says_one : (part : List ℕ) (said other : Result Event Flaw) → Says part said → Says part other → said ≡ other
+says_one part (Ok e) (Ok f) a b = ap Ok (no_prefix e f [] [] (ap (λ (t : List ℕ). t ++ []) (sym a ∙ b))).0
+says_one part (Ok e) (Err f) a (x, bad) = absurd (says_not e part x f a bad)
+says_one part (Err f) (Ok e) (x, bad) b = absurd (says_not e part x f b bad)
+says_one part (Err f) (Err g) (x, a) (y, b) =
+    let same : x ≡ y = (same_fields x y [] [] a.fit b.fit (ap (λ (t : List ℕ). t ++ []) (sym a.whole ∙ b.whole))).0 in
+    let first : Some f ≡ Some g = sym a.first ∙ ap flaw_of same ∙ b.first in
+    cc
+
+-- a text begins with a whole record
+record BeginsWhole (tail : List ℕ) : Type 0 where
+  part : List ℕ
+  rest : List ℕ
+  same : tail ≡ part ++ rest
+  whole : IsWholeRecord part
+  bytes : AreBytes rest
+
+begins_whole : (code : ℕ) (more : List ℕ) → AreBytes (code ∷ more) → 0 < record_length code → record_length code ≤ length (code ∷ more) → BeginsWhole (code ∷ more)
+begins_whole code more bytes known long =
+    let n = record_length code - 1 in
+    let tail = All-tail (λ b. b < 256) code more bytes in
+    let len : length (code ∷ take n more) ≡ record_length code = let h = length-take-le n more (omega arith) in omega arith in
+    record {
+      part = code ∷ take n more;
+      rest = drop n more;
+      same = ap (λ (t : List ℕ). code ∷ t) (sym (take-append-drop n more));
+      whole = (All-cons (λ b. b < 256) code (take n more) (All-head (λ b. b < 256) code more bytes) (All-take (λ b. b < 256) n more tail), len);
+      bytes = All-drop (λ b. b < 256) n more tail;
+    }
+
+-- a text has a reading
+pub record HasReading (limit : ℕ) (text : List ℕ) : Type 0 where
+  pub events : List Event
+  pub end : Option Fate
+  pub reads : Reads limit text events end
+
+behind : (es : List Event) (part more : List ℕ) → header ++ spellings es ++ (part ++ more) ≡ (header ++ spellings es ++ part) ++ more
+behind es part more = sym (append_assoc (header ++ spellings es) part more)
+
+nothing_here : (limit : ℕ) (es : List Event) → length es ≤ limit → HasReading limit (header ++ spellings es ++ [])
+nothing_here limit es within = record { events = es; end = None; reads = ([], inr record { split = refl; follows = within }) }
+
+closed_here : (limit : ℕ) (es : List Event) (code : ℕ) (more : List ℕ) → length es ≤ limit → code ≡ close → HasReading limit (header ++ spellings es ++ code ∷ more)
+closed_here limit es code more within is = record { events = es; end = Some fate.Closed; reads = (within, (more, ap (λ (c : ℕ). (header ++ spellings es) ++ (c ∷ more)) is ∙ behind es (close ∷ []) more)) }
+
+many_here : (limit : ℕ) (es : List Event) (code : ℕ) (more : List ℕ) → length es ≡ limit → code ≢ close → HasReading limit (header ++ spellings es ++ code ∷ more)
+many_here limit es code more full not = record { events = es; end = Some fate.TooMany; reads = (full, code, not, (more, behind es (code ∷ []) more)) }
+
+code_here : (limit : ℕ) (es : List Event) (code : ℕ) (more : List ℕ) → length es < limit → code ≢ close → record_length code ≡ 0 → HasReading limit (header ++ spellings es ++ code ∷ more)
+code_here limit es code more room not unknown = record { events = es; end = Some (fate.Malformed flaw.Code); reads = inr (room, code ∷ [], inl (refl, code, record { alone = refl; no_record = unknown; no_close = not }), (more, behind es (code ∷ []) more)) }
+
+unfinished_here : (limit : ℕ) (es : List Event) (code : ℕ) (more : List ℕ) → length es < limit → length (code ∷ more) < record_length code → HasReading limit (header ++ spellings es ++ code ∷ more)
+unfinished_here limit es code more room short = record { events = es; end = None; reads = (code ∷ more, inr record { split = refl; follows = (room, short) }) }
+
+flawed_here : (limit : ℕ) (es : List Event) (part rest tail : List ℕ) (f : Flaw) (x : Fields) → length es < limit → tail ≡ part ++ rest → IsFlawedRecord part f x → HasReading limit (header ++ spellings es ++ tail)
+flawed_here limit es part rest tail f x room same bad = record { events = es; end = Some (fate.Malformed f); reads = inr (room, part, inr (x, bad), (rest, ap (λ (t : List ℕ). (header ++ spellings es) ++ t) same ∙ behind es part rest)) }
+
+event_here : (es : List Event) (e : Event) (part rest tail : List ℕ) → tail ≡ part ++ rest → part ≡ spelling e → header ++ spellings (es ++ e ∷ []) ++ rest ≡ header ++ spellings es ++ tail
+event_here es e part rest tail same is =
+    ap (λ (t : List ℕ). t ++ rest) (sym (flat_map_more spelling header es e)) ∙ append_assoc (header ++ spellings es) (spelling e) rest ∙ ap (λ (t : List ℕ). (header ++ spellings es) ++ (t ++ rest)) (sym is) ∙ ap (λ (t : List ℕ). (header ++ spellings es) ++ t) (sym same)
+
+record_here : (limit : ℕ) (es : List Event) (part rest tail : List ℕ) (said : Result Event Flaw) → length es < limit → tail ≡ part ++ rest → Says part said → ((e : Event) → HasReading limit (header ++ spellings (es ++ e ∷ []) ++ rest)) → HasReading limit (header ++ spellings es ++ tail)
+record_here limit es part rest tail (Ok e) room same is next = subst (λ (t : List ℕ). HasReading limit t) (event_here es e part rest tail same is) (next e)
+record_here limit es part rest tail (Err f) room same (x, bad) next = flawed_here limit es part rest tail f x room same bad
+
+-- a text whose first events are these has a reading
+read_tail : (fuel limit : ℕ) (es : List Event) (tail : List ℕ) → length es + fuel ≡ limit → AreBytes tail → HasReading limit (header ++ spellings es ++ tail)
+read_tail fuel limit es [] room bytes = nothing_here limit es (omega arith)
+read_tail zero limit es (code ∷ more) room bytes =
+    elim (cases_eq code close) [
+      | inl is ↦ closed_here limit es code more (omega arith) is
+      | inr not ↦ many_here limit es code more (omega arith) not
+    ]
+read_tail (suc fuel) limit es (code ∷ more) room bytes =
+    elim (cases_eq code close) [
+      | inl is ↦ closed_here limit es code more (omega arith) is
+      | inr not ↦ elim (cases_lt 0 (record_length code)) [
+        | inr unknown ↦ code_here limit es code more (omega arith) not (omega arith)
+        | inl known ↦ elim (cases_lt (length (code ∷ more)) (record_length code)) [
+          | inl short ↦ unfinished_here limit es code more (omega arith) short
+          | inr long ↦
+              let b = begins_whole code more bytes known long in
+              let s = says b.part b.whole in
+              record_here limit es b.part b.rest (code ∷ more) s.0 (omega arith) b.same s.1 (λ e. read_tail fuel limit (es ++ e ∷ []) b.rest (omega (arith, length-append es (e ∷ []))) b.bytes)
+        ]
+      ]
+    ]
+
+header_or_not : (text : List ℕ) → (take 8 text ≡ header) ⊎ (take 8 text ≢ header)
+header_or_not text =
+    elim (cases_Bool (pointwise eqb header (take 8 text))) [
+      | inl same ↦ inl (sym ((bytes_decides header (take 8 text)).0 same))
+      | inr not ↦ inr (λ e. false≢true (sym not ∙ (bytes_decides header (take 8 text)).1 (sym e)))
+    ]
+
+-- every text has a reading
+pub reading : (limit : ℕ) (text : List ℕ) → AreBytes text → HasReading limit text
+reading limit text bytes =
+    elim (cases_lt (length text) 8) [
+      | inl short ↦ record { events = []; end = None; reads = (text, inl record { short = short; none = refl; rest_is = refl }) }
+      | inr long ↦ elim (header_or_not text) [
+        | inl is ↦ subst (λ (t : List ℕ). HasReading limit t) (ap (λ (t : List ℕ). t ++ drop 8 text) (sym is) ∙ take-append-drop 8 text) (read_tail limit limit [] (drop 8 text) (omega arith) (All-drop (λ b. b < 256) 8 text bytes))
+        | inr other ↦ record { events = []; end = Some (fate.Malformed flaw.Header); reads = inl (refl, record { long = long; other = other; none = refl }) }
+      ]
+    ]

@@ -1,0 +1,27 @@
+-- What can be read of bytes at all: the words of the laws of the format.
+use Rattle.std.specs.Prelude.{◌≡◌, ℕ, ◌<◌, List, [], ◌∷◌, length, All, Option, Some, None, Result, Ok, Err}
+use Rattle.trace_record.specs.declared.event.Event.{Event}
+use Rattle.trace_record.specs.declared.end.Fate.{Fate}
+use Rattle.trace_record.specs.declared.end.Flaw.{Flaw}
+use Rattle.trace_record.specs.declared.fields.Fields.{Fields}
+use Rattle.trace_record.specs.Spelling.{record_length, spelling}
+use Rattle.trace_record.specs.Stream.{IsFlawedRecord, IsOpen, IsDecided}
+
+-- numbers that a byte can be
+abbrev pub AreBytes : List ℕ → Type 0
+AreBytes text = All (λ byte. byte < 256) text
+
+-- a whole record: it begins with a record's code and has as many bytes as that record
+abbrev pub IsWholeRecord : List ℕ → Type 0
+IsWholeRecord [] = ⊥
+IsWholeRecord (code ∷ more) = AreBytes (code ∷ more) × (length (code ∷ more) ≡ record_length code)
+
+-- what a whole record says: the event that it spells, or its first flaw
+abbrev pub Says : List ℕ → Result Event Flaw → Type 0
+Says part (Ok event) = part ≡ spelling event
+Says part (Err f) = (numbers : Fields) × IsFlawedRecord part f numbers
+
+-- a reading of a text: it is open and holds these events, or is decided with these events and this fate
+abbrev pub Reads : ℕ → List ℕ → List Event → Option Fate → Type 0
+Reads limit text events None = IsOpen limit text events
+Reads limit text events (Some fate) = IsDecided limit text events fate

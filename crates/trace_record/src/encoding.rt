@@ -1,0 +1,70 @@
+ghost use Rattle.std.specs.Prelude.{◌≡◌, ◌+◌, ◌≤◌, ◌∷◌, ◌++◌, length, take, drop};
+ghost use Rattle.std.specs.Int.{w64, to_le_bytes};
+ghost use Rattle.trace_record.specs.Spelling.{spelling};
+
+use crate::event::{Access, Event, Place, Region};
+use crate::format::{
+    ACCESS_LENGTH, FREE, LOAD, MALLOC, PLACE_LENGTH, POISON, RECORD_ROOM, REGION_LENGTH, STORE,
+    UNPOISON,
+};
+use byteorder::{ByteOrder, LittleEndian};
+
+/// Puts an event's record at the front of `out` and answers how many bytes it has, at most 17. The bytes behind it stay.
+pub fn encode(event: &Event, out: &mut [u8; RECORD_ROOM]) -> usize
+    ensures length { result ≡ length (spelling event.now) }
+    ensures front { take result out.new ≡ spelling event.now }
+    ensures rest { drop result out.new ≡ drop result out.old }
+{
+    match event {
+        Event::Load(access) => encode_access(LOAD, access, out),
+        Event::Store(access) => encode_access(STORE, access, out),
+        Event::Malloc(region) => encode_region(MALLOC, region, out),
+        Event::Free(place) => encode_place(FREE, place, out),
+        Event::Poison(region) => encode_region(POISON, region, out),
+        Event::Unpoison(region) => encode_region(UNPOISON, region, out),
+    }
+}
+
+/// The record of a load or a store.
+fn encode_access(code: u8, access: &Access, out: &mut [u8; RECORD_ROOM]) -> usize
+    ensures length { result ≡ 10 }
+    ensures front { take 10 out.new ≡ code ∷ access.now.width ∷ to_le_bytes w64 access.now.at }
+    ensures rest { drop 10 out.new ≡ drop 10 out.old }
+{
+    out[0] = code;
+    out[1] = access.width;
+    put_number(out, 2, access.at);
+    ACCESS_LENGTH
+}
+
+/// The record of a malloc, a poison or an unpoison.
+fn encode_region(code: u8, region: &Region, out: &mut [u8; RECORD_ROOM]) -> usize
+    ensures length { result ≡ 17 }
+    ensures front { take 17 out.new ≡ code ∷ to_le_bytes w64 region.now.at ++ to_le_bytes w64 region.now.size }
+    ensures rest { drop 17 out.new ≡ drop 17 out.old }
+{
+    out[0] = code;
+    put_number(out, 1, region.at);
+    put_number(out, 9, region.size);
+    REGION_LENGTH
+}
+
+/// The record of a free.
+fn encode_place(code: u8, place: &Place, out: &mut [u8; RECORD_ROOM]) -> usize
+    ensures length { result ≡ 9 }
+    ensures front { take 9 out.new ≡ code ∷ to_le_bytes w64 place.now.at }
+    ensures rest { drop 9 out.new ≡ drop 9 out.old }
+{
+    out[0] = code;
+    put_number(out, 1, place.at);
+    PLACE_LENGTH
+}
+
+/// Puts a number, its lowest byte first, at a place of the record.
+fn put_number(out: &mut [u8; RECORD_ROOM], from: usize, number: u64)
+    requires { from + 8 ≤ 24 }
+    ensures front { take (from + 8) out.new ≡ take from out.old ++ to_le_bytes w64 number }
+    ensures rest { drop (from + 8) out.new ≡ drop (from + 8) out.old }
+{
+    LittleEndian::write_u64(&mut out[from..from + 8], number);
+}

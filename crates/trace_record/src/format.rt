@@ -1,0 +1,33 @@
+/// The eight bytes that every stream begins with: `ASTR`, and the version 1 as a number of four bytes.
+pub const HEADER: [u8; 8] = [b'A', b'S', b'T', b'R', 1, 0, 0, 0];
+
+/// The byte that closes a stream. No record begins with it.
+pub const CLOSE: u8 = 7;
+
+/// How many bytes the header has.
+pub const HEADER_LENGTH: usize = 8;
+
+/// How many bytes a buffer has that takes the header or any one record.
+pub const RECORD_ROOM: usize = 24;
+
+/// The code of a load, the first byte of its record. The other codes follow.
+pub const LOAD: u8 = 1;
+
+pub const STORE: u8 = 2;
+
+pub const MALLOC: u8 = 3;
+
+pub const FREE: u8 = 4;
+
+pub const POISON: u8 = 5;
+
+pub const UNPOISON: u8 = 6;
+
+/// How many bytes the record of a load or a store has: its code, a width and an address.
+pub const ACCESS_LENGTH: usize = 10;
+
+/// How many bytes the record of a malloc, a poison or an unpoison has: its code, an address and a size.
+pub const REGION_LENGTH: usize = 17;
+
+/// How many bytes the record of a free has: its code and an address.
+pub const PLACE_LENGTH: usize = 9;
