@@ -1,1 +1,15 @@
-mod Rows
+pub mod Rows
+pub mod Steps
+pub mod Members
+pub mod Blocks
+pub mod Frees
+pub mod Mallocs
+pub mod Classes
+pub mod Faults
+pub mod Frames
+pub mod Histories
+pub mod Bytes
+pub mod Accesses
+pub mod Order
+mod Digits
+mod Pieces

@@ -1,60 +1,232 @@
--- Worked rows, computed: the whole model on lists of events.
-use Rattle.std.proofs.Common.{◌≡◌, ℕ, ◌+◌, ◌^◌, ◌≤◌, ◌<◌, Bool, true, false, List, [], ◌∷◌, Option, Some, None, refl, lit≤, lit<}
-use Rattle.std.specs.Prelude.{nat_le, nat_lt, IsTrue}
+-- Worked histories, each with the reports that it comes to, computed by the definitions.
+use Rattle.std.proofs.Common.{◌≡◌, ℕ, ◌+◌, true, false, [], ◌∷◌, refl}
+use Rattle.std.specs.Prelude.{◌&&◌, nat_le, nat_lt, IsTrue, reverse}
+use Rattle.std.proofs.lemmas.Bool.{and_parts, leb-true, ltb-true}
+use Rattle.trace_record.specs.Ranges.{is_width, largest_region, address_end}
 use Rattle.trace_record.specs.declared.event.Event.{Event}
 use Rattle.trace_record.specs.declared.event.Event.TheVariants as event
+use Rattle.trace_record.specs.declared.event.Access.{Access}
+use Rattle.trace_record.specs.declared.event.Region.{Region}
 use Rattle.asan_check.specs.declared.report.Class.TheVariants as class
+use Rattle.asan_check.specs.declared.report.Fault.{Fault}
 use Rattle.asan_check.specs.declared.report.Fault.TheVariants as fault
 use Rattle.asan_check.specs.declared.report.Report.{Report}
-use Rattle.heap_book.specs.Spans.{Extent}
-use Rattle.shadow_map.specs.States.{state_of, lift}
-use Rattle.asan_check.specs.History.{live, held, freed, marks}
 use Rattle.asan_check.specs.Verdicts.{verdicts}
+use Rattle.asan_check.specs.Laws.{since_malloc, since_free}
 
+-- ---- events, whose ranges compute at written-out numbers
+
+abbrev access : (at width : ℕ) → IsTrue (is_width width && nat_le (at + width) address_end) → Access
+access at width ok =
+    let parts = and_parts (is_width width) (nat_le (at + width) address_end) ok in
+    record { at = at; width = width; known_width = parts.0; in_range = leb-true (at + width) address_end parts.1 }
+
+abbrev load : (at width : ℕ) → IsTrue (is_width width && nat_le (at + width) address_end) → Event
+load at width ok = event.Load (access at width ok)
+
+abbrev store : (at width : ℕ) → IsTrue (is_width width && nat_le (at + width) address_end) → Event
+store at width ok = event.Store (access at width ok)
+
+abbrev region : (at size : ℕ) → IsTrue (nat_le size largest_region && nat_le (at + size) address_end) → Region
+region at size ok =
+    let parts = and_parts (nat_le size largest_region) (nat_le (at + size) address_end) ok in
+    record { at = at; size = size; small = leb-true size largest_region parts.0; in_range = leb-true (at + size) address_end parts.1 }
+
+abbrev malloc : (at size : ℕ) → IsTrue (nat_le size largest_region && nat_le (at + size) address_end) → Event
+malloc at size ok = event.Malloc (region at size ok)
+
+abbrev poison : (at size : ℕ) → IsTrue (nat_le size largest_region && nat_le (at + size) address_end) → Event
+poison at size ok = event.Poison (region at size ok)
+
+abbrev unpoison : (at size : ℕ) → IsTrue (nat_le size largest_region && nat_le (at + size) address_end) → Event
+unpoison at size ok = event.Unpoison (region at size ok)
+
+abbrev free : (at : ℕ) → IsTrue (nat_lt at address_end) → Event
+free at ok = event.Free record { at = at; in_range = ltb-true at address_end ok }
+
+abbrev report : ℕ → Fault → Report
+report n f = record { number = n; fault = f }
+
+-- the usual bound on the quarantine
 abbrev usual : ℕ
 usual = 0x1000_0000
 
-row_1 : verdicts usual ((event.Malloc record { at = 0x1000; size = 5; small = lit≤ tt; in_range = lit≤ tt }) ∷ (event.Store record { at = 0x1004; width = 4; known_width = refl; in_range = lit≤ tt }) ∷ []) ≡ (record { number = 2; fault = fault.Access true 4 0x1004 0x1005 class.HeapBufferOverflow 5 }) ∷ []
-row_1 = refl
+-- ---- accesses
 
-row_4 : verdicts usual ((event.Malloc record { at = 0x1000; size = 8; small = lit≤ tt; in_range = lit≤ tt }) ∷ (event.Store record { at = 0x1006; width = 4; known_width = refl; in_range = lit≤ tt }) ∷ []) ≡ []
-row_4 = refl
+-- a store that reaches past the end of a block of 5 bytes
+one_byte_past_the_end :
+    verdicts usual ((malloc 0x1000 5 refl) ∷ (store 0x1004 4 refl) ∷ [])
+    ≡ (report 2 (fault.Access true 4 0x1004 0x1005 class.HeapBufferOverflow 5)) ∷ []
+one_byte_past_the_end = refl
 
-row_5 : verdicts usual ((event.Malloc record { at = 0x1000; size = 5; small = lit≤ tt; in_range = lit≤ tt }) ∷ (event.Load record { at = 0x1004; width = 8; known_width = refl; in_range = lit≤ tt }) ∷ []) ≡ (record { number = 2; fault = fault.Access false 8 0x1004 0x1005 class.HeapBufferOverflow 5 }) ∷ []
-row_5 = refl
+-- only the granule of the first byte is looked at
+unaligned_access_is_missed :
+    verdicts usual ((malloc 0x1000 8 refl) ∷ (store 0x1006 4 refl) ∷ [])
+    ≡ []
+unaligned_access_is_missed = refl
 
-row_6a : verdicts usual ((event.Malloc record { at = 0x1000; size = 8; small = lit≤ tt; in_range = lit≤ tt }) ∷ (event.Poison record { at = 0x1002; size = 3; small = lit≤ tt; in_range = lit≤ tt }) ∷ (event.Load record { at = 0x1003; width = 1; known_width = refl; in_range = lit≤ tt }) ∷ []) ≡ []
-row_6a = refl
+-- a load of 8 bytes, out of line
+wide_load_past_the_end :
+    verdicts usual ((malloc 0x1000 5 refl) ∷ (load 0x1004 8 refl) ∷ [])
+    ≡ (report 2 (fault.Access false 8 0x1004 0x1005 class.HeapBufferOverflow 5)) ∷ []
+wide_load_past_the_end = refl
 
-row_6b : verdicts usual ((event.Malloc record { at = 0x1000; size = 8; small = lit≤ tt; in_range = lit≤ tt }) ∷ (event.Poison record { at = 0x1002; size = 6; small = lit≤ tt; in_range = lit≤ tt }) ∷ (event.Load record { at = 0x1003; width = 1; known_width = refl; in_range = lit≤ tt }) ∷ []) ≡ (record { number = 3; fault = fault.Access false 1 0x1003 0x1003 class.HeapBufferOverflow 2 }) ∷ []
-row_6b = refl
+-- the redzone before a block
+below_the_block :
+    verdicts usual ((malloc 0x1000 8 refl) ∷ (load 0xfff 1 refl) ∷ (load 0xfdf 1 refl) ∷ [])
+    ≡ (report 2 (fault.Access false 1 0xfff 0xfff class.HeapBufferOverflow 0xfa)) ∷ []
+below_the_block = refl
 
-row_7 : verdicts usual ((event.Poison record { at = 0x2000; size = 10; small = lit≤ tt; in_range = lit≤ tt }) ∷ (event.Load record { at = 0x2008; width = 1; known_width = refl; in_range = lit≤ tt }) ∷ (event.Load record { at = 0x2000; width = 1; known_width = refl; in_range = lit≤ tt }) ∷ (event.Unpoison record { at = 0x2000; size = 3; small = lit≤ tt; in_range = lit≤ tt }) ∷ (event.Load record { at = 0x2002; width = 1; known_width = refl; in_range = lit≤ tt }) ∷ (event.Load record { at = 0x2003; width = 1; known_width = refl; in_range = lit≤ tt }) ∷ []) ≡ (record { number = 3; fault = fault.Access false 1 0x2000 0x2000 class.UseAfterPoison 0xf7 }) ∷ (record { number = 6; fault = fault.Access false 1 0x2003 0x2003 class.UnknownCrash 3 }) ∷ []
-row_7 = refl
+-- ---- poison
 
-row_8 : verdicts 72 ((event.Malloc record { at = 0x1000; size = 8; small = lit≤ tt; in_range = lit≤ tt }) ∷ (event.Malloc record { at = 0x2000; size = 8; small = lit≤ tt; in_range = lit≤ tt }) ∷ (event.Free record { at = 0x1000; in_range = lit< tt }) ∷ (event.Free record { at = 0x2000; in_range = lit< tt }) ∷ (event.Load record { at = 0x1000; width = 1; known_width = refl; in_range = lit≤ tt }) ∷ (event.Load record { at = 0x2000; width = 1; known_width = refl; in_range = lit≤ tt }) ∷ []) ≡ (record { number = 5; fault = fault.Access false 1 0x1000 0x1000 class.HeapBufferOverflow 0xfa }) ∷ (record { number = 6; fault = fault.Access false 1 0x2000 0x2000 class.HeapUseAfterFree 0xfd }) ∷ []
-row_8 = refl
+-- poison of the middle of a granule whose end is addressable changes nothing
+poison_in_the_middle :
+    verdicts usual ((malloc 0x1000 8 refl) ∷ (poison 0x1002 3 refl) ∷ (load 0x1003 1 refl) ∷ [])
+    ≡ []
+poison_in_the_middle = refl
 
-row_10a : verdicts usual ((event.Malloc record { at = 0x1000; size = 8; small = lit≤ tt; in_range = lit≤ tt }) ∷ (event.Free record { at = 0x1000; in_range = lit< tt }) ∷ (event.Malloc record { at = 0x1008; size = 8; small = lit≤ tt; in_range = lit≤ tt }) ∷ []) ≡ (record { number = 3; fault = fault.BadMalloc 0x1008 8 }) ∷ []
-row_10a = refl
+-- poison to the end of a granule leaves its front; the class comes from the next granule, a redzone
+poison_to_the_end :
+    verdicts usual ((malloc 0x1000 8 refl) ∷ (poison 0x1002 6 refl) ∷ (load 0x1003 1 refl) ∷ [])
+    ≡ (report 3 (fault.Access false 1 0x1003 0x1003 class.HeapBufferOverflow 2)) ∷ []
+poison_to_the_end = refl
 
-row_10b : verdicts 71 ((event.Malloc record { at = 0x1000; size = 8; small = lit≤ tt; in_range = lit≤ tt }) ∷ (event.Free record { at = 0x1000; in_range = lit< tt }) ∷ (event.Malloc record { at = 0x1008; size = 8; small = lit≤ tt; in_range = lit≤ tt }) ∷ []) ≡ []
-row_10b = refl
+-- an unpoison makes the front of a granule addressable
+poison_then_unpoison :
+    verdicts usual ((poison 0x2000 10 refl) ∷ (load 0x2008 1 refl) ∷ (load 0x2000 1 refl) ∷ (unpoison 0x2000 3 refl) ∷ (load 0x2002 1 refl) ∷ (load 0x2003 1 refl) ∷ [])
+    ≡ (report 3 (fault.Access false 1 0x2000 0x2000 class.UseAfterPoison 0xf7)) ∷ (report 6 (fault.Access false 1 0x2003 0x2003 class.UnknownCrash 3)) ∷ []
+poison_then_unpoison = refl
 
-row_11a : verdicts usual ((event.Malloc record { at = 0x1000; size = 8; small = lit≤ tt; in_range = lit≤ tt }) ∷ (event.Free record { at = 0x1000; in_range = lit< tt }) ∷ (event.Free record { at = 0x1000; in_range = lit< tt }) ∷ []) ≡ (record { number = 3; fault = fault.DoubleFree 0x1000 }) ∷ []
-row_11a = refl
+-- the first byte of a granule decides its class
+two_kinds_in_a_granule :
+    verdicts usual ((malloc 0x1000 5 refl) ∷ (poison 0x1000 5 refl) ∷ (load 0x1006 1 refl) ∷ [])
+    ≡ (report 3 (fault.Access false 1 0x1006 0x1006 class.UseAfterPoison 0xf7)) ∷ []
+two_kinds_in_a_granule = refl
 
-row_11b : verdicts 71 ((event.Malloc record { at = 0x1000; size = 8; small = lit≤ tt; in_range = lit≤ tt }) ∷ (event.Free record { at = 0x1000; in_range = lit< tt }) ∷ (event.Free record { at = 0x1000; in_range = lit< tt }) ∷ []) ≡ (record { number = 3; fault = fault.BadFree 0x1000 }) ∷ []
-row_11b = refl
+-- past the last granule all is addressable
+last_granule :
+    verdicts usual ((poison 0x7ffffffffffc 4 refl) ∷ (load 0x7ffffffffffe 1 refl) ∷ [])
+    ≡ (report 2 (fault.Access false 1 0x7ffffffffffe 0x7ffffffffffe class.UnknownCrash 4)) ∷ []
+last_granule = refl
 
-row_11c : verdicts usual ((event.Malloc record { at = 0x1000; size = 8; small = lit≤ tt; in_range = lit≤ tt }) ∷ (event.Free record { at = 0x1004; in_range = lit< tt }) ∷ (event.Free record { at = 0; in_range = lit< tt }) ∷ []) ≡ (record { number = 2; fault = fault.BadFree 0x1004 }) ∷ []
-row_11c = refl
+-- ---- quarantine
 
-row_12 : verdicts usual ((event.Malloc record { at = 0x1000; size = 0; small = lit≤ tt; in_range = lit≤ tt }) ∷ (event.Load record { at = 0x1000; width = 1; known_width = refl; in_range = lit≤ tt }) ∷ (event.Malloc record { at = 0; size = 16; small = lit≤ tt; in_range = lit≤ tt }) ∷ (event.Malloc record { at = 0x18; size = 8; small = lit≤ tt; in_range = lit≤ tt }) ∷ (event.Malloc record { at = 0x3004; size = 8; small = lit≤ tt; in_range = lit≤ tt }) ∷ []) ≡ (record { number = 2; fault = fault.Access false 1 0x1000 0x1000 class.HeapBufferOverflow 0xfa }) ∷ (record { number = 4; fault = fault.BadMalloc 0x18 8 }) ∷ (record { number = 5; fault = fault.BadMalloc 0x3004 8 }) ∷ []
-row_12 = refl
+-- of two spans of 72 bytes the bound leaves the later
+quarantine_releases_the_oldest :
+    verdicts 72 ((malloc 0x1000 8 refl) ∷ (malloc 0x2000 8 refl) ∷ (free 0x1000 refl) ∷ (free 0x2000 refl) ∷ (load 0x1000 1 refl) ∷ (load 0x2000 1 refl) ∷ [])
+    ≡ (report 5 (fault.Access false 1 0x1000 0x1000 class.HeapBufferOverflow 0xfa)) ∷ (report 6 (fault.Access false 1 0x2000 0x2000 class.HeapUseAfterFree 0xfd)) ∷ []
+quarantine_releases_the_oldest = refl
 
-row_22 : verdicts usual ((event.Malloc record { at = 0x1000; size = 5; small = lit≤ tt; in_range = lit≤ tt }) ∷ (event.Poison record { at = 0x1000; size = 5; small = lit≤ tt; in_range = lit≤ tt }) ∷ (event.Load record { at = 0x1006; width = 1; known_width = refl; in_range = lit≤ tt }) ∷ []) ≡ (record { number = 3; fault = fault.Access false 1 0x1006 0x1006 class.UseAfterPoison 0xf7 }) ∷ []
-row_22 = refl
+-- a block whose own span is over the bound pushes out the older ones and is released itself
+own_span_over_the_bound :
+    verdicts 72 ((malloc 0x1000 8 refl) ∷ (malloc 0x2000 16 refl) ∷ (free 0x1000 refl) ∷ (free 0x2000 refl) ∷ (load 0x1000 1 refl) ∷ (load 0x2000 1 refl) ∷ [])
+    ≡ (report 5 (fault.Access false 1 0x1000 0x1000 class.HeapBufferOverflow 0xfa)) ∷ (report 6 (fault.Access false 1 0x2000 0x2000 class.HeapBufferOverflow 0xfa)) ∷ []
+own_span_over_the_bound = refl
 
-row_23 : verdicts usual ((event.Poison record { at = 0x7ffffffffffc; size = 4; small = lit≤ tt; in_range = lit≤ tt }) ∷ (event.Load record { at = 0x7ffffffffffe; width = 1; known_width = refl; in_range = lit≤ tt }) ∷ []) ≡ (record { number = 2; fault = fault.Access false 1 0x7ffffffffffe 0x7ffffffffffe class.UnknownCrash 4 }) ∷ []
-row_23 = refl
+-- a release repaints poison and unpoison that came into the span
+release_repaints_the_span :
+    verdicts 72 ((malloc 0x1000 8 refl) ∷ (malloc 0x2000 8 refl) ∷ (free 0x1000 refl) ∷ (unpoison 0x1000 8 refl) ∷ (load 0x1000 1 refl) ∷ (free 0x2000 refl) ∷ (load 0x1000 1 refl) ∷ [])
+    ≡ (report 7 (fault.Access false 1 0x1000 0x1000 class.HeapBufferOverflow 0xfa)) ∷ []
+release_repaints_the_span = refl
+
+-- a held block of size 0 has no freed byte
+empty_block_while_held :
+    verdicts usual ((malloc 0x1000 0 refl) ∷ (free 0x1000 refl) ∷ (load 0x1000 1 refl) ∷ [])
+    ≡ (report 3 (fault.Access false 1 0x1000 0x1000 class.HeapBufferOverflow 0xfa)) ∷ []
+empty_block_while_held = refl
+
+-- ---- mallocs and frees
+
+-- the spans fe0 to 1028 and fe8 to 1030 meet
+malloc_meets_a_held_span :
+    verdicts usual ((malloc 0x1000 8 refl) ∷ (free 0x1000 refl) ∷ (malloc 0x1008 8 refl) ∷ [])
+    ≡ (report 3 (fault.BadMalloc 0x1008 8)) ∷ []
+malloc_meets_a_held_span = refl
+
+-- a span that is not held may be handed out again
+malloc_meets_a_released_span :
+    verdicts 71 ((malloc 0x1000 8 refl) ∷ (free 0x1000 refl) ∷ (malloc 0x1008 8 refl) ∷ [])
+    ≡ []
+malloc_meets_a_released_span = refl
+
+-- a span may begin where another ends
+spans_may_touch :
+    verdicts usual ((malloc 0x1000 8 refl) ∷ (malloc 0x1048 8 refl) ∷ (malloc 0x1090 8 refl) ∷ (malloc 0x10d0 8 refl) ∷ [])
+    ≡ (report 4 (fault.BadMalloc 0x10d0 8)) ∷ []
+spans_may_touch = refl
+
+-- a free of a held block
+double_free :
+    verdicts usual ((malloc 0x1000 8 refl) ∷ (free 0x1000 refl) ∷ (free 0x1000 refl) ∷ [])
+    ≡ (report 3 (fault.DoubleFree 0x1000)) ∷ []
+double_free = refl
+
+-- a free of a block that was released
+free_after_release :
+    verdicts 71 ((malloc 0x1000 8 refl) ∷ (free 0x1000 refl) ∷ (free 0x1000 refl) ∷ [])
+    ≡ (report 3 (fault.BadFree 0x1000)) ∷ []
+free_after_release = refl
+
+-- a free inside a block is bad; one at address 0 is nothing
+free_inside_and_of_null :
+    verdicts usual ((malloc 0x1000 8 refl) ∷ (free 0x1004 refl) ∷ (free 0x0 refl) ∷ [])
+    ≡ (report 2 (fault.BadFree 0x1004)) ∷ []
+free_inside_and_of_null = refl
+
+-- a block of size 0; a malloc at address 0; one without room below; one that is not aligned
+empty_null_and_bad_mallocs :
+    verdicts usual ((malloc 0x1000 0 refl) ∷ (load 0x1000 1 refl) ∷ (malloc 0x0 16 refl) ∷ (malloc 0x18 8 refl) ∷ (malloc 0x3004 8 refl) ∷ [])
+    ≡ (report 2 (fault.Access false 1 0x1000 0x1000 class.HeapBufferOverflow 0xfa)) ∷ (report 4 (fault.BadMalloc 0x18 8)) ∷ (report 5 (fault.BadMalloc 0x3004 8)) ∷ []
+empty_null_and_bad_mallocs = refl
+
+-- a block at 32 has its redzone from address 0 on
+lowest_block :
+    verdicts usual ((malloc 0x20 8 refl) ∷ (load 0x20 8 refl) ∷ (load 0x1f 1 refl) ∷ [])
+    ≡ (report 3 (fault.Access false 1 0x1f 0x1f class.HeapBufferOverflow 0xfa)) ∷ []
+lowest_block = refl
+
+-- ---- ends of ranges
+
+-- the last 8 bytes below 2^47
+last_load :
+    verdicts usual ((load 0x7ffffffffff8 8 refl) ∷ [])
+    ≡ []
+last_load = refl
+
+-- the largest size, at an address that is not aligned
+largest_malloc_unaligned :
+    verdicts usual ((malloc 0x1004 268435456 refl) ∷ [])
+    ≡ (report 1 (fault.BadMalloc 0x1004 268435456)) ∷ []
+largest_malloc_unaligned = refl
+
+-- a span that ends at 2^47
+last_malloc :
+    verdicts usual ((malloc 0x7fffffffffd8 8 refl) ∷ [])
+    ≡ []
+last_malloc = refl
+
+-- a span that passes 2^47
+malloc_past_the_end :
+    verdicts usual ((malloc 0x7fffffffffe0 8 refl) ∷ [])
+    ≡ (report 1 (fault.BadMalloc 0x7fffffffffe0 8)) ∷ []
+malloc_past_the_end = refl
+
+-- a region of size 0 may lie at 2^47, but no block
+empty_malloc_at_the_end :
+    verdicts usual ((malloc 0x800000000000 0 refl) ∷ (poison 0x800000000000 0 refl) ∷ (unpoison 0x800000000000 0 refl) ∷ [])
+    ≡ (report 1 (fault.BadMalloc 0x800000000000 0)) ∷ []
+empty_malloc_at_the_end = refl
+
+-- ---- since when
+
+-- a block that was handed out twice, and then asked for once more in vain: since the second malloc
+since_the_malloc_that_was_admitted :
+    since_malloc 71 (reverse ((malloc 0x1000 8 refl) ∷ (poison 0x1000 8 refl) ∷ (free 0x1000 refl) ∷ (malloc 0x1000 8 refl) ∷ (malloc 0x1000 8 refl) ∷ (load 0x1000 1 refl) ∷ [])) (record { at = 0x1000; size = 8 })
+    ≡ (load 0x1000 1 refl) ∷ (malloc 0x1000 8 refl) ∷ []
+since_the_malloc_that_was_admitted = refl
+
+-- a block that was freed twice: since the first free
+since_the_free_of_the_live_block :
+    since_free usual (reverse ((malloc 0x1000 8 refl) ∷ (poison 0x1000 8 refl) ∷ (free 0x1000 refl) ∷ (poison 0x2000 8 refl) ∷ (free 0x1000 refl) ∷ [])) (record { at = 0x1000; size = 8 })
+    ≡ (free 0x1000 refl) ∷ (poison 0x2000 8 refl) ∷ []
+since_the_free_of_the_live_block = refl

@@ -1,4 +1,7 @@
 pub mod History
 pub mod Verdicts
 pub mod Lines
+pub mod Appending
 pub mod Standing
+pub mod Freeing
+pub mod Laws

@@ -1,5 +1,5 @@
 -- The lines that are printed of a process (profile). Each ends with a line feed.
-use Rattle.std.specs.Prelude.{ℕ, ◌-◌, Bool, true, false, List, [], ◌∷◌, ◌++◌, length, codes, decimal, replicate}
+use Rattle.std.specs.Prelude.{ℕ, ◌-◌, Bool, true, false, List, ◌++◌, length, codes, decimal, replicate}
 use Rattle.std.specs.List.{flat_map}
 use Rattle.std.specs.Fmt.{digits}
 use Rattle.trace_record.specs.declared.end.Fate.{Fate}
@@ -79,6 +79,10 @@ ending_text ending.Unsettled = codes "unsettled"
 -- the line of the end of a process
 abbrev pub end_line : ℕ → Ending → List ℕ
 end_line process end = codes "p" ++ decimal process ++ codes " end " ++ ending_text end ++ codes "\n"
+
+-- no line of numbers of 64 bits is longer
+abbrev pub longest_line : ℕ
+longest_line = 200
 
 -- the text of a process: the lines of its reports in order, and then the line of its end
 abbrev pub text_of : ℕ → List Report → Ending → List ℕ

@@ -1,5 +1,5 @@
 -- Where a checker stands after a history.
-use Rattle.std.specs.Prelude.{◌≡◌, ℕ, ◌-◌, ◌<◌, Bool, true, false, List, length, drop, IsPermutation}
+use Rattle.std.specs.Prelude.{◌≡◌, ℕ, ◌-◌, ◌<◌, ◌⊎◌, Bool, true, false, List, length, drop, IsPermutation}
 use Rattle.trace_record.specs.declared.event.Event.{Event}
 use Rattle.shadow_map.specs.Shows.{Shows}
 use Rattle.asan_check.specs.declared.checker.Checker.{Checker}
@@ -8,7 +8,8 @@ use Rattle.asan_check.specs.History.{live, held, marks}
 use Rattle.asan_check.specs.Verdicts.{verdicts_of}
 
 module _ {A : Type 0} where
-  -- what a contract sees of a checker: whether it has failed, how many events it has checked, and its reports
+  -- what a contract sees of a checker: whether it has failed, how many events it has checked, its reports, and the bound on
+  -- the bytes of spans in its quarantine
   abbrev pub has_failed : Checker A → Bool
   has_failed c = c.failed
 
@@ -18,14 +19,28 @@ module _ {A : Type 0} where
   abbrev pub reports_of : Checker A → List Report
   reports_of c = c.reports.items
 
-  -- the checker stands where this history leads, with this bound on its quarantine: it hasn't failed, its shadow and its
-  -- book show what the history left, and its reports are the verdicts on it
-  pub record Stands (bound : ℕ) (c : Checker A) (past : List Event) : Type 0 where
-    pub running : has_failed c ≡ false
+  abbrev pub bound_of : Checker A → ℕ
+  bound_of c = c.book.bound
+
+  -- the counts, the reports and the bound are as they were
+  pub record KeepsTally (old new : Checker A) : Type 0 where
+    pub failed : has_failed new ≡ has_failed old
+    pub checked : checked_of new ≡ checked_of old
+    pub reports : reports_of new ≡ reports_of old
+    pub bound : bound_of new ≡ bound_of old
+
+  -- the checker's shadow and its book show what the history has left
+  pub record ShowsHistory (bound : ℕ) (c : Checker A) (past : List Event) : Type 0 where
     pub shadow : Shows c.shadow (marks bound past)
     pub live_blocks : IsPermutation c.book.live (live bound past)
     pub queue : c.book.queue ≡ held bound past
-    pub bound_is : c.book.bound ≡ bound
+    pub bound_is : bound_of c ≡ bound
+
+  -- the checker stands where this history leads: it hasn't failed, it shows what the history has left, it has checked all
+  -- of its events, and its reports are the verdicts on them
+  pub record Stands (bound : ℕ) (c : Checker A) (past : List Event) : Type 0 where
+    pub running : has_failed c ≡ false
+    pub shown : ShowsHistory bound c past
     pub count : checked_of c ≡ length past
     pub reports : reports_of c ≡ verdicts_of bound past
 
@@ -33,6 +48,10 @@ module _ {A : Type 0} where
   -- which are the first of the history and so the last of the list
   pub record FailedAt (bound : ℕ) (c : Checker A) (past : List Event) : Type 0 where
     pub failed : has_failed c ≡ true
-    pub bound_is : c.book.bound ≡ bound
+    pub bound_is : bound_of c ≡ bound
     pub within : checked_of c < length past
     pub reports : reports_of c ≡ verdicts_of bound (drop (length past - checked_of c) past)
+
+  -- the checker stands where this history leads, or has failed within it
+  abbrev pub StandsOrFailed : ℕ → Checker A → List Event → Type 0
+  StandsOrFailed bound c past = Stands bound c past ⊎ FailedAt bound c past

@@ -1,9 +1,26 @@
-use crate::report::Report;
-use heap_book::Book;
-use shadow_map::Shadow;
-use std::alloc::{Allocator, Global};
+ghost use Rattle.std.specs.Prelude.{◌≡◌, ℕ, ◌+◌, ◌<◌, ◌≤◌, ◌^◌, ◌↔◌, List, [], ◌∷◌, ◌++◌, IfOk, IsErr, IsSomeAnd, OnOk, OnErr, true, false, not, length, None, Some, option_to_list};
+ghost use Rattle.trace_record.specs.declared.event.Event.{Event as AnEvent};
+ghost use Rattle.trace_record.specs.declared.event.Event.TheVariants as event;
+ghost use Rattle.trace_record.specs.declared.event.Place.{Place as APlace};
+ghost use Rattle.shadow_map.specs.States.{is_addressable, state_of, least_unaddressable};
+ghost use Rattle.asan_check.specs.History.{marks};
+ghost use Rattle.asan_check.specs.Verdicts.{verdict, fault_of, access_fault, malloc_fault, free_fault, class_of};
+ghost use Rattle.asan_check.specs.Laws.{class_of_shadow};
 
-/// Checks the events of one process.
+use crate::NoMemory;
+use crate::report::{Class, Fault, Report};
+use heap_book::{Admit, Block, Book, Bound, Freed};
+use shadow_map::{FREED, HEAP_REDZONE, Shadow, USER_POISON};
+use std::alloc::{Allocator, Global};
+use thiserror::Error;
+use trace_record::{Access, Event, Place, Region};
+
+/// There was no memory for this event or for an earlier one.
+#[derive(Clone, Copy, Debug, PartialEq, Eq, Error)]
+#[error("there was no memory to check an event")]
+pub struct Failed;
+
+/// Checks the events of one process, one after another.
 #[derive(Drop)]
 pub struct Checker<A: Allocator + Copy = Global> {
     shadow: Shadow<A>,
@@ -11,4 +28,255 @@ pub struct Checker<A: Allocator + Copy = Global> {
     reports: Vec<Report, A>,
     checked: u64,
     failed: bool,
+}
+
+impl<A: Allocator + Copy> Checker<A> {
+    ghost use Rattle.asan_check.specs.Freeing.{IsFreeing};
+    ghost use Rattle.asan_check.specs.Standing.{KeepsTally, ShowsHistory, Stands, FailedAt, has_failed, checked_of, reports_of, bound_of};
+
+    /// A checker that has seen no event, and whose quarantine holds at most `bound` bytes of spans. Takes no memory.
+    ///
+    /// # Errors
+    ///
+    /// `Bound` exactly if the bound is over 2^40.
+    pub fn new(alloc: A, bound: u64) -> Result<Checker<A>, Bound>
+        ensures stands { IfOk result (λ checker. Stands bound checker []) }
+        ensures refused { IsErr result ↔ (2 ^ 40 < bound) }
+    {
+        let book = Book::new(alloc, bound)?;
+        Ok(Checker {
+            shadow: Shadow::new(alloc),
+            book,
+            reports: Vec::new(alloc),
+            checked: 0,
+            failed: false,
+        })
+    }
+
+    /// Checks the next event, and answers the report on it if it is a bad one. A bad load, store, malloc or free changes
+    /// nothing else.
+    ///
+    /// # Errors
+    ///
+    /// `Failed` where a growth was refused, in this call or in an earlier one. From then on every step answers `Failed`, and
+    /// the reports and the count stay.
+    pub fn step(&mut self, event: &Event) -> Result<Option<Report>, Failed>
+        requires room { checked_of self.old + 1 < 2 ^ 64 }
+        ensures checked { IfOk result (λ report. (bound : ℕ) (past : List AnEvent) → Stands bound self.old past →
+            (report ≡ verdict bound past event.now) × Stands bound self.new (event.now ∷ past)) }
+        ensures failed { OnErr result ((bound : ℕ) (past : List AnEvent) → Stands bound self.old past →
+            FailedAt bound self.new (event.now ∷ past) × (checked_of self.new ≡ length past)) }
+        ensures count { OnOk result (checked_of self.new ≡ checked_of self.old + 1) }
+        ensures kept { OnErr result ((has_failed self.new ≡ true) × (checked_of self.new ≡ checked_of self.old)
+            × (reports_of self.new ≡ reports_of self.old)) }
+        ensures stays { has_failed self.old ≡ true → IsErr result × (self.new ≡ self.old) }
+        ensures bound { bound_of self.new ≡ bound_of self.old }
+    {
+        if self.failed {
+            return Err(Failed);
+        }
+        match self.check(event) {
+            Ok(report) => {
+                self.checked += 1;
+                Ok(report)
+            }
+            Err(_) => {
+                self.failed = true;
+                Err(Failed)
+            }
+        }
+    }
+
+    /// How many events it has checked: those that it was stepped by without `Failed`.
+    pub fn checked(&self) -> u64
+        ensures { result ≡ checked_of self.now }
+    {
+        self.checked
+    }
+
+    /// Its reports, in the order of their events.
+    pub fn reports(&self) -> &[Report]
+        ensures { result.now ≡ reports_of self.now }
+    {
+        &self.reports
+    }
+
+    /// Its reports, in the order of their events.
+    pub fn into_reports(self) -> Vec<Report, A>
+        ensures { result.items ≡ reports_of self }
+    {
+        self.reports
+    }
+
+    /// Whether a load of the byte would be reported; nothing once a step has failed.
+    pub fn is_poisoned(&self, at: u64) -> Option<bool>
+        ensures stands { (bound : ℕ) (past : List AnEvent) → Stands bound self.now past →
+            result ≡ Some (not (is_addressable (state_of (marks bound past) at))) }
+        ensures failed { has_failed self.now ≡ true → result ≡ None }
+    {
+        if self.failed {
+            return None;
+        }
+        Some(self.shadow.is_poisoned(at))
+    }
+
+    /// The first of `size` bytes from `at` on that is not addressable, if there is one; nothing once a step has failed.
+    pub fn first_poisoned(&self, at: u64, size: u64) -> Option<Option<u64>>
+        requires { at + size ≤ 2 ^ 47 }
+        ensures stands { (bound : ℕ) (past : List AnEvent) → Stands bound self.now past →
+            result ≡ Some (least_unaddressable (state_of (marks bound past)) at size) }
+        ensures failed { has_failed self.now ≡ true → result ≡ None }
+    {
+        if self.failed {
+            return None;
+        }
+        Some(self.shadow.first_poisoned(at, size))
+    }
+
+    /// Takes in an event, and keeps the report on it if it is a bad one.
+    fn check(&mut self, event: &Event) -> Result<Option<Report>, NoMemory>
+        requires room { checked_of self.old + 1 < 2 ^ 64 }
+        ensures ok { IfOk result (λ report. (bound : ℕ) (past : List AnEvent) → Stands bound self.old past →
+            (report ≡ verdict bound past event.now) × ShowsHistory bound self.new (event.now ∷ past)
+            × (reports_of self.new ≡ reports_of self.old ++ option_to_list report)) }
+        ensures err { OnErr result (reports_of self.new ≡ reports_of self.old) }
+        ensures others { (checked_of self.new ≡ checked_of self.old) × (has_failed self.new ≡ has_failed self.old)
+            × (bound_of self.new ≡ bound_of self.old) }
+    {
+        let Some(fault) = self.take(event)? else {
+            return Ok(None);
+        };
+        let report = Report {
+            number: self.checked + 1,
+            fault,
+        };
+        self.reports.push(report)?;
+        Ok(Some(report))
+    }
+
+    /// Takes in an event, and answers what is wrong with it.
+    fn take(&mut self, event: &Event) -> Result<Option<Fault>, NoMemory>
+        ensures ok { IfOk result (λ fault. (bound : ℕ) (past : List AnEvent) → ShowsHistory bound self.old past →
+            (fault ≡ fault_of bound past event.now) × ShowsHistory bound self.new (event.now ∷ past)) }
+        ensures tally { KeepsTally self.old self.new }
+    {
+        match event {
+            Event::Load(access) => Ok(self.access(false, access)),
+            Event::Store(access) => Ok(self.access(true, access)),
+            Event::Malloc(region) => self.malloc(region),
+            Event::Free(place) => self.free(place),
+            Event::Poison(region) => {
+                self.shadow.poison(region.at(), region.size())?;
+                Ok(None)
+            }
+            Event::Unpoison(region) => {
+                self.shadow.unpoison(region.at(), region.size())?;
+                Ok(None)
+            }
+        }
+    }
+
+    /// What is wrong with a load or a store.
+    fn access(&self, store: bool, access: &Access) -> Option<Fault>
+        ensures { (bound : ℕ) (past : List AnEvent) → ShowsHistory bound self.now past →
+            result ≡ access_fault (state_of (marks bound past)) store access.now }
+    {
+        let bad = self.shadow.bad_byte(access.at(), access.width())?;
+        Some(Fault::Access {
+            store,
+            width: access.width(),
+            at: access.at(),
+            bad,
+            class: self.class_at(access.at()),
+            shadow: self.shadow.value(access.at() / GRANULE),
+        })
+    }
+
+    /// The class of a bad access: what the first byte of its granule is if none of the granule's bytes is addressable, else
+    /// what the first byte of the next one is.
+    fn class_at(&self, at: u64) -> Class
+        requires { at < 2 ^ 47 }
+        ensures { (bound : ℕ) (past : List AnEvent) → ShowsHistory bound self.now past →
+            result ≡ class_of (state_of (marks bound past)) at }
+    {
+        let own = self.shadow.value(at / GRANULE);
+        if own < LEAST_CODE {
+            class_by(self.shadow.value(at / GRANULE + 1))
+        } else {
+            class_by(own)
+        }
+    }
+
+    /// Takes in a malloc, and answers what is wrong with it.
+    fn malloc(&mut self, region: &Region) -> Result<Option<Fault>, NoMemory>
+        ensures ok { IfOk result (λ fault. (bound : ℕ) (past : List AnEvent) → ShowsHistory bound self.old past →
+            (fault ≡ malloc_fault bound past region.now.at region.now.size)
+            × ShowsHistory bound self.new (event.Malloc region.now ∷ past)) }
+        ensures tally { KeepsTally self.old self.new }
+    {
+        match self.book.admit(region.at(), region.size())? {
+            Admit::Ignored => Ok(None),
+            Admit::Admitted(block) => {
+                self.shadow.block(block.at(), block.size())?;
+                Ok(None)
+            }
+            Admit::Refused => Ok(Some(Fault::BadMalloc {
+                at: region.at(),
+                size: region.size(),
+            })),
+        }
+    }
+
+    /// Takes in a free, and answers what is wrong with it.
+    fn free(&mut self, place: &Place) -> Result<Option<Fault>, NoMemory>
+        ensures ok { IfOk result (λ fault. (bound : ℕ) (past : List AnEvent) → ShowsHistory bound self.old past →
+            (fault ≡ free_fault bound past place.now.at) × ShowsHistory bound self.new (event.Free place.now ∷ past)) }
+        ensures tally { KeepsTally self.old self.new }
+    {
+        let at = place.at();
+        match self.book.free(at)? {
+            Freed::Ignored => Ok(None),
+            Freed::Held(block) => {
+                self.hold(&block)?;
+                Ok(None)
+            }
+            Freed::Twice => Ok(Some(Fault::DoubleFree { at })),
+            Freed::Stranger => Ok(Some(Fault::BadFree { at })),
+        }
+    }
+
+    /// Marks a block that has joined the quarantine as freed, and then lets go of the oldest ones past its bound: their spans
+    /// become redzones.
+    fn hold(&mut self, block: &Block) -> Result<(), NoMemory>
+        ensures ok { OnOk result ((bound : ℕ) (past : List AnEvent) (p : APlace) → IsFreeing bound self.old past p block.now →
+            ShowsHistory bound self.new (event.Free p ∷ past)) }
+        ensures tally { KeepsTally self.old self.new }
+    {
+        self.shadow.mark(block.at(), block.to() - REDZONE, FREED)?;
+        while let Some(oldest) = self.book.evict() {
+            self.shadow.mark(oldest.from(), oldest.to(), HEAP_REDZONE)?;
+        }
+        Ok(())
+    }
+}
+
+/// How many bytes a redzone has.
+const REDZONE: u64 = 32;
+
+/// How many bytes a granule has.
+const GRANULE: u64 = 8;
+
+/// The least shadow byte that tells what a granule is that has no addressable byte.
+const LEAST_CODE: u8 = 0x80;
+
+/// The class that a shadow byte tells.
+fn class_by(shadow: u8) -> Class
+    ensures { result ≡ class_of_shadow shadow }
+{
+    match shadow {
+        HEAP_REDZONE => Class::HeapBufferOverflow,
+        FREED => Class::HeapUseAfterFree,
+        USER_POISON => Class::UseAfterPoison,
+        _ => Class::UnknownCrash,
+    }
 }

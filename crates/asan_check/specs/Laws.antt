@@ -1,0 +1,113 @@
+-- The words of the laws about reports: since when a block is live or held, which events come near it, the report of an
+-- access whose first byte is bad, and the class that a shadow byte tells.
+use Rattle.std.specs.Prelude.{ℕ, ◌≡◌, ◌≢◌, ◌+◌, ◌/◌, ◌%◌, ◌<◌, ◌≤◌, Bool, true, false, ◌&&◌, ◌==◌, if◌then◌else◌, ◌⊎◌, IsTrue, List, [], ◌∷◌, ◌++◌, length, Contains}
+use Rattle.std.specs.List.{list_any}
+use Rattle.trace_record.specs.declared.event.Event.{Event}
+use Rattle.trace_record.specs.declared.event.Event.TheVariants as event
+use Rattle.trace_record.specs.declared.event.Access.{Access}
+use Rattle.trace_record.specs.declared.event.Place.{Place}
+use Rattle.trace_record.specs.declared.event.Region.{Region}
+use Rattle.shadow_map.specs.States.{HeapRedzone, Freed, UserPoison, code_of, lies_in}
+use Rattle.heap_book.specs.Spans.{Extent, rounded, span_from, span_to, starts_at}
+use Rattle.asan_check.specs.declared.report.Class.{Class}
+use Rattle.asan_check.specs.declared.report.Class.TheVariants as class
+use Rattle.asan_check.specs.declared.report.Fault.TheVariants as fault
+use Rattle.asan_check.specs.declared.report.Report.{Report}
+use Rattle.asan_check.specs.History.{block_of, live, held, admits}
+
+-- ---- since when a block is live
+
+-- whether a malloc asks for a block
+abbrev pub asks_for : Extent → Region → Bool
+asks_for b r = b.at == r.at && b.size == r.size
+
+-- the events after the malloc of a block: after the last malloc that was admitted for it
+abbrev pub since_malloc : ℕ → List Event → Extent → List Event
+since_malloc bound [] b = []
+since_malloc bound (event.Malloc r ∷ past) b =
+    if asks_for b r && admits bound past b then [] else event.Malloc r ∷ since_malloc bound past b
+since_malloc bound (e ∷ past) b = e ∷ since_malloc bound past b
+
+-- in the history stands a malloc that was admitted for the block, and then these events, of which none frees it
+pub record IsLiveSince (bound : ℕ) (past : List Event) (b : Extent) (since : List Event) : Type 0 where
+  pub before : List Event
+  pub malloc : Region
+  pub split : past ≡ since ++ event.Malloc malloc ∷ before
+  pub asked : block_of malloc ≡ b
+  pub was_admitted : IsTrue (admits bound before b)
+  pub unfreed : (p : Place) → Contains since (event.Free p) → p.at ≢ b.at
+
+-- ---- since when a block is held
+
+-- the events after the free of a block: after the last free at its address when a live block started there
+abbrev pub since_free : ℕ → List Event → Extent → List Event
+since_free bound [] b = []
+since_free bound (event.Free p ∷ past) b =
+    if starts_at p.at b && list_any (starts_at p.at) (live bound past) then [] else event.Free p ∷ since_free bound past b
+since_free bound (e ∷ past) b = e ∷ since_free bound past b
+
+-- in the history stands a free of the block while it was live, and then these events, through all of which it was held
+pub record IsHeldSince (bound : ℕ) (past : List Event) (b : Extent) (since : List Event) : Type 0 where
+  pub before : List Event
+  pub free : Place
+  pub split : past ≡ since ++ event.Free free ∷ before
+  pub at_block : free.at ≡ b.at
+  pub was_live : Contains (live bound before) b
+  pub held_through : (newer older : List Event) → since ≡ newer ++ older → Contains (held bound (older ++ event.Free free ∷ before)) b
+
+-- ---- events that come near a range of bytes
+
+-- a region shares a granule with the bytes from an address up to another: a byte of the one and a byte of the other lie in
+-- one granule
+pub record SharesGranule (r : Region) (from to : ℕ) : Type 0 where
+  pub own : ℕ
+  pub other : ℕ
+  pub in_region : (r.at ≤ own) × (own < r.at + r.size)
+  pub in_range : (from ≤ other) × (other < to)
+  pub one_granule : own / 8 ≡ other / 8
+
+-- no poison among these events shares a granule with the bytes from an address up to another
+abbrev pub NoPoisonShares : List Event → ℕ → ℕ → Type 0
+NoPoisonShares events from to = (r : Region) → Contains events (event.Poison r) → ¬ SharesGranule r from to
+
+-- no unpoison does
+abbrev pub NoUnpoisonShares : List Event → ℕ → ℕ → Type 0
+NoUnpoisonShares events from to = (r : Region) → Contains events (event.Unpoison r) → ¬ SharesGranule r from to
+
+-- ---- accesses
+
+-- a load, or a store
+abbrev pub access_event : Bool → Access → Event
+access_event false a = event.Load a
+access_event true a = event.Store a
+
+-- an access all of whose bytes are a block's
+abbrev pub LiesInside : Extent → Access → Type 0
+LiesInside b a = (b.at ≤ a.at) × (a.at + a.width ≤ b.at + b.size)
+
+-- an access that starts in a block's span, but before or past the block's bytes
+abbrev pub StartsAround : Extent → Access → Type 0
+StartsAround b a = (span_from b ≤ a.at) × (a.at < span_to b) × ((a.at < b.at) ⊎ (b.at + b.size ≤ a.at))
+
+-- an access that starts at a block's bytes, or at those that round its size up
+abbrev pub StartsWithin : Extent → Access → Type 0
+StartsWithin b a = (b.at ≤ a.at) × (a.at < b.at + rounded b.size)
+
+-- the report on an access after a history, where the access's first byte is the bad one
+abbrev pub first_byte_report : List Event → Bool → Access → Class → ℕ → Report
+first_byte_report past is_store a class shadow =
+    record { number = length past + 1; fault = fault.Access is_store a.width a.at a.at class shadow }
+
+-- the shadow byte of an address around a block: how many bytes the block has in the address's granule, or a redzone's code
+-- where it has none
+abbrev pub shadow_around : Extent → ℕ → ℕ
+shadow_around b at = if lies_in b.at (b.at + rounded b.size) at then b.size % 8 else code_of HeapRedzone
+
+-- ---- classes
+
+-- the class that the shadow byte of a granule tells of its first byte
+abbrev pub class_of_shadow : ℕ → Class
+class_of_shadow shadow =
+    if shadow == code_of HeapRedzone then class.HeapBufferOverflow
+    else (if shadow == code_of Freed then class.HeapUseAfterFree
+    else (if shadow == code_of UserPoison then class.UseAfterPoison else class.UnknownCrash))

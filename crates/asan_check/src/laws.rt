@@ -1,0 +1,73 @@
+//! What the definitions of histories and verdicts come to, in the words of somebody who reads the reports. Each function
+//! does nothing: its contract is the law.
+
+ghost use Rattle.std.specs.Prelude.{◌≡◌, ◌+◌, ◌++◌, ℕ, Bool, List, Some, None, Contains};
+ghost use Rattle.std.specs.List.{IsDistinct};
+ghost use Rattle.trace_record.specs.declared.event.Event.{Event};
+ghost use Rattle.trace_record.specs.declared.event.Access.{Access};
+ghost use Rattle.shadow_map.specs.States.{Freed, code_of};
+ghost use Rattle.heap_book.specs.Spans.{Extent, rounded, span_from, span_to, meets};
+ghost use Rattle.asan_check.specs.declared.report.Class.TheVariants as class;
+ghost use Rattle.asan_check.specs.History.{live, held};
+ghost use Rattle.asan_check.specs.Verdicts.{verdict};
+ghost use Rattle.asan_check.specs.Laws.{since_malloc, since_free, IsLiveSince, IsHeldSince, NoPoisonShares, NoUnpoisonShares};
+ghost use Rattle.asan_check.specs.Laws.{access_event, LiesInside, StartsAround, StartsWithin, first_byte_report, shadow_around};
+
+/// The spans of live and held blocks never meet, after any history and with any bound on the quarantine.
+pub fn spans_never_meet()
+    ensures { (bound : ℕ) (past : List Event) → IsDistinct meets (live bound past ++ held bound past) }
+{}
+
+/// A block is live exactly where the history has a malloc that was admitted for it, and no free at its address since; the
+/// events since are those that the other laws name.
+pub fn live_since_its_malloc()
+    ensures found { (bound : ℕ) (past : List Event) (block : Extent) → Contains (live bound past) block →
+        IsLiveSince bound past block (since_malloc bound past block) }
+    ensures only { (bound : ℕ) (past : List Event) (block : Extent) (since : List Event) → IsLiveSince bound past block since →
+        Contains (live bound past) block × (since ≡ since_malloc bound past block) }
+{}
+
+/// A block is held exactly where the history has a free of it while it was live, and it was held ever since; the events
+/// since are those that the other laws name.
+pub fn held_since_its_free()
+    ensures found { (bound : ℕ) (past : List Event) (block : Extent) → Contains (held bound past) block →
+        IsHeldSince bound past block (since_free bound past block) }
+    ensures only { (bound : ℕ) (past : List Event) (block : Extent) (since : List Event) → IsHeldSince bound past block since →
+        Contains (held bound past) block × (since ≡ since_free bound past block) }
+{}
+
+/// A load or a store that lies inside a live block is not reported, as long as no poison since the block's malloc shares a
+/// granule with the block.
+pub fn quiet_inside_live_block()
+    ensures { (bound : ℕ) (past : List Event) (block : Extent) (is_store : Bool) (access : Access) →
+        Contains (live bound past) block →
+        LiesInside block access →
+        NoPoisonShares (since_malloc bound past block) block.at (block.at + block.size) →
+        verdict bound past (access_event is_store access) ≡ None }
+{}
+
+/// A load or a store that starts in the span of a live block, but before or past the block's bytes, is reported as a heap
+/// buffer overflow whose bad byte is the first one, as long as no poison and no unpoison since the block's malloc shares a
+/// granule with the span.
+pub fn overflow_is_reported()
+    ensures { (bound : ℕ) (past : List Event) (block : Extent) (is_store : Bool) (access : Access) →
+        Contains (live bound past) block →
+        StartsAround block access →
+        NoPoisonShares (since_malloc bound past block) (span_from block) (span_to block) →
+        NoUnpoisonShares (since_malloc bound past block) (span_from block) (span_to block) →
+        verdict bound past (access_event is_store access)
+        ≡ Some (first_byte_report past is_store access class.HeapBufferOverflow (shadow_around block access.at)) }
+{}
+
+/// A load or a store that starts at the bytes of a held block, or at those that round its size up, is reported as a use
+/// after free whose bad byte is the first one, as long as no poison and no unpoison since the block's free shares a granule
+/// with those bytes.
+pub fn use_after_free_is_reported()
+    ensures { (bound : ℕ) (past : List Event) (block : Extent) (is_store : Bool) (access : Access) →
+        Contains (held bound past) block →
+        StartsWithin block access →
+        NoPoisonShares (since_free bound past block) block.at (block.at + rounded block.size) →
+        NoUnpoisonShares (since_free bound past block) block.at (block.at + rounded block.size) →
+        verdict bound past (access_event is_store access)
+        ≡ Some (first_byte_report past is_store access class.HeapUseAfterFree (code_of Freed)) }
+{}
