@@ -84,6 +84,7 @@ impl Decoder {
         ensures used { result.used ≤ length piece.now }
         ensures need { result.out ≡ Out.Need → result.used ≡ length piece.now }
         ensures got { (event : Event) → result.out ≡ Out.Got event → 0 < result.used }
+        ensures ended { (end : End) → self.old.stop ≡ None → result.out ≡ Out.Stop end → 0 < result.used }
         ensures limit { self.new.limit ≡ self.old.limit }
         ensures stop { self.new.stop ≡ stop_of result.out }
         ensures answers { (text : List ℕ) (events : List Event) → StandsAt self.old text events →
@@ -146,6 +147,7 @@ impl Decoder {
         ensures used { result.used ≤ length piece.now }
         ensures whole { result.out ≡ Out.Need → result.used < length piece.now → 8 ≤ self.new.offset }
         ensures got { (event : Event) → result.out ≡ Out.Got event → 0 < result.used }
+        ensures ended { (end : End) → result.out ≡ Out.Stop end → 0 < result.used }
         ensures limit { self.new.limit ≡ self.old.limit }
         ensures stop { self.new.stop ≡ stop_of result.out }
         ensures answers { (text : List ℕ) (events : List Event) → StandsAt self.old text events →
@@ -183,6 +185,7 @@ impl Decoder {
         ensures used { result.used ≤ length piece.now }
         ensures need { result.out ≡ Out.Need → result.used ≡ length piece.now }
         ensures got { (event : Event) → result.out ≡ Out.Got event → 0 < result.used }
+        ensures ended { (end : End) → result.out ≡ Out.Stop end → 0 < result.used }
         ensures limit { self.new.limit ≡ self.old.limit }
         ensures stop { self.new.stop ≡ stop_of result.out }
         ensures answers { (text : List ℕ) (events : List Event) → StandsAt self.old text events →
@@ -210,6 +213,7 @@ impl Decoder {
         ensures used { result.used ≤ length piece.now }
         ensures need { result.out ≡ Out.Need → result.used ≡ length piece.now }
         ensures got { (event : Event) → result.out ≡ Out.Got event → 0 < result.used }
+        ensures ended { (end : End) → result.out ≡ Out.Stop end → 0 < result.used }
         ensures limit { self.new.limit ≡ self.old.limit }
         ensures stop { self.new.stop ≡ stop_of result.out }
         ensures answers { (text : List ℕ) (events : List Event) → StandsAt self.old text events →
@@ -255,6 +259,7 @@ impl Decoder {
         ensures used { result.used ≤ length piece.now }
         ensures need { result.out ≡ Out.Need → result.used ≡ length piece.now }
         ensures got { (event : Event) → result.out ≡ Out.Got event → 0 < result.used }
+        ensures ended { (end : End) → result.out ≡ Out.Stop end → 0 < result.used }
         ensures limit { self.new.limit ≡ self.old.limit }
         ensures stop { self.new.stop ≡ stop_of result.out }
         ensures answers { (text : List ℕ) (events : List Event) → StandsAt self.old text events →
