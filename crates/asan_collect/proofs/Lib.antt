@@ -1,0 +1,4 @@
+mod Order
+mod Stepping
+mod Continuing
+mod Prints

@@ -1,0 +1,7 @@
+pub mod Ranges
+pub mod BadOptions
+pub mod Outcomes
+pub mod Replays
+pub mod Statuses
+pub mod Texts
+pub mod Printing
