@@ -1,6 +1,6 @@
 ghost use Rattle.std.specs.Prelude.{◌≡◌, ◌+◌, ◌^◌, ◌<◌, ◌≤◌, ◌↔◌, [], true, IsErr, IfOk, OnErr, IfSome, IfNone};
 ghost use Rattle.std.specs.List.{IsDistinct, list_any};
-ghost use Rattle.heap_book.specs.Spans.{Extent, may_be_admitted, meets, starts_at};
+ghost use Rattle.heap_book.specs.Spans.{Extent, held_of, may_be_admitted, meets, starts_at};
 ghost use Rattle.heap_book.specs.Blocks.{taken, queued_bytes, ReleasesOldest};
 ghost use Rattle.heap_book.specs.Admit.{IsAdmitAnswer, AfterAdmit};
 ghost use Rattle.heap_book.specs.Freed.{IsFreeAnswer, AfterFree};
@@ -125,6 +125,8 @@ impl<A: Allocator + Copy> Book<A> {
         ensures past { IfSome result (λ _. self.old.bound < queued_bytes self.old) }
         ensures unchanged { IfNone result (self.new ≡ self.old) }
         ensures released { IfSome result (λ block. ReleasesOldest self.old block self.new) }
+        ensures all_held { IfNone result (held_of self.old.bound self.old.queue ≡ self.old.queue) }
+        ensures held_stay { held_of self.new.bound self.new.queue ≡ held_of self.old.bound self.old.queue }
 
         // True of every book: no two of its spans share a byte.
         ensures apart { IsDistinct meets (taken self.old) }

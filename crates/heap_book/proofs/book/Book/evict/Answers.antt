@@ -6,6 +6,7 @@ use Rattle.heap_book.specs.Spans.{Extent, span_bytes}
 use Rattle.heap_book.specs.Slots.{freed_of}
 use Rattle.heap_book.proofs.Following.{follow-remove}
 use Rattle.heap_book.proofs.Entries.{live_of-remove, freed_of-rest, oldest-found, taken-apart}
+use Rattle.heap_book.proofs.Held.{held-within}
 use Rattle.heap_book.proofs.book.Book.evict.Goals as goal
 
 pub invariant_of-self-2 : goal.invariant_of-self-2
@@ -46,3 +47,10 @@ returns-then-self-clause-apart g c =
 pub returns-clause-apart : goal.returns-clause-apart
 returns-clause-apart g c =
     rw (← c.self.view_is) (taken-apart c.self.inside.blocks.entries c.self.inside.queue.items c.self.invariant.apart c.self.invariant.freed)
+
+pub returns-then-self-clause-within : goal.returns-then-self-clause-within
+returns-then-self-clause-within g c = rw (← c.self.view_is) (let total = c.self.invariant.total in omega arith)
+
+pub returns-then-self-clause-all_held : goal.returns-then-self-clause-all_held
+returns-then-self-clause-all_held g c =
+    rw (← c.self.view_is) (let total = c.self.invariant.total in held-within c.self.inside.bound c.self.inside.queue.items (omega arith))
