@@ -64,10 +64,12 @@ on_ok (Err e) p = tt
 pub ran_short : (fate events offset reports : List ℕ) → length fate ≤ 16 → length events ≤ 20 → length offset ≤ 20 → length reports ≤ 20
     → length (fate ++ codes " events " ++ events ++ codes " offset " ++ offset ++ codes " reports " ++ reports) ≤ 110
 ran_short fate events offset reports a b c d =
-    omega (arith,
-    length-append (fate ++ codes " events " ++ events ++ codes " offset " ++ offset ++ codes " reports ") reports,
-    length-append (fate ++ codes " events " ++ events ++ codes " offset " ++ offset) (codes " reports "),
-    length-append (fate ++ codes " events " ++ events ++ codes " offset ") offset,
-    length-append (fate ++ codes " events " ++ events) (codes " offset "),
-    length-append (fate ++ codes " events ") events,
-    length-append fate (codes " events "))
+    omega (
+      arith,
+      length-append (fate ++ codes " events " ++ events ++ codes " offset " ++ offset ++ codes " reports ") reports,
+      length-append (fate ++ codes " events " ++ events ++ codes " offset " ++ offset) (codes " reports "),
+      length-append (fate ++ codes " events " ++ events ++ codes " offset ") offset,
+      length-append (fate ++ codes " events " ++ events) (codes " offset "),
+      length-append (fate ++ codes " events ") events,
+      length-append fate (codes " events "),
+    )

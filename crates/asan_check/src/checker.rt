@@ -1,3 +1,4 @@
+//! The checker, which keeps the blocks and the shadow of a process and takes in its events.
 ghost use Rattle.std.specs.Prelude.{◌≡◌, ℕ, ◌+◌, ◌<◌, ◌≤◌, ◌^◌, ◌↔◌, List, [], ◌∷◌, ◌++◌, IfOk, IsErr, IsSomeAnd, OnOk, OnErr, true, false, not, length, None, Some, option_to_list};
 ghost use Rattle.trace_record.specs.declared.event.Event.{Event as AnEvent};
 ghost use Rattle.trace_record.specs.declared.event.Event.TheVariants as event;
@@ -15,18 +16,35 @@ use std::alloc::{Allocator, Global};
 use thiserror::Error;
 use trace_record::{Access, Event, Place, Region};
 
+/// How many bytes a granule has.
+const GRANULE: u64 = 8;
+
+/// How many bytes a redzone has.
+const REDZONE: u64 = 32;
+
+/// The least shadow byte that is a code. A granule with one has no addressable byte, and the code tells what it is.
+const LEAST_CODE: u8 = 0x80;
+
 /// There was no memory for this event or for an earlier one.
 #[derive(Clone, Copy, Debug, PartialEq, Eq, Error)]
 #[error("there was no memory to check an event")]
 pub struct Failed;
 
-/// Checks the events of one process, one after another.
+/// Checks the events of one process, one after another, and keeps the reports on the bad ones.
+///
+/// A bad event doesn't end the check: the next one meets the memory as the events before the bad one left it. Addresses
+/// and sizes are in bytes. They are those of the traced process, whose memory is never touched.
 #[derive(Drop)]
 pub struct Checker<A: Allocator + Copy = Global> {
+    /// What each byte of the process is: addressable, or why not.
     shadow: Shadow<A>,
+    /// Its live blocks, and those in quarantine.
     book: Book<A>,
+    /// The reports on the events so far.
     reports: Vec<Report, A>,
+    /// How many events these were.
     checked: u64,
+    /// Whether there was no memory for one more. Shadow and book are then not looked at any more.
     failed: bool,
 }
 
@@ -34,7 +52,8 @@ impl<A: Allocator + Copy> Checker<A> {
     ghost use Rattle.asan_check.specs.Freeing.{IsFreeing};
     ghost use Rattle.asan_check.specs.Standing.{KeepsTally, ShowsHistory, Stands, FailedAt, has_failed, checked_of, reports_of, bound_of};
 
-    /// A checker that has seen no event, and whose quarantine holds at most `bound` bytes of spans. Takes no memory.
+    /// A checker that has checked no event, and whose quarantine holds spans of at most `bound` bytes together. Takes no
+    /// memory.
     ///
     /// # Errors
     ///
@@ -53,13 +72,13 @@ impl<A: Allocator + Copy> Checker<A> {
         })
     }
 
-    /// Checks the next event, and answers the report on it if it is a bad one. A bad load, store, malloc or free changes
-    /// nothing else.
+    /// Checks the next event, which is one of less than 2^64, and answers the report on it if it is a bad one. A bad event
+    /// adds its report to [`reports`](Checker::reports), and changes nothing else.
     ///
     /// # Errors
     ///
     /// `Failed` where a growth was refused, in this call or in an earlier one. From then on every step answers `Failed`, and
-    /// the reports and the count stay.
+    /// the reports and the count stay as they were before the first refused event.
     pub fn step(&mut self, event: &Event) -> Result<Option<Report>, Failed>
         requires room { checked_of self.old + 1 < 2 ^ 64 }
         ensures checked { IfOk result (λ report. (bound : ℕ) (past : List AnEvent) → Stands bound self.old past →
@@ -80,35 +99,36 @@ impl<A: Allocator + Copy> Checker<A> {
                 self.checked += 1;
                 Ok(report)
             }
-            Err(_) => {
+            Err(NoMemory) => {
                 self.failed = true;
                 Err(Failed)
             }
         }
     }
 
-    /// How many events it has checked: those that it was stepped by without `Failed`.
+    /// How many events it has checked: those that were stepped without `Failed`.
     pub fn checked(&self) -> u64
         ensures { result ≡ checked_of self.now }
     {
         self.checked
     }
 
-    /// Its reports, in the order of their events.
+    /// The reports on the events that it has checked, in their order.
     pub fn reports(&self) -> &[Report]
         ensures { result.now ≡ reports_of self.now }
     {
         &self.reports
     }
 
-    /// Its reports, in the order of their events.
+    /// The reports on the events that it has checked, in their order, for the caller to keep. Takes no memory.
     pub fn into_reports(self) -> Vec<Report, A>
         ensures { result.items ≡ reports_of self }
     {
         self.reports
     }
 
-    /// Whether a load of the byte would be reported; nothing once a step has failed.
+    /// Whether a load of the byte at `at` would be reported, or `None` once a step has failed. A byte at 2^47 or past it never
+    /// is. Takes no memory.
     pub fn is_poisoned(&self, at: u64) -> Option<bool>
         ensures stands { (bound : ℕ) (past : List AnEvent) → Stands bound self.now past →
             result ≡ Some (not (is_addressable (state_of (marks bound past) at))) }
@@ -120,7 +140,8 @@ impl<A: Allocator + Copy> Checker<A> {
         Some(self.shadow.is_poisoned(at))
     }
 
-    /// The first of `size` bytes from `at` on that is not addressable, if there is one; nothing once a step has failed.
+    /// The address of the first of `size` bytes from `at` on that is not addressable, if there is one, or `None` once a step
+    /// has failed. The bytes end at most at 2^47. Takes no memory.
     pub fn first_poisoned(&self, at: u64, size: u64) -> Option<Option<u64>>
         requires { at + size ≤ 2 ^ 47 }
         ensures stands { (bound : ℕ) (past : List AnEvent) → Stands bound self.now past →
@@ -133,7 +154,7 @@ impl<A: Allocator + Copy> Checker<A> {
         Some(self.shadow.first_poisoned(at, size))
     }
 
-    /// Takes in an event, and keeps the report on it if it is a bad one.
+    /// Applies an event, and keeps the report on it if it is a bad one.
     fn check(&mut self, event: &Event) -> Result<Option<Report>, NoMemory>
         requires room { checked_of self.old + 1 < 2 ^ 64 }
         ensures ok { IfOk result (λ report. (bound : ℕ) (past : List AnEvent) → Stands bound self.old past →
@@ -143,7 +164,7 @@ impl<A: Allocator + Copy> Checker<A> {
         ensures others { (checked_of self.new ≡ checked_of self.old) × (has_failed self.new ≡ has_failed self.old)
             × (bound_of self.new ≡ bound_of self.old) }
     {
-        let Some(fault) = self.take(event)? else {
+        let Some(fault) = self.apply(event)? else {
             return Ok(None);
         };
         let report = Report {
@@ -154,15 +175,15 @@ impl<A: Allocator + Copy> Checker<A> {
         Ok(Some(report))
     }
 
-    /// Takes in an event, and answers what is wrong with it.
-    fn take(&mut self, event: &Event) -> Result<Option<Fault>, NoMemory>
+    /// Applies an event to the blocks and to the shadow, and answers what is wrong with it.
+    fn apply(&mut self, event: &Event) -> Result<Option<Fault>, NoMemory>
         ensures ok { IfOk result (λ fault. (bound : ℕ) (past : List AnEvent) → ShowsHistory bound self.old past →
             (fault ≡ fault_of bound past event.now) × ShowsHistory bound self.new (event.now ∷ past)) }
         ensures tally { KeepsTally self.old self.new }
     {
         match event {
-            Event::Load(access) => Ok(self.access(false, access)),
-            Event::Store(access) => Ok(self.access(true, access)),
+            Event::Load(access) => Ok(self.access_fault(false, access)),
+            Event::Store(access) => Ok(self.access_fault(true, access)),
             Event::Malloc(region) => self.malloc(region),
             Event::Free(place) => self.free(place),
             Event::Poison(region) => {
@@ -177,7 +198,7 @@ impl<A: Allocator + Copy> Checker<A> {
     }
 
     /// What is wrong with a load or a store.
-    fn access(&self, store: bool, access: &Access) -> Option<Fault>
+    fn access_fault(&self, store: bool, access: &Access) -> Option<Fault>
         ensures { (bound : ℕ) (past : List AnEvent) → ShowsHistory bound self.now past →
             result ≡ access_fault (state_of (marks bound past)) store access.now }
     {
@@ -192,8 +213,8 @@ impl<A: Allocator + Copy> Checker<A> {
         })
     }
 
-    /// The class of a bad access: what the first byte of its granule is if none of the granule's bytes is addressable, else
-    /// what the first byte of the next one is.
+    /// The class of a bad access at `at`. The first byte of its granule tells it if none of the granule's bytes is
+    /// addressable, else the first byte of the next granule.
     fn class_at(&self, at: u64) -> Class
         requires { at < 2 ^ 47 }
         ensures { (bound : ℕ) (past : List AnEvent) → ShowsHistory bound self.now past →
@@ -207,7 +228,7 @@ impl<A: Allocator + Copy> Checker<A> {
         }
     }
 
-    /// Takes in a malloc, and answers what is wrong with it.
+    /// Applies a malloc, and answers what is wrong with it.
     fn malloc(&mut self, region: &Region) -> Result<Option<Fault>, NoMemory>
         ensures ok { IfOk result (λ fault. (bound : ℕ) (past : List AnEvent) → ShowsHistory bound self.old past →
             (fault ≡ malloc_fault bound past region.now.at region.now.size)
@@ -227,7 +248,7 @@ impl<A: Allocator + Copy> Checker<A> {
         }
     }
 
-    /// Takes in a free, and answers what is wrong with it.
+    /// Applies a free, and answers what is wrong with it.
     fn free(&mut self, place: &Place) -> Result<Option<Fault>, NoMemory>
         ensures ok { IfOk result (λ fault. (bound : ℕ) (past : List AnEvent) → ShowsHistory bound self.old past →
             (fault ≡ free_fault bound past place.now.at) × ShowsHistory bound self.new (event.Free place.now ∷ past)) }
@@ -245,8 +266,8 @@ impl<A: Allocator + Copy> Checker<A> {
         }
     }
 
-    /// Marks a block that has joined the quarantine as freed, and then lets go of the oldest ones past its bound: their spans
-    /// become redzones.
+    /// Marks the granules of a block that has joined the quarantine as freed, and then releases the oldest blocks past the
+    /// quarantine's bound: their whole spans become redzone.
     fn hold(&mut self, block: &Block) -> Result<(), NoMemory>
         ensures ok { OnOk result ((bound : ℕ) (past : List AnEvent) (p : APlace) → IsFreeing bound self.old past p block.now →
             ShowsHistory bound self.new (event.Free p ∷ past)) }
@@ -259,15 +280,6 @@ impl<A: Allocator + Copy> Checker<A> {
         Ok(())
     }
 }
-
-/// How many bytes a redzone has.
-const REDZONE: u64 = 32;
-
-/// How many bytes a granule has.
-const GRANULE: u64 = 8;
-
-/// The least shadow byte that tells what a granule is that has no addressable byte.
-const LEAST_CODE: u8 = 0x80;
 
 /// The class that a shadow byte tells.
 fn class_by(shadow: u8) -> Class

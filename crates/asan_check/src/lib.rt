@@ -5,6 +5,8 @@ mod checker;
 mod ending;
 mod laws;
 mod report;
+#[cfg(test)]
+mod tests;
 mod text;
 
 pub use checker::{Checker, Failed};

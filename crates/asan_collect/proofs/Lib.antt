@@ -1,4 +1,5 @@
-mod Order
 mod Stepping
-mod Continuing
+mod Lengths
+mod Told
 mod Prints
+mod Agreeing

@@ -1,6 +1,7 @@
 pub mod Ranges
 pub mod BadOptions
 pub mod Outcomes
+pub mod Agreement
 pub mod Replays
 pub mod Statuses
 pub mod Texts

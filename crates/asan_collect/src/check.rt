@@ -1,8 +1,10 @@
-ghost use Rattle.std.specs.Prelude.{◌≡◌, ℕ, ◌+◌, ◌*◌, ◌<◌, ◌≤◌, ◌^◌, List, length, reverse};
+ghost use Rattle.std.specs.Prelude.{◌≡◌, ℕ, ◌≤◌, List, length, reverse};
 ghost use Rattle.trace_record.specs.declared.event.Event.{Event as AnEvent};
 ghost use Rattle.asan_check.specs.Standing.{StandsOrFailed};
-ghost use Rattle.asan_collect.specs.Outcomes.{IsOutcomeOf, Tells};
+ghost use Rattle.asan_collect.specs.Outcomes.{IsOutcomeOf, StopsSoon, Tells};
+ghost use Rattle.asan_collect.specs.Ranges.{most_events, most_reports};
 ghost use Rattle.asan_collect.specs.Replays.{Follows, AfterPiece};
+ghost use Rattle.asan_collect.specs.Texts.{reports_of};
 
 use crate::options::Options;
 use crate::outcome::Outcome;
@@ -14,29 +16,26 @@ use trace_record::{Decoder, End, Out};
 /// How many bytes one read asks for.
 const READ_SIZE: usize = 4096;
 
-/// How many bytes the header has, and how many the longest record.
-const HEADER_LENGTH: u64 = 8;
-
-const LONGEST_RECORD: u64 = 17;
-
 /// Reads `feed` until something ends its stream, and checks the events that its bytes spell, on the calling thread and
-/// through a buffer of a fixed size.
+/// through a buffer of 4,096 bytes. The checker takes its memory from `alloc`. No read of the feed may have failed before.
 ///
-/// The outcome is `Settled`, or `NoMemory` where a growth of the checker was refused; it owns the feed again. After a byte
-/// that decides the stream there is no further read.
+/// The outcome is `Settled`, or `NoMemory` where a growth of the checker was refused; the stream is read to its end then
+/// too. It owns the feed again. No read follows one that failed, one that gave no byte, or one that gave the byte that
+/// decides the stream.
 pub fn check_feed<F: Feed, A: Allocator + Copy>(
     alloc: A,
-    feed: F,
+    mut feed: F,
     options: Options,
 ) -> Outcome<F, A>
     requires fresh { F.fault_count feed ≡ 0 }
-    ensures { IsOutcomeOf F.to_come F.fault_count options.limit options.quarantine feed result }
+    ensures outcome { IsOutcomeOf F.to_come F.fault_count options.limit options.quarantine feed result }
+    ensures soon { StopsSoon F.to_come options.limit feed result }
+    ensures few { length (reports_of result) ≤ most_reports }
 {
-    let mut feed = feed;
     let mut decoder = Decoder::new(options.limit).unwrap();
     let mut checker = Checker::new(alloc, options.quarantine).unwrap();
     let mut buffer = [0u8; READ_SIZE];
-    for turn in 0..most_reads(options.limit) {
+    loop {
         match feed.next(&mut buffer) {
             Err(_) => return outcome_of(feed, decoder.at_fault(), checker),
             Ok(0) => return outcome_of(feed, decoder.at_end(), checker),
@@ -47,14 +46,6 @@ pub fn check_feed<F: Feed, A: Allocator + Copy>(
             }
         }
     }
-    unreachable!()
-}
-
-/// More reads than a stream that nothing has ended can have had, each of a byte at least.
-fn most_reads(limit: u32) -> u64
-    ensures { result ≡ 17 * limit + 9 }
-{
-    HEADER_LENGTH + LONGEST_RECORD * u64::from(limit) + 1
 }
 
 /// Checks the events that a piece completes, and gives the end if a byte of it decides one.
@@ -64,7 +55,7 @@ fn check_piece<A: Allocator + Copy>(
     piece: &[u8],
 ) -> Option<End>
     requires follows { (bound : ℕ) × (text : List ℕ) × (events : List AnEvent) × Follows bound decoder.old checker.old text events }
-    requires limit { decoder.old.limit ≤ 2 ^ 24 }
+    requires limit { decoder.old.limit ≤ most_events }
     ensures limit { decoder.new.limit ≡ decoder.old.limit }
     ensures after { (bound : ℕ) (text : List ℕ) (events : List AnEvent) → Follows bound decoder.old checker.old text events →
         AfterPiece bound decoder.old.limit decoder.new checker.new text piece.now result }

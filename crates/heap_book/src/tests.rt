@@ -1,7 +1,9 @@
 ghost use Rattle.std.specs.Prelude.{◌+◌, ◌^◌, ◌≤◌};
 
 use crate::{Admit, Block, Book, Bound, Freed, NoMemory};
-use std::alloc::Global;
+use refuser::Refuser;
+use std::alloc::{Allocator, Global};
+use std::process::Abort;
 use std::test::Fail;
 
 /// The ends of a block's span, if an empty book admits it.
@@ -101,5 +103,99 @@ fn span_over_the_bound_is_not_held(rt: HostRuntime) -> Result<(), Fail> {
         book.admit(0x1008, 8)?,
         Admit::Admitted(Block::from_parts(0x1008, 8))
     );
+    Ok(())
+}
+
+/// A call of a book.
+#[derive(Clone, Copy, Debug)]
+enum Call {
+    Admit(u32, u32),
+    Free(u32),
+    Evict,
+}
+
+/// What a book answers to a call.
+#[derive(Clone, Copy, Debug, PartialEq, Eq)]
+enum Answer {
+    Admit(Admit),
+    Free(Freed),
+    Evict(Option<Block>),
+}
+
+fn ask<A: Allocator + Copy>(book: &mut Book<A>, call: Call) -> Result<Answer, NoMemory> {
+    match call {
+        Call::Admit(at, size) => Ok(Answer::Admit(book.admit(at as u64, size as u64)?)),
+        Call::Free(at) => Ok(Answer::Free(book.free(at as u64)?)),
+        Call::Evict => Ok(Answer::Evict(book.evict())),
+    }
+}
+
+/// Refuses each growth of a book in turn. A call that is refused is made again, and it and all later ones answer as if
+/// there had been memory. Gives the number of refusals.
+fn refuse_each(rt: &impl Abort, alloc: Global, calls: &[Call]) -> Result<u64, Fail> {
+    for turn in 1..100u64 {
+        let heap = Refuser::new(alloc, turn);
+        let mut book = Book::new(&heap, 72)?;
+        let mut ample = Book::new(alloc, 72)?;
+        let mut refused = false;
+        for call in calls {
+            let wanted = ask(&mut ample, *call)?;
+            let given = match ask(&mut book, *call) {
+                Ok(given) => given,
+                Err(NoMemory) => {
+                    refused = true;
+                    ask(&mut book, *call)?
+                }
+            };
+            assert_eq!(rt; given, wanted, "turn {turn}, {call:?}");
+        }
+        assert_eq!(rt; refused, heap.has_refused(), "turn {turn}");
+        if !refused {
+            return Ok(turn - 1);
+        }
+    }
+    panic!(rt; "always refused")
+}
+
+#[test]
+fn each_growth_refused_in_turn(rt: HostRuntime) -> Result<(), Fail> {
+    let calls = [
+        Call::Admit(0x1000, 8),
+        Call::Admit(0x1040, 8),
+        Call::Admit(0x1048, 8),
+        Call::Free(0x1000),
+        Call::Evict,
+        Call::Free(0x1048),
+        Call::Evict,
+        Call::Evict,
+        Call::Free(0x1000),
+        Call::Free(0x1048),
+        Call::Free(0),
+        Call::Admit(0, 16),
+        Call::Admit(0x1000, 8),
+    ];
+    assert!(rt; refuse_each(&rt, rt.alloc(), &calls)? > 1);
+    let oldest_released = [
+        Call::Admit(0x1000, 8),
+        Call::Admit(0x2000, 8),
+        Call::Free(0x1000),
+        Call::Evict,
+        Call::Free(0x2000),
+        Call::Evict,
+        Call::Evict,
+    ];
+    assert!(rt; refuse_each(&rt, rt.alloc(), &oldest_released)? > 1);
+    // So many that the map and the queue grow again.
+    let mut many = Vec::new(rt.alloc());
+    for number in 1..20u32 {
+        many.push(Call::Admit(number * 0x1000, 8))?;
+    }
+    for number in 1..20u32 {
+        many.push(Call::Free(number * 0x1000))?;
+    }
+    for _ in 0..20 {
+        many.push(Call::Evict)?;
+    }
+    assert!(rt; refuse_each(&rt, rt.alloc(), &many)? > 4);
     Ok(())
 }

@@ -1,5 +1,6 @@
 use super::*;
-use std::alloc::Global;
+use refuser::Refuser;
+use std::alloc::{Allocator, Global};
 use std::test::Fail;
 
 #[test]
@@ -57,6 +58,67 @@ fn last_granule(rt: HostRuntime) -> Result<(), Fail> {
         assert!(rt; !shadow.is_poisoned(at), "byte {at}");
     }
     Ok(())
+}
+
+/// How many calls `mark_call` knows.
+const MARK_CALLS: usize = 5;
+
+/// The calls of `shadow_calls` that mark memory, by their place, and a poison of many granules.
+fn mark_call<A: Allocator + Copy>(shadow: &mut Shadow<A>, place: usize) -> Result<(), NoMemory> {
+    match place {
+        0 => shadow.block(0x1000, 5),
+        1 => shadow.unpoison(0x1006, 1),
+        2 => shadow.poison(0x1000, 8),
+        3 => shadow.mark(0x1000, 0x1008, FREED),
+        _ => shadow.poison(0xf82, 0xfc),
+    }
+}
+
+/// The shadow bytes of the granules from 0x1f0 up to 0x210.
+fn values<A: Allocator + Copy>(shadow: &Shadow<A>) -> [u8; 32] {
+    let mut values = [0; 32];
+    for (granule, value) in (0x1f0u64..).zip(&mut values) {
+        *value = shadow.value(granule);
+    }
+    values
+}
+
+#[test]
+fn each_growth_refused_in_turn(rt: HostRuntime) -> Result<(), Fail> {
+    for turn in 1..100u64 {
+        let heap = Refuser::new(rt.alloc(), turn);
+        let mut shadow = Shadow::new(&heap);
+        let mut ample = Shadow::new(rt.alloc());
+        let mut refused = false;
+        for place in 0..MARK_CALLS {
+            let before = values(&shadow);
+            mark_call(&mut ample, place)?;
+            let after = values(&ample);
+            if let Err(NoMemory) = mark_call(&mut shadow, place) {
+                refused = true;
+                // So many granules are as after the call, and the others are as before it.
+                let stopped = values(&shadow);
+                let done = stopped
+                    .iter()
+                    .zip(&after)
+                    .take_while(|(now, then)| now == then)
+                    .count();
+                assert!(rt;
+                    stopped[done..] == before[done..],
+                    "turn {turn}, call {place}"
+                );
+                // Made again, the call finds memory and does the rest.
+                mark_call(&mut shadow, place)?;
+            }
+            assert_eq!(rt; values(&shadow), after, "turn {turn}, call {place}");
+        }
+        assert_eq!(rt; refused, heap.has_refused(), "turn {turn}");
+        if !refused {
+            assert!(rt; turn > 1);
+            return Ok(());
+        }
+    }
+    panic!(rt; "always refused")
 }
 
 /// The shadow bytes that a granule can have.

@@ -1,0 +1,32 @@
+# Proves, builds, shows and installs asancol. The toolchain's command `rt` has to be on the PATH.
+
+PREFIX ?= /usr/local
+
+SOURCES := crates.txt HANDLES $(shell find crates -name out -prune -o -type f \( -name '*.rt' -o -name '*.antt' \) -print)
+EXAMPLE := examples/one_byte_past_the_end.trace
+
+.PHONY: all demo check install clean
+
+# The program, proved.
+all: asancol
+
+# `rt run` proves what has changed, builds the program and runs it: here it only prints its help.
+asancol: $(SOURCES)
+	cd crates/asancol && rt run -- --help > /dev/null
+	cp crates/asancol/out/asancol $@
+
+# A store that ends one byte past its block: the program reports it and ends with status 1.
+demo: asancol
+	@echo './asancol < $(EXAMPLE)'
+	@./asancol < $(EXAMPLE); status=$$?; echo "status $$status"; test $$status -eq 1
+
+# Proves everything from nothing, and runs the wrong bodies, the tests and the program.
+check:
+	rt ci
+
+install: asancol
+	install -D asancol $(DESTDIR)$(PREFIX)/bin/asancol
+
+# Leaves what was proved so far, in crates/*/out, for the next build.
+clean:
+	rm -f asancol

@@ -1,0 +1,46 @@
+mod beside_the_model;
+mod model;
+mod refusals;
+mod rows;
+
+use crate::{Checker, Failed, Report};
+use std::alloc::Allocator;
+use std::process::Abort;
+use trace_record::{Access, Event, Flaw, Place, Region};
+
+/// The bound on the quarantine that is usual, in bytes of spans.
+const USUAL: u64 = 1 << 28;
+
+fn load(width: u8, at: u64) -> Result<Event, Flaw> {
+    Ok(Event::Load(Access::new(at, width)?))
+}
+
+fn store(width: u8, at: u64) -> Result<Event, Flaw> {
+    Ok(Event::Store(Access::new(at, width)?))
+}
+
+fn malloc(at: u64, size: u64) -> Result<Event, Flaw> {
+    Ok(Event::Malloc(Region::new(at, size)?))
+}
+
+fn free(at: u64) -> Result<Event, Flaw> {
+    Ok(Event::Free(Place::new(at)?))
+}
+
+fn poison(at: u64, size: u64) -> Result<Event, Flaw> {
+    Ok(Event::Poison(Region::new(at, size)?))
+}
+
+fn unpoison(at: u64, size: u64) -> Result<Event, Flaw> {
+    Ok(Event::Unpoison(Region::new(at, size)?))
+}
+
+/// Steps a checker of fewer events than it can count.
+fn step<A: Allocator + Copy>(
+    rt: &impl Abort,
+    checker: &mut Checker<A>,
+    event: &Event,
+) -> Result<Option<Report>, Failed> {
+    assert!(rt; checker.checked() < u64::MAX);
+    checker.step(event)
+}

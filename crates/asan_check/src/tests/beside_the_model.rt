@@ -1,0 +1,119 @@
+//! A checker and the plain model, driven by the same events.
+ghost use Rattle.std.specs.Prelude.{◌<◌};
+
+use super::model::{Model, State, state_of};
+use super::{USUAL, free, load, malloc, poison, step, store, unpoison};
+use crate::{Checker, report_text};
+use std::test::Fail;
+use trace_record::{Event, Flaw};
+
+/// How many histories are drawn.
+const HISTORIES: u64 = 60;
+
+/// How many events are drawn for each.
+const EVENTS: u64 = 70;
+
+/// How many bytes the window has in which the addresses lie.
+const WINDOW: u64 = 0x200;
+
+/// The greatest size of a block or a region.
+const GREATEST_SIZE: u64 = 40;
+
+/// How far apart blocks start, most of them: by their sizes, spans of neighbours have room between them, touch or meet.
+const STRIDE: u64 = 80;
+
+/// A fixed sequence of numbers.
+#[derive(Drop)]
+struct Draws {
+    state: u64,
+}
+
+impl Draws {
+    /// The next number, below a bound.
+    fn below(&mut self, bound: u64) -> u64
+        requires { 0 < bound }
+        ensures { result < bound }
+    {
+        self.state = self
+            .state
+            .wrapping_mul(6_364_136_223_846_793_005)
+            .wrapping_add(1_442_695_040_888_963_407);
+        (self.state >> 33) % bound
+    }
+
+    /// An event in the window from an address on, or a flaw where it would reach past the last address.
+    fn event(&mut self, base: u64) -> Result<Event, Flaw> {
+        let at = base.saturating_add(self.below(WINDOW));
+        let size = self.below(GREATEST_SIZE + 1);
+        let width = 1 << self.below(4);
+        let stray = if self.below(8) == 0 {
+            self.below(STRIDE)
+        } else {
+            0
+        };
+        let block = base
+            .saturating_add(self.below(WINDOW / STRIDE) * STRIDE)
+            .saturating_add(stray);
+        match self.below(16) {
+            0..3 => load(width, at),
+            3..6 => store(width, at),
+            6..9 => malloc(block, size),
+            9..12 => free(block),
+            12..14 => poison(at, size),
+            _ => unpoison(at, size),
+        }
+    }
+}
+
+#[test]
+fn checker_agrees_with_the_model(rt: HostRuntime) -> Result<(), Fail> {
+    let bounds = [0, 71, 72, 200, 400, USUAL];
+    let bases = [0x1000, 0, (1 << 47) - WINDOW];
+    let mut draws = Draws { state: 1 };
+    let mut text = String::new(rt.alloc());
+    for history in 0..HISTORIES {
+        let bound = bounds[(history / 3 % 6) as usize];
+        let base = bases[(history % 3) as usize];
+        let mut checker = Checker::new(rt.alloc(), bound)?;
+        let mut model = Model {
+            alloc: rt.alloc(),
+            bound,
+            events: Vec::new(rt.alloc()),
+        };
+        let mut reports = Vec::new(rt.alloc());
+        for _ in 0..EVENTS {
+            if let Ok(event) = draws.event(base) {
+                let report = step(&rt, &mut checker, &event)?;
+                assert_eq!(rt; report, model.step(event)?, "history {history}, {event:?}");
+                if let Some(report) = report {
+                    report_text(0, &report, &mut text)?;
+                    reports.push(report)?;
+                }
+            }
+        }
+        assert_eq!(rt; checker.checked(), model.events.len() as u64);
+        assert_eq!(rt; checker.reports(), reports.as_slice());
+        let marks = model.marks()?;
+        let mut first = None;
+        for at in (base..base + WINDOW).rev() {
+            let is_poisoned = state_of(&marks, at) != State::Addressable;
+            assert_eq!(rt; checker.is_poisoned(at), Some(is_poisoned), "byte {at}");
+            if is_poisoned {
+                first = Some(at);
+            }
+        }
+        assert_eq!(rt; checker.first_poisoned(base, WINDOW), Some(first));
+    }
+    for word in [
+        "heap-buffer-overflow",
+        "heap-use-after-free",
+        "use-after-poison",
+        "unknown-crash",
+        "double-free",
+        "bad-free",
+        "bad-malloc",
+    ] {
+        assert!(rt; text.contains(word), "no report was drawn of {word}");
+    }
+    Ok(())
+}

@@ -1,0 +1,107 @@
+ghost use Rattle.std.specs.Prelude.{◌≡◌, ◌≢◌, ◌≤◌, ◌⊎◌, []};
+ghost use Rattle.asancol.specs.Printed.{IsInputPrinted};
+ghost use Rattle.asancol.specs.Refusals.{IsStatusFor};
+
+use crate::command_line::{Refusal, Request, read_words};
+use crate::report::{report_each, report_feed};
+use std::alloc::AllocError;
+use std::fmt::Display;
+use std::io::{Read, Write};
+use std::rt::Files;
+use trace_feed::{Feed, PathDoor, ReadFeed};
+
+/// The status where help was asked for and printed.
+const HELPED: u8 = 0;
+
+/// The status of a command line that is refused.
+const REFUSED: u8 = 2;
+
+/// The status where a trace is not checked to its close, or no trace is checked at all.
+const UNCHECKED: u8 = 3;
+
+/// The status where the output can't be written.
+const UNWRITTEN: u8 = 4;
+
+/// Runs the program on the words after its name, and gives the status that it ends with.
+///
+/// With no words it checks one trace from `input`. The texts of all processes go to `output`, and only what is wrong with
+/// the command line, or that there is no memory to read it, goes to `faults`. A write to `faults` that fails changes
+/// nothing.
+pub fn run<R, I, O, E>(rt: &R, words: &[String], input: I, output: &mut O, faults: &mut E) -> u8
+where
+    R: Files + AllocGlobal,
+    I: Read + Drop,
+    O: Write,
+    E: Write,
+    ensures no_words { words.now ≡ [] →
+        IsInputPrinted ⟦<ReadFeed<I> as Feed>⟧.to_come ⟦<ReadFeed<I> as Feed>⟧.fault_count (I.remaining input)
+        (O.contents output.old) (O.contents output.new) result
+        ⊎ ((result ≡ UNCHECKED) × (output.new ≡ output.old)) }
+    ensures refused { result ≡ REFUSED → output.new ≡ output.old }
+    ensures quiet { result ≢ REFUSED → result ≢ UNCHECKED → faults.new ≡ faults.old }
+    ensures known { result ≤ UNWRITTEN }
+{
+    let alloc = rt.alloc();
+    let request = match read_words(alloc, words) {
+        Ok(request) => request,
+        Err(refusal) => return refuse(refusal, output, faults),
+    };
+    let reported = match request {
+        Request::Input => report_feed(alloc, ReadFeed::new(input), output),
+        Request::Files { paths, options } => {
+            report_each(alloc, &mut PathDoor::new(rt, paths), options, output)
+        }
+    };
+    match reported {
+        Ok(status) => status,
+        Err(AllocError) => no_memory(faults),
+    }
+}
+
+/// Tells why the words are not carried out, and gives the status to end with.
+fn refuse<O: Write, E: Write>(refusal: Refusal, output: &mut O, faults: &mut E) -> u8
+    ensures status { IsStatusFor refusal result }
+    ensures refused { result ≡ REFUSED → output.new ≡ output.old }
+    ensures quiet { result ≢ REFUSED → result ≢ UNCHECKED → faults.new ≡ faults.old }
+{
+    match refusal {
+        Refusal::Help(help) => {
+            let wrote = write!(output, "{help}").is_ok() && output.flush().is_ok();
+            if wrote { HELPED } else { UNWRITTEN }
+        }
+        Refusal::Mistake(mistake) => {
+            // The text ends with a line feed of its own.
+            let _ = write!(faults, "{mistake}");
+            REFUSED
+        }
+        Refusal::OptionOutOfRange(bad) => tell(faults, &bad, REFUSED),
+        Refusal::TooManyFiles => tell(faults, &"too many files", REFUSED),
+        Refusal::NoMemory => no_memory(faults),
+    }
+}
+
+/// Tells that there is no memory to read the command line or to start, and gives the status to end with.
+pub fn no_memory<E: Write>(faults: &mut E) -> u8
+    ensures { result ≡ UNCHECKED }
+{
+    tell(faults, &"no memory", UNCHECKED)
+}
+
+/// Tells that a word of the command line is no text, and gives the status to end with.
+pub fn no_text<E: Write>(faults: &mut E) -> u8
+    ensures { result ≡ REFUSED }
+{
+    tell(
+        faults,
+        &"error: a word of the command line is not valid UTF-8",
+        REFUSED,
+    )
+}
+
+/// Tells what is wrong in a line of its own, and gives the status to end with, whether or not the telling succeeded.
+fn tell<E: Write, T: Display>(faults: &mut E, text: &T, status: u8) -> u8
+    ensures { result ≡ status }
+{
+    let _ = writeln!(faults, "{text}");
+    status
+}
