@@ -1,4 +1,4 @@
--- What each call makes of one granule's shadow byte, in numbers. The contracts of private functions cite this.
+-- What each call makes of one granule's shadow byte, in numbers. Two laws and the contracts of private functions cite this.
 use Rattle.std.specs.Prelude.{ℕ, ◌+◌, ◌-◌, ◌/◌, ◌%◌, ◌==◌, ◌&&◌, nat_lt, nat_le, if◌then◌else◌}
 use Rattle.shadow_map.specs.declared.granule.Change.{Change}
 use Rattle.shadow_map.specs.declared.granule.Change.TheVariants.{Poisoned, Unpoisoned}

@@ -1,6 +1,7 @@
 -- What the definitions of states, shadow bytes and bad bytes come to, for every list of marks that calls may make.
-use Rattle.std.specs.Prelude.{◌≡◌, ℕ, ◌+◌, ◌*◌, ◌/◌, ◌^◌, ◌<◌, ◌≤◌, ◌↔◌, is_some, IsTrue, MatchOption, List}
-use Rattle.shadow_map.specs.States.{State, Addressable, code_of, Mark, AreMarks, state_of, lift, least_unaddressable, bad_byte_of}
+use Rattle.std.specs.Prelude.{◌≡◌, ℕ, ◌+◌, ◌-◌, ◌*◌, ◌/◌, ◌^◌, ◌<◌, ◌≤◌, ◌↔◌, min, is_some, IsTrue, MatchOption, List, ◌∷◌}
+use Rattle.shadow_map.specs.States.{State, Addressable, code_of, Mark, Poison, Unpoison, AreMarks, state_of, lift, least_unaddressable, bad_byte_of}
+use Rattle.shadow_map.specs.Granules.{poisoned_byte, unpoisoned_byte}
 use Rattle.shadow_map.specs.Checks.{is_width, is_negative, check_reports}
 
 -- an addressable byte has only addressable bytes before it in its granule
@@ -59,3 +60,21 @@ ShadowCheckFindsTheBadByte =
 abbrev pub AllPastTheEndIsAddressable : Type 0
 AllPastTheEndIsAddressable =
     (marks : List Mark) → AreMarks marks → (byte : ℕ) → 2 ^ 47 ≤ byte → state_of marks byte ≡ Addressable
+
+-- where in a granule an address lies: 0 before it, and 8 past it
+abbrev pub place_in : ℕ → ℕ → ℕ
+place_in granule address = min 8 (address - 8 * granule)
+
+-- what a poison makes of a granule's shadow byte, by the byte before and by the part of the granule that it speaks of
+abbrev pub PoisonOfAGranule : Type 0
+PoisonOfAGranule =
+    (marks : List Mark) → AreMarks marks → (at size granule : ℕ) → at + size ≤ 2 ^ 47 →
+    lift (state_of (Poison at size ∷ marks)) granule
+    ≡ poisoned_byte (lift (state_of marks) granule) (place_in granule at) (place_in granule (at + size))
+
+-- the same of an unpoison
+abbrev pub UnpoisonOfAGranule : Type 0
+UnpoisonOfAGranule =
+    (marks : List Mark) → AreMarks marks → (at size granule : ℕ) → at + size ≤ 2 ^ 47 →
+    lift (state_of (Unpoison at size ∷ marks)) granule
+    ≡ unpoisoned_byte (lift (state_of marks) granule) (place_in granule at) (place_in granule (at + size))

@@ -1,5 +1,5 @@
 //! Laws of the definitions that the contracts of this crate cite. The functions do nothing: each is there for its contract.
-ghost use Rattle.shadow_map.specs.Laws.{AddressableBytesLead, AllPastTheEndIsAddressable, BadByteOfAnAccess, FirstUnaddressableOfARegion, ShadowByteTellsTheGranule, ShadowCheckFindsTheBadByte};
+ghost use Rattle.shadow_map.specs.Laws.{AddressableBytesLead, AllPastTheEndIsAddressable, BadByteOfAnAccess, FirstUnaddressableOfARegion, PoisonOfAGranule, ShadowByteTellsTheGranule, ShadowCheckFindsTheBadByte, UnpoisonOfAGranule};
 
 /// In every granule the addressable bytes come first.
 pub fn addressable_bytes_lead()
@@ -31,4 +31,15 @@ pub fn shadow_check_finds_the_bad_byte()
 /// Every byte at 2^47 or past it is addressable.
 pub fn all_past_the_end_is_addressable()
     ensures { AllPastTheEndIsAddressable }
+{}
+
+/// What a poison makes of a granule. Of a part from its byte `from` up to its byte `to`: a whole granule becomes poisoned; else,
+/// where the part takes in the last addressable byte, the bytes before `from` stay addressable and no others; else nothing changes.
+pub fn poison_of_a_granule()
+    ensures { PoisonOfAGranule }
+{}
+
+/// What an unpoison makes of a granule: all bytes before the end of the part become addressable.
+pub fn unpoison_of_a_granule()
+    ensures { UnpoisonOfAGranule }
 {}
