@@ -1,4 +1,5 @@
-//! An allocator for tests: it passes each request on to another allocator, and refuses the one whose turn is set.
+//! An allocator for tests: it passes each request on to another allocator, and refuses the one whose turn is set. It
+//! counts the requests and the bytes that they ask for.
 #![tactic(auto)]
 
 mod requests;
@@ -19,7 +20,8 @@ use std::alloc::{AllocError, Allocator};
 ///
 /// A collection takes it by `&`, so that the test can ask it afterwards. It is proved that a block has the room that was
 /// asked for, that the right to free it is `inner`'s, and that `inner` is given it back with its own size and alignment.
-/// No contract says which request is refused, or that a freed block does reach `inner`: the first is shown by tests.
+/// No contract says which request is refused, what is counted, or that a freed block does reach `inner`: the first two are
+/// shown by tests.
 pub struct Refuser<B: Allocator> {
     inner: B,
     requests: Requests,
@@ -43,6 +45,16 @@ impl<B: Allocator> Refuser<B> {
     {
         self.requests.has_refused()
     }
+
+    /// How many requests were made, a refused one too.
+    pub fn requests_made(&self) -> u64 {
+        self.requests.count()
+    }
+
+    /// How many bytes all these requests asked for. What was given back since is not taken off.
+    pub fn bytes_asked(&self) -> u64 {
+        self.requests.bytes_asked()
+    }
 }
 
 impl<B: Allocator> Drop for Refuser<B> {
@@ -58,7 +70,7 @@ unsafe impl<B: Allocator> Allocator for Refuser<B> {
     ghost dealloc_token = { λ heap ty ptr. B.dealloc_token heap.inner ty ptr };
 
     fn allocate(&self, size: usize, align: usize) -> Result<*mut u8, AllocError> {
-        if self.requests.comes_up() {
+        if self.requests.comes_up(size) {
             return Err(AllocError);
         }
         self.inner.allocate(size, align)

@@ -26,3 +26,16 @@ fn none_is_refused_at_turn_zero(rt: HostRuntime) -> Result<(), Fail> {
     assert!(rt; !heap.has_refused());
     Ok(())
 }
+
+#[test]
+fn requests_and_bytes_are_counted(rt: HostRuntime) -> Result<(), Fail> {
+    let heap = Refuser::new(rt.alloc(), 3);
+    let mut numbers = Vec::with_capacity(&heap, 2)?;
+    numbers.push(10u64)?;
+    let boxed = Box::new(&heap, [1u8; 100])?;
+    assert!(rt; Box::new(&heap, 7u32).is_err());
+    drop(boxed);
+    assert_eq!(rt; heap.requests_made(), 3);
+    assert_eq!(rt; heap.bytes_asked(), 16 + 100 + 4);
+    Ok(())
+}

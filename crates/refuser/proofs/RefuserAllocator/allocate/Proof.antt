@@ -89,7 +89,7 @@ module _ (Z : Al) {M : Type 1} {𝓤 : Ura M} (𝓛 : Logic 𝓤) (𝓜 : Model 
         let h : Z.row.Denot = r.now.inner in
         let Said : Type 0 = (capped (size τ) ≡ n) × (capped (align τ) ≡ a) in
         let z : (Takes Z 𝓛 𝓜.mem 𝓡.returns).Ghost = at_takes Z 𝓛 𝓜.mem 𝓡.returns κ₁ q₁ (inner_at Z r) h n a τ in
-        let turn : (Asks 𝓛 𝓜.mem 𝓡.returns).Ghost = asked 𝓛 𝓜.mem 𝓡.returns κ₁ q₁ (requests_at Z r) r.now.requests in
+        let turn : (Asks 𝓛 𝓜.mem 𝓡.returns).Ghost = asked 𝓛 𝓜.mem 𝓡.returns κ₁ q₁ (requests_at Z r) r.now.requests n in
         qed 𝓛 (((‵ (flft κ₁ q₁) ⊛ ‵ (flft κ₂ q₂) ⊛ ‵ ftrue) ⊛ ‵ ((type_at (self Z) (κ₁, (κ₂, tt))).own_val r (shr_vals r)) ⊛ ‵ Numbers)
         ∷ (raw (fact 𝓤 (κ₂ ⊑ Z.row.lives)) ⊛ raw (fact 𝓤 Said)) ∷ []) ∵
         move ! (1 ∷ []) $ split ! $ heard ! (κ₂ ⊑ Z.row.lives) (λ lives. heard ! Said (λ said.
@@ -98,9 +98,9 @@ module _ (Z : Al) {M : Type 1} {𝓤 : Ura M} (𝓛 : Logic 𝓤) (𝓜 : Model 
         enter ! 𝓣.C 𝓣.Λ (function Z) _ _ $ alloc_all ! (λ l. pass_all ! refl ((tt, tt), ((tt, record { fits = n_fits }), ((tt, record { fits = a_fits }), tt))) $
         -- [the `&` to the requests; the token of κ₁; the `&` to the inner allocator; the token of κ₂; the locals]
         sets ! (addr ! (through ! refl (fld ! refl (stop !)))) refl (tt, tt) $
-        use2 𝓛 (raw ((Asks 𝓛 𝓜.mem 𝓡.returns).pre turn)) (takes 𝓛 𝓜.mem 𝓡.returns κ₁ q₁ (requests_at Z r) r.now.requests) $
-        calls_at ! (framed 𝓤 H 𝓜 𝓣) (Asks 𝓛 𝓜.mem 𝓡.returns) asks_meets turn (and_then ! (get ! refl) (no_more !)) (λ u.
-        use1 𝓛 (later (some (λ (y : Bool). given (u ≡ vbool y) (‵ (flft κ₁ q₁))))) (gives 𝓛 𝓜.mem 𝓡.returns κ₁ q₁ (requests_at Z r) r.now.requests u) $
+        use2 𝓛 (raw ((Asks 𝓛 𝓜.mem 𝓡.returns).pre turn)) (takes 𝓛 𝓜.mem 𝓡.returns κ₁ q₁ (requests_at Z r) r.now.requests n n_fits) $
+        calls_at ! (framed 𝓤 H 𝓜 𝓣) (Asks 𝓛 𝓜.mem 𝓡.returns) asks_meets turn (and_then ! (get ! refl) (and_then ! (get ! refl) (no_more !))) (λ u.
+        use1 𝓛 (later (some (λ (y : Bool). given (u ≡ vbool y) (‵ (flft κ₁ q₁))))) (gives 𝓛 𝓜.mem 𝓡.returns κ₁ q₁ (requests_at Z r) r.now.requests n u) $
         await ! tt $ pick ! (λ is_refused. learn ! (λ is. lands_as ! is refl (tt, tt) $
         -- [the token of κ₁; the `&` to the inner allocator; the token of κ₂; the locals]
         first ! $ branches ! (get ! refl)
