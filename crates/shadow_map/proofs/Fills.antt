@@ -1,6 +1,6 @@
 -- Granules after fills. A call goes from left to right: below some place it is done, and from there on nothing has changed.
-use Rattle.std.proofs.Common.{◌≡◌, ℕ, ◌+◌, ◌-◌, ◌*◌, ◌/◌, ◌%◌, ◌<◌, ◌≤◌, Bool, true, false, cond, eqb, leb, ltb, refl, ◌∙◌, arith, inl, inr}
-use Rattle.std.specs.Prelude.{min, ◌&&◌}
+use Rattle.std.proofs.Common.{◌≡◌, ◌≢◌, ℕ, ◌+◌, ◌-◌, ◌*◌, ◌/◌, ◌%◌, ◌<◌, ◌≤◌, Bool, true, false, cond, eqb, leb, ltb, refl, ◌∙◌, arith, inl, inr}
+use Rattle.std.specs.Prelude.{min, max, not, ◌&&◌, ◌⊎◌}
 use Rattle.std.proofs.lemmas.Bool.{cases_eq, cases_lt}
 use Rattle.std.proofs.lemmas.Bool.Decides.{nat_tests}
 use Rattle.shadow_map.specs.declared.granule.Change.{Change}
@@ -89,7 +89,7 @@ pub change_before : (change : Change) (byte a e g : ℕ) → g < a / 8 → chang
 change_before Poisoned byte a e g lt = poison_before byte a e g lt
 change_before Unpoisoned byte a e g lt = unpoison_nothing byte _ _ (omega arith)
 
-pub change_within : (change : Change) (byte a e g : ℕ) → a / 8 + 1 ≤ g → g < (e + 7) / 8 - 1 →
+pub change_within : (change : Change) (byte a e g : ℕ) → (a + 7) / 8 ≤ g → g < e / 8 →
     changed_byte change byte (min 8 (a - 8 * g)) (min 8 (e - 8 * g)) ≡ inside_byte change
 change_within Poisoned byte a e g le lt =
     let from : min 8 (a - 8 * g) ≡ 0 = omega arith in
@@ -114,23 +114,49 @@ module _ (change : Change) (at end : ℕ) where
   abbrev pub IsChangeUpTo : (ℕ → ℕ) → (ℕ → ℕ) → ℕ → Type 0
   IsChangeUpTo old now place = UpTo old (λ g. changed_granule (old g) g) now place
 
-  -- one granule is changed
+  -- the granule that an edge cuts in two is changed, if it cuts one
   abbrev pub IsEdge : (ℕ → ℕ) → (ℕ → ℕ) → ℕ → Type 0
-  IsEdge before now place = (g : ℕ) → now g ≡ cond (eqb g place) (changed_granule (before g) g) (before g)
+  IsEdge before now edge =
+      (g : ℕ) → now g ≡ cond (eqb g (edge / 8) && not (eqb (edge % 8) 0)) (changed_granule (before g) g) (before g)
 
-  pub first_changed : (old next : ℕ → ℕ) → IsEdge old next (at / 8) → IsChangeUpTo old next (at / 8 + 1)
-  first_changed old next each = upto_one changed_granule old old next (at / 8)
-      (upto_start old (λ g. changed_granule (old g) g) (at / 8) (λ g lt. change_before change (old g) at end g lt)) each
+  -- whether the edge cuts a granule
+  edge_cases : (before now : ℕ → ℕ) (edge : ℕ) → IsEdge before now edge →
+      ((edge % 8 ≡ 0) × ((g : ℕ) → now g ≡ before g)) ⊎ ((edge % 8 ≢ 0) × ((g : ℕ) → now g ≡ cond (eqb g (edge / 8)) (changed_granule (before g) g) (before g)))
+  edge_cases before now edge each =
+      elim (cases_eq (edge % 8) 0) [
+        | inl even ↦ inl (even, λ g. let none : (eqb g (edge / 8) && not (eqb (edge % 8) 0)) ≡ false = grind (arith, nat_tests) in each g ∙ rw none refl)
+        | inr ragged ↦ inr (ragged, λ g. let both : (eqb g (edge / 8) && not (eqb (edge % 8) 0)) ≡ eqb g (edge / 8) = grind (arith, nat_tests) in each g ∙ rw both refl)
+      ]
 
-  pub inside_changed : (old now next : ℕ → ℕ) (place : ℕ) → at / 8 + 1 ≤ place → place ≤ (end + 7) / 8 - 1 → IsChangeUpTo old now (at / 8 + 1) →
-      IsFilled now next (at / 8 + 1) place (inside_byte change) → IsChangeUpTo old next place
-  inside_changed old now next place le most upto each = upto_fill old (λ g. changed_granule (old g) g) now next (at / 8 + 1) place (inside_byte change) le upto
+  first_unchanged : (old : ℕ → ℕ) → IsChangeUpTo old old (at / 8)
+  first_unchanged old = upto_start old (λ g. changed_granule (old g) g) (at / 8) (λ g lt. change_before change (old g) at end g lt)
+
+  pub first_changed : (old next : ℕ → ℕ) → IsEdge old next at → IsChangeUpTo old next ((at + 7) / 8)
+  first_changed old next each =
+      elim (edge_cases old next at each) [
+        | inl even ↦ let same : (at + 7) / 8 ≡ at / 8 = let is = even.0 in omega arith in λ g. even.1 g ∙ rw same (first_unchanged old g)
+        | inr ragged ↦ let same : (at + 7) / 8 ≡ at / 8 + 1 = let is = ragged.0 in omega arith in
+            rw same (upto_one changed_granule old old next (at / 8) (first_unchanged old) ragged.1)
+      ]
+
+  pub inside_changed : (old now next : ℕ → ℕ) (place : ℕ) → (at + 7) / 8 ≤ place → place ≤ max (end / 8) ((at + 7) / 8) → IsChangeUpTo old now ((at + 7) / 8) →
+      IsFilled now next ((at + 7) / 8) place (inside_byte change) → IsChangeUpTo old next place
+  inside_changed old now next place le most upto each = upto_fill old (λ g. changed_granule (old g) g) now next ((at + 7) / 8) place (inside_byte change) le upto
       (λ g low lt. change_within change (old g) at end g low (omega arith)) each
 
-  pub all_changed : (old now next : ℕ → ℕ) (place : ℕ) → at ≤ end → (end + 7) / 8 ≤ place + 1 → IsChangeUpTo old now place → IsEdge now next place →
-      (g : ℕ) → next g ≡ changed_granule (old g) g
-  all_changed old now next place order last upto each = upto_end old (λ g. changed_granule (old g) g) next (place + 1) (upto_one changed_granule old now next place upto each)
+  -- no granule past this place lies in the region
+  none_past : (old now : ℕ → ℕ) (place : ℕ) → at ≤ end → (end + 7) / 8 ≤ place → IsChangeUpTo old now place →
+      (g : ℕ) → now g ≡ changed_granule (old g) g
+  none_past old now place order last upto = upto_end old (λ g. changed_granule (old g) g) now place upto
       (λ g le. change_past change (old g) at end g order (omega arith))
+
+  pub last_changed : (old now next : ℕ → ℕ) → at ≤ end → IsChangeUpTo old now (end / 8) → IsEdge now next end →
+      (g : ℕ) → next g ≡ changed_granule (old g) g
+  last_changed old now next order upto each =
+      elim (edge_cases now next end each) [
+        | inl even ↦ λ g. even.1 g ∙ none_past old now (end / 8) order (let is = even.0 in omega arith) upto g
+        | inr ragged ↦ none_past old next (end / 8 + 1) order (omega arith) (upto_one changed_granule old now next (end / 8) upto ragged.1)
+      ]
 
 -- a block, from its left redzone to its right one
 module _ (at size : ℕ) where

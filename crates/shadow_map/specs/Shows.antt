@@ -1,14 +1,13 @@
 -- What a shadow shows.
-use Rattle.std.specs.Prelude.{◌≡◌, ℕ, ◌^◌, ◌<◌, nat_lt, if◌then◌else◌, List, unwrap_or}
-use Rattle.std.specs.Ordering.{nat_cmp}
-use Rattle.std.specs.BTreeMap.{get}
+use Rattle.std.specs.Prelude.{◌≡◌, ℕ, ◌^◌, ◌<◌, nat_lt, if◌then◌else◌, List}
+use Rattle.page_table.specs.Tables.{byte_of}
 use Rattle.shadow_map.specs.declared.shadow.Shadow.{Shadow}
 use Rattle.shadow_map.specs.States.{Mark, AreMarks, state_of, lift}
 
 module _ {A : Type 0} where
   -- the shadow byte that the shadow keeps for a granule
   unfoldable pub value_at : Shadow A → ℕ → ℕ
-  value_at shadow granule = unwrap_or (get nat_cmp shadow.granules granule) 0
+  value_at shadow granule = byte_of shadow.granules granule
 
   -- the shadow shows what these marks have left: the shadow byte of every granule below 2^44; and they are marks that
   -- calls may make

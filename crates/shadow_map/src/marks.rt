@@ -1,5 +1,5 @@
 //! The calls that mark memory.
-ghost use Rattle.std.specs.Prelude.{◌≡◌, ℕ, ◌+◌, ◌-◌, ◌*◌, ◌%◌, ◌^◌, ◌<◌, ◌≤◌, ◌==◌, min, nat_lt, if◌then◌else◌, IsTrue, OnOk, OnErr};
+ghost use Rattle.std.specs.Prelude.{◌≡◌, ℕ, ◌+◌, ◌-◌, ◌*◌, ◌/◌, ◌%◌, ◌^◌, ◌≤◌, ◌==◌, ◌&&◌, not, min, nat_lt, if◌then◌else◌, IsTrue, OnOk, OnErr};
 ghost use Rattle.shadow_map.specs.States.{State, Fill, Block, Poison, Unpoison, code_of, redzone, rounded};
 ghost use Rattle.shadow_map.specs.Shows.{value_at};
 ghost use Rattle.shadow_map.specs.Calls.{is_code, Adds, AddsInPart};
@@ -82,7 +82,7 @@ impl<A: Allocator + Copy> Shadow<A> {
         self.fill(stop, stop + REDZONE, HEAP_REDZONE)
     }
 
-    /// Changes a region: its whole granules by a fill, and the one at each end by itself.
+    /// Changes a region: its whole granules by one fill, and a granule that lies there in part by itself.
     fn change(&mut self, change: Change, at: u64, size: u64) -> Result<(), NoMemory>
         requires { at + size ≤ 2 ^ 47 }
         ensures ok { OnOk result ((granule : ℕ) → value_at self.new granule
@@ -93,33 +93,29 @@ impl<A: Allocator + Copy> Shadow<A> {
             else value_at self.old granule))) }
     {
         let end = at + size;
-        let first = at / GRANULE;
-        let stop = end.div_ceil(GRANULE);
-        if stop <= first {
-            return Ok(());
+        let first = at.div_ceil(GRANULE);
+        let stop = end / GRANULE;
+        self.change_edge(change, at, end, at)?;
+        self.fill(first, stop.max(first), change.inside())?;
+        if first <= stop {
+            self.change_edge(change, at, end, end)
+        } else {
+            Ok(())
         }
-        self.change_edge(change, at, end, first)?;
-        if stop == first + 1 {
-            return Ok(());
-        }
-        self.fill(first + 1, stop - 1, change.inside())?;
-        self.change_edge(change, at, end, stop - 1)
     }
 
-    /// Changes the part of one granule that lies in a region.
-    fn change_edge(
-        &mut self,
-        change: Change,
-        at: u64,
-        end: u64,
-        granule: u64,
-    ) -> Result<(), NoMemory>
-        requires { granule < 2 ^ 44 }
-        ensures ok { OnOk result ((other : ℕ) → value_at self.new other ≡ (if other == granule
-            then changed_byte change (value_at self.old other) (min 8 (at - 8 * other)) (min 8 (end - 8 * other))
-            else value_at self.old other)) }
-        ensures err { OnErr result ((other : ℕ) → value_at self.new other ≡ value_at self.old other) }
+    /// Changes the granule that an edge of a region cuts in two, if it cuts one.
+    fn change_edge(&mut self, change: Change, at: u64, end: u64, edge: u64) -> Result<(), NoMemory>
+        requires { edge ≤ 2 ^ 47 }
+        ensures ok { OnOk result ((granule : ℕ) → value_at self.new granule ≡ (if granule == edge / 8 && not (edge % 8 == 0)
+            then changed_byte change (value_at self.old granule) (min 8 (at - 8 * granule)) (min 8 (end - 8 * granule))
+            else value_at self.old granule)) }
+        ensures err { OnErr result ((granule : ℕ) → value_at self.new granule ≡ value_at self.old granule) }
     {
+        if edge % GRANULE == 0 {
+            return Ok(());
+        }
+        let granule = edge / GRANULE;
         let shadow = change.byte(self.value(granule), part(at, granule), part(end, granule));
         self.fill(granule, granule + 1, shadow)
     }

@@ -6,8 +6,8 @@ ghost use Rattle.shadow_map.specs.Shows.{Shows, value_at};
 
 use crate::NoMemory;
 use crate::granule::{GRANULE, front};
+use page_table::PageTable;
 use std::alloc::{Allocator, Global};
-use std::collections::BTreeMap;
 
 /// How many granules the memory has whose bytes can be marked.
 const GRANULES: u64 = 1 << 44;
@@ -18,8 +18,8 @@ const GRANULES: u64 = 1 << 44;
 /// and counts as addressable.
 #[derive(Drop)]
 pub struct Shadow<A: Allocator + Copy = Global> {
-    // The shadow byte of each granule; one that is missing has 0.
-    granules: BTreeMap<u64, u8, A>,
+    // The shadow byte of each granule.
+    granules: PageTable<A>,
 }
 
 impl<A: Allocator + Copy> Shadow<A> {
@@ -29,7 +29,7 @@ impl<A: Allocator + Copy> Shadow<A> {
         ensures { Shows result [] }
     {
         Shadow {
-            granules: BTreeMap::new(alloc),
+            granules: PageTable::new(alloc),
         }
     }
 
@@ -44,7 +44,7 @@ impl<A: Allocator + Copy> Shadow<A> {
         if granule >= GRANULES {
             return 0;
         }
-        self.granules.get(&granule).copied().unwrap_or(0)
+        self.value_before_end(granule)
     }
 
     /// The bad byte of an access of `width` bytes at `at`: the least of its bytes that is not addressable. Only the granule
@@ -85,15 +85,27 @@ impl<A: Allocator + Copy> Shadow<A> {
     /// The least of `size` bytes from `at` on, within the granule of `at`, that is not addressable.
     #[inline]
     fn bad_byte_in_granule(&self, at: u64, size: u64) -> Option<u64>
+        requires { at < 2 ^ 47 }
         ensures { (marks : List Mark) → Shows self.now marks → result ≡ bad_byte_of (state_of marks) at size }
     {
         let place = at % GRANULE;
-        let bad = place.max(front(self.value(at / GRANULE)) as u64);
+        let bad = place.max(front(self.value_before_end(at / GRANULE)) as u64);
         if bad < place + size.min(GRANULE - place) {
             Some(at - place + bad)
         } else {
             None
         }
+    }
+
+    /// The shadow byte of a granule below 2^44.
+    #[inline]
+    #[tactic(auto, unfolding(crate::specs::Shows::value_at))]
+    fn value_before_end(&self, granule: u64) -> u8
+        requires { granule < 2 ^ 44 }
+        ensures kept { result ≡ value_at self.now granule }
+        ensures shown { (marks : List Mark) → Shows self.now marks → result ≡ lift (state_of marks) granule }
+    {
+        self.granules.byte(granule)
     }
 
     /// Sets the shadow bytes of the granules from one up to another. Where a growth is refused, those below some granule
@@ -107,11 +119,6 @@ impl<A: Allocator + Copy> Shadow<A> {
         ensures err { OnErr result ((place : ℕ) × (from ≤ place) × (place < to) × ((granule : ℕ) → value_at self.new granule
             ≡ (if nat_le from granule && nat_lt granule place then value else value_at self.old granule))) }
     {
-        for granule in from..to {
-            if self.value(granule) != value {
-                self.granules.insert(granule, value)?;
-            }
-        }
-        Ok(())
+        self.granules.fill(from, to, value)
     }
 }

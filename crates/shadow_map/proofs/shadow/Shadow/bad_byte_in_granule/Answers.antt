@@ -13,12 +13,12 @@ module _ (answer : Option ℕ) (base bad bad' end end' : ℕ) (is : answer ≡ c
 
 pub returns-then-bad-place : goal.returns-then-bad-place
 returns-then-bad-place g c marks shows =
-    let is = bad_byte_shown marks shows.are_marks c.args.at c.args.size c.value.result (c.value.ensures.shown marks shows) in
+    let is = bad_byte_shown marks shows.are_marks c.args.at c.args.size c.value_before_end.result (c.value_before_end.ensures.shown marks shows) in
     let front_is = c.front.ensures in
     found _ (c.args.at - c.args.at % 8) c.max-bad.result _ (c.args.at % 8 + c.min.result) _ is (rw (← front_is) c.max-bad.ensures) (rw (← c.min.ensures) refl) c.if-bad-place.true
 
 pub returns-else-bad-place : goal.returns-else-bad-place
 returns-else-bad-place g c marks shows =
-    let is = bad_byte_shown marks shows.are_marks c.args.at c.args.size c.value.result (c.value.ensures.shown marks shows) in
+    let is = bad_byte_shown marks shows.are_marks c.args.at c.args.size c.value_before_end.result (c.value_before_end.ensures.shown marks shows) in
     let front_is = c.front.ensures in
     none _ (c.args.at - c.args.at % 8) c.max-bad.result _ (c.args.at % 8 + c.min.result) _ is (rw (← front_is) c.max-bad.ensures) (rw (← c.min.ensures) refl) c.if-bad-place.false

@@ -1,0 +1,74 @@
+-- The bytes of a branch by those of its sections.
+use Rattle.std.proofs.Common.{◌≡◌, ◌≢◌, ℕ, zero, suc, ◌+◌, ◌-◌, ◌*◌, ◌/◌, ◌%◌, ◌<◌, ◌≤◌, cond, leb, ltb, Bool, true, false, List, [], ◌∷◌, length, get_or, set, refl, sym, ap, ◌∙◌, arith, inl, inr}
+use Rattle.std.specs.Prelude.{◌&&◌, map}
+use Rattle.std.proofs.lemmas.Bool.{cases_eq, cases_lt}
+use Rattle.std.proofs.lemmas.Bool.Decides.{nat_tests}
+use Rattle.std.proofs.lemmas.List.{get_or-map, get_or-set_same, get_or-set_other, map-set, length-set}
+use Rattle.std.proofs.lemmas.Nat.{div-mul-add, div-add-mod'}
+use Rattle.std.proofs.Math.Nat.{mod-lt}
+use Rattle.page_table.specs.Sections.{IsFilled}
+
+past_the_kept : {X : Type 0} (f : X → ℕ) (sections : List X) (place rest : ℕ) → length sections ≤ place → get_or (map f sections) place rest ≡ rest
+past_the_kept f [] place rest le = refl
+past_the_kept f (section ∷ sections) zero rest le = absurd (omega arith)
+past_the_kept f (section ∷ sections) (suc place) rest le = past_the_kept f sections place rest (omega arith)
+
+either : (b : Bool) (byte : ℕ) → byte ≡ cond b byte byte
+either true byte = refl
+either false byte = refl
+
+-- the indices from one up to another, which lie in one section, told within that section and within the branch
+module _ (width from to index : ℕ) where
+  same_section : from ≤ to → index / width ≡ from / width →
+      (leb (from % width) (index % width) && ltb (index % width) (from % width + (to - from))) ≡ (leb from index && ltb index to)
+  same_section order same =
+      let split : from / width * width + from % width ≡ from = div-add-mod' from width in
+      let also : from / width * width + index % width ≡ index = rw (← same) (div-add-mod' index width) in
+      grind (arith, nat_tests)
+
+  other_section : to ≤ from - from % width + width → index / width ≢ from / width → (leb from index && ltb index to) ≡ false
+  other_section end other =
+      let split : from / width * width + from % width ≡ from = div-add-mod' from width in
+      elim (cases_lt index from) [
+        | inl lt ↦ grind (arith, nat_tests)
+        | inr ge ↦ elim (cases_lt index to) [
+          | inl lt ↦
+              let section : index ≡ from / width * width + (index - from / width * width) = omega arith in
+              absurd (other (ap (λ i. i / width) section ∙ div-mul-add (from / width) width (index - from / width * width) (omega arith)))
+          | inr past ↦ grind (arith, nat_tests)
+        ]
+      ]
+
+module _ {S : Type 0} (byte_at : S → ℕ → ℕ) (width : ℕ) where
+  abbrev pub byte_from : List S → ℕ → ℕ → ℕ
+  byte_from sections rest index = get_or (map (λ section. byte_at section (index % width)) sections) (index / width) rest
+
+  module _ (sections : List S) (from to byte rest index : ℕ) (order : from ≤ to) (within : to ≤ from - from % width + width) where
+    -- these indices lie in a section, and are filled there
+    pub section_filled : (section new : S) → 0 < width → from / width < length sections → section ≡ get_or sections (from / width) section →
+        IsFilled width (byte_at section) (byte_at new) (from % width) (from % width + (to - from)) byte →
+        byte_from (set sections (from / width) new) rest index ≡ cond (leb from index && ltb index to) byte (byte_from sections rest index)
+    section_filled section new positive lt is filled =
+        let place = from / width in
+        let there : S → ℕ = λ section. byte_at section (index % width) in
+        elim (cases_eq (index / width) place) [
+          | inl same ↦
+              let now : byte_from (set sections place new) rest index ≡ there new =
+              rw same (get_or-map there (set sections place new) place new rest (rw length-set lt) ∙ ap there (get_or-set_same sections place new new lt)) in
+              let was : byte_from sections rest index ≡ there section = rw same (get_or-map there sections place section rest lt ∙ ap there (sym is)) in
+              now ∙ filled (index % width) (mod-lt index positive) ∙ rw (was, same_section width from to index order same) refl
+          | inr other ↦
+              rw (other_section width from to index within other)
+              (ap (λ (bytes : List ℕ). get_or bytes (index / width) rest) (map-set there sections place new) ∙ get_or-set_other (map there sections) place (index / width) (there new) rest other)
+        ]
+
+    -- these indices lie in a section that is not kept, and the rest has the byte
+    pub rest_filled : length sections ≤ from / width → rest ≡ byte →
+        byte_from sections rest index ≡ cond (leb from index && ltb index to) byte (byte_from sections rest index)
+    rest_filled le is =
+        elim (cases_eq (index / width) (from / width)) [
+          | inl same ↦
+              let was : byte_from sections rest index ≡ byte = rw same (past_the_kept (λ section. byte_at section (index % width)) sections (from / width) rest le ∙ is) in
+              rw was (either (leb from index && ltb index to) byte)
+          | inr other ↦ rw (other_section width from to index within other) refl
+        ]

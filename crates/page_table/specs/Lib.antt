@@ -1,0 +1,4 @@
+pub mod Sections
+pub mod Groups
+pub mod Branches
+pub mod Tables

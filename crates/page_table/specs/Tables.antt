@@ -1,0 +1,30 @@
+-- The bytes of a table.
+use Rattle.std.specs.Prelude.{◌≡◌, ℕ, ◌*◌, ◌<◌, ◌≤◌, ◌^◌, ◌&&◌, nat_le, nat_lt, if◌then◌else◌}
+use Rattle.page_table.specs.declared.group.TheConstants.{GROUP}
+use Rattle.page_table.specs.declared.branch.TheConstants.{SECTIONS}
+use Rattle.page_table.specs.declared.table.PageTable.{PageTable}
+use Rattle.page_table.specs.Groups.{group_byte}
+use Rattle.page_table.specs.Branches.{branch_byte}
+
+-- how many granules a branch has that stands over so many levels of branches
+abbrev pub width_over : ℕ → ℕ
+width_over levels = SECTIONS ^ levels * GROUP
+
+module _ {A : Type 0} where
+  -- the byte of a granule, and 0 past the last one
+  unfoldable pub byte_of : PageTable A → ℕ → ℕ
+  byte_of table granule =
+      if nat_lt granule (2 ^ 44)
+      then branch_byte (branch_byte (branch_byte (branch_byte (branch_byte group_byte
+      (width_over 0)) (width_over 1)) (width_over 2)) (width_over 3)) (width_over 4) table.root granule
+      else 0
+
+  -- the granules from one up to another have this byte now, and the others the one that they had
+  abbrev pub Fills : PageTable A → PageTable A → ℕ → ℕ → ℕ → Type 0
+  Fills old new from to byte =
+      (granule : ℕ) → byte_of new granule
+      ≡ (if nat_le from granule && nat_lt granule to then byte else byte_of old granule)
+
+  -- the same, of the granules from one up to a place that comes before another
+  abbrev pub FillsBelow : PageTable A → PageTable A → ℕ → ℕ → ℕ → Type 0
+  FillsBelow old new from to byte = (place : ℕ) × (from ≤ place) × (place < to) × Fills old new from place byte

@@ -1,0 +1,154 @@
+//! A branch of a table.
+ghost use Rattle.std.specs.Prelude.{◌≡◌, ℕ, ◌+◌, ◌-◌, ◌*◌, ◌%◌, ◌<◌, ◌≤◌, OnOk, OnErr, vec_len};
+ghost use Rattle.page_table.specs.declared.branch.TheConstants.{SECTIONS};
+ghost use Rattle.page_table.specs.Sections.{IsWidth, IsFilled, IsBrokenOff};
+
+use crate::section::Section;
+use std::alloc::{AllocError, Allocator, Global};
+
+/// How many sections a branch has.
+const SECTIONS: usize = 128;
+
+/// Sections of one width, side by side. Those that are not kept have one byte.
+#[derive(Drop)]
+pub struct Branch<S, A: Allocator = Global> {
+    // The first sections.
+    kept: Vec<S, A>,
+
+    // The byte at each index of the others.
+    rest: u8,
+}
+
+impl<S: Section<A>, A: Allocator + Copy> Section<A> for Branch<S, A> {
+    ghost use Rattle.page_table.specs.Branches.{branch_byte};
+
+    ghost width = { SECTIONS * S.width };
+
+    ghost fits = { IsWidth (SECTIONS * S.width) × S.fits };
+
+    ghost byte_at = { branch_byte S.byte_at S.width };
+
+    #[inline]
+    fn width() -> u64 {
+        SECTIONS as u64 * S::width()
+    }
+
+    #[inline]
+    fn same(alloc: A, byte: u8) -> Self {
+        Branch {
+            kept: Vec::new(alloc),
+            rest: byte,
+        }
+    }
+
+    #[inline]
+    fn byte(&self, index: u64) -> u8 {
+        let width = S::width();
+        let place = (index / width) as usize;
+        if place < self.kept.len() {
+            self.kept[place].byte(index % width)
+        } else {
+            self.rest
+        }
+    }
+
+    #[inline]
+    fn fill(&mut self, alloc: A, from: u64, to: u64, byte: u8) -> Result<(), AllocError> {
+        if to - from == Self::width() {
+            self.fill_whole(alloc, byte);
+            Ok(())
+        } else if to <= from - from % S::width() + S::width() {
+            self.fill_within_section(alloc, from, to, byte)
+        } else {
+            self.fill_across_sections(alloc, from, to, byte)
+        }
+    }
+
+    ghost is_width = { λ fits. fits.0 };
+}
+
+impl<S: Section<A>, A: Allocator + Copy> Branch<S, A> {
+    ghost use Rattle.page_table.specs.Branches.{branch_byte};
+
+    /// Sets the bytes at all indices. Gives back the memory of the sections.
+    #[inline(never)]
+    fn fill_whole(&mut self, alloc: A, byte: u8)
+        ensures { (index : ℕ) → branch_byte S.byte_at S.width self.new index ≡ byte }
+    {
+        *self = Branch::same(alloc, byte);
+    }
+
+    /// Sets the bytes at the indices from one up to another, section by section.
+    #[inline(never)]
+    fn fill_across_sections(
+        &mut self,
+        alloc: A,
+        from: u64,
+        to: u64,
+        byte: u8,
+    ) -> Result<(), AllocError>
+        requires width { IsWidth (SECTIONS * S.width) }
+        requires fits { S.fits }
+        requires order { from < to }
+        requires end { to ≤ SECTIONS * S.width }
+        ensures ok { OnOk result (IsFilled (SECTIONS * S.width)
+            (branch_byte S.byte_at S.width self.old) (branch_byte S.byte_at S.width self.new) from to byte) }
+        ensures err { OnErr result (IsBrokenOff (SECTIONS * S.width)
+            (branch_byte S.byte_at S.width self.old) (branch_byte S.byte_at S.width self.new) from to byte) }
+    {
+        let width = S::width();
+        let mut at = from;
+        while at < to {
+            let next = to.min(at - at % width + width);
+            self.fill_within_section(alloc, at, next, byte)?;
+            at = next;
+        }
+        Ok(())
+    }
+
+    /// Sets the bytes at the indices from one up to another, which lie in one section. A section that is not kept and has
+    /// the byte already stays so.
+    #[inline]
+    fn fill_within_section(
+        &mut self,
+        alloc: A,
+        from: u64,
+        to: u64,
+        byte: u8,
+    ) -> Result<(), AllocError>
+        requires fits { S.fits }
+        requires order { from < to }
+        requires within { to ≤ from - from % S.width + S.width }
+        requires end { to ≤ SECTIONS * S.width }
+        ensures ok { OnOk result (IsFilled (SECTIONS * S.width)
+            (branch_byte S.byte_at S.width self.old) (branch_byte S.byte_at S.width self.new) from to byte) }
+        ensures err { OnErr result (IsBrokenOff (SECTIONS * S.width)
+            (branch_byte S.byte_at S.width self.old) (branch_byte S.byte_at S.width self.new) from to byte) }
+    {
+        let width = S::width();
+        let place = (from / width) as usize;
+        if place >= self.kept.len() {
+            if self.rest == byte {
+                return Ok(());
+            }
+            self.keep(alloc, place + 1)?;
+        }
+        let first = from % width;
+        self.kept[place].fill(alloc, first, first + (to - from), byte)
+    }
+
+    /// Keeps at least so many sections. Takes memory once, for all sections of the branch.
+    #[inline(never)]
+    fn keep(&mut self, alloc: A, count: usize) -> Result<(), AllocError>
+        ensures ok { OnOk result (count ≤ vec_len self.new.kept) }
+        ensures same { (index : ℕ) → branch_byte S.byte_at S.width self.new index ≡ branch_byte S.byte_at S.width self.old index }
+    {
+        if self.kept.is_empty() {
+            self.kept = Vec::with_capacity(alloc, SECTIONS)?;
+        }
+        for _place in self.kept.len()..count {
+            self.kept.push(S::same(alloc, self.rest))?;
+        }
+        Ok(())
+    }
+}

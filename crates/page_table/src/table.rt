@@ -1,0 +1,74 @@
+//! The table.
+ghost use Rattle.std.specs.Prelude.{◌≡◌, ℕ, ◌^◌, ◌<◌, ◌≤◌, OnOk, OnErr};
+ghost use Rattle.page_table.specs.Tables.{byte_of, Fills, FillsBelow};
+
+use crate::branch::Branch;
+use crate::group::Group;
+use crate::section::Section;
+use std::alloc::{AllocError, Allocator, Global};
+
+/// The branches by how many levels of them there are: each has 128 times the granules of one of the level below.
+type Level1<A> = Branch<Group<A>, A>;
+
+type Level2<A> = Branch<Level1<A>, A>;
+
+type Level3<A> = Branch<Level2<A>, A>;
+
+type Level4<A> = Branch<Level3<A>, A>;
+
+type Level5<A> = Branch<Level4<A>, A>;
+
+// What 128 sections of a branch take: 4,096 bytes, whether they are groups or branches.
+const _: () = prove!(size_of::<Group>() == 32);
+
+const _: () = prove!(size_of::<Level1<Global>>() == 32);
+
+const _: () = prove!(size_of::<Level5<Global>>() == 32);
+
+/// A byte for each granule below 2^44.
+///
+/// The memory that one fill takes depends on its two ends alone: the 4,096 bytes of a group and a branch of each level
+/// for each of them, where these are not there yet.
+#[derive(Drop)]
+pub struct PageTable<A: Allocator + Copy = Global> {
+    root: Level5<A>,
+    alloc: A,
+}
+
+impl<A: Allocator + Copy> PageTable<A> {
+    /// The table whose bytes are all 0. Takes no memory.
+    #[tactic(auto, unfolding(crate::specs::Tables::byte_of))]
+    pub fn new(alloc: A) -> PageTable<A>
+        ensures { (granule : ℕ) → byte_of result granule ≡ 0 }
+    {
+        PageTable {
+            root: Branch::same(alloc, 0),
+            alloc,
+        }
+    }
+
+    /// The byte of a granule: seven array steps at most.
+    #[inline]
+    #[tactic(auto, unfolding(crate::specs::Tables::byte_of))]
+    pub fn byte(&self, granule: u64) -> u8
+        requires { granule < 2 ^ 44 }
+        ensures { result ≡ byte_of self.now granule }
+    {
+        self.root.byte(granule)
+    }
+
+    /// Sets the bytes of the granules from one up to another. A fill that changes nothing where nothing is kept takes no
+    /// memory. Where memory is refused, the granules below some place are set, and the others are as they were.
+    #[tactic(auto, unfolding(crate::specs::Tables::byte_of))]
+    pub fn fill(&mut self, from: u64, to: u64, byte: u8) -> Result<(), AllocError>
+        requires order { from ≤ to }
+        requires end { to ≤ 2 ^ 44 }
+        ensures ok { OnOk result (Fills self.old self.new from to byte) }
+        ensures err { OnErr result (FillsBelow self.old self.new from to byte) }
+    {
+        if from < to {
+            self.root.fill(self.alloc, from, to, byte)?;
+        }
+        Ok(())
+    }
+}

@@ -1,0 +1,142 @@
+//! The shadow by pages beside the plain model.
+ghost use Rattle.std.specs.Prelude.{◌^◌, ◌<◌, ◌≤◌};
+
+use super::model::Model;
+use super::values;
+use crate::{FREED, HEAP_REDZONE, NoMemory, Shadow, USER_POISON};
+use std::alloc::Global;
+use std::test::Fail;
+
+/// How many granules a page has, a group of pages, a branch of each level over the groups, and the whole memory.
+const WIDTHS: [u64; 7] = [1 << 9, 1 << 12, 1 << 19, 1 << 26, 1 << 33, 1 << 40, 1 << 44];
+
+/// The two, and how many fills were made in both.
+#[derive(Drop)]
+struct Both {
+    shadow: Shadow,
+    model: Model,
+    fills: u64,
+}
+
+impl Both {
+    fn new(alloc: Global) -> Both {
+        Both {
+            shadow: Shadow::new(alloc),
+            model: Model::new(alloc),
+            fills: 0,
+        }
+    }
+
+    /// Fills whole granules of both by the next of four calls.
+    fn fill(&mut self, from: u64, to: u64) -> Result<(), NoMemory>
+        requires order { from ≤ to }
+        requires end { to ≤ 2 ^ 44 }
+    {
+        self.fills = self.fills.wrapping_add(1);
+        let (at, end) = (from * 8, to * 8);
+        match self.fills % 4 {
+            0 => self.shadow.mark(at, end, FREED)?,
+            1 => self.shadow.poison(at, end - at)?,
+            2 => self.shadow.unpoison(at, end - at)?,
+            _ => self.shadow.mark(at, end, HEAP_REDZONE)?,
+        }
+        let value = match self.fills % 4 {
+            0 => FREED,
+            1 => USER_POISON,
+            2 => 0,
+            _ => HEAP_REDZONE,
+        };
+        self.model.fill(from, to, value)
+    }
+
+    /// The first of these granules of which the two have different shadow bytes.
+    fn difference(&self, from: u64, to: u64) -> Option<u64> {
+        for granule in from..to {
+            if self.shadow.value(granule) != self.model.value(granule) {
+                return Some(granule);
+            }
+        }
+        None
+    }
+}
+
+/// Places on, one before and one after the ends of three pages.
+const ENDS: [u64; 9] = [511, 512, 513, 1023, 1024, 1025, 1535, 1536, 1537];
+
+/// Fills from each of the ends up to each later one, counted from a granule, in turn. The first granule of which the shadow
+/// byte is wrong after one of the fills.
+fn first_wrong(alloc: Global, low: u64) -> Result<Option<u64>, NoMemory> {
+    let mut both = Both::new(alloc);
+    for to in ENDS {
+        for from in ENDS {
+            let (from, to) = (
+                low.saturating_add(from),
+                low.saturating_add(to).min(1 << 44),
+            );
+            if from < to {
+                both.fill(from, to)?;
+                let wrong = both.difference(low.saturating_add(510), low.saturating_add(1539));
+                if wrong.is_some() {
+                    return Ok(wrong);
+                }
+            }
+        }
+    }
+    Ok(None)
+}
+
+#[test]
+fn ends_of_pages_and_branches(rt: HostRuntime) -> Result<(), Fail> {
+    for width in WIDTHS {
+        let wrong = first_wrong(rt.alloc(), width.max(1024) - 1024)?;
+        assert_eq!(rt; wrong, None, "width {width}");
+    }
+    Ok(())
+}
+
+/// Fills nearly, just and more than all granules from one up to another, in turn. The first granule there of which the
+/// shadow byte is wrong after one of the fills.
+fn first_wrong_of_whole(alloc: Global, low: u64, high: u64) -> Result<Option<u64>, NoMemory> {
+    let mut both = Both::new(alloc);
+    for more in 0..3 {
+        for less in 0..3 {
+            let (from, to) = (
+                low.saturating_add(less),
+                high.saturating_add(more).min(1 << 44),
+            );
+            if from < to {
+                both.fill(from, to)?;
+                let wrong = both.difference(low, high.saturating_add(3));
+                if wrong.is_some() {
+                    return Ok(wrong);
+                }
+            }
+        }
+    }
+    Ok(None)
+}
+
+#[test]
+fn whole_groups_and_branches(rt: HostRuntime) -> Result<(), Fail> {
+    for width in [1 << 12, 1 << 19u64] {
+        let wrong = first_wrong_of_whole(rt.alloc(), width - 1, width * 2 - 1)?;
+        assert_eq!(rt; wrong, None, "width {width}");
+    }
+    Ok(())
+}
+
+#[test]
+fn one_page_wide_poison(rt: HostRuntime) -> Result<(), Fail> {
+    let mut shadow = Shadow::new(rt.alloc());
+    shadow.poison(0x4000_0000, 1 << 28)?;
+    assert_eq!(rt; values(&shadow, 0x9ff_ffff), [0xf7, 0]);
+    assert_eq!(rt;
+        [
+            shadow.bad_byte(0x4fff_ffff, 1),
+            shadow.bad_byte(0x5000_0000, 1),
+            shadow.first_poisoned(0x3fff_ff00, 0x200),
+        ],
+        [Some(0x4fff_ffff), None, Some(0x4000_0000)]
+    );
+    Ok(())
+}
