@@ -1,4 +1,4 @@
-ghost use Rattle.std.specs.Prelude.{◌≡◌, ◌≢◌, ◌<◌, ◌≤◌, ◌↔◌, ◌⊎◌, ℕ, List, [], ◌++◌, length, take, IsSome, IfSome, IfOk, Some, None};
+ghost use Rattle.std.specs.Prelude.{◌≡◌, ◌≢◌, ◌<◌, ◌≤◌, ◌↔◌, ◌⊎◌, ℕ, List, [], ◌++◌, length, slice_index, take, IsTrue, IsSome, IfSome, IfOk, Some, None};
 ghost use Rattle.trace_record.specs.Ranges.{largest_limit};
 ghost use Rattle.trace_record.specs.Reading.{Says};
 ghost use Rattle.trace_record.specs.Spelling.{record_length, spelling};
@@ -80,7 +80,63 @@ impl Decoder {
     /// Reads what comes next of the stream: up to the end of its next record, or up to the byte that ends the stream, or
     /// all of the piece where it has neither. Bytes behind that are not looked at, and are to be given again. After a
     /// `Stop` each call answers the same `Stop`, uses no byte and leaves the decoder as it is.
+    #[inline(always)]
     pub fn next(&mut self, piece: &[u8]) -> Step
+        ensures used { result.used ≤ length piece.now }
+        ensures need { result.out ≡ Out.Need → result.used ≡ length piece.now }
+        ensures got { (event : Event) → result.out ≡ Out.Got event → 0 < result.used }
+        ensures ended { (end : End) → self.old.stop ≡ None → result.out ≡ Out.Stop end → 0 < result.used }
+        ensures limit { self.new.limit ≡ self.old.limit }
+        ensures stop { self.new.stop ≡ stop_of result.out }
+        ensures answers { (text : List ℕ) (events : List Event) → StandsAt self.old text events →
+            Answers self.new (text ++ take result.used piece.now) events result.out }
+        ensures stopped { IfSome self.old.stop
+            (λ end. (result ≡ record { used = 0; out = Out.Stop end }) × (self.new ≡ self.old)) }
+    {
+        if self.is_between_records() && !piece.is_empty() {
+            return self.take_first(piece);
+        }
+        let Step { used, out } = self.next_apart(piece);
+        Step { used, out }
+    }
+
+    /// The end where no more bytes come: `Truncated` inside the header or a record, and for an empty stream too, `NoClose`
+    /// right behind the header or a whole record. After a `Stop` it is that one's end.
+    pub fn at_end(self) -> End
+        ensures stopped { IfSome self.stop (λ end. result ≡ end) }
+        ensures ends { (text : List ℕ) (events : List Event) → StandsAt self text events →
+            Spells self.limit text events result × ((result.fate ≡ Fate.Truncated) ⊎ (result.fate ≡ Fate.NoClose)) }
+    {
+        match self.stop {
+            Some(end) => end,
+            None if self.offset >= HEADER_LENGTH as u64 && self.held.is_empty() => {
+                self.end(Fate::NoClose)
+            }
+            None => self.end(Fate::Truncated),
+        }
+    }
+
+    /// The end where the next bytes cannot be read: `ReadFailed`, or after a `Stop` that one's end.
+    pub fn at_fault(self) -> End
+        ensures stopped { IfSome self.stop (λ end. result ≡ end) }
+        ensures ends { (text : List ℕ) (events : List Event) → StandsAt self text events →
+            Spells self.limit text events result × (result.fate ≡ Fate.ReadFailed) }
+    {
+        self.stop.unwrap_or(self.end(Fate::ReadFailed))
+    }
+
+    /// Whether the next byte is the first of a record.
+    #[inline(always)]
+    fn is_between_records(&self) -> bool
+        ensures { IsTrue result → (self.now.stop ≡ None) × (8 ≤ self.now.offset) × (self.now.rest ≡ []) }
+    {
+        self.stop.is_none() && self.offset >= HEADER_LENGTH as u64 && self.held.is_empty()
+    }
+
+    /// Reads what comes next anywhere, as [`next`](Decoder::next) does. Cold: most pieces go on with the first byte of a
+    /// record.
+    #[cold]
+    fn next_apart(&mut self, piece: &[u8]) -> Step
         ensures used { result.used ≤ length piece.now }
         ensures need { result.out ≡ Out.Need → result.used ≡ length piece.now }
         ensures got { (event : Event) → result.out ≡ Out.Got event → 0 < result.used }
@@ -114,33 +170,7 @@ impl Decoder {
         }
     }
 
-    /// The end where no more bytes come: `Truncated` inside the header or a record, and for an empty stream too, `NoClose`
-    /// right behind the header or a whole record. After a `Stop` it is that one's end.
-    pub fn at_end(self) -> End
-        ensures stopped { IfSome self.stop (λ end. result ≡ end) }
-        ensures ends { (text : List ℕ) (events : List Event) → StandsAt self text events →
-            Spells self.limit text events result × ((result.fate ≡ Fate.Truncated) ⊎ (result.fate ≡ Fate.NoClose)) }
-    {
-        match self.stop {
-            Some(end) => end,
-            None if self.offset >= HEADER_LENGTH as u64 && self.held.is_empty() => {
-                self.end(Fate::NoClose)
-            }
-            None => self.end(Fate::Truncated),
-        }
-    }
-
-    /// The end where the next bytes cannot be read: `ReadFailed`, or after a `Stop` that one's end.
-    pub fn at_fault(self) -> End
-        ensures stopped { IfSome self.stop (λ end. result ≡ end) }
-        ensures ends { (text : List ℕ) (events : List Event) → StandsAt self text events →
-            Spells self.limit text events result × (result.fate ≡ Fate.ReadFailed) }
-    {
-        self.stop.unwrap_or(self.end(Fate::ReadFailed))
-    }
-
-    /// Takes bytes of the header. Cold: a stream has one.
-    #[cold]
+    /// Takes bytes of the header.
     fn take_header(&mut self, piece: &[u8]) -> Step
         requires running { self.old.stop ≡ None }
         requires in_header { self.old.offset < 8 }
@@ -205,6 +235,7 @@ impl Decoder {
     }
 
     /// Takes bytes of a record that begins with the piece.
+    #[inline(always)]
     fn take_first(&mut self, piece: &[u8]) -> Step
         requires running { self.old.stop ≡ None }
         requires in_records { 8 ≤ self.old.offset }
@@ -219,39 +250,59 @@ impl Decoder {
         ensures answers { (text : List ℕ) (events : List Event) → StandsAt self.old text events →
             Answers self.new (text ++ take result.used piece.now) events result.out }
     {
-        let code = piece[0];
-        let length = length_of(code);
-        if code == CLOSE {
-            return Step {
+        match piece[0] {
+            CLOSE => Step {
                 used: 1,
                 out: self.stop(Fate::Closed),
-            };
+            },
+            LOAD | STORE => self.take_whole(piece, ACCESS_LENGTH),
+            code => self.take_whole(piece, length_of(code)),
         }
+    }
+
+    /// Takes a record of so many bytes that begins with the piece, or holds its first bytes where the piece cuts it. No
+    /// record has 0 bytes: that is the length of an unknown code.
+    #[inline(always)]
+    fn take_whole(&mut self, piece: &[u8], size: usize) -> Step
+        requires running { self.old.stop ≡ None }
+        requires in_records { 8 ≤ self.old.offset }
+        requires none_held { self.old.rest ≡ [] }
+        requires begun { 0 < length piece.now }
+        requires open { slice_index piece.now 0 ≢ 7 }
+        requires size { size ≡ record_length (slice_index piece.now 0) }
+        ensures used { result.used ≤ length piece.now }
+        ensures need { result.out ≡ Out.Need → result.used ≡ length piece.now }
+        ensures got { (event : Event) → result.out ≡ Out.Got event → 0 < result.used }
+        ensures ended { (end : End) → result.out ≡ Out.Stop end → 0 < result.used }
+        ensures limit { self.new.limit ≡ self.old.limit }
+        ensures stop { self.new.stop ≡ stop_of result.out }
+        ensures answers { (text : List ℕ) (events : List Event) → StandsAt self.old text events →
+            Answers self.new (text ++ take result.used piece.now) events result.out }
+    {
         if self.events == u64::from(self.limit) {
             return Step {
                 used: 1,
                 out: self.stop(Fate::TooMany),
             };
         }
-        if length == 0 {
+        if size == 0 {
             return Step {
                 used: 1,
                 out: self.stop(Fate::Malformed(Flaw::Code)),
             };
         }
-        if piece.len() < length {
+        if piece.len() < size {
             self.held.append(piece);
             return Step {
                 used: piece.len(),
                 out: Out::Need,
             };
         }
-        let said = read_record(&piece[..length]);
-        self.finish(said, length, length)
+        let said = read_record(&piece[..size]);
+        self.finish(said, size, size)
     }
 
-    /// Takes more bytes of the record that is held. Cold: few records are cut.
-    #[cold]
+    /// Takes more bytes of the record that is held.
     fn take_more(&mut self, piece: &[u8]) -> Step
         requires running { self.old.stop ≡ None }
         requires in_records { 8 ≤ self.old.offset }
@@ -281,6 +332,7 @@ impl Decoder {
     }
 
     /// Answers what a whole record said: its event, or the end of the stream for its first flaw.
+    #[inline(always)]
     fn finish(&mut self, said: Result<Event, Flaw>, size: usize, used: usize) -> Step
         requires running { self.old.stop ≡ None }
         requires in_records { 8 ≤ self.old.offset }

@@ -53,7 +53,7 @@ impl Access {
     pub fn new(at: u64, width: u8) -> Result<Access, Flaw>
         ensures { MatchResult result (λ a. (a.at ≡ at) × (a.width ≡ width)) (λ f. access_flaw at width ≡ Some f) }
     {
-        if !matches!(width, 1 | 2 | 4 | 8) {
+        if !is_width(width) {
             return Err(Flaw::Width);
         }
         if at > ADDRESS_END - u64::from(width) {
@@ -128,4 +128,12 @@ impl Place {
     {
         self.at
     }
+}
+
+/// Whether an access can have so many bytes. One test, where four compares would often be guessed wrong.
+#[inline]
+fn is_width(width: u8) -> bool
+    ensures { result ≡ is_width width }
+{
+    width <= 8 && width.is_power_of_two()
 }

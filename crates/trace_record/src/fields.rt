@@ -31,14 +31,14 @@ impl Fields {
         ensures fit { FitBytes result }
     {
         match bytes[0] {
-            LOAD => Fields::Load {
-                width: bytes[1],
-                at: number_at(bytes, 2),
-            },
-            STORE => Fields::Store {
-                width: bytes[1],
-                at: number_at(bytes, 2),
-            },
+            code @ (LOAD | STORE) => {
+                let (width, at) = (bytes[1], number_at(bytes, 2));
+                if code == LOAD {
+                    Fields::Load { width, at }
+                } else {
+                    Fields::Store { width, at }
+                }
+            }
             MALLOC => Fields::Malloc {
                 at: number_at(bytes, 1),
                 size: number_at(bytes, 9),
@@ -63,8 +63,14 @@ impl Fields {
         ensures { MatchResult result (λ e. fields_of e ≡ self) (λ f. flaw_of self ≡ Some f) }
     {
         match self {
-            Fields::Load { width, at } => Access::new(at, width).map(Event::Load),
-            Fields::Store { width, at } => Access::new(at, width).map(Event::Store),
+            Fields::Load { width, at } | Fields::Store { width, at } => {
+                let access = Access::new(at, width)?;
+                Ok(if matches!(self, Fields::Load { .. }) {
+                    Event::Load(access)
+                } else {
+                    Event::Store(access)
+                })
+            }
             Fields::Malloc { at, size } => Region::new(at, size).map(Event::Malloc),
             Fields::Free { at } => Place::new(at).map(Event::Free),
             Fields::Poison { at, size } => Region::new(at, size).map(Event::Poison),

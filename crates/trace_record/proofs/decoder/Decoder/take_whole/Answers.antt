@@ -2,7 +2,7 @@ use Rattle.std.proofs.Common.{◌≡◌, ◌≢◌, ◌<◌, ℕ, List, [], take
 use Rattle.std.proofs.lemmas.List.{take_more}
 use Rattle.trace_record.specs.Standing.{Standing, StandsAt}
 use Rattle.trace_record.proofs.Steps.{too_many, bad_code}
-use Rattle.trace_record.proofs.decoder.Decoder.take_first.Goals as goal
+use Rattle.trace_record.proofs.decoder.Decoder.take_whole.Goals as goal
 
 pub returns-then-self-from-clause-answers : goal.returns-then-self-from-clause-answers
 returns-then-self-from-clause-answers c text events h =
@@ -10,17 +10,17 @@ returns-then-self-from-clause-answers c text events h =
     let not : get_or c.args.piece.now 0 0 ≢ 7 = omega arith in
     let full = subst (λ (d : Standing). d.events ≡ d.limit) c.self.view_is (omega arith) in
     let ended = too_many _ _ text events h c.requires.in_records (get_or c.args.piece.now 0 0) c.requires.none_held one not full in
-    rw (c.stop-then-self-from.ensures.told, c.stop-then-self-from.ensures.stops) (ended.0, tt, ended.1)
+    rw (c.stop.ensures.told, c.stop.ensures.stops) (ended.0, tt, ended.1)
 
-pub returns-then-length-eq0-clause-answers : goal.returns-then-length-eq0-clause-answers
-returns-then-length-eq0-clause-answers c text events h =
+pub returns-then-size-eq0-clause-answers : goal.returns-then-size-eq0-clause-answers
+returns-then-size-eq0-clause-answers c text events h =
     let one = take_more c.args.piece.now 0 0 c.requires.begun in
     let not : get_or c.args.piece.now 0 0 ≢ 7 = omega arith in
     let room = subst (λ (d : Standing). d.events < d.limit) c.self.view_is (let counted = c.self.invariant.counted in omega arith) in
-    let ended = bad_code _ _ text events h c.requires.in_records (get_or c.args.piece.now 0 0) c.requires.none_held one not room (sym c.length_of-length.ensures ∙ omega arith) in
-    rw (c.stop-then-length-eq0.ensures.told, c.stop-then-length-eq0.ensures.stops) (ended.0, tt, ended.1)
+    let ended = bad_code _ _ text events h c.requires.in_records (get_or c.args.piece.now 0 0) c.requires.none_held one not room (sym c.requires.size ∙ omega arith) in
+    rw (c.stop-then-size-eq0.ensures.told, c.stop-then-size-eq0.ensures.stops) (ended.0, tt, ended.1)
 
 pub returns-clause-answers : goal.returns-clause-answers
 returns-clause-answers c text events h =
     let at = subst (λ (rest : List ℕ). StandsAt (record c.args.self.now { rest = rest }) text events) c.requires.none_held h in
-    rw c.finish.ensures.used (c.finish.ensures.answers text events [] (take c.length_of-length.result c.args.piece.now) at c.read_record-said.ensures)
+    rw c.finish.ensures.used (c.finish.ensures.answers text events [] (take c.args.size c.args.piece.now) at c.read_record-said.ensures)

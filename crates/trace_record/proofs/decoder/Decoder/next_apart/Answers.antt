@@ -2,7 +2,7 @@ use Rattle.std.proofs.Common.{◌≡◌, ℕ, ◌+◌, ◌-◌, List, ◌++◌, 
 use Rattle.std.proofs.lemmas.List.{take_rest, drop-take, take-append-drop, take-take}
 use Rattle.trace_record.specs.declared.decoder.Out.{Out}
 use Rattle.trace_record.specs.Standing.{Answers}
-use Rattle.trace_record.proofs.decoder.Decoder.next.Goals as goal
+use Rattle.trace_record.proofs.decoder.Decoder.next_apart.Goals as goal
 
 -- what stands in front of a place, and some of what stands behind it
 two_parts : (text piece : List ℕ) (m n : ℕ) → (text ++ take m piece) ++ take n (take (length piece - m) (drop m piece)) ≡ text ++ take (m + n) piece
