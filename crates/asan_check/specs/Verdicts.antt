@@ -15,7 +15,7 @@ use Rattle.asan_check.specs.declared.report.Class.TheVariants as class
 use Rattle.asan_check.specs.declared.report.Fault.{Fault}
 use Rattle.asan_check.specs.declared.report.Fault.TheVariants as fault
 use Rattle.asan_check.specs.declared.report.Report.{Report}
-use Rattle.asan_check.specs.History.{block_of, live, held, admits, marks}
+use Rattle.asan_check.specs.History.{live, held, admits, marks}
 
 -- the class that a state tells
 abbrev pub class_of_state : State → Class

@@ -1,5 +1,5 @@
 //! The checker, which keeps the blocks and the shadow of a process and takes in its events.
-ghost use Rattle.std.specs.Prelude.{◌≡◌, ℕ, ◌+◌, ◌<◌, ◌≤◌, ◌^◌, ◌↔◌, List, [], ◌∷◌, ◌++◌, IfOk, IsErr, IsSomeAnd, OnOk, OnErr, true, false, not, length, None, Some, option_to_list};
+ghost use Rattle.std.specs.Prelude.{◌≡◌, ℕ, ◌+◌, ◌<◌, ◌≤◌, ◌^◌, ◌↔◌, List, [], ◌∷◌, ◌++◌, IfOk, IsErr, IsTrue, IsSomeAnd, OnOk, OnErr, true, false, not, length, None, Some, option_to_list};
 ghost use Rattle.trace_record.specs.declared.event.Event.{Event as AnEvent};
 ghost use Rattle.trace_record.specs.declared.event.Event.TheVariants as event;
 ghost use Rattle.trace_record.specs.declared.event.Place.{Place as APlace};
@@ -79,6 +79,7 @@ impl<A: Allocator + Copy> Checker<A> {
     ///
     /// `Failed` where a growth was refused, in this call or in an earlier one. From then on every step answers `Failed`, and
     /// the reports and the count stay as they were before the first refused event.
+    #[inline]
     pub fn step(&mut self, event: &Event) -> Result<Option<Report>, Failed>
         requires room { checked_of self.old + 1 < 2 ^ 64 }
         ensures checked { IfOk result (λ report. (bound : ℕ) (past : List AnEvent) → Stands bound self.old past →
@@ -94,16 +95,19 @@ impl<A: Allocator + Copy> Checker<A> {
         if self.failed {
             return Err(Failed);
         }
-        match self.check(event) {
-            Ok(report) => {
-                self.checked += 1;
-                Ok(report)
+        let report = if self.is_good_access(event) {
+            None
+        } else {
+            match self.check(event) {
+                Ok(report) => report,
+                Err(NoMemory) => {
+                    self.failed = true;
+                    return Err(Failed);
+                }
             }
-            Err(NoMemory) => {
-                self.failed = true;
-                Err(Failed)
-            }
-        }
+        };
+        self.checked += 1;
+        Ok(report)
     }
 
     /// How many events it has checked: those that were stepped without `Failed`.
@@ -154,7 +158,22 @@ impl<A: Allocator + Copy> Checker<A> {
         Some(self.shadow.first_poisoned(at, size))
     }
 
+    /// Whether an event is a load or a store that isn't bad. Most are, and they change nothing.
+    #[inline]
+    fn is_good_access(&self, event: &Event) -> bool
+        ensures { IsTrue result → (bound : ℕ) (past : List AnEvent) → ShowsHistory bound self.now past →
+            (fault_of bound past event.now ≡ None) × ShowsHistory bound self.now (event.now ∷ past) }
+    {
+        match event {
+            Event::Load(access) | Event::Store(access) => {
+                self.shadow.bad_byte(access.at(), access.width()).is_none()
+            }
+            _ => false,
+        }
+    }
+
     /// Applies an event, and keeps the report on it if it is a bad one.
+    #[inline(never)]
     fn check(&mut self, event: &Event) -> Result<Option<Report>, NoMemory>
         requires room { checked_of self.old + 1 < 2 ^ 64 }
         ensures ok { IfOk result (λ report. (bound : ℕ) (past : List AnEvent) → Stands bound self.old past →

@@ -1,4 +1,4 @@
-use Rattle.std.proofs.Common.{◌<◌, sym, ap, ◌∙◌, arith}
+use Rattle.std.proofs.Common.{sym, ap, ◌∙◌}
 use Rattle.shadow_map.specs.States.{state_of}
 use Rattle.asan_check.specs.History.{marks}
 use Rattle.asan_check.specs.Laws.{class_of_shadow}

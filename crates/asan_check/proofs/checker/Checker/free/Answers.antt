@@ -1,10 +1,10 @@
-use Rattle.std.proofs.Common.{◌≡◌, ◌<◌, true, false, [], ◌∷◌, ◌++◌, refl, sym, ap, ◌∙◌, arith}
-use Rattle.std.specs.Prelude.{IsPermutation, Contains, filter, not}
+use Rattle.std.proofs.Common.{◌≡◌, true, false, [], ◌∷◌, ◌++◌, sym, ap, ◌∙◌}
+use Rattle.std.specs.Prelude.{Contains, not}
 use Rattle.std.specs.List.{list_any}
 use Rattle.std.proofs.lemmas.List.Sorted.{list_any-IsPermutation, Contains-permutation}
 use Rattle.heap_book.specs.Spans.{starts_at}
 use Rattle.heap_book.proofs.Permutations.{IsPermutation-filter}
-use Rattle.asan_check.specs.History.{live, held, marks}
+use Rattle.asan_check.specs.History.{live, held}
 use Rattle.asan_check.proofs.Blocks.{none_at_zero}
 use Rattle.asan_check.proofs.Faults.{free_of_null, free_of_live, free_of_held, free_of_none}
 use Rattle.asan_check.proofs.Frees as frees

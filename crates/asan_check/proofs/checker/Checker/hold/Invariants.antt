@@ -1,4 +1,4 @@
-use Rattle.std.proofs.Common.{◌≡◌, ℕ, List, ◌∷◌, length}
+use Rattle.std.proofs.Common.{ℕ, List, ◌∷◌, length}
 use Rattle.std.specs.Prelude.{IsPermutation}
 use Rattle.trace_record.specs.declared.event.Event.{Event}
 use Rattle.trace_record.specs.declared.event.Event.TheVariants as event
