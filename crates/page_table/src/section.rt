@@ -1,4 +1,4 @@
-//! What the pages and the branches of a table have in common.
+//! What the groups and the branches of a table have in common.
 ghost use Rattle.std.specs.Prelude.{◌≡◌, ℕ, ◌<◌, ◌≤◌, OnOk, OnErr};
 ghost use Rattle.page_table.specs.Sections.{IsWidth, IsFilled, IsBrokenOff};
 

@@ -105,7 +105,8 @@ pub change_past : (change : Change) (byte a e g : ℕ) → a ≤ e → (e + 7) /
 change_past Poisoned byte a e g order le = poison_past byte a e g order le
 change_past Unpoisoned byte a e g order le = unpoison_nothing byte _ _ (omega arith)
 
--- a change of a region from one address up to another: its first granule, those inside, its last one
+-- a change of a region from one address up to another: the granule that its first edge cuts, the whole ones, the one that its
+-- last edge cuts
 module _ (change : Change) (at end : ℕ) where
   abbrev pub changed_granule : ℕ → ℕ → ℕ
   changed_granule byte g = changed_byte change byte (min 8 (at - 8 * g)) (min 8 (end - 8 * g))

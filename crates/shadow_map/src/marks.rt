@@ -100,6 +100,7 @@ impl<A: Allocator + Copy> Shadow<A> {
         if first <= stop {
             self.change_edge(change, at, end, end)
         } else {
+            // Both edges cut one granule, which is changed already.
             Ok(())
         }
     }

@@ -96,6 +96,7 @@ impl Decoder {
         if self.is_between_records() && !piece.is_empty() {
             return self.take_first(piece);
         }
+        // Taken apart and put together: else the answer would be copied through memory on the short way too.
         let Step { used, out } = self.next_apart(piece);
         Step { used, out }
     }
@@ -133,7 +134,7 @@ impl Decoder {
         self.stop.is_none() && self.offset >= HEADER_LENGTH as u64 && self.held.is_empty()
     }
 
-    /// Reads what comes next anywhere, as [`next`](Decoder::next) does. Cold: most pieces go on with the first byte of a
+    /// Reads what comes next anywhere, as [`next`](Decoder::next) does. Cold: most calls find a piece that begins with a
     /// record.
     #[cold]
     fn next_apart(&mut self, piece: &[u8]) -> Step
@@ -255,6 +256,7 @@ impl Decoder {
                 used: 1,
                 out: self.stop(Fate::Closed),
             },
+            // Most records are these, and their length is a constant.
             LOAD | STORE => self.take_whole(piece, ACCESS_LENGTH),
             code => self.take_whole(piece, length_of(code)),
         }

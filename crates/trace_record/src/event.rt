@@ -130,7 +130,8 @@ impl Place {
     }
 }
 
-/// Whether an access can have so many bytes. One test, where four compares would often be guessed wrong.
+/// Whether an access can have so many bytes. Told by arithmetic, since of four compares a processor would often guess one
+/// wrong.
 #[inline]
 fn is_width(width: u8) -> bool
     ensures { result ≡ is_width width }

@@ -48,6 +48,20 @@ p0 #2 load 8 at 000000001004 bad 000000001005 heap-buffer-overflow shadow 05
 }
 
 #[test]
+fn one_page_wide_poison(rt: HostRuntime) -> Result<(), Fail> {
+    let events = [
+        poison(0x4000_0000, 1 << 28)?,
+        load(1, 0x4fff_ffff)?,
+        load(1, 0x5000_0000)?,
+    ];
+    let wanted = "\
+p0 #2 load 1 at 00004fffffff bad 00004fffffff use-after-poison shadow f7
+";
+    assert_eq!(rt; lines(&rt, rt.alloc(), USUAL, &events)?.as_str(), wanted);
+    Ok(())
+}
+
+#[test]
 fn poison_in_the_middle_and_to_the_end(rt: HostRuntime) -> Result<(), Fail> {
     let middle = [malloc(0x1000, 8)?, poison(0x1002, 3)?, load(1, 0x1003)?];
     assert_eq!(rt; lines(&rt, rt.alloc(), USUAL, &middle)?.as_str(), "");

@@ -1,4 +1,6 @@
 //! What one record asks memory for, in the states and at the places where it asks for the most.
+ghost use Rattle.std.specs.Prelude.{◌≤◌};
+
 use crate::{FREED, NoMemory, Shadow};
 use refuser::Refuser;
 use std::alloc::{Allocator, Global};
@@ -7,8 +9,7 @@ use std::test::Fail;
 /// How many bytes one record can mark.
 const LARGEST: u64 = 1 << 28;
 
-/// An end of branches of each level, but for the one that has all memory. The regions of the records begin less than half
-/// of `LARGEST` before it, and end past it.
+/// An end of branches of each level, but for the one that has all memory. The dearest marks lie over it.
 const END: u64 = 1 << 43;
 
 /// What was asked for: the memory of so many branches, and of so many groups of pages.
@@ -22,36 +23,42 @@ const BYTES: u64 = 4096;
 const HANDLES: u64 = 128 * 8;
 
 /// The states and the records that `prepare` and `mark_record` know, and what the records ask for.
-const RECORDS: [Asked; 9] = [
+const RECORDS: [Asked; 10] = [
     // A load, a store.
     (0, 0),
     // A malloc: one redzone lies over `END`, the other one over an end of branches of the lowest level.
     (11, 4),
-    // A free: each end of the block cuts a page in two, and nothing is kept there.
-    (9, 2),
-    // The same where the whole block was just marked.
+    // A free of a block that was just marked.
     (0, 0),
-    // The same where it was poisoned since, with all that is round it.
+    // The most that a free asks for: the block was poisoned since, with all that is round it.
     (2, 2),
     // A poison whose ends cut pages in two.
     (9, 2),
-    // One of whole branches.
-    (4, 0),
-    // An unpoison whose ends cut pages in two, where all memory is poisoned.
-    (8, 2),
+    // One of whole branches, over `END`.
+    (7, 0),
+    // An unpoison whose ends cut pages in two, where whole branches were poisoned.
+    (2, 2),
     // The same where nothing is marked.
+    (0, 0),
+    // A poison of one page, which is kept as one byte.
+    (5, 0),
+    // A poison of a part of it, once more.
     (0, 0),
 ];
 
 /// Marks what stands before a record.
 fn prepare<A: Allocator + Copy>(shadow: &mut Shadow<A>, record: usize) -> Result<(), NoMemory> {
     match record {
-        3 => shadow.block(0x4000_0808, 0xfff_0000),
-        4 => {
+        2 => shadow.block(0x4000_0808, 0xfff_0000),
+        3 => {
             shadow.block(0x4000_0808, 0xfff_0000)?;
             shadow.poison(0x4000_0000, LARGEST)
         }
-        7 => shadow.poison(0, 1 << 47),
+        6 => {
+            shadow.poison(END - LARGEST, LARGEST)?;
+            shadow.poison(END, LARGEST)
+        }
+        9 => shadow.poison(0x4000_1000, 0x1000),
         _ => Ok(()),
     }
 }
@@ -60,11 +67,12 @@ fn prepare<A: Allocator + Copy>(shadow: &mut Shadow<A>, record: usize) -> Result
 fn mark_record<A: Allocator + Copy>(shadow: &mut Shadow<A>, record: usize) -> Result<(), NoMemory> {
     match record {
         1 => shadow.block(END + 8, 0x7ff_fff0),
-        2 => shadow.mark(END - 0x7ff_f7f8, END + 0x800_0808, FREED),
-        3 | 4 => shadow.mark(0x4000_0808, 0x4fff_0808, FREED),
-        5 => shadow.poison(END - 0x7ff_f7fd, LARGEST),
-        6 => shadow.poison(0x4000_0000, LARGEST),
-        7 | 8 => shadow.unpoison(END - 0x7ff_f7fd, LARGEST),
+        2 | 3 => shadow.mark(0x4000_0808, 0x4fff_0808, FREED),
+        4 => shadow.poison(END - 0x7ff_f7fd, LARGEST),
+        5 => shadow.poison(END - 0x800_0000, LARGEST),
+        6 | 7 => shadow.unpoison(END - 0x7ff_f7fd, LARGEST),
+        8 => shadow.poison(0x4000_1000, 0x1000),
+        9 => shadow.poison(0x4000_1008, 8),
         _ => {
             let _ = (shadow.bad_byte(END, 8), shadow.value(0));
             Ok(())
@@ -111,4 +119,31 @@ fn poison_is_refused_at(alloc: Global, turn: u64) -> bool {
 fn no_poison_makes_many_requests(rt: HostRuntime) {
     assert!(rt; poison_is_refused_at(rt.alloc(), 4));
     assert!(rt; !poison_is_refused_at(rt.alloc(), 100_000));
+}
+
+/// How many requests a poison of a part of a page makes after a larger region was filled whole.
+fn asked_after(alloc: Global, size: u64) -> Result<u64, NoMemory>
+    requires { size ≤ 0x1000_0000 }
+{
+    let heap = Refuser::new(alloc, 0);
+    let mut shadow = Shadow::new(&heap);
+    shadow.poison(0x4000_0008, 8)?;
+    shadow.unpoison(0x4000_0000, size)?;
+    let before = heap.requests_made();
+    shadow.poison(0x4000_0008, 8)?;
+    Ok(heap.requests_made().wrapping_sub(before))
+}
+
+#[test]
+fn memory_of_what_was_filled_whole_is_given_back(rt: HostRuntime) -> Result<(), Fail> {
+    // A page stays in its group's box; a group gives back its box; a branch gives back its sections too.
+    assert_eq!(rt;
+        [
+            asked_after(rt.alloc(), 0x1000)?,
+            asked_after(rt.alloc(), 0x8000)?,
+            asked_after(rt.alloc(), 0x40_0000)?,
+        ],
+        [0, 1, 2]
+    );
+    Ok(())
 }

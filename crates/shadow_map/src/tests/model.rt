@@ -1,4 +1,4 @@
-//! A plain model of the shadow: one byte by one, in an ordered map.
+//! A plain model of the shadow: granule by granule, in an ordered map.
 use crate::NoMemory;
 use std::alloc::Global;
 use std::collections::BTreeMap;

@@ -10,7 +10,7 @@ use std::test::Fail;
 /// How many granules a page has, a group of pages, a branch of each level over the groups, and the whole memory.
 const WIDTHS: [u64; 7] = [1 << 9, 1 << 12, 1 << 19, 1 << 26, 1 << 33, 1 << 40, 1 << 44];
 
-/// The two, and how many fills were made in both.
+/// The shadow and the model, and how many fills were made in both.
 #[derive(Drop)]
 struct Both {
     shadow: Shadow,
@@ -94,8 +94,8 @@ fn ends_of_pages_and_branches(rt: HostRuntime) -> Result<(), Fail> {
     Ok(())
 }
 
-/// Fills nearly, just and more than all granules from one up to another, in turn. The first granule there of which the
-/// shadow byte is wrong after one of the fills.
+/// Fills from a granule and each of the next two up to another and each of the next two, in turn. The first granule there
+/// of which the shadow byte is wrong after one of the fills.
 fn first_wrong_of_whole(alloc: Global, low: u64, high: u64) -> Result<Option<u64>, NoMemory> {
     let mut both = Both::new(alloc);
     for more in 0..3 {
@@ -125,6 +125,7 @@ fn whole_groups_and_branches(rt: HostRuntime) -> Result<(), Fail> {
     Ok(())
 }
 
+/// The widest poison that a record can ask for.
 #[test]
 fn one_page_wide_poison(rt: HostRuntime) -> Result<(), Fail> {
     let mut shadow = Shadow::new(rt.alloc());
