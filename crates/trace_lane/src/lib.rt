@@ -1,0 +1,27 @@
+//! A lane between two threads: one end puts items, the other takes them in the order in which they
+//! were put.
+//!
+//! [`lane`] makes both ends. They belong to one lane, and each may move to a thread of its own.
+//!
+//! - **Nothing waits.** A put that finds no room gives the item back, and a take that finds no item
+//!   gives `None`. The caller says how to wait.
+//! - **Only `lane` takes memory**, for the ring and for the buffer of the taking end.
+//! - **Where items are.** A put moves an item into the ring. Where its buffer is empty, a take
+//!   moves items out of the ring into the buffer, up to 64 of them, so that the next takes touch
+//!   nothing that the threads share.
+//! - **The end.** `finish` drops the putting end and gives a `LaneEnd`, which knows all that was
+//!   put. With it `settle` says how many items are left, and that many takes then succeed: every
+//!   item that was put is taken.
+#![tactic(auto, unfolding(crate::specs::Lanes::in_lane, crate::specs::Lanes::out_lane, crate::specs::Lanes::end_lane, crate::specs::Lanes::put_list, crate::specs::Lanes::taken_list, crate::specs::Lanes::waiting, crate::specs::Lanes::end_list))]
+
+mod lane_end;
+mod lane_in;
+mod lane_out;
+mod make;
+#[cfg(test)]
+mod tests;
+
+pub use lane_end::LaneEnd;
+pub use lane_in::LaneIn;
+pub use lane_out::LaneOut;
+pub use make::{LaneError, lane};
