@@ -56,3 +56,9 @@ pub record Arrivals (F : Type 0) : Type 0 where
 pub record Paths : Type 0 where
   pub paths : List (List ℕ)
   pub refusals : ℕ
+
+-- a door that accepts peers: how many times it still accepts one, and how many could not be
+-- accepted
+pub record Peers : Type 0 where
+  pub left : ℕ
+  pub refusals : ℕ

@@ -11,6 +11,7 @@ mod put;
 mod read_feed;
 #[cfg(test)]
 mod tests;
+mod unix_door;
 
 pub use door::{Arrival, Door};
 pub use feed::{Feed, FeedFault};
@@ -19,3 +20,4 @@ pub use mem_feed::MemFeed;
 pub use path_door::PathDoor;
 pub use put::{PutFault, put_all};
 pub use read_feed::ReadFeed;
+pub use unix_door::UnixDoor;

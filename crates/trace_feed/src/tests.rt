@@ -1,3 +1,4 @@
+//! Tests of feeds, doors and writing.
 ghost use Rattle.std.specs.Prelude.{◌≡◌};
 ghost use Rattle.trace_feed.specs.Doors.{IfCame};
 
@@ -6,6 +7,8 @@ use std::io::{Error, ErrorKind, Read};
 use std::test::Fail;
 use std::{env, fs, io, process};
 use test_writers::{Ending, ShortWriter};
+
+mod unix_door;
 
 const TRACE: [u8; 36] = [
     // the header
