@@ -24,3 +24,13 @@ verdicts_begin bound (e ∷ newer) past =
     let before = verdicts_begin bound newer past in
     let last = option_to_list (verdict bound (newer ++ past) e) in
     (before.0 ++ last, ap (λ rs. rs ++ last) before.1 ∙ append_assoc (verdicts_of bound past) before.0 last)
+
+-- the verdict on an event stands between those on the events before it and those on the events after it
+pub each_in_place : (bound : ℕ) (before after : List Event) (event : Event) → (later : List Report)
+    × (verdicts bound (before ++ event ∷ after) ≡ (verdicts bound before ++ option_to_list (verdict bound (reverse before) event)) ++ later)
+each_in_place bound before after event =
+    let past = event ∷ reverse before in
+    let parts : reverse (before ++ event ∷ after) ≡ reverse after ++ past =
+    reverse-append before (event ∷ after) ∙ (ap (λ l. l ++ reverse before) (reverse-append (event ∷ []) after) ∙ append_assoc (reverse after) (event ∷ []) (reverse before)) in
+    let rest = verdicts_begin bound (reverse after) past in
+    (rest.0, ap (verdicts_of bound) parts ∙ rest.1)

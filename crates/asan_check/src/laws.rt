@@ -1,15 +1,16 @@
 //! What the definitions of histories and verdicts come to, in the words of somebody who reads the reports. Each function
 //! does nothing: its contract is the law.
 
-ghost use Rattle.std.specs.Prelude.{◌≡◌, ◌+◌, ◌++◌, ℕ, Bool, List, Some, None, Contains};
+ghost use Rattle.std.specs.Prelude.{◌≡◌, ◌+◌, ◌∷◌, ◌++◌, ℕ, Bool, List, Some, None, Contains, option_to_list, reverse};
 ghost use Rattle.std.specs.List.{IsDistinct};
 ghost use Rattle.trace_record.specs.declared.event.Event.{Event};
 ghost use Rattle.trace_record.specs.declared.event.Access.{Access};
 ghost use Rattle.shadow_map.specs.States.{Freed, code_of};
 ghost use Rattle.heap_book.specs.Spans.{Extent, rounded, span_from, span_to, meets};
 ghost use Rattle.asan_check.specs.declared.report.Class.TheVariants as class;
+ghost use Rattle.asan_check.specs.declared.report.Report.{Report};
 ghost use Rattle.asan_check.specs.History.{live, held};
-ghost use Rattle.asan_check.specs.Verdicts.{verdict};
+ghost use Rattle.asan_check.specs.Verdicts.{verdict, verdicts};
 ghost use Rattle.asan_check.specs.Laws.{since_malloc, since_free, IsLiveSince, IsHeldSince, NoPoisonShares, NoUnpoisonShares};
 ghost use Rattle.asan_check.specs.Laws.{access_event, LiesInside, StartsAround, StartsWithin, first_byte_report, shadow_around};
 
@@ -70,4 +71,12 @@ pub fn use_after_free_is_reported()
         NoUnpoisonShares (since_free bound past block) block.at (block.at + rounded block.size) →
         verdict bound past (access_event is_store access)
         ≡ Some (first_byte_report past is_store access class.HeapUseAfterFree (code_of Freed)) }
+{}
+
+/// The reports on some events are the verdicts on each of them, in their order: first those on the events before it, then the
+/// verdict on it, if it is a report, and then those on the events after it.
+pub fn each_event_has_its_verdict()
+    ensures { (bound : ℕ) (before after : List Event) (event : Event) → (later : List Report)
+        × (verdicts bound (before ++ event ∷ after)
+        ≡ (verdicts bound before ++ option_to_list (verdict bound (reverse before) event)) ++ later) }
 {}
