@@ -1,20 +1,19 @@
-ghost use Rattle.std.specs.Prelude.{◌≡◌, ℕ, ◌≤◌, List, length, reverse};
+//! One feed on one thread: its events are checked as they are read.
+
+ghost use Rattle.std.specs.Prelude.{◌≡◌, ◌+◌, ◌<◌, ◌≤◌, ◌^◌, ◌++◌, ℕ, IsTrue, List, length, reverse};
 ghost use Rattle.trace_record.specs.declared.event.Event.{Event as AnEvent};
-ghost use Rattle.asan_check.specs.Standing.{StandsOrFailed};
-ghost use Rattle.asan_collect.specs.Outcomes.{IsOutcomeOf, StopsSoon, Tells};
-ghost use Rattle.asan_collect.specs.Ranges.{most_events, most_reports};
-ghost use Rattle.asan_collect.specs.Replays.{Follows, AfterPiece};
+ghost use Rattle.asan_check.specs.Standing.{StandsOrFailed, checked_of, reports_of as checker_reports};
+ghost use Rattle.asan_collect.specs.Outcomes.{IsOutcomeOf, StopsSoon, Tells, is_read};
+ghost use Rattle.asan_collect.specs.Ranges.{most_reports};
 ghost use Rattle.asan_collect.specs.Texts.{reports_of};
 
 use crate::options::Options;
 use crate::outcome::Outcome;
+use crate::source::{Source, batch_room};
 use asan_check::Checker;
 use std::alloc::Allocator;
 use trace_feed::Feed;
-use trace_record::{Decoder, End, Out};
-
-/// How many bytes one read asks for.
-const READ_SIZE: usize = 4096;
+use trace_record::{End, Event};
 
 /// Reads `feed` until something ends its stream, and checks the events that its bytes spell, on the calling thread and
 /// through a buffer of 4,096 bytes. The checker takes its memory from `alloc`. No read of the feed may have failed before.
@@ -24,7 +23,7 @@ const READ_SIZE: usize = 4096;
 /// decides the stream.
 pub fn check_feed<F: Feed, A: Allocator + Copy>(
     alloc: A,
-    mut feed: F,
+    feed: F,
     options: Options,
 ) -> Outcome<F, A>
     requires fresh { F.fault_count feed ≡ 0 }
@@ -32,57 +31,46 @@ pub fn check_feed<F: Feed, A: Allocator + Copy>(
     ensures soon { StopsSoon F.to_come options.limit feed result }
     ensures few { length (reports_of result) ≤ most_reports }
 {
-    let mut decoder = Decoder::new(options.limit).unwrap();
     let mut checker = Checker::new(alloc, options.quarantine).unwrap();
-    let mut buffer = [0u8; READ_SIZE];
+    let mut source = Source::new(feed, options.limit);
+    let mut events = batch_room();
     loop {
-        match feed.next(&mut buffer) {
-            Err(_) => return outcome_of(feed, decoder.at_fault(), checker),
-            Ok(0) => return outcome_of(feed, decoder.at_end(), checker),
-            Ok(count) => {
-                if let Some(end) = check_piece(&mut decoder, &mut checker, &buffer[..count]) {
-                    return outcome_of(feed, end, checker);
-                }
-            }
+        let batch = source.next_batch(&mut events);
+        check_each(&mut checker, &events[..batch.count]);
+        if batch.is_last {
+            let (feed, end) = source.into_end();
+            let events = end.events;
+            return outcome_of(feed, end, checker, events);
         }
     }
 }
 
-/// Checks the events that a piece completes, and gives the end if a byte of it decides one.
-fn check_piece<A: Allocator + Copy>(
-    decoder: &mut Decoder,
-    checker: &mut Checker<A>,
-    piece: &[u8],
-) -> Option<End>
-    requires follows { (bound : ℕ) × (text : List ℕ) × (events : List AnEvent) × Follows bound decoder.old checker.old text events }
-    requires limit { decoder.old.limit ≤ most_events }
-    ensures limit { decoder.new.limit ≡ decoder.old.limit }
-    ensures after { (bound : ℕ) (text : List ℕ) (events : List AnEvent) → Follows bound decoder.old checker.old text events →
-        AfterPiece bound decoder.old.limit decoder.new checker.new text piece.now result }
+/// Hands the events to the checker, in order. A checker that has failed stays so, and says it in the end.
+pub(crate) fn check_each<A: Allocator + Copy>(checker: &mut Checker<A>, events: &[Event])
+    requires room { checked_of checker.old + length events.now < 2 ^ 64 }
+    ensures { (bound : ℕ) (past : List AnEvent) → StandsOrFailed bound checker.old past →
+        StandsOrFailed bound checker.new (reverse events.now ++ past) }
 {
-    let mut used = 0;
-    loop {
-        let step = decoder.next(&piece[used..]);
-        used += step.used;
-        match step.out {
-            Out::Got(event) => {
-                // A checker that has failed says so again, and at the end.
-                let _ = checker.step(&event);
-            }
-            Out::Need => return None,
-            Out::Stop(end) => return Some(end),
-        }
+    for event in events {
+        let _ = checker.step(event);
     }
 }
 
-/// What became of a feed whose events the checker was handed.
-fn outcome_of<F, A: Allocator + Copy>(feed: F, end: End, checker: Checker<A>) -> Outcome<F, A>
-    ensures { (bound : ℕ) (events : List AnEvent) → StandsOrFailed bound checker (reverse events) →
-        end.events ≡ length events → Tells bound events feed end result }
+/// What became of a feed whose checker was handed this number of events.
+pub(crate) fn outcome_of<F, A: Allocator + Copy>(
+    feed: F,
+    end: End,
+    checker: Checker<A>,
+    events: u64,
+) -> Outcome<F, A>
+    ensures tells { (bound : ℕ) (handed : List AnEvent) → ∥ StandsOrFailed bound checker (reverse handed) ∥₁ →
+        events ≡ length handed → Tells bound handed feed end result }
+    ensures reports { reports_of result ≡ checker_reports checker }
+    ensures read { IsTrue (is_read result) }
 {
     let checked = checker.checked();
     let reports = checker.into_reports();
-    if checked < end.events {
+    if checked < events {
         Outcome::NoMemory {
             feed,
             end,

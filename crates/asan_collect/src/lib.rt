@@ -1,19 +1,48 @@
 //! What becomes of each sender's stream: its outcome, the text that is printed of it, and the status of all together.
 #![tactic(auto)]
 
+mod arrivals;
+mod bench;
 mod check;
+mod checker;
+mod checker_threads;
+mod collector;
+mod decode;
+mod drain;
+mod foreground;
+mod gate;
+mod item;
+mod lanes;
 mod laws;
 mod options;
 mod outcome;
+mod pause;
+mod piece;
 mod printer;
+mod reader;
+mod reader_threads;
+mod returns;
+mod sender;
+mod settlement;
+mod source;
 mod status;
 #[cfg(test)]
 mod tests;
+mod threads;
 mod write;
 
+pub use arrivals::MOST_SENDERS;
+pub use bench::{Bench, Turn};
 pub use check::check_feed;
-pub use laws::{bytes_spell_one_end, outcomes_agree};
+pub use checker::run_checker;
+pub use collector::collect;
+pub use gate::{Gate, OpenGate};
+pub use item::Item;
+pub use laws::{answers_are_outcomes, bytes_spell_one_end, outcomes_agree};
 pub use options::{BadOption, Options};
 pub use outcome::Outcome;
+pub use reader::{ReaderDone, run_reader};
+pub use settlement::settle;
 pub use status::exit_status;
+pub use std::alloc::AllocError as NoMemory;
 pub use write::{Why, WriteFault, write_outcomes};

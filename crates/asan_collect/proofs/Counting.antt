@@ -1,0 +1,48 @@
+-- Refusals and outcomes are counted alike.
+use Rattle.std.proofs.Common.{ℕ, suc, ◌≡◌, ◌<◌, ◌+◌, List, [], ◌∷◌, ◌++◌, length, Option, refl, arith, slice_index_or}
+use Rattle.trace_feed.specs.declared.door.Arrival.{Arrival}
+use Rattle.trace_feed.specs.declared.door.Arrival.TheVariants as arrival
+use Rattle.trace_feed.specs.Doors.{refusals_after}
+use Rattle.asan_collect.specs.declared.outcome.Outcome.{Outcome}
+use Rattle.asan_collect.specs.declared.outcome.Outcome.TheVariants as outcome
+use Rattle.asan_collect.specs.Arrivals.{Pairwise, IsAnswerTo}
+use Rattle.asan_collect.specs.Counts.{refused, refused_among, not_opened, not_opened_among}
+
+pub refused-after : {F : Type 0} (a : Arrival F) (count : ℕ) → refusals_after a count ≡ refused a + count
+refused-after (arrival.Came feed) count = omega arith
+refused-after arrival.Refused count = omega arith
+refused-after arrival.Over count = omega arith
+
+pub refused-push : {F : Type 0} (xs : List (Arrival F)) (a : Arrival F) → refused_among (xs ++ a ∷ []) ≡ refused a + refused_among xs
+refused-push [] a = refl
+refused-push (x ∷ xs) a = let rest = refused-push xs a in omega arith
+
+module _ {X Y : Type 0} (R : X → Y → Type 0) where
+  pairs_first : (x : X) (xs : List X) (y : Y) (ys : List Y) → Pairwise R (x ∷ xs) (y ∷ ys) → R x y
+  pairs_first x xs y ys b = b.each 0 x y (omega arith)
+
+  pairs_rest : (x : X) (xs : List X) (y : Y) (ys : List Y) → Pairwise R (x ∷ xs) (y ∷ ys) → Pairwise R xs ys
+  pairs_rest x xs y ys b = record {
+    same_length = let same = b.same_length in omega arith;
+    each = λ i d e below. b.each (suc i) d e (omega arith);
+  }
+
+module _ {F A : Type 0} (to_come : F → Option (List ℕ)) (fault_count : F → ℕ) (limit bound : ℕ) where
+  one_counted : (a : Arrival F) (told : Outcome F A) → IsAnswerTo to_come fault_count limit bound a told → not_opened told ≡ refused a
+  one_counted (arrival.Came feed) (outcome.Settled f n rs) fits = refl
+  one_counted (arrival.Came feed) (outcome.NoMemory f n k rs) fits = refl
+  one_counted (arrival.Came feed) outcome.NotOpened fits = absurd fits
+  one_counted (arrival.Came feed) outcome.NotStarted fits = refl
+  one_counted (arrival.Came feed) outcome.Unsettled fits = refl
+  one_counted arrival.Refused told fits = rw fits refl
+  one_counted arrival.Over told fits = absurd fits
+
+  -- one outcome is not-opened for each refusal
+  pub all_counted : (arrivals : List (Arrival F)) (outcomes : List (Outcome F A)) → Pairwise (IsAnswerTo to_come fault_count limit bound) arrivals outcomes → not_opened_among outcomes ≡ refused_among arrivals
+  all_counted [] [] fit = refl
+  all_counted [] (told ∷ outcomes) fit = absurd (let same = fit.same_length in omega arith)
+  all_counted (a ∷ arrivals) [] fit = absurd (let same = fit.same_length in omega arith)
+  all_counted (a ∷ arrivals) (told ∷ outcomes) fit =
+      let one = one_counted a told (pairs_first (IsAnswerTo to_come fault_count limit bound) a arrivals told outcomes fit) in
+      let rest = all_counted arrivals outcomes (pairs_rest (IsAnswerTo to_come fault_count limit bound) a arrivals told outcomes fit) in
+      omega arith

@@ -1,0 +1,186 @@
+-- Senders and benches, as they go on.
+use Rattle.std.proofs.Common.{Vec, vec_len, ℕ, ◌≡◌, ◌≢◌, ◌<◌, ◌≤◌, ◌+◌, ◌++◌, ◌∷◌, [], List, length, length-append, refl, ◌∙◌, sym, arith, slice_index_or, slice_set, inl, inr, Option}
+use Rattle.std.proofs.lemmas.Bool.{cases_eq}
+use Rattle.std.proofs.lemmas.List.{length-set, get_or-set_same, get_or-set_other, get_or_append_left, get_or_at}
+use Rattle.trace_feed.specs.declared.door.Arrival.{Arrival}
+use Rattle.trace_feed.specs.declared.door.Arrival.TheVariants as arrival
+use Rattle.asan_collect.specs.declared.bench.Bench.{Bench}
+use Rattle.asan_collect.specs.declared.outcome.Outcome.{Outcome}
+use Rattle.asan_collect.specs.declared.sender.Sender.{Sender}
+use Rattle.asan_collect.specs.declared.sender.Sender.TheVariants as sender
+use Rattle.asan_collect.specs.Benches.{lane_of, process_of, bench_bound}
+use Rattle.asan_collect.specs.Ranges.{most_events}
+use Rattle.asan_collect.specs.Benches.{EachLater}
+use Rattle.asan_collect.specs.Senders.{Each, Came, IsFresh, AllFresh, Becomes, HasLane, Keeps, IsAt, AreAt, Rejoins, Gets}
+use Rattle.asan_collect.specs.Arrivals.{Pairwise, IsAnswerTo}
+use Rattle.asan_collect.proofs.Readers.{if_some}
+
+-- a place of a list is one of a Vec that has as many elements
+pub low_after : {X Z : Type 0} (xs : List X) (v : Vec X Z) (at : ℕ) → at < length xs → length v.items ≡ length xs → at < vec_len v
+low_after xs v at low same = let whole = v.ok in omega (arith, whole.0)
+
+-- the element was set aside, the rest went on, and then the element was written
+pub each_put : {X : Type 0} (R : X → X → Type 0) (at : ℕ) (xs ys : List X) (x z : X) → at < length xs
+    → ((d : X) → R (slice_index_or xs at d) z)
+    → Each R (at + 1) (slice_set xs at x) ys → Each R at xs (slice_set ys at z)
+each_put R at xs ys x z low will r =
+    let len : length ys ≡ length xs = r.same_length ∙ length-set xs at x in record {
+      same_length = length-set ys at z ∙ len;
+      before = λ i d below.
+          let n : i ≢ at = λ e. omega arith in
+          get_or-set_other ys at i z d n ∙ (r.before i d (omega arith) ∙ get_or-set_other xs at i x d n);
+      each = λ i d from below. elim (cases_eq i at) [
+        | inl e ↦ rw (e, get_or-set_same ys at z d (omega arith)) (will d)
+        | inr n ↦ rw (get_or-set_other ys at i z d n) (rw (get_or-set_other xs at i x d n) at (r.each i d (omega arith) (omega (arith, length-set xs at x))))
+      ];
+    }
+
+-- one element goes on
+pub each_set : {X : Type 0} (R : X → X → Type 0) → ((x y z : X) → R x y → R y z → R x z)
+    → (at : ℕ) (xs ys : List X) (z : X) → at < length xs
+    → ((d : X) → R (slice_index_or ys at d) z)
+    → Each R 0 xs ys → Each R 0 xs (slice_set ys at z)
+each_set R trans at xs ys z low will r =
+    let len : length ys ≡ length xs = r.same_length in record {
+      same_length = length-set ys at z ∙ len;
+      before = λ i d below. absurd (omega arith);
+      each = λ i d from below. elim (cases_eq i at) [
+        | inl e ↦ rw (e, get_or-set_same ys at z d (omega arith)) (trans (slice_index_or xs at d) (slice_index_or ys at d) z (r.each at d (omega arith) low) (will d))
+        | inr n ↦ rw (get_or-set_other ys at i z d n) (r.each i d from below)
+      ];
+    }
+
+pub each_refl : {X : Type 0} (R : X → X → Type 0) → ((x : X) → R x x) → (xs : List X) → Each R 0 xs xs
+each_refl R same xs = record {
+  same_length = refl;
+  before = λ i d below. refl;
+  each = λ i d from below. same (slice_index_or xs i d);
+}
+
+pub each_after : {X : Type 0} (P Q R : X → X → Type 0) → ((x y z : X) → P x y → Q y z → R x z)
+    → (xs ys zs : List X) → Each P 0 xs ys → Each Q 0 ys zs → Each R 0 xs zs
+each_after P Q R both xs ys zs p q =
+    let len : length ys ≡ length xs = p.same_length in record {
+      same_length = q.same_length ∙ len;
+      before = λ i d below. absurd (omega arith);
+      each = λ i d from below. both (slice_index_or xs i d) (slice_index_or ys i d) (slice_index_or zs i d) (p.each i d from below) (q.each i d from (omega arith));
+    }
+
+module _ {F A : Type 0} where
+  pub at_more : (bound : ℕ) (senders : List (Sender F A)) (s : Sender F A) (xs : List (Bench A)) → AreAt bound senders xs → AreAt bound (senders ++ s ∷ []) xs
+  at_more bound senders s xs h = record {
+    each = λ i d below. let was = h.each i d below in record {
+      low = let e = was.low in omega (arith, length-append senders (s ∷ []));
+      bound_is = was.bound_is;
+      lane = λ e. rw (get_or_append_left senders (s ∷ []) e (process_of (slice_index_or xs i d)) was.low) (was.lane e);
+    };
+  }
+
+  pub at_push : (bound : ℕ) (senders : List (Sender F A)) (xs : List (Bench A)) (b : Bench A) → AreAt bound senders xs → IsAt bound senders b → AreAt bound senders (xs ++ b ∷ [])
+  at_push bound senders xs b h here = record {
+    each = λ i d below. elim (cases_eq i (length xs)) [
+      | inl e ↦ rw (get_or_at xs b [] d i (sym e)) here
+      | inr n ↦ let low : i < length xs = omega (arith, length-append xs (b ∷ [])) in rw (get_or_append_left xs (b ∷ []) d i low) (h.each i d low)
+    ];
+  }
+
+  pub at_new : (bound : ℕ) (senders : List (Sender F A)) (s : Sender F A) (b : Bench A) → process_of b ≡ length senders → bench_bound b ≡ bound → HasLane s (lane_of b) → IsAt bound (senders ++ s ∷ []) b
+  at_new bound senders s b e same h = record {
+    low = omega (arith, length-append senders (s ∷ []));
+    bound_is = same;
+    lane = λ d. rw (get_or_at senders s [] d (process_of b) (sym e)) h;
+  }
+
+  pub at_front : (bound : ℕ) (senders : List (Sender F A)) (xs : List (Bench A)) (b : Bench A) → AreAt bound senders (xs ++ b ∷ []) → AreAt bound senders xs
+  at_front bound senders xs b h = record { each = λ i d below. rw (get_or_append_left xs (b ∷ []) d i below) at (h.each i d (omega (arith, length-append xs (b ∷ [])))) }
+
+  pub at_last : (bound : ℕ) (senders : List (Sender F A)) (xs : List (Bench A)) (b : Bench A) → AreAt bound senders (xs ++ b ∷ []) → IsAt bound senders b
+  at_last bound senders xs b h = rw (get_or_at xs b [] b (length xs) refl) at (h.each (length xs) b (omega (arith, length-append xs (b ∷ []))))
+
+  pub at_later : (bound : ℕ) (senders : List (Sender F A)) (xs ys : List (Bench A)) → EachLater xs ys → AreAt bound senders xs → AreAt bound senders ys
+  at_later bound senders xs ys l h = record {
+    each = λ i d below.
+        let few : i < length xs = let e = l.same_length in omega arith in
+        let was = h.each i d few in let on = l.each i d few in record {
+          low = rw on.process was.low;
+          bound_is = on.bound ∙ was.bound_is;
+          lane = λ e. rw (on.process, on.lane) (was.lane e);
+        };
+  }
+
+  pub at_kept : (R : Sender F A → Sender F A → Type 0) → ((s t : Sender F A) → R s t → Keeps s t)
+      → (bound : ℕ) (xs ys : List (Sender F A)) (bs : List (Bench A)) → Each R 0 xs ys → AreAt bound xs bs → AreAt bound ys bs
+  at_kept R keeps bound xs ys bs r h = record {
+    each = λ i d below. let was = h.each i d below in record {
+      low = let e = r.same_length in let f = was.low in omega arith;
+      bound_is = was.bound_is;
+      lane = λ e. keeps (slice_index_or xs (process_of (slice_index_or bs i d)) e) (slice_index_or ys (process_of (slice_index_or bs i d)) e) (r.each (process_of (slice_index_or bs i d)) e (omega arith) was.low) (lane_of (slice_index_or bs i d)) (was.lane e);
+    };
+  }
+
+module _ {F A : Type 0} (to_come : F → Option (List ℕ)) (fault_count : F → ℕ) where
+  pub fresh_set : (at : ℕ) (xs : List (Sender F A)) (x : Sender F A) → IsFresh to_come fault_count x → AllFresh to_come fault_count xs → AllFresh to_come fault_count (slice_set xs at x)
+  fresh_set at xs x here h = record {
+    each = λ i d below. elim (cases_eq i at) [
+      | inl e ↦ let low : at < length xs = omega (arith, length-set xs at x) in rw (e, get_or-set_same xs at x d low) here
+      | inr n ↦ rw (get_or-set_other xs at i x d n) (h.each i d (omega (arith, length-set xs at x)))
+    ];
+  }
+
+  pub fresh_push : (xs : List (Sender F A)) (s : Sender F A) → AllFresh to_come fault_count xs → IsFresh to_come fault_count s → AllFresh to_come fault_count (xs ++ s ∷ [])
+  fresh_push xs s h here = record {
+    each = λ i d below. elim (cases_eq i (length xs)) [
+      | inl e ↦ rw (get_or_at xs s [] d i (sym e)) here
+      | inr n ↦ let low : i < length xs = omega (arith, length-append xs (s ∷ [])) in rw (get_or_append_left xs (s ∷ []) d i low) (h.each i d low)
+    ];
+  }
+
+  pub rejoins_same : (bound : ℕ) (x : Sender F A) → Rejoins to_come fault_count bound x x
+  rejoins_same bound x = record {
+    came = λ limit a h. h;
+    lane = λ l h. h;
+  }
+
+  pub rejoins_on : (bound : ℕ) (x y z : Sender F A) → Rejoins to_come fault_count bound x y → Rejoins to_come fault_count bound y z → Rejoins to_come fault_count bound x z
+  rejoins_on bound x y z p q = record {
+    came = λ limit a h. q.came limit a (p.came limit a h);
+    lane = λ l h. q.lane l (p.lane l h);
+  }
+
+  pub becomes_keeps : (limit : ℕ) (s t : Sender F A) → Becomes to_come fault_count limit s t → Keeps s t
+  becomes_keeps limit sender.NotOpened t h x l = rw h tt
+  becomes_keeps limit sender.NotStarted t h x l = rw h tt
+  becomes_keeps limit (sender.Ready f lane) sender.NotStarted h x l = tt
+  becomes_keeps limit (sender.Ready f lane) sender.NotOpened h x l = elim h [ ]
+  becomes_keeps limit (sender.Ready f lane) (sender.Ready g other) h x l = elim h [ ]
+  becomes_keeps limit (sender.Ready f lane) (sender.Joined d bench) h x l = elim h [ ]
+  becomes_keeps limit (sender.Ready f lane) (sender.Read d) h x l = if_some d.lane_end _ _ h (λ e k. k.0 ∙ l)
+  becomes_keeps limit (sender.Read d) t h x l = rw h l
+  becomes_keeps limit (sender.Joined d bench) t h x l = rw h tt
+
+  pub came_on : (limit bound : ℕ) (a : Arrival F) (s t : Sender F A) → Came to_come fault_count limit bound a s → Becomes to_come fault_count limit s t → Came to_come fault_count limit bound a t
+  came_on limit bound arrival.Over s t h b = absurd h
+  came_on limit bound arrival.Refused s t h b = rw (rw h at b) refl
+  came_on limit bound (arrival.Came feed) sender.NotOpened t h b = elim h [ ]
+  came_on limit bound (arrival.Came feed) sender.NotStarted t h b = rw b tt
+  came_on limit bound (arrival.Came feed) (sender.Ready f lane) sender.NotOpened h b = elim b [ ]
+  came_on limit bound (arrival.Came feed) (sender.Ready f lane) (sender.Ready g other) h b = elim b [ ]
+  came_on limit bound (arrival.Came feed) (sender.Ready f lane) (sender.Joined d bench) h b = elim b [ ]
+  came_on limit bound (arrival.Came feed) (sender.Ready f lane) sender.NotStarted h b = tt
+  came_on limit bound (arrival.Came feed) (sender.Ready f lane) (sender.Read d) h b = if_some d.lane_end _ _ b (λ e k. rw (h.0, h.1) at k.1)
+  came_on limit bound (arrival.Came feed) (sender.Read d) t h b = rw b h
+  came_on limit bound (arrival.Came feed) (sender.Joined d bench) t h b = rw b h
+
+  pub pairs_on : (limit bound : ℕ) (R : Sender F A → Sender F A → Type 0) → ((a : Arrival F) (s t : Sender F A) → Came to_come fault_count limit bound a s → R s t → Came to_come fault_count limit bound a t)
+      → (arrivals : List (Arrival F)) (xs ys : List (Sender F A)) → Pairwise (Came to_come fault_count limit bound) arrivals xs → Each R 0 xs ys → Pairwise (Came to_come fault_count limit bound) arrivals ys
+  pairs_on limit bound R on arrivals xs ys h r = record {
+    same_length = r.same_length ∙ h.same_length;
+    each = λ i d e below. on (slice_index_or arrivals i d) (slice_index_or xs i e) (slice_index_or ys i e) (h.each i d e below) (r.each i e (omega arith) (let l = h.same_length in omega arith));
+  }
+
+  pub pairs_fit : (limit bound : ℕ) (arrivals : List (Arrival F)) (xs : List (Sender F A)) (os : List (Outcome F A)) → limit ≤ most_events
+      → Pairwise (Came to_come fault_count limit bound) arrivals xs → Pairwise (Gets to_come fault_count) xs os → Pairwise (IsAnswerTo to_come fault_count limit bound) arrivals os
+  pairs_fit limit bound arrivals xs os small h r = record {
+    same_length = r.same_length ∙ h.same_length;
+    each = λ i d e below. r.each i sender.NotOpened e (let l = h.same_length in omega arith) limit bound (slice_index_or arrivals i d) small (h.each i d sender.NotOpened below);
+  }

@@ -1,0 +1,92 @@
+use Rattle.std.proofs.Common.{◌≡◌, ◌<◌, ◌∙◌, ◌++◌, ◌∷◌, ◌%◌, [], vec_len, sym, subst, refl, length, arith, rules, slice_index_or, inl, inr}
+use Rattle.std.proofs.lemmas.Bool.{cases_eq}
+use Rattle.std.proofs.lemmas.List.{get_or_default, get_or-set_other, get_or_append_left, get_or_at}
+use Rattle.asan_collect.specs.Arrivals.{IsArrived}
+use Rattle.asan_collect.specs.Benches.{process_of}
+use Rattle.asan_collect.specs.Shares.{SharesAt}
+use Rattle.std.proofs.Math.Nat.{mod-lt}
+use Rattle.asan_collect.proofs.Dealing.{shares_more, shares_none, shares_dealt, room_first, room_on, room_dealt, dealt_length}
+use Rattle.asan_collect.proofs.Senders.{at_new, fresh_push}
+use Rattle.asan_collect.proofs.lanes.open_all.Goals.{in-Some, in_default}
+use Rattle.asan_collect.proofs.lanes.open_all.Goals as goal
+
+pub loop-i-init : goal.loop-i-init
+loop-i-init g c =
+    let none = c.requires.senders.0 in
+    record {
+      same = refl;
+      going = record {
+        done = search rules;
+        rest = λ k d above. refl;
+        each = λ k d e below. absurd (omega arith);
+      };
+      fresh = record { each = λ i d below. absurd (let no = rw none at below in omega arith) };
+      benches = shares_none c.args.options.quarantine (vec_len c.args.shares) c.args.sender_room.items c.args.shares.items c.requires.shares;
+      sender_room = c.requires.senders.1;
+      room = room_first (vec_len c.args.shares) c.args.shares.items c.requires.some (search rules) c.requires.shares;
+    }
+
+pub open-sender-requires : goal.open-sender-requires
+open-sender-requires g c =
+    let inv = c.loop-i.invariant in
+    let now = c.loop-i.arrivals.items in
+    let i = c.loop-i.i in
+    let low : i < length now = search rules in
+    let first : i < length c.args.arrivals.items = search rules in
+    let a = c.replace-arrival.result in
+    let is : a ≡ slice_index_or c.args.arrivals.items i a = c.replace-arrival.ensures.value ∙ (c.index_mut.ensures.value ∙ (get_or_default now i c.index_mut.result.now a low ∙ inv.going.rest i a (omega arith))) in
+    subst (IsArrived g.F.Feed.fault_count) (sym is) (c.requires.arrived i a first)
+
+pub loop-i-preserved : goal.loop-i-preserved
+loop-i-preserved g c =
+    let inv = c.loop-i.invariant in
+    let now = c.loop-i.arrivals.items in
+    let i = c.loop-i.i in
+    let senders = c.loop-i.senders.items in
+    let s = c.open-sender.result.0 in
+    let bound = c.args.options.quarantine in
+    let low : i < length now = search rules in
+    let is : (d : _) → c.replace-arrival.result ≡ slice_index_or c.args.arrivals.items i d =
+    λ d. c.replace-arrival.ensures.value ∙ (c.index_mut.ensures.value ∙ (get_or_default now i c.index_mut.result.now d low ∙ inv.going.rest i d (omega arith))) in
+    let long : length senders ≡ i = search rules in
+    let pushed : c.push.new.self.items ≡ senders ++ s ∷ [] = search rules in
+    let shares = c.loop-i.shares.items in
+    let more : SharesAt bound c.push.new.self.items shares = rw pushed (shares_more bound senders s shares inv.benches) in
+    let at_low : i % vec_len c.loop-i.shares < length shares = rw inv.room.all (mod-lt i inv.room.some) in
+    record {
+      same = inv.same;
+      going = record {
+        done = search rules;
+        rest = λ k d above. get_or-set_other now i k c.replace-arrival.new.dest d (λ e. omega arith) ∙ inv.going.rest k d (omega arith);
+        each = λ k d e below. elim (cases_eq k i) [
+          | inl same ↦ rw (same, ← is d, pushed, get_or_at senders s [] e i long) c.open-sender.ensures.came
+          | inr other ↦ let first : k < length senders = omega arith in rw (pushed, get_or_append_left senders (s ∷ []) e k first) (inv.going.each k d e (omega arith))
+        ];
+      };
+      fresh = rw pushed (fresh_push g.F.Feed.to_come g.F.Feed.fault_count senders s inv.fresh c.open-sender.ensures.fresh);
+      benches = elim c.match-bench.branch [
+        | in-Some w ↦
+            let is_new = rw w.in-Some.is at c.open-sender.ensures.bench in
+            let at : process_of w.in-Some.bench ≡ length senders = let e = is_new.0 in let f = long in search rules in
+            rw w.shares-is (shares_dealt bound (i % vec_len c.loop-i.shares) c.push.new.self.items w.in-Some.bench shares w.deal.new.shares.items at_low more
+            (rw pushed (at_new bound senders s w.in-Some.bench at is_new.1 is_new.2)) w.deal.ensures)
+        | in_default w ↦ rw w.shares-is more
+      ];
+      sender_room = search rules;
+      room = elim c.match-bench.branch [
+        | in-Some w ↦
+            let same : length w.deal.new.shares.items ≡ length shares = dealt_length (i % vec_len c.loop-i.shares) w.in-Some.bench shares w.deal.new.shares.items w.deal.ensures in
+            let wide : vec_len w.deal.new.shares ≡ vec_len c.loop-i.shares = search rules in
+            rw (w.shares-is, wide) (room_dealt (vec_len c.loop-i.shares) i w.in-Some.bench shares w.deal.new.shares.items inv.room w.deal.ensures)
+        | in_default w ↦ rw w.shares-is (room_on (vec_len c.loop-i.shares) i shares inv.room)
+      ];
+    }
+
+pub returns-clause-came : goal.returns-clause-came
+returns-clause-came g c = λ limit bound. record {
+  same_length = search rules;
+  each = λ i d e below. c.loop-i.invariant.going.each i d e (search rules) limit bound;
+}
+
+pub returns-clause-some : goal.returns-clause-some
+returns-clause-some g c = c.loop-i.invariant.room.some

@@ -1,0 +1,21 @@
+use Rattle.std.proofs.Common.{◌≡◌, ◌≤◌, ◌<◌, ℕ, vec_len, slice_index_or}
+use Rattle.std.specs.Vec.{vec_capacity}
+use Rattle.asan_collect.specs.Shares.{SharesAt, HasRoom}
+use Rattle.asan_collect.specs.Senders.{Came, AllFresh}
+use Rattle.asan_collect.proofs.lanes.open_all.Given as goal
+
+pub record Going {S O : Type 0} (Gets : S → O → Type 0) (i m : ℕ) (was now : ℕ → S → S) (out : ℕ → O → O) : Type 0 where
+  pub done : m ≡ i
+  pub rest : (k : ℕ) (d : S) → i ≤ k → now k d ≡ was k d
+  pub each : (k : ℕ) (d : S) (e : O) → k < i → Gets (was k d) (out k e)
+
+abbrev pub invariant-loop-i : goal.invariant-loop-i
+invariant-loop-i g l = record {
+  same : vec_len l.arrivals ≡ vec_len l.initial.arrivals;
+  going : Going (λ a s. (limit bound : ℕ) → Came g.F.Feed.to_come g.F.Feed.fault_count limit bound a s) l.i (vec_len l.senders)
+      (slice_index_or l.initial.arrivals.items) (slice_index_or l.arrivals.items) (slice_index_or l.senders.items);
+  fresh : AllFresh g.F.Feed.to_come g.F.Feed.fault_count l.senders.items;
+  benches : SharesAt l.options.quarantine l.senders.items l.shares.items;
+  sender_room : 256 ≤ vec_capacity l.senders;
+  room : HasRoom (vec_len l.shares) l.i l.shares.items;
+}

@@ -1,0 +1,19 @@
+-- Where a checker stands behind items of a lane.
+use Rattle.std.specs.Prelude.{◌≡◌, ℕ, List, length, take, reverse}
+use Rattle.asan_check.specs.declared.checker.Checker.{Checker}
+use Rattle.asan_check.specs.Standing.{StandsOrFailed, bound_of, reports_of}
+use Rattle.asan_collect.specs.declared.item.Item.{Item}
+use Rattle.asan_collect.specs.Items.{events_of}
+use Rattle.asan_collect.specs.Ranges.{most_events}
+
+module _ {A : Type 0} where
+  -- the checker stands where the events among these items lead, or has failed among them
+  abbrev pub StandsAfter : Checker A → List Item → Type 0
+  StandsAfter c items = ∥ StandsOrFailed (bound_of c) c (reverse (events_of items)) ∥₁
+
+  -- a checker was handed the events among these items, or the first 2^24 of them, which are so many; of those it had been
+  -- handed some before, which left it at `first`
+  pub record HasChecked (first : Checker A) (events : ℕ) (c : Checker A) (items : List Item) : Type 0 where
+    pub count : events ≡ length (take most_events (events_of items))
+    pub stands : ∥ StandsOrFailed (bound_of first) c (reverse (take most_events (events_of items))) ∥₁
+    pub begins : take (length (reports_of first)) (reports_of c) ≡ reports_of first

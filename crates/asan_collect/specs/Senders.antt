@@ -1,0 +1,111 @@
+-- How far a sender may come.
+use Rattle.std.specs.Prelude.{◌≡◌, ℕ, ◌<◌, ◌≤◌, List, [], length, slice_index_or, Option, IfSome}
+use Rattle.trace_feed.specs.declared.door.Arrival.{Arrival}
+use Rattle.trace_feed.specs.declared.door.Arrival.TheVariants as arrival
+use Rattle.trace_lane.specs.Lanes.{Lane, in_lane, end_lane, put_list, end_list}
+use Rattle.asan_collect.specs.declared.outcome.Outcome.{Outcome}
+use Rattle.asan_collect.specs.declared.outcome.Outcome.TheVariants as outcome
+use Rattle.asan_collect.specs.declared.bench.Bench.{Bench}
+use Rattle.asan_collect.specs.declared.sender.Sender.{Sender}
+use Rattle.asan_collect.specs.declared.sender.Sender.TheVariants as sender
+use Rattle.asan_collect.specs.declared.reader_threads.ReaderThread.{ReaderThread}
+use Rattle.asan_collect.specs.declared.reader_threads.ReaderThread.TheVariants as running
+use Rattle.asan_collect.specs.declared.reader.ReaderDone.{ReaderDone}
+use Rattle.asan_collect.specs.Benches.{lane_of, process_of, bench_bound}
+use Rattle.asan_collect.specs.Arrivals.{IsAnswerTo}
+use Rattle.asan_collect.specs.Ranges.{most_events}
+use Rattle.asan_collect.specs.Readers.{IsPut, IsReaderOf}
+
+-- from a place on each element has become that of the other list, and below it nothing changed
+pub record Each {X : Type 0} (Becomes : X → X → Type 0) (from : ℕ) (xs ys : List X) : Type 0 where
+  pub same_length : length ys ≡ length xs
+  pub before : (i : ℕ) (d : X) → i < from → slice_index_or ys i d ≡ slice_index_or xs i d
+  pub each : (i : ℕ) (d : X) → from ≤ i → i < length xs → Becomes (slice_index_or xs i d) (slice_index_or ys i d)
+
+module _ {F A : Type 0} (to_come : F → Option (List ℕ)) (fault_count : F → ℕ) where
+  -- how far the sender that arrived so may have come
+  abbrev pub Came : ℕ → ℕ → Arrival F → Sender F A → Type 0
+  Came limit bound arrival.Refused s = s ≡ sender.NotOpened
+  Came limit bound arrival.Over s = ⊥
+  Came limit bound (arrival.Came feed) sender.NotOpened = ⊥
+  Came limit bound (arrival.Came feed) sender.NotStarted = Unit {0}
+  Came limit bound (arrival.Came feed) (sender.Ready f lane) = (f ≡ feed) × (put_list lane ≡ [])
+  Came limit bound (arrival.Came feed) (sender.Read d) =
+      IfSome d.lane_end (λ e. IsPut to_come fault_count limit feed d.feed d.end [] (end_list e))
+  Came limit bound (arrival.Came feed) (sender.Joined d b) =
+      (bench_bound b ≡ bound) × IfSome d.lane_end (λ e. end_lane e ≡ lane_of b)
+      × IfSome d.lane_end (λ e. IsPut to_come fault_count limit feed d.feed d.end [] (end_list e))
+
+  -- no read of a feed that waits for its reader has failed
+  abbrev pub IsFresh : Sender F A → Type 0
+  IsFresh (sender.Ready f lane) = fault_count f ≡ 0
+  IsFresh sender.NotOpened = Unit {0}
+  IsFresh sender.NotStarted = Unit {0}
+  IsFresh (sender.Read d) = Unit {0}
+  IsFresh (sender.Joined d b) = Unit {0}
+
+  pub record AllFresh (senders : List (Sender F A)) : Type 0 where
+    pub each : (i : ℕ) (d : Sender F A) → i < length senders → IsFresh (slice_index_or senders i d)
+
+  -- what a reader may make of a sender
+  abbrev pub Becomes : ℕ → Sender F A → Sender F A → Type 0
+  Becomes limit (sender.Ready feed lane) (sender.Read d) = IsReaderOf to_come fault_count limit feed lane d
+  Becomes limit (sender.Ready feed lane) sender.NotStarted = Unit {0}
+  Becomes limit (sender.Ready feed lane) sender.NotOpened = ⊥
+  Becomes limit (sender.Ready feed lane) (sender.Ready f l) = ⊥
+  Becomes limit (sender.Ready feed lane) (sender.Joined d b) = ⊥
+  Becomes limit sender.NotOpened s = s ≡ sender.NotOpened
+  Becomes limit sender.NotStarted s = s ≡ sender.NotStarted
+  Becomes limit (sender.Read d) s = s ≡ sender.Read d
+  Becomes limit (sender.Joined d b) s = s ≡ sender.Joined d b
+
+  -- what was running with a sender
+  abbrev pub WillBe : ℕ → Sender F A → ReaderThread F A → Type 0
+  WillBe limit s (running.Kept t) = Becomes limit s t
+  WillBe limit s (running.Running h) =
+      (d : ReaderDone F A) → IsReaderOf to_come fault_count h.promise.limit h.promise.feed.value h.promise.lane.value d
+      → Becomes limit s (sender.Read d)
+
+-- Whose lane a bench has.
+module _ {F A : Type 0} where
+  -- the lane of a sender, where it still has one
+  abbrev pub HasLane : Sender F A → Lane A → Type 0
+  HasLane sender.NotOpened x = Unit {0}
+  HasLane sender.NotStarted x = Unit {0}
+  HasLane (sender.Ready feed lane) x = in_lane lane ≡ x
+  HasLane (sender.Read d) x = IfSome d.lane_end (λ e. end_lane e ≡ x)
+  HasLane (sender.Joined d b) x = Unit {0}
+
+  abbrev pub Keeps : Sender F A → Sender F A → Type 0
+  Keeps s t = (x : Lane A) → HasLane s x → HasLane t x
+
+  -- the bench has the lane of its sender, and this bound
+  pub record IsAt (bound : ℕ) (senders : List (Sender F A)) (b : Bench A) : Type 0 where
+    pub low : process_of b < length senders
+    pub bound_is : bench_bound b ≡ bound
+    pub lane : (d : Sender F A) → HasLane (slice_index_or senders (process_of b) d) (lane_of b)
+
+  pub record AreAt (bound : ℕ) (senders : List (Sender F A)) (benches : List (Bench A)) : Type 0 where
+    pub each : (i : ℕ) (d : Bench A) → i < length benches → IsAt bound senders (slice_index_or benches i d)
+
+module _ {F A : Type 0} where
+  -- a bench that is back has the lane that its reader ended
+  abbrev pub IsJoined : Sender F A → Type 0
+  IsJoined sender.NotOpened = Unit {0}
+  IsJoined sender.NotStarted = Unit {0}
+  IsJoined (sender.Ready feed lane) = Unit {0}
+  IsJoined (sender.Read d) = Unit {0}
+  IsJoined (sender.Joined d b) = IfSome d.lane_end (λ e. end_lane e ≡ lane_of b)
+
+  pub record AllJoined (senders : List (Sender F A)) : Type 0 where
+    pub each : (i : ℕ) (d : Sender F A) → i < length senders → IsJoined (slice_index_or senders i d)
+
+module _ {F A : Type 0} (to_come : F → Option (List ℕ)) (fault_count : F → ℕ) where
+  -- a bench of this bound may have come to the sender, which keeps what was right of it, and its lane
+  pub record Rejoins (bound : ℕ) (s t : Sender F A) : Type 0 where
+    pub came : (limit : ℕ) (a : Arrival F) → Came to_come fault_count limit bound a s → Came to_come fault_count limit bound a t
+    pub lane : Keeps s t
+
+  -- the outcome is right where the sender was
+  abbrev pub Gets : Sender F A → Outcome F A → Type 0
+  Gets s told = (limit bound : ℕ) (a : Arrival F) → limit ≤ most_events → Came to_come fault_count limit bound a s → IsAnswerTo to_come fault_count limit bound a told

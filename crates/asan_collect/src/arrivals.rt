@@ -1,0 +1,38 @@
+//! Asking a door for the senders of one call.
+
+ghost use Rattle.std.specs.Prelude.{◌≡◌, ◌+◌, ◌≤◌, ◌⊎◌, ◌^◌, [], All, IsTrue, length, vec_capacity};
+ghost use Rattle.asan_collect.specs.Arrivals.{Arrived, IsArrived};
+ghost use Rattle.asan_collect.specs.Counts.{refused_among};
+ghost use Rattle.asan_collect.specs.Ranges.{most_senders};
+
+use std::alloc::Allocator;
+use trace_feed::{Arrival, Door};
+
+/// The most senders that one call takes.
+pub const MOST_SENDERS: usize = 256;
+
+/// Asks the door until it is over or has given 256 other answers, which are these. There is room for all of them.
+pub(crate) fn ask<D: Door, A: Allocator + Copy>(
+    door: &mut D,
+    room: Vec<Arrival<D::Feed>, A>,
+) -> Vec<Arrival<D::Feed>, A>
+    requires empty { room.items ≡ [] }
+    requires room { most_senders ≤ vec_capacity room }
+    requires few_refused { D.refusal_count door.old ≤ 2 ^ 32 }
+    ensures arrived { Arrived (D.to_arrive door.old) (D.to_arrive door.new) result.items }
+    ensures fresh { All (IsArrived D.Feed.fault_count) result.items }
+    ensures refused { D.refusal_count door.new ≡ refused_among result.items + D.refusal_count door.old }
+    ensures all { IsTrue (D.is_shut door.new) ⊎ (length result.items ≡ most_senders) }
+    ensures few { length result.items ≤ most_senders }
+{
+    let mut arrivals = room;
+    for _ in 0..MOST_SENDERS {
+        let arrival = match door.next() {
+            Arrival::Came(feed) => Arrival::Came(feed),
+            Arrival::Refused => Arrival::Refused,
+            Arrival::Over => break,
+        };
+        arrivals.push(arrival).unwrap();
+    }
+    arrivals
+}

@@ -1,0 +1,94 @@
+//! A checker: it goes round its benches, a turn each, until all are done.
+
+ghost use Rattle.asan_collect.specs.Benches.{EachLater};
+
+use crate::bench::{Bench, Found};
+use crate::foreground::Foreground;
+use crate::gate::Gate;
+use crate::pause::Pause;
+use std::alloc::Allocator;
+use std::sync::Wait;
+use std::time::Clock;
+
+/// What a round of turns found.
+#[derive(Drop)]
+struct Round {
+    /// Whether an item was taken.
+    took: bool,
+    /// Whether each bench is over, or its lane was left and is empty.
+    ended: bool,
+}
+
+/// Goes round the benches, a turn each, until each is over, or its lane was left and is empty. Where it finds nothing to take it
+/// waits. The benches come back in order.
+pub fn run_checker<A: Allocator + Copy, G: Gate, R: Wait + Clock>(
+    rt: &R,
+    benches: Vec<Bench<A>, A>,
+    gate: &G,
+) -> Vec<Bench<A>, A>
+    ensures { EachLater benches.items result.items }
+{
+    let mut benches = benches;
+    check_to_the_end(rt, &mut benches, gate);
+    benches
+}
+
+/// Does what [`run_checker`] does, in place.
+fn check_to_the_end<A: Allocator + Copy, G: Gate, R: Wait + Clock>(
+    rt: &R,
+    benches: &mut Vec<Bench<A>, A>,
+    gate: &G,
+)
+    ensures { EachLater benches.old.items benches.new.items }
+{
+    let mut pause = Pause::new();
+    for _ in rt.forever() {
+        let round = go_round(benches, gate);
+        if round.ended {
+            return;
+        }
+        if round.took {
+            pause.reset();
+        } else {
+            pause.wait(rt);
+        }
+    }
+    unreachable!()
+}
+
+/// Gives each bench a turn.
+fn go_round<A: Allocator + Copy, G: Gate>(benches: &mut Vec<Bench<A>, A>, gate: &G) -> Round
+    ensures { EachLater benches.old.items benches.new.items }
+{
+    let mut round = Round {
+        took: false,
+        ended: true,
+    };
+    for i in 0..benches.len() {
+        let bench = &mut benches[i];
+        match bench.work(gate) {
+            Found::Item => {
+                round.took = true;
+                round.ended = false;
+            }
+            Found::None => round.ended = false,
+            Found::End => {}
+        }
+    }
+    round
+}
+
+/// The first checker, which works on the calling thread.
+#[derive(Drop)]
+pub(crate) struct FirstChecker<'a, G, A: Allocator + Copy> {
+    pub benches: Vec<Bench<A>, A>,
+    pub gate: &'a G,
+}
+
+impl<'a, G: Gate, A: Allocator + Copy> Foreground for FirstChecker<'a, G, A> {
+    ghost does = { λ old new. EachLater old.benches.items new.benches.items };
+
+    fn run<R: Wait + Clock>(&mut self, rt: &R) {
+        check_to_the_end(rt, &mut self.benches, self.gate);
+    }
+}

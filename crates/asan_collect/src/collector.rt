@@ -1,0 +1,73 @@
+//! Collecting: all senders of a door are read and checked, each on its own lane.
+
+ghost use Rattle.std.specs.Prelude.{◌≡◌, ◌+◌, ◌≤◌, ◌⊎◌, ◌^◌, All, List, IfOk, IsTrue, OnErr, length};
+ghost use Rattle.trace_feed.specs.declared.door.Arrival.{Arrival as AnArrival};
+ghost use Rattle.asan_collect.specs.Arrivals.{Arrived, IsAnswerTo, Pairwise};
+ghost use Rattle.asan_collect.specs.Counts.{not_opened_among};
+ghost use Rattle.asan_collect.specs.Ranges.{most_senders, most_reports};
+ghost use Rattle.asan_collect.specs.Texts.{reports_of};
+
+use crate::NoMemory;
+use crate::arrivals::{MOST_SENDERS, ask};
+use crate::gate::Gate;
+use crate::lanes::{no_shares, open_all};
+use crate::options::Options;
+use crate::outcome::Outcome;
+use crate::returns::{place_all, settle_all};
+use crate::threads::{Returned, run_all};
+use std::alloc::Allocator;
+use std::sync::Wait;
+use std::thread::Threads;
+use std::time::Clock;
+use trace_feed::Door;
+
+/// Asks the door until it is over or has given 256 other answers, and then reads and checks the feeds that came, all at the same
+/// time: each feed is read on a thread of its own, and there are `workers` checkers. Sender i is checked by the checker i mod
+/// `workers`; the first one works on the calling thread, and each other that has a sender on a thread of its own. What a reader
+/// puts reaches its checker through a lane of `ring` items. The lists, the lanes and the checkers take their memory from `alloc`.
+///
+/// The outcomes stand in the order of the answers: `NotOpened` for each sender that the door refused, `NotStarted` where a
+/// thread or a lane was missing, `Unsettled` where the lane came without its end, and else `Settled` or `NoMemory`. What becomes
+/// of one sender changes nothing of the others.
+///
+/// The gate is called after each event that was checked. The door must have refused at most 2^32 senders before.
+///
+/// # Errors
+///
+/// `NoMemory` where there was no room for the lists of 256 senders. The door was not asked then.
+pub fn collect<
+    D: Door,
+    G: Gate + Sync,
+    A: Allocator + Copy + Send,
+    R: Threads + Wait + Clock + Sync,
+>(
+    rt: &R,
+    alloc: A,
+    door: &mut D,
+    gate: &G,
+    options: Options,
+) -> Result<Vec<Outcome<D::Feed, A>, A>, NoMemory>
+where
+    D::Feed: Send + Drop,
+    requires { D.refusal_count door.old ≤ 2 ^ 32 }
+    ensures each { IfOk result (λ outcomes. (arrivals : List (AnArrival D.Feed))
+        × Arrived (D.to_arrive door.old) (D.to_arrive door.new) arrivals
+        × (IsTrue (D.is_shut door.new) ⊎ (length arrivals ≡ most_senders))
+        × Pairwise (IsAnswerTo D.Feed.to_come D.Feed.fault_count options.limit options.quarantine) arrivals outcomes.items) }
+    ensures refused { IfOk result (λ outcomes.
+        D.refusal_count door.new ≡ not_opened_among outcomes.items + D.refusal_count door.old) }
+    ensures few { IfOk result (λ outcomes. length outcomes.items ≤ most_senders) }
+    ensures few_reports { IfOk result (λ outcomes. All (λ o. length (reports_of o) ≤ most_reports) outcomes.items) }
+    ensures unasked { OnErr result (door.new ≡ door.old) }
+{
+    let arrival_room = Vec::with_capacity(alloc, MOST_SENDERS)?;
+    let sender_room = Vec::with_capacity(alloc, MOST_SENDERS)?;
+    let outcome_room = Vec::with_capacity(alloc, MOST_SENDERS)?;
+    let share_room = no_shares(alloc, options.workers as usize)?;
+    let arrivals = ask(door, arrival_room);
+    let (senders, shares) = open_all(alloc, arrivals, sender_room, share_room, options);
+    let Returned { senders, shares } = run_all(rt, alloc, gate, senders, shares, options);
+    let mut senders = senders;
+    place_all(&mut senders, shares, options.quarantine);
+    Ok(settle_all(senders, outcome_room))
+}

@@ -1,0 +1,124 @@
+//! Readers on threads of their own: each is started, the rest is done, and then it is joined.
+
+ghost use Rattle.std.specs.Prelude.{◌≡◌, ◌<◌, ◌≤◌, ℕ, vec_len};
+ghost use Rattle.asan_collect.specs.declared.sender.Sender.{Sender as ASender};
+ghost use Rattle.asan_collect.specs.Ranges.{most_events};
+ghost use Rattle.asan_collect.specs.Readers.{IsReaderOf};
+ghost use Rattle.asan_collect.specs.Senders.{AllFresh, Becomes, Each, IsFresh, WillBe};
+
+use crate::foreground::Foreground;
+use crate::item::Item;
+use crate::options::Options;
+use crate::reader::{ReaderDone, run_reader};
+use crate::sender::Sender;
+use std::alloc::Allocator;
+use std::mem;
+use std::snapshot::Snapshot;
+use std::sync::Wait;
+use std::thread::{Promise, PromisedHandle, Scope, Threads};
+use std::time::Clock;
+use trace_feed::Feed;
+use trace_lane::LaneIn;
+
+/// What a reader was given.
+#[derive(Drop)]
+pub(crate) struct Reading<F, A: Allocator + Copy> {
+    feed: Snapshot<F>,
+    lane: Snapshot<LaneIn<Item, A>>,
+    limit: u32,
+}
+
+impl<F: Feed, A: Allocator + Copy> Promise<ReaderDone<F, A>> for Reading<F, A> {
+    ghost kept_by = { λ p r. IsReaderOf F.to_come F.fault_count p.limit p.feed.value p.lane.value r };
+}
+
+/// What was begun with a sender.
+#[derive(Drop)]
+pub(crate) enum ReaderThread<F: Feed, A: Allocator + Copy> {
+    /// It has no reader.
+    Kept(Sender<F, A>),
+    /// Its reader runs.
+    Running(PromisedHandle<ReaderDone<F, A>, Reading<F, A>>),
+}
+
+/// Starts a reader where the sender is ready for one and a thread can be made.
+fn start<
+    's,
+    'e: 's,
+    F: Feed + Send + Drop + 's,
+    A: Allocator + Copy + Send + 's,
+    R: Threads + Wait + Clock + Sync,
+>(
+    scope: &'s Scope<'s, &'e ()>,
+    rt: &'e R,
+    sender: Sender<F, A>,
+    options: Options,
+) -> ReaderThread<F, A>
+    requires fresh { IsFresh F.to_come F.fault_count sender }
+    ensures { WillBe F.to_come F.fault_count options.limit sender result }
+{
+    let (feed, lane) = match sender {
+        Sender::Ready(feed, lane) => (feed, lane),
+        other => return ReaderThread::Kept(other),
+    };
+    let limit = options.limit;
+    let promise = Reading {
+        feed: Snapshot::of(&feed),
+        lane: Snapshot::of(&lane),
+        limit,
+    };
+    let work = move || -> ReaderDone<F, A>
+        requires fresh { F.fault_count feed ≡ 0 }
+        requires limit { (0 < limit) × (limit ≤ most_events) }
+        ensures { IsReaderOf F.to_come F.fault_count limit feed lane result }
+    { run_reader(rt, feed, lane, limit) };
+    match scope.spawn_with(promise, work) {
+        Ok(handle) => ReaderThread::Running(handle),
+        Err(_) => ReaderThread::Kept(Sender::NotStarted),
+    }
+}
+
+/// Waits for the reader, where one was started.
+fn finish<F: Feed, A: Allocator + Copy, R: Threads>(
+    rt: &R,
+    running: ReaderThread<F, A>,
+) -> Sender<F, A>
+    ensures { (limit : ℕ) (s : ASender F A) → WillBe F.to_come F.fault_count limit s running →
+        Becomes F.to_come F.fault_count limit s result }
+{
+    match running {
+        ReaderThread::Kept(sender) => sender,
+        ReaderThread::Running(handle) => Sender::Read(handle.join(rt)),
+    }
+}
+
+/// Reads the senders from `at` on, each on a thread of its own, while this thread does its own work.
+pub(crate) fn read_from<
+    's,
+    'e: 's,
+    F: Feed + Send + Drop + 's,
+    A: Allocator + Copy + Send + 's,
+    M: Foreground,
+    R: Threads + Wait + Clock + Sync,
+>(
+    scope: &'s Scope<'s, &'e ()>,
+    rt: &'e R,
+    senders: &mut Vec<Sender<F, A>, A>,
+    at: usize,
+    foreground: &mut M,
+    options: Options,
+)
+    requires at { at ≤ vec_len senders.old }
+    requires fresh { AllFresh F.to_come F.fault_count senders.old.items }
+    ensures read { Each (Becomes F.to_come F.fault_count options.limit) at senders.old.items senders.new.items }
+    ensures does { M.does foreground.old foreground.new }
+{
+    if at >= senders.len() {
+        foreground.run(rt);
+        return;
+    }
+    let sender = mem::replace(&mut senders[at], Sender::NotStarted);
+    let running = start(scope, rt, sender, options);
+    read_from(scope, rt, senders, at + 1, foreground, options);
+    senders[at] = finish(rt, running);
+}

@@ -1,0 +1,22 @@
+//! A sender, from its arrival until it is settled.
+
+use crate::bench::Bench;
+use crate::item::Item;
+use crate::reader::ReaderDone;
+use std::alloc::Allocator;
+use trace_lane::LaneIn;
+
+/// How far a sender has come.
+#[derive(Drop)]
+pub(crate) enum Sender<F, A: Allocator + Copy> {
+    /// Its feed could not be opened.
+    NotOpened,
+    /// A worker, a lane or the room for them was missing.
+    NotStarted,
+    /// It has a feed and a lane, and no reader yet.
+    Ready(F, LaneIn<Item, A>),
+    /// Its reader is done.
+    Read(ReaderDone<F, A>),
+    /// Its reader is done, and its bench is back.
+    Joined(ReaderDone<F, A>, Bench<A>),
+}
