@@ -1,2 +1,2 @@
 mod Printing
-mod Answering
+mod Refusing

@@ -7,9 +7,9 @@ use Rattle.std.proofs.lemmas.List.{take_all}
 use Rattle.std.proofs.lemmas.Bool.{false≢true}
 use Rattle.asan_collect.specs.declared.write.WriteFault.{WriteFault}
 use Rattle.asan_collect.specs.declared.outcome.Outcome.{Outcome}
-use Rattle.asan_collect.specs.Statuses.{status_of}
+use Rattle.asan_collect.specs.Statuses.{status_of, unwritten}
 use Rattle.asan_collect.specs.Texts.{texts_from}
-use Rattle.asancol.specs.Printed.{IsPrinted, unwritten}
+use Rattle.asancol.specs.Printed.{IsPrinted}
 
 whole_front : (text : List ℕ) → take (length text) text ≡ text
 whole_front text = take_all (length text) text (omega arith)

@@ -1,3 +1,3 @@
-pub mod Arrivals
 pub mod Printed
 pub mod Refusals
+pub mod Requests

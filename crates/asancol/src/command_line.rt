@@ -1,29 +1,22 @@
 //! What the words of the command line ask for.
 
-ghost use Rattle.std.specs.Prelude.{◌≡◌, ◌<◌, ◌↔◌, [], Ok, Err, IfOk, length, map, string_bytes};
-ghost use Rattle.asancol.specs.declared.command_line.Refusal.TheVariants.{NoMemory, OptionOutOfRange};
+ghost use Rattle.std.specs.Prelude.{◌≡◌, ◌<◌, ◌≤◌, ◌↔◌, [], Ok, Err, IfOk};
+ghost use Rattle.std.specs.Prelude.{length, map, string_bytes};
+ghost use Rattle.asan_collect.specs.Ranges.{most_senders};
+ghost use Rattle.asancol.specs.declared.command_line.Refusal.TheVariants.{NoMemory};
+ghost use Rattle.asancol.specs.declared.command_line.Refusal.TheVariants.{OptionOutOfRange};
 ghost use Rattle.clap.specs.Values.{kind_of};
 ghost use Rattle.asancol.specs.Refusals.{refusal_of};
+ghost use Rattle.asancol.specs.Requests.{HasFewFiles};
 
-use crate::replay::MOST_SENDERS;
-use asan_collect::{BadOption, Options};
+use crate::arguments::{
+    CHECK, COUNT, FILES, LIMIT, QUARANTINE, READY, RING, SERVE, SOCKET, WORKERS, command,
+};
+use crate::serve::Serving;
+use asan_collect::{BadOption, MOST_SENDERS, Options};
 use clap::error::ErrorKind;
-use clap::{Arg, ArgAction, ArgMatches, Command, Error, value_parser};
+use clap::{ArgMatches, Error};
 use std::alloc::{AllocError, AllocFailed, Global};
-
-/// The name of the program.
-const PROGRAM: &str = "asancol";
-
-/// The names of the options, as they are written after `--`, and of the files.
-const QUARANTINE: &str = "quarantine";
-
-const RING: &str = "ring";
-
-const WORKERS: &str = "workers";
-
-const LIMIT: &str = "limit";
-
-const FILES: &str = "files";
 
 /// What to do.
 #[derive(Drop)]
@@ -35,6 +28,8 @@ pub enum Request {
         paths: Vec<String>,
         options: Options,
     },
+    /// Check the traces that come through a socket.
+    Serve(Serving),
 }
 
 /// Why the words are not carried out.
@@ -91,27 +86,36 @@ impl<T: Drop> From<AllocFailed<T>> for Refusal {
 /// What the words after the program's name ask for, or why they are not carried out.
 pub fn read_words(alloc: Global, words: &[String]) -> Result<Request, Refusal>
     ensures input { (result ≡ Ok Request.Input) ↔ (words.now ≡ []) }
+    ensures few_files { IfOk result HasFewFiles }
 {
     if words.is_empty() {
         return Ok(Request::Input);
     }
     let mut command = command(alloc)?;
     let matches = command.try_get_matches_from_mut(words)?;
-    let Some((_, of_check)) = matches.subcommand() else {
-        let error = command.error(ErrorKind::MissingSubcommand, "a command is missing")?;
-        return Err(Refusal::Mistake(error));
+    let request = match matches.subcommand() {
+        Some((CHECK, of_check)) => Some(Request::Files {
+            paths: paths_of(alloc, of_check.get_strs(FILES).unwrap_or(&[]))?,
+            options: options_of(of_check)?,
+        }),
+        Some((SERVE, of_serve)) => serving_of(alloc, of_serve)?.map(Request::Serve),
+        _ => None,
     };
-    let files = of_check.get_strs(FILES).unwrap_or(&[]);
-    Ok(Request::Files {
-        paths: paths_of(alloc, files)?,
-        options: options_of(of_check)?,
-    })
+    match request {
+        Some(request) => Ok(request),
+        None => Err(Refusal::Mistake(command.error(
+            ErrorKind::MissingSubcommand,
+            "a command is missing",
+        )?)),
+    }
 }
 
 /// The paths of these files, in order, unless they are more than one call takes.
 fn paths_of(alloc: Global, files: &[&str]) -> Result<Vec<String>, Refusal>
-    ensures same { IfOk result (λ paths. map string_bytes paths.items ≡ map (λ file. file.now) files.now) }
-    ensures too_many { (result ≡ Err Refusal.TooManyFiles) ↔ (MOST_SENDERS < length files.now) }
+    ensures same { IfOk result (λ paths.
+        map string_bytes paths.items ≡ map (λ file. file.now) files.now) }
+    ensures few { IfOk result (λ paths. length paths.items ≤ most_senders) }
+    ensures too_many { (result ≡ Err Refusal.TooManyFiles) ↔ (most_senders < length files.now) }
 {
     if files.len() > MOST_SENDERS {
         return Err(Refusal::TooManyFiles);
@@ -123,6 +127,27 @@ fn paths_of(alloc: Global, files: &[&str]) -> Result<Vec<String>, Refusal>
     Ok(paths)
 }
 
+/// The socket that was named and how it is served, unless its path or a number of senders in range
+/// is missing.
+fn serving_of(alloc: Global, matches: &ArgMatches<'_>) -> Result<Option<Serving>, Refusal> {
+    let (Some(socket), Some(count)) = (matches.get_str(SOCKET), matches.get_one(COUNT)) else {
+        return Ok(None);
+    };
+    if count == 0 || count > MOST_SENDERS as u32 {
+        return Ok(None);
+    }
+    let ready = match matches.get_str(READY) {
+        Some(path) => Some(String::from_str(alloc, path)?),
+        None => None,
+    };
+    Ok(Some(Serving {
+        socket: String::from_str(alloc, socket)?,
+        count,
+        ready,
+        options: options_of(matches)?,
+    }))
+}
+
 /// The options that were set, and the usual ones in place of those that were not.
 fn options_of(matches: &ArgMatches<'_>) -> Result<Options, BadOption> {
     let usual = Options::usual();
@@ -132,82 +157,4 @@ fn options_of(matches: &ArgMatches<'_>) -> Result<Options, BadOption> {
         matches.get_one(WORKERS).unwrap_or(usual.workers),
         matches.get_one(LIMIT).unwrap_or(usual.limit),
     )
-}
-
-/// All that the command line may have.
-fn command<'a>(alloc: Global) -> Result<Command<'a>, AllocError> {
-    Command::new(alloc, PROGRAM)
-        .no_binary_name(true)
-        .bin_name(PROGRAM)?
-        .override_usage(USAGE)
-        .about("Reports the bad memory accesses, frees and mallocs of recorded runs")
-        .after_help(AFTER_HELP)
-        .subcommand(check_command(alloc)?)
-}
-
-/// What stands above the list of options.
-const USAGE: &str = "asancol < TRACE
-       asancol check [OPTIONS] <FILE>...";
-
-/// What stands below it.
-const AFTER_HELP: &str = "With no words it checks one trace from standard input, as process 0.
-
-The status is 0 if there is nothing to report, 1 if there is, 2 if the command line is refused,
-3 if a trace was not checked up to its close, and 4 if not everything could be printed.";
-
-/// The part of the command line that names files.
-fn check_command<'a>(alloc: Global) -> Result<Command<'a>, AllocError> {
-    let files = Arg::new(alloc, FILES)
-        .value_name("FILE")
-        .help("The traces, 1 to 256 of them: the first is process 0, the next process 1 and so on")
-        .required(true)
-        .num_args(1..)
-        .action(ArgAction::Append);
-    Command::new(alloc, "check")
-        .about("Checks the traces in files, each as a process of its own")
-        .arg(quarantine(alloc))?
-        .arg(ring(alloc))?
-        .arg(workers(alloc))?
-        .arg(limit(alloc))?
-        .arg(files)
-}
-
-fn quarantine<'a>(alloc: Global) -> Arg<'a> {
-    Arg::new(alloc, QUARANTINE)
-        .long(QUARANTINE)
-        .value_name("BYTES")
-        .help("Bytes of freed blocks and their redzones to hold back, 0 to 1099511627776")
-        .action(ArgAction::Set)
-        .value_parser(value_parser!(u64).range(0..=1_099_511_627_776))
-        .default_value("268435456")
-}
-
-fn ring<'a>(alloc: Global) -> Arg<'a> {
-    Arg::new(alloc, RING)
-        .long(RING)
-        .value_name("EVENTS")
-        .help("Events that may wait for their checker, 1 to 65536; has no effect yet")
-        .action(ArgAction::Set)
-        .value_parser(value_parser!(u32).range(1..=65_536))
-        .default_value("1024")
-}
-
-fn workers<'a>(alloc: Global) -> Arg<'a> {
-    Arg::new(alloc, WORKERS)
-        .long(WORKERS)
-        .value_name("CHECKERS")
-        .help("Checkers that share the processes, 1 to 64; has no effect yet")
-        .action(ArgAction::Set)
-        .value_parser(value_parser!(u32).range(1..=64))
-        .default_value("2")
-}
-
-fn limit<'a>(alloc: Global) -> Arg<'a> {
-    Arg::new(alloc, LIMIT)
-        .long(LIMIT)
-        .value_name("EVENTS")
-        .help("Events that each trace may have, 1 to 16777216")
-        .action(ArgAction::Set)
-        .value_parser(value_parser!(u32).range(1..=16_777_216))
-        .default_value("16777216")
 }

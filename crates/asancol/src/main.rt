@@ -1,10 +1,11 @@
 //! Checks recorded runs for bad memory accesses, frees and mallocs.
 #![tactic(auto)]
 
+mod arguments;
 mod command_line;
-mod replay;
 mod report;
 mod run;
+mod serve;
 #[cfg(test)]
 mod tests;
 

@@ -1,13 +1,21 @@
+//! The program, over the words of its command line, a reader and two writers.
+
 ghost use Rattle.std.specs.Prelude.{◌≡◌, ◌≢◌, ◌≤◌, ◌⊎◌, []};
 ghost use Rattle.asancol.specs.Printed.{IsInputPrinted};
 ghost use Rattle.asancol.specs.Refusals.{IsStatusFor};
 
 use crate::command_line::{Refusal, Request, read_words};
 use crate::report::{report_each, report_feed};
+use crate::serve::listen;
 use std::alloc::AllocError;
 use std::fmt::Display;
+use std::fs::File;
 use std::io::{Read, Write};
+use std::net::Net;
 use std::rt::Files;
+use std::sync::Wait;
+use std::thread::Threads;
+use std::time::Clock;
 use trace_feed::{Feed, PathDoor, ReadFeed};
 
 /// The status where help was asked for and printed.
@@ -24,21 +32,22 @@ const UNWRITTEN: u8 = 4;
 
 /// Runs the program on the words after its name, and gives the status that it ends with.
 ///
-/// With no words it checks one trace from `input`. The texts of all processes go to `output`, and only what is wrong with
-/// the command line, or that there is no memory to read it, goes to `faults`. A write to `faults` that fails changes
-/// nothing.
+/// With no words it checks one trace from `input`. The texts of all processes go to `output`, and
+/// only what is wrong with the command line, that there is no memory to start, or that the socket
+/// can't be served goes to `faults`. A write to `faults` that fails changes nothing.
 pub fn run<R, I, O, E>(rt: &R, words: &[String], input: I, output: &mut O, faults: &mut E) -> u8
 where
-    R: Files + AllocGlobal,
+    R: Files<File = File> + Net + Threads + Wait + Clock + Sync + AllocGlobal,
     I: Read + Drop,
     O: Write,
     E: Write,
     ensures no_words { words.now ≡ [] →
-        IsInputPrinted ⟦<ReadFeed<I> as Feed>⟧.to_come ⟦<ReadFeed<I> as Feed>⟧.fault_count (I.remaining input)
-        (O.contents output.old) (O.contents output.new) result
+        IsInputPrinted ⟦<ReadFeed<I> as Feed>⟧.to_come ⟦<ReadFeed<I> as Feed>⟧.fault_count
+        (I.remaining input) (O.contents output.old) (O.contents output.new) result
         ⊎ ((result ≡ UNCHECKED) × (output.new ≡ output.old)) }
     ensures refused { result ≡ REFUSED → output.new ≡ output.old }
     ensures quiet { result ≢ REFUSED → result ≢ UNCHECKED → faults.new ≡ faults.old }
+    ensures apart { (output.new ≡ output.old) ⊎ (faults.new ≡ faults.old) }
     ensures known { result ≤ UNWRITTEN }
 {
     let alloc = rt.alloc();
@@ -49,8 +58,12 @@ where
     let reported = match request {
         Request::Input => report_feed(alloc, ReadFeed::new(input), output),
         Request::Files { paths, options } => {
-            report_each(alloc, &mut PathDoor::new(rt, paths), options, output)
+            report_each(rt, alloc, &mut PathDoor::new(rt, paths), options, output)
         }
+        Request::Serve(serving) => match listen(rt, &serving) {
+            Ok(mut door) => report_each(rt, alloc, &mut door, serving.options, output),
+            Err(error) => return say(faults, &error, UNCHECKED),
+        },
     };
     match reported {
         Ok(status) => status,
@@ -58,11 +71,12 @@ where
     }
 }
 
-/// Tells why the words are not carried out, and gives the status to end with.
+/// Says why the words are not carried out, and gives the status to end with.
 fn refuse<O: Write, E: Write>(refusal: Refusal, output: &mut O, faults: &mut E) -> u8
     ensures status { IsStatusFor refusal result }
     ensures refused { result ≡ REFUSED → output.new ≡ output.old }
     ensures quiet { result ≢ REFUSED → result ≢ UNCHECKED → faults.new ≡ faults.old }
+    ensures apart { (output.new ≡ output.old) ⊎ (faults.new ≡ faults.old) }
 {
     match refusal {
         Refusal::Help(help) => {
@@ -74,32 +88,34 @@ fn refuse<O: Write, E: Write>(refusal: Refusal, output: &mut O, faults: &mut E) 
             let _ = write!(faults, "{mistake}");
             REFUSED
         }
-        Refusal::OptionOutOfRange(bad) => tell(faults, &bad, REFUSED),
-        Refusal::TooManyFiles => tell(faults, &"too many files", REFUSED),
+        Refusal::OptionOutOfRange(bad) => say(faults, &bad, REFUSED),
+        Refusal::TooManyFiles => say(faults, &"too many files", REFUSED),
         Refusal::NoMemory => no_memory(faults),
     }
 }
 
-/// Tells that there is no memory to read the command line or to start, and gives the status to end with.
+/// Says that there is no memory to read the command line or to start, and gives the status to end
+/// with.
 pub fn no_memory<E: Write>(faults: &mut E) -> u8
     ensures { result ≡ UNCHECKED }
 {
-    tell(faults, &"no memory", UNCHECKED)
+    say(faults, &"no memory", UNCHECKED)
 }
 
-/// Tells that a word of the command line is no text, and gives the status to end with.
+/// Says that a word of the command line is no text, and gives the status to end with.
 pub fn no_text<E: Write>(faults: &mut E) -> u8
     ensures { result ≡ REFUSED }
 {
-    tell(
+    say(
         faults,
         &"error: a word of the command line is not valid UTF-8",
         REFUSED,
     )
 }
 
-/// Tells what is wrong in a line of its own, and gives the status to end with, whether or not the telling succeeded.
-fn tell<E: Write, T: Display>(faults: &mut E, text: &T, status: u8) -> u8
+/// Says what is wrong in a line of its own, and gives the status to end with, whether or not the
+/// line could be written.
+fn say<E: Write, T: Display>(faults: &mut E, text: &T, status: u8) -> u8
     ensures { result ≡ status }
 {
     let _ = writeln!(faults, "{text}");

@@ -1,54 +1,12 @@
-use super::trace::Trace;
-use super::{run_with_room, run_words, writer};
+//! What is printed of traces in files, and of a pipe.
+
+use super::folder::Folder;
+use super::trace::{PAST_THE_END, Trace, past_the_end};
+use super::{run_all, run_words, words_of, writer};
 use crate::run::run;
-use std::alloc::AllocError;
 use std::io::Write;
 use std::test::Fail;
-use std::{env, fs, io, process};
-
-/// Files of traces in a folder of their own.
-#[derive(Drop)]
-struct Folder {
-    path: String,
-}
-
-impl Folder {
-    fn new(rt: &HostRuntime, name: &str) -> io::Result<Folder> {
-        let number = process::id(rt.process());
-        let path = format!(in rt.alloc();
-            "{}/asancol_{name}_{number}",
-            env::temp_dir(rt)?.display()
-        )?;
-        fs::create_dir(rt, path.as_str())?;
-        Ok(Folder { path })
-    }
-
-    fn path_of(&self, rt: &HostRuntime, name: &str) -> Result<String, AllocError> {
-        format!(in rt.alloc(); "{}/{name}", self.path)
-    }
-
-    /// Writes a trace into a file, and gives its path.
-    fn put(&self, rt: &HostRuntime, name: &str, trace: &Trace) -> io::Result<String> {
-        let path = self.path_of(rt, name)?;
-        fs::write(rt, path.as_str(), &trace.bytes)?;
-        Ok(path)
-    }
-
-    fn remove(self, rt: &HostRuntime) -> io::Result<()> {
-        fs::remove_dir_all(rt, self.path.as_str())
-    }
-}
-
-fn past_the_end(rt: &HostRuntime) -> Result<Trace, AllocError> {
-    Trace::new(rt.alloc())?
-        .malloc(0x1000, 5)?
-        .store(4, 0x1004)?
-        .close()
-}
-
-const PAST_THE_END: &str =
-    "p0 #2 store 4 at 000000001004 bad 000000001005 heap-buffer-overflow shadow 05\n\
-    p0 end closed events 2 offset 36 reports 1\n";
+use std::{fs, io};
 
 #[test]
 fn files_and_a_failing_writer(rt: HostRuntime) -> Result<(), Fail> {
@@ -60,23 +18,27 @@ fn files_and_a_failing_writer(rt: HostRuntime) -> Result<(), Fail> {
     let first = folder.put(&rt, "first", &past_the_end(&rt)?)?;
     let missing = folder.path_of(&rt, "missing")?;
     let last = folder.put(&rt, "last", &missed)?;
-    let words = [
-        "check",
-        first.as_str(),
-        missing.as_str(),
-        last.as_str(),
-        folder.path.as_str(),
-    ];
-    run_words(&rt, &words, b"")?.expect(
-        &rt,
-        "p0 #2 store 4 at 000000001004 bad 000000001005 heap-buffer-overflow shadow 05\n\
-         p0 end closed events 2 offset 36 reports 1\n\
-         p1 end not-opened\n\
-         p2 end closed events 2 offset 36 reports 0\n\
-         p3 end read-failed events 0 offset 0 reports 0\n",
-        3,
-    );
-    run_with_room(&rt, &words, b"", 10)?.expect(&rt, "p0 #2 stor", 4);
+    let paths = [first, missing, last, folder.path.clone()?];
+    for (ring, workers) in [
+        ("1", "1"),
+        ("1", "3"),
+        ("2", "2"),
+        ("1024", "64"),
+        ("65536", "4"),
+    ] {
+        let words = ["check", "--ring", ring, "--workers", workers];
+        let all = words_of(&rt, &words, &paths)?;
+        run_all(&rt, &all, b"", usize::MAX).expect(
+            &rt,
+            "p0 #2 store 4 at 000000001004 bad 000000001005 heap-buffer-overflow shadow 05\n\
+             p0 end closed events 2 offset 36 reports 1\n\
+             p1 end not-opened\n\
+             p2 end closed events 2 offset 36 reports 0\n\
+             p3 end read-failed events 0 offset 0 reports 0\n",
+            3,
+        );
+        run_all(&rt, &all, b"", 10).expect(&rt, "p0 #2 stor", 4);
+    }
     folder.remove(&rt)?;
     Ok(())
 }

@@ -1,3 +1,5 @@
+//! What is printed of standard input.
+
 use super::run_words;
 use super::trace::Trace;
 use std::test::Fail;

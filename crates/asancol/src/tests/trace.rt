@@ -1,3 +1,5 @@
+//! Traces of tests.
+
 use std::alloc::{AllocError, Global};
 
 /// The bytes of a trace, which are put together here by hand and not by the program's own encoder.
@@ -35,7 +37,7 @@ impl Trace {
         self.then(&[7])
     }
 
-    /// These bytes behind the others.
+    /// These bytes after the others.
     pub fn then(mut self, more: &[u8]) -> Result<Trace, AllocError> {
         self.bytes.extend_from_slice(more)?;
         Ok(self)
@@ -46,3 +48,16 @@ impl Trace {
         self.then(&number.to_le_bytes())
     }
 }
+
+/// A malloc of 5 bytes, a store of 4 that ends one byte past them, and the close.
+pub fn past_the_end(rt: &HostRuntime) -> Result<Trace, AllocError> {
+    Trace::new(rt.alloc())?
+        .malloc(0x1000, 5)?
+        .store(4, 0x1004)?
+        .close()
+}
+
+/// What is printed of it.
+pub const PAST_THE_END: &str =
+    "p0 #2 store 4 at 000000001004 bad 000000001005 heap-buffer-overflow shadow 05\n\
+    p0 end closed events 2 offset 36 reports 1\n";

@@ -1,6 +1,6 @@
 use Rattle.std.proofs.Common.{rules, ◌≡◌, Ok, sym, ◌∙◌, inl, inr}
 use Rattle.asancol.specs.declared.command_line.Request.TheVariants as request
-use Rattle.asancol.proofs.run.run.Goals.{in-Input, in-Files}
+use Rattle.asancol.proofs.run.run.Goals.{in-Input, in-Files, in-Serve+in-Ok-listen}
 use Rattle.asancol.proofs.run.run.Goals as goal
 
 pub returns-in-Ok-reported-clause-no_words : goal.returns-in-Ok-reported-clause-no_words
@@ -11,6 +11,7 @@ returns-in-Ok-reported-clause-no_words g c none =
           let reported = rw (sym w.reported-is ∙ c.in-Ok-reported.is) at w.report_feed-reported.ensures.ok in
           inl (w.new.result, search rules, rw w.output-is reported)
       | in-Files w ↦ absurd (let other = w.in-Files.is in cc)
+      | in-Serve+in-Ok-listen w ↦ absurd (let other = w.in-Serve.is in cc)
     ]
 
 pub returns-clause-no_words : goal.returns-clause-no_words
@@ -21,4 +22,5 @@ returns-clause-no_words g c none =
           let unprinted = rw (sym w.reported-is ∙ c.in-Err-reported.is) at w.report_feed-reported.ensures.err in
           inr (search rules, rw w.output-is unprinted)
       | in-Files w ↦ absurd (let other = w.in-Files.is in cc)
+      | in-Serve+in-Ok-listen w ↦ absurd (let other = w.in-Serve.is in cc)
     ]

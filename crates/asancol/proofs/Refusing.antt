@@ -1,0 +1,34 @@
+-- Where a sender was refused, the status says that not every trace was checked, or that not everything was printed.
+use Rattle.std.proofs.Common.{arith, ◌≡◌, ◌<◌, ℕ, Bool, true, false, List, [], ◌∷◌, refl, inl, inr, ◌∙◌}
+use Rattle.std.specs.Prelude.{◌⊎◌}
+use Rattle.std.specs.List.{list_all}
+use Rattle.std.proofs.lemmas.Bool.{false≢true, and_parts}
+use Rattle.asan_collect.specs.declared.outcome.Outcome.{Outcome}
+use Rattle.asan_collect.specs.declared.outcome.Outcome.TheVariants as outcome
+use Rattle.asan_collect.specs.Counts.{not_opened, not_opened_among}
+use Rattle.asan_collect.specs.Statuses.{is_closed, status_of, unchecked, unwritten}
+
+module _ {F A : Type 0} where
+  closed_is_opened : (told : Outcome F A) → is_closed told ≡ true → not_opened told ≡ 0
+  closed_is_opened (outcome.Settled feed end reports) closed = refl
+  closed_is_opened (outcome.NoMemory feed end checked reports) closed = refl
+  closed_is_opened outcome.NotOpened closed = absurd (false≢true closed)
+  closed_is_opened outcome.NotStarted closed = refl
+  closed_is_opened outcome.Unsettled closed = refl
+
+  all_closed_are_opened : (outcomes : List (Outcome F A)) → list_all is_closed outcomes ≡ true → not_opened_among outcomes ≡ 0
+  all_closed_are_opened [] closed = refl
+  all_closed_are_opened (told ∷ outcomes) closed =
+      let parts = and_parts (is_closed told) (list_all is_closed outcomes) closed in
+      let first = closed_is_opened told parts.0 in
+      let rest = all_closed_are_opened outcomes parts.1 in
+      omega arith
+
+  status_by : (outcomes : List (Outcome F A)) (closed : Bool) → list_all is_closed outcomes ≡ closed → 0 < not_opened_among outcomes → status_of outcomes true ≡ unchecked
+  status_by outcomes true closed some = absurd (let none = all_closed_are_opened outcomes closed in omega arith)
+  status_by outcomes false closed some = rw closed refl
+
+  pub status_of_refused : (outcomes : List (Outcome F A)) (status : ℕ) → 0 < not_opened_among outcomes
+      → (status ≡ unwritten) ⊎ (status ≡ status_of outcomes true) → (status ≡ unchecked) ⊎ (status ≡ unwritten)
+  status_of_refused outcomes status some (inl broken) = inr broken
+  status_of_refused outcomes status some (inr own) = inl (own ∙ status_by outcomes (list_all is_closed outcomes) refl some)
