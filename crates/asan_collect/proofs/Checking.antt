@@ -1,4 +1,4 @@
--- What one more item does to where a checker stands behind the items of a lane.
+-- What one more item does to where a checker stands after the items of a lane.
 use Rattle.std.proofs.Common.{◌≡◌, ℕ, ◌+◌, ◌-◌, ◌<◌, ◌≤◌, ◌^◌, List, [], ◌∷◌, ◌++◌, length, take, drop, Option, Result, Ok, Err, refl, sym, ap, subst, ◌∙◌, inl, inr, arith, length-append, true}
 use Rattle.std.specs.Prelude.{IfOk, OnErr, IsErr, reverse, option_to_list}
 use Rattle.std.specs.Coded.{Coded-set, coded_list, le_prop}
@@ -151,7 +151,7 @@ module _ {A : Type 0} where
             ap (take (length (reports_of first))) rest.1 ∙ begins_more (reports_of first) (reports_of c) rest.0 seen.begins);
       }
 
-  -- what a checker tells that was handed a whole stream
+  -- what a checker has that was handed a whole stream
   pub stream_seen : (first c : Checker A) (n : ℕ) (items : List Item) (events : List Event) (end : End) → HasChecked first n c items → items ≡ items_of events end → length events ≤ most_events
       → (n ≡ length events) × ∥ StandsOrFailed (bound_of first) c (reverse events) ∥₁
   stream_seen first c n items events end seen are few =
@@ -190,6 +190,6 @@ module _ {A : Type 0} where
   behind_end c items more end taken stands =
       subst (λ es. ∥ StandsOrFailed (bound_of c) c (reverse es) ∥₁) (sym (ap events_of taken ∙ events_of-end items end)) stands
 
-  -- a checker behind few events has room for one more
+  -- a checker that was handed few events has room for one more
   pub room_behind : (bound : ℕ) (c : Checker A) (events : List Event) (n : ℕ) → ∥ StandsOrFailed bound c (reverse events) ∥₁ → n ≡ length events → n < most_events → checked_of c + 1 < 2 ^ 64
   room_behind bound c events n stands count few = let most = checked_few bound c events stands in omega arith

@@ -12,7 +12,7 @@ use Rattle.asan_collect.specs.Ranges.{most_senders}
 use Rattle.asan_collect.specs.Senders.{Each, Becomes, Keeps, IsAt, AreAt, IsFresh, AllFresh}
 use Rattle.asan_collect.proofs.Senders.{at_kept, at_later, at_more, at_push}
 
--- so many benches as a checker has: fewer than it has senders up to this one
+-- a checker has fewer benches than it has senders up to this one
 few_dealt : (w i n : ℕ) → w * n + i % w < i + w → w * n ≤ w * (i / w)
 few_dealt w i n few =
     let whole = div-add-mod i w in

@@ -35,7 +35,7 @@ piece_short p =
     omega (arith, length-drop p.used (take p.filled p.buffer))
 
 module _ {F : Type 0} (to_come : F → Option (List ℕ)) (fault_count : F → ℕ) (limit : ℕ) (first : F) where
-  -- more was read behind a piece that was used up
+  -- more was read after a piece that was used up
   pub taken_on : (feed now : F) (text old new : List ℕ) → Consumes (to_come first) (to_come feed) (text ++ old) → old ≡ []
       → Consumes (to_come feed) (to_come now) new → Consumes (to_come first) (to_come now) (text ++ new)
   taken_on feed now text old new before none more =

@@ -6,7 +6,7 @@ use Rattle.asan_collect.specs.declared.outcome.Outcome.{Outcome}
 use Rattle.asan_collect.specs.declared.outcome.Outcome.TheVariants as outcome
 use Rattle.asan_collect.specs.Outcomes.{IsOutcomeOf}
 
--- these arrived, in order, from a door that tells what is still to arrive
+-- these arrived, in order, from a door that says what is still to arrive
 abbrev pub Arrived : {F : Type 0} → Option (List (Arrival F)) → Option (List (Arrival F)) → List (Arrival F) → Type 0
 Arrived None after arrivals = Unit {0}
 Arrived (Some xs) None arrivals = ⊥
