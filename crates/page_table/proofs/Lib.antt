@@ -1,3 +1,4 @@
+pub mod Runs
 pub mod Slices
 pub mod Fills
 pub mod Branches

@@ -1,3 +1,4 @@
+pub mod Runs
 pub mod Sections
 pub mod Groups
 pub mod Branches

@@ -1,5 +1,7 @@
 -- What the bytes of a section come to.
-use Rattle.std.specs.Prelude.{◌≡◌, ℕ, ◌<◌, ◌≤◌, ◌^◌, ◌&&◌, nat_le, nat_lt, if◌then◌else◌}
+use Rattle.std.specs.Prelude.{◌≡◌, ℕ, ◌+◌, ◌-◌, ◌<◌, ◌≤◌, ◌^◌, ◌&&◌, nat_le, nat_lt, if◌then◌else◌, List}
+use Rattle.page_table.specs.declared.run.Run.{Run}
+use Rattle.page_table.specs.Runs.{length_of, byte_of_runs}
 
 -- a width that a section may have
 abbrev pub IsWidth : ℕ → Type 0
@@ -14,3 +16,19 @@ IsFilled width old new from to byte =
 abbrev pub IsBrokenOff : ℕ → (ℕ → ℕ) → (ℕ → ℕ) → ℕ → ℕ → ℕ → Type 0
 IsBrokenOff width old new from to byte =
     (place : ℕ) × (from ≤ place) × (place < to) × IsFilled width old new from place byte
+
+-- the bytes from one index up to another have what the runs that start at the first of them say, and the others what they
+-- had
+abbrev pub HasRunsUpTo : ℕ → (ℕ → ℕ) → (ℕ → ℕ) → ℕ → ℕ → List Run → Type 0
+HasRunsUpTo width old new from to runs =
+    (index : ℕ) → index < width →
+    new index ≡ (if nat_le from index && nat_lt index to then byte_of_runs runs (index - from) else old index)
+
+-- the same, of all the indices that the runs have
+abbrev pub HasRuns : ℕ → (ℕ → ℕ) → (ℕ → ℕ) → ℕ → List Run → Type 0
+HasRuns width old new from runs = HasRunsUpTo width old new from (from + length_of runs) runs
+
+-- the same, of those below a place that is still to be set
+abbrev pub HasRunsBelow : ℕ → (ℕ → ℕ) → (ℕ → ℕ) → ℕ → List Run → Type 0
+HasRunsBelow width old new from runs =
+    (place : ℕ) × (from ≤ place) × (place < from + length_of runs) × HasRunsUpTo width old new from place runs

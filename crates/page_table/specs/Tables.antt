@@ -1,8 +1,10 @@
 -- The bytes of a table.
-use Rattle.std.specs.Prelude.{◌≡◌, ℕ, ◌*◌, ◌<◌, ◌≤◌, ◌^◌, ◌&&◌, nat_le, nat_lt, if◌then◌else◌}
+use Rattle.std.specs.Prelude.{◌≡◌, ℕ, ◌+◌, ◌-◌, ◌*◌, ◌<◌, ◌≤◌, ◌^◌, ◌&&◌, nat_le, nat_lt, if◌then◌else◌, List}
 use Rattle.page_table.specs.declared.group.TheConstants.{GROUP}
 use Rattle.page_table.specs.declared.branch.TheConstants.{SECTIONS}
 use Rattle.page_table.specs.declared.table.PageTable.{PageTable}
+use Rattle.page_table.specs.declared.run.Run.{Run}
+use Rattle.page_table.specs.Runs.{length_of, byte_of_runs}
 use Rattle.page_table.specs.Groups.{group_byte}
 use Rattle.page_table.specs.Branches.{branch_byte}
 
@@ -28,3 +30,19 @@ module _ {A : Type 0} where
   -- the same, of the granules from one up to a place that comes before another
   abbrev pub FillsBelow : PageTable A → PageTable A → ℕ → ℕ → ℕ → Type 0
   FillsBelow old new from to byte = (place : ℕ) × (from ≤ place) × (place < to) × Fills old new from place byte
+
+  -- the granules from one up to another have the bytes that the runs from the first of them on say, and the others those
+  -- that they had
+  abbrev pub FillsRunsUpTo : PageTable A → PageTable A → ℕ → ℕ → List Run → Type 0
+  FillsRunsUpTo old new from to runs =
+      (granule : ℕ) → byte_of new granule
+      ≡ (if nat_le from granule && nat_lt granule to then byte_of_runs runs (granule - from) else byte_of old granule)
+
+  -- the same, of all granules of the runs
+  abbrev pub FillsRuns : PageTable A → PageTable A → ℕ → List Run → Type 0
+  FillsRuns old new from runs = FillsRunsUpTo old new from (from + length_of runs) runs
+
+  -- the same, of the granules from one up to a place that comes before the runs' end
+  abbrev pub FillsRunsBelow : PageTable A → PageTable A → ℕ → List Run → Type 0
+  FillsRunsBelow old new from runs =
+      (place : ℕ) × (from ≤ place) × (place < from + length_of runs) × FillsRunsUpTo old new from place runs

@@ -3,6 +3,7 @@ ghost use Rattle.std.specs.Prelude.{◌≡◌, ℕ, ◌+◌, ◌-◌, ◌*◌, �
 ghost use Rattle.page_table.specs.declared.branch.TheConstants.{SECTIONS};
 ghost use Rattle.page_table.specs.Sections.{IsWidth, IsFilled, IsBrokenOff};
 
+use crate::run::Run;
 use crate::section::Section;
 use std::alloc::{AllocError, Allocator, Global};
 
@@ -62,6 +63,15 @@ impl<S: Section<A>, A: Allocator + Copy> Section<A> for Branch<S, A> {
         } else {
             self.fill_across_sections(alloc, from, to, byte)
         }
+    }
+
+    #[inline]
+    fn write_runs(&mut self, from: u64, to: u64, runs: &[Run]) -> bool {
+        let width = S::width();
+        let place = (from / width) as usize;
+        let first = from % width;
+        let end = first + (to - from);
+        place < self.kept.len() && end <= width && self.kept[place].write_runs(first, end, runs)
     }
 
     ghost is_width = { λ fits. fits.0 };

@@ -1,9 +1,11 @@
 //! A group of pages.
 ghost use Rattle.std.specs.Prelude.{◌≡◌, ℕ, ◌+◌, ◌-◌, ◌%◌, ◌<◌, ◌≤◌, ◌&&◌, nat_le, nat_lt, if◌then◌else◌, OnOk, OnErr, IfOk, slice_index};
 ghost use Rattle.page_table.specs.declared.group.TheConstants.{PAGE, GROUP};
-ghost use Rattle.page_table.specs.Sections.{IsWidth, IsFilled};
+ghost use Rattle.page_table.specs.Sections.{IsWidth, IsFilled, HasRuns};
+ghost use Rattle.page_table.specs.Runs.{length_of};
 ghost use Rattle.page_table.specs.Groups.{group_byte};
 
+use crate::run::Run;
 use crate::section::Section;
 use std::alloc::{AllocError, Allocator, Global};
 
@@ -73,6 +75,20 @@ impl<A: Allocator + Copy> Section<A> for Group<A> {
         Ok(())
     }
 
+    #[inline]
+    fn write_runs(&mut self, from: u64, to: u64, runs: &[Run]) -> bool {
+        let (from, to) = (from as usize, to as usize);
+        let page = from / PAGE;
+        let is_part = page < PAGES && to <= page * PAGE + PAGE && to - from < PAGE;
+        match &mut self.each {
+            Some(bytes) if is_part && self.same[page].is_none() => {
+                fill_runs(bytes, from, runs);
+                true
+            }
+            _ => false,
+        }
+    }
+
     ghost is_width = { λ fits. fits };
 }
 
@@ -124,4 +140,18 @@ fn fill_bytes(bytes: &mut [u8; GROUP], from: usize, to: usize, byte: u8)
         ≡ (if nat_le from index && nat_lt index to then byte else slice_index bytes.old index) }
 {
     bytes[from..to].fill(byte);
+}
+
+/// Sets the bytes from an index on, run after run.
+fn fill_runs(bytes: &mut [u8; GROUP], from: usize, runs: &[Run])
+    requires end { from + length_of runs.now ≤ GROUP }
+    ensures { HasRuns GROUP
+        (λ index. slice_index bytes.old index) (λ index. slice_index bytes.new index) from runs.now }
+{
+    let mut at = from;
+    for run in runs {
+        let next = at + run.length as usize;
+        fill_bytes(bytes, at, next, run.byte);
+        at = next;
+    }
 }

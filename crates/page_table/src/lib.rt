@@ -8,7 +8,11 @@
 
 mod branch;
 mod group;
+mod run;
 mod section;
 mod table;
+#[cfg(test)]
+mod tests;
 
+pub use run::Run;
 pub use table::PageTable;

@@ -1,7 +1,9 @@
 //! What the groups and the branches of a table have in common.
-ghost use Rattle.std.specs.Prelude.{◌≡◌, ℕ, ◌<◌, ◌≤◌, OnOk, OnErr};
-ghost use Rattle.page_table.specs.Sections.{IsWidth, IsFilled, IsBrokenOff};
+ghost use Rattle.std.specs.Prelude.{◌≡◌, ℕ, ◌+◌, ◌<◌, ◌≤◌, IsTrue, false, OnOk, OnErr};
+ghost use Rattle.page_table.specs.Sections.{IsWidth, IsFilled, IsBrokenOff, HasRuns, HasRunsBelow};
+ghost use Rattle.page_table.specs.Runs.{length_of};
 
+use crate::run::Run;
 use std::alloc::{AllocError, Allocator};
 
 /// A section of a table: a byte at each index from 0 up to its width.
@@ -37,5 +39,42 @@ pub trait Section<A: Allocator + Copy>: Drop {
         ensures ok { OnOk result (IsFilled width (byte_at self.old) (byte_at self.new) from to byte) }
         ensures err { OnErr result (IsBrokenOff width (byte_at self.old) (byte_at self.new) from to byte) };
 
+    /// Sets the bytes at the indices from one up to another, run after run, if these are a part of one page that has bytes
+    /// of its own, and says whether it did. Takes no memory.
+    fn write_runs(&mut self, from: u64, to: u64, runs: &[Run]) -> bool
+        requires fits { fits }
+        requires length { to ≡ from + length_of runs.now }
+        requires end { to ≤ width }
+        ensures done { IsTrue result →
+            HasRuns width (byte_at self.old) (byte_at self.new) from runs.now }
+        ensures other { result ≡ false →
+            (index : ℕ) → index < width → byte_at self.new index ≡ byte_at self.old index };
+
     ghost is_width: { fits → IsWidth width };
+}
+
+/// Sets the bytes from an index on, run after run, each by a fill of its own.
+#[inline(never)]
+pub fn fill_each_run<S: Section<A>, A: Allocator + Copy>(
+    section: &mut S,
+    alloc: A,
+    from: u64,
+    runs: &[Run],
+) -> Result<(), AllocError>
+    requires fits { S.fits }
+    requires end { from + length_of runs.now ≤ S.width }
+    ensures ok { OnOk result
+        (HasRuns S.width (S.byte_at section.old) (S.byte_at section.new) from runs.now) }
+    ensures err { OnErr result
+        (HasRunsBelow S.width (S.byte_at section.old) (S.byte_at section.new) from runs.now) }
+{
+    let mut at = from;
+    for run in runs {
+        let next = at + run.length;
+        if at < next {
+            section.fill(alloc, at, next, run.byte)?;
+        }
+        at = next;
+    }
+    Ok(())
 }

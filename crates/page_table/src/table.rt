@@ -1,10 +1,12 @@
 //! The table.
-ghost use Rattle.std.specs.Prelude.{◌≡◌, ℕ, ◌^◌, ◌<◌, ◌≤◌, OnOk, OnErr};
-ghost use Rattle.page_table.specs.Tables.{byte_of, Fills, FillsBelow};
+ghost use Rattle.std.specs.Prelude.{◌≡◌, ℕ, ◌+◌, ◌^◌, ◌<◌, ◌≤◌, OnOk, OnErr};
+ghost use Rattle.page_table.specs.Runs.{length_of};
+ghost use Rattle.page_table.specs.Tables.{byte_of, Fills, FillsBelow, FillsRuns, FillsRunsBelow};
 
 use crate::branch::Branch;
 use crate::group::Group;
-use crate::section::Section;
+use crate::run::{Run, total_length};
+use crate::section::{Section, fill_each_run};
 use std::alloc::{AllocError, Allocator, Global};
 
 /// The branches by how many levels of them there are: each has 128 times the granules of one of the level below.
@@ -66,8 +68,27 @@ impl<A: Allocator + Copy> PageTable<A> {
         ensures ok { OnOk result (Fills self.old self.new from to byte) }
         ensures err { OnErr result (FillsBelow self.old self.new from to byte) }
     {
-        if from < to {
+        let run = Run {
+            length: to - from,
+            byte,
+        };
+        if from < to && !self.root.write_runs(from, to, &[run]) {
             self.root.fill(self.alloc, from, to, byte)?;
+        }
+        Ok(())
+    }
+
+    /// Sets the bytes of the granules from one on, run after run. It takes no more memory than a fill for each run does,
+    /// and is faster where all runs lie in one group. Where memory is refused, the granules below some place are set, and
+    /// the others are as they were.
+    #[tactic(auto, unfolding(crate::specs::Tables::byte_of))]
+    pub fn fill_runs(&mut self, from: u64, runs: &[Run]) -> Result<(), AllocError>
+        requires end { from + length_of runs.now ≤ 2 ^ 44 }
+        ensures ok { OnOk result (FillsRuns self.old self.new from runs.now) }
+        ensures err { OnErr result (FillsRunsBelow self.old self.new from runs.now) }
+    {
+        if !self.root.write_runs(from, from + total_length(runs), runs) {
+            fill_each_run(&mut self.root, self.alloc, from, runs)?;
         }
         Ok(())
     }

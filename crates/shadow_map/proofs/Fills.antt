@@ -159,43 +159,39 @@ module _ (change : Change) (at end : ℕ) where
         | inr ragged ↦ none_past old next (end / 8 + 1) order (omega arith) (upto_one changed_granule old now next (end / 8) upto ragged.1)
       ]
 
--- a block, from its left redzone to its right one
+-- a block, whose span is four runs: its left redzone, its whole granules, the one that it fills in part, its right redzone
 module _ (at size : ℕ) where
+  abbrev pub span_byte : ℕ → ℕ
+  span_byte offset =
+      cond (ltb offset 4) 0xfa (cond (ltb (offset - 4) (size / 8)) 0
+      (cond (ltb (offset - 4 - size / 8) ((size + 7) / 8 - size / 8)) (size % 8)
+      (cond (ltb (offset - 4 - size / 8 - ((size + 7) / 8 - size / 8)) 4) 0xfa 0)))
+
   block_before : (byte g : ℕ) → g < at / 8 - 4 → block_byte at size g byte ≡ byte
   block_before byte g lt = grind (arith, nat_tests)
 
-  block_left : (byte g : ℕ) → at / 8 - 4 ≤ g → g < at / 8 → block_byte at size g byte ≡ 0xfa
-  block_left byte g le lt = grind (arith, nat_tests)
+  block_within : (byte g : ℕ) → 4 ≤ at / 8 → at / 8 - 4 ≤ g → g < at / 8 + (size + 7) / 8 + 4 →
+      block_byte at size g byte ≡ span_byte (g - (at / 8 - 4))
+  block_within byte g room low high = grind (arith, nat_tests)
 
-  block_body : (byte g : ℕ) → at / 8 ≤ g → g < at / 8 + size / 8 → block_byte at size g byte ≡ 0
-  block_body byte g le lt = grind (arith, nat_tests)
-
-  block_rest : (byte g : ℕ) → at / 8 + size / 8 ≤ g → g < at / 8 + (size + 7) / 8 → block_byte at size g byte ≡ size % 8
-  block_rest byte g le lt = grind (arith, nat_tests)
-
-  block_right : (byte g : ℕ) → at / 8 + (size + 7) / 8 ≤ g → g < at / 8 + (size + 7) / 8 + 4 → block_byte at size g byte ≡ 0xfa
-  block_right byte g le lt = grind (arith, nat_tests)
-
-  -- the block is marked below a place
-  abbrev pub IsBlockUpTo : (ℕ → ℕ) → (ℕ → ℕ) → ℕ → Type 0
-  IsBlockUpTo old now place = UpTo old (λ g. block_byte at size g (old g)) now place
-
-  module _ (old now next : ℕ → ℕ) where
-    pub after_left : IsFilled old next (at / 8 - 4) (at / 8) 0xfa → IsBlockUpTo old next (at / 8)
-    after_left each = upto_fill old (λ g. block_byte at size g (old g)) old next (at / 8 - 4) (at / 8) 0xfa (omega arith)
-        (upto_start old (λ g. block_byte at size g (old g)) (at / 8 - 4) (λ g lt. block_before (old g) g lt)) (λ g le lt. block_left (old g) g le lt) each
-
-    pub after_body : (place : ℕ) → at / 8 ≤ place → place ≤ at / 8 + size / 8 → IsBlockUpTo old now (at / 8) → IsFilled now next (at / 8) place 0 →
-        IsBlockUpTo old next place
-    after_body place le most upto each =
-        upto_fill old (λ g. block_byte at size g (old g)) now next (at / 8) place 0 le upto (λ g low lt. block_body (old g) g low (omega arith)) each
-
-    pub after_rest : (place : ℕ) → at / 8 + size / 8 ≤ place → place ≤ at / 8 + (size + 7) / 8 → IsBlockUpTo old now (at / 8 + size / 8) →
-        IsFilled now next (at / 8 + size / 8) place (size % 8) → IsBlockUpTo old next place
-    after_rest place le most upto each =
-        upto_fill old (λ g. block_byte at size g (old g)) now next (at / 8 + size / 8) place (size % 8) le upto (λ g low lt. block_rest (old g) g low (omega arith)) each
-
-    pub after_right : (place : ℕ) → at / 8 + (size + 7) / 8 ≤ place → place ≤ at / 8 + (size + 7) / 8 + 4 → IsBlockUpTo old now (at / 8 + (size + 7) / 8) →
-        IsFilled now next (at / 8 + (size + 7) / 8) place 0xfa → IsBlockUpTo old next place
-    after_right place le most upto each =
-        upto_fill old (λ g. block_byte at size g (old g)) now next (at / 8 + (size + 7) / 8) place 0xfa le upto (λ g low lt. block_right (old g) g low (omega arith)) each
+  -- the runs are set below a place, and so is the block
+  pub block_upto : (old now : ℕ → ℕ) (place : ℕ) → 4 ≤ at / 8 → at / 8 - 4 ≤ place → place ≤ at / 8 + (size + 7) / 8 + 4 →
+      ((g : ℕ) → now g ≡ cond (leb (at / 8 - 4) g && ltb g place) (span_byte (g - (at / 8 - 4))) (old g)) →
+      UpTo old (λ g. block_byte at size g (old g)) now place
+  block_upto old now place room low high each g =
+      elim (cases_lt g (at / 8 - 4)) [
+        | inl before ↦
+            let out : (leb (at / 8 - 4) g && ltb g place) ≡ false = grind (arith, nat_tests) in
+            let below : ltb g place ≡ true = grind (arith, nat_tests) in
+            each g ∙ rw (out, below, block_before (old g) g before) refl
+        | inr from_here ↦ elim (cases_lt g place) [
+          | inl inside ↦
+              let in_it : (leb (at / 8 - 4) g && ltb g place) ≡ true = grind (arith, nat_tests) in
+              let below : ltb g place ≡ true = grind (arith, nat_tests) in
+              each g ∙ rw (in_it, below, block_within (old g) g room from_here (omega arith)) refl
+          | inr past ↦
+              let out : (leb (at / 8 - 4) g && ltb g place) ≡ false = grind (arith, nat_tests) in
+              let below : ltb g place ≡ false = grind (arith, nat_tests) in
+              each g ∙ rw (out, below) refl
+        ]
+      ]

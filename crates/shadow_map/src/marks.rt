@@ -7,6 +7,7 @@ ghost use Rattle.shadow_map.specs.Granules.{block_byte, changed_byte};
 
 use crate::granule::{Change, GRANULE, HEAP_REDZONE, part};
 use crate::{NoMemory, Shadow};
+use page_table::Run;
 use std::alloc::Allocator;
 
 /// How many granules a redzone has.
@@ -74,12 +75,19 @@ impl<A: Allocator + Copy> Shadow<A> {
             else value_at self.old granule))) }
     {
         let first = at / GRANULE;
-        let whole = first + size / GRANULE;
-        let stop = first + size.div_ceil(GRANULE);
-        self.fill(first - REDZONE, first, HEAP_REDZONE)?;
-        self.fill(first, whole, 0)?;
-        self.fill(whole, stop, (size % GRANULE) as u8)?;
-        self.fill(stop, stop + REDZONE, HEAP_REDZONE)
+        let redzone = Run {
+            length: REDZONE,
+            byte: HEAP_REDZONE,
+        };
+        let whole = Run {
+            length: size / GRANULE,
+            byte: 0,
+        };
+        let part = Run {
+            length: size.div_ceil(GRANULE) - size / GRANULE,
+            byte: (size % GRANULE) as u8,
+        };
+        self.fill_runs(first - REDZONE, &[redzone, whole, part, redzone])
     }
 
     /// Changes a region: its whole granules by one fill, and a granule that lies there in part by itself.

@@ -1,0 +1,78 @@
+//! Runs beside a fill for each of them.
+ghost use Rattle.std.specs.Prelude.{◌≡◌, ◌+◌, ◌^◌, ◌≤◌};
+
+use super::*;
+use std::alloc::{AllocError, Global};
+use std::test::Fail;
+
+/// A run of `length` granules that get `byte`.
+fn run(length: u64, byte: u8) -> Run
+    ensures length { result.length ≡ length }
+{
+    Run { length, byte }
+}
+
+/// The first granule from two before one on at which two tables differ, of 22.
+fn difference(one: &PageTable, other: &PageTable, from: u64) -> Option<u64>
+    requires low { 2 ≤ from }
+    requires high { from + 20 ≤ 2 ^ 44 }
+{
+    for granule in from - 2..from + 20 {
+        if one.byte(granule) != other.byte(granule) {
+            return Some(granule);
+        }
+    }
+    None
+}
+
+/// Fills the same runs from a granule on, from the next and from the one after it: in nothing, and then in pages that have
+/// bytes of their own. Gives the first granule where it is not as if each run had been filled by itself.
+fn first_difference(alloc: Global, first: u64) -> Result<Option<u64>, AllocError>
+    requires low { 2 ≤ first }
+    requires high { first + 24 ≤ 2 ^ 44 }
+{
+    let mut one = PageTable::new(alloc);
+    let mut other = PageTable::new(alloc);
+    for from in first..first + 3 {
+        let redzone = run(4, 0xfa);
+        one.fill_runs(from, &[redzone, run(0, 1), run(9, 0), run(1, 5), redzone])?;
+        other.fill(from, from + 4, 0xfa)?;
+        other.fill(from + 4, from + 13, 0)?;
+        other.fill(from + 13, from + 14, 5)?;
+        other.fill(from + 14, from + 18, 0xfa)?;
+        if let Some(granule) = difference(&one, &other, from) {
+            return Ok(Some(granule));
+        }
+    }
+    Ok(None)
+}
+
+#[test]
+fn runs_are_fills(rt: HostRuntime) -> Result<(), Fail> {
+    // Within a page, over the ends of a page, of a group and of branches of each level, and before the end of the memory.
+    assert_eq!(rt;
+        [
+            first_difference(rt.alloc(), 0x20)?,
+            first_difference(rt.alloc(), (1 << 9) - 9)?,
+            first_difference(rt.alloc(), (1 << 12) - 9)?,
+            first_difference(rt.alloc(), (1 << 19) - 9)?,
+            first_difference(rt.alloc(), (1 << 26) - 9)?,
+            first_difference(rt.alloc(), (1 << 33) - 9)?,
+            first_difference(rt.alloc(), (1 << 40) - 9)?,
+            first_difference(rt.alloc(), (1 << 43) - 9)?,
+            first_difference(rt.alloc(), (1 << 44) - 24)?,
+        ],
+        [None; 9]
+    );
+    Ok(())
+}
+
+#[test]
+fn runs_without_granules(rt: HostRuntime) -> Result<(), Fail> {
+    let mut table = PageTable::new(rt.alloc());
+    table.fill_runs(1 << 44, &[])?;
+    table.fill_runs(1 << 44, &[run(0, 3), run(0, 5)])?;
+    table.fill_runs(0, &[run(0, 3), run(1 << 44, 5)])?;
+    assert_eq!(rt; [table.byte(0), table.byte((1 << 44) - 1)], [5, 5]);
+    Ok(())
+}
