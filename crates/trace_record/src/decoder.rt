@@ -1,4 +1,4 @@
-ghost use Rattle.std.specs.Prelude.{◌≡◌, ◌≢◌, ◌<◌, ◌≤◌, ◌↔◌, ◌⊎◌, ℕ, List, [], ◌++◌, length, slice_index, take, IsTrue, IsSome, IfSome, IfOk, Some, None};
+ghost use Rattle.std.specs.Prelude.{◌≡◌, ◌≢◌, ◌<◌, ◌≤◌, ◌↔◌, ◌⊎◌, ℕ, List, [], ◌∷◌, ◌++◌, length, slice_index, take, IsTrue, IsSome, IfSome, IfNone, IfOk, Some, None};
 ghost use Rattle.trace_record.specs.Ranges.{largest_limit};
 ghost use Rattle.trace_record.specs.Reading.{Says};
 ghost use Rattle.trace_record.specs.Spelling.{record_length, spelling};
@@ -56,6 +56,13 @@ pub struct Step {
     pub out: Out,
 }
 
+/// Events that were read ahead: how many they are, and how many bytes of the piece they used.
+#[derive(Clone, Copy, Debug, PartialEq, Eq)]
+pub struct Ahead {
+    pub count: usize,
+    pub used: usize,
+}
+
 impl Decoder {
     ghost use Rattle.trace_record.specs.Standing.{StandsAt, Answers, stop_of, end_of};
     ghost use Rattle.trace_record.specs.Stream.{Spells};
@@ -99,6 +106,35 @@ impl Decoder {
         // Taken apart and put together: else the answer would be copied through memory on the short way too.
         let Step { used, out } = self.next_apart(piece);
         Step { used, out }
+    }
+
+    /// Reads the whole good records that the piece begins with, and puts their events into the
+    /// front of `out`, as many as have room there. It stops before anything else: a record that the
+    /// piece cuts, a flaw, the close, or an event past the limit. Inside the header or a record,
+    /// and after a `Stop`, it reads none. What it leaves is for [`next`](Decoder::next).
+    pub fn next_events(&mut self, piece: &[u8], out: &mut [Event]) -> Ahead
+        ensures used { result.used ≤ length piece.now }
+        ensures room { length out.new ≡ length out.old }
+        ensures count { result.count ≤ length out.old }
+        ensures moved { 0 < result.count → 0 < result.used }
+        ensures limit { self.new.limit ≡ self.old.limit }
+        ensures stop { self.new.stop ≡ self.old.stop }
+        ensures answers { (text : List ℕ) (events : List Event) → StandsAt self.old text events →
+            StandsAt self.new (text ++ take result.used piece.now) (events ++ take result.count out.new) }
+    {
+        let mut count = 0;
+        let mut used = 0;
+        if self.is_between_records() {
+            while count < out.len() && used < piece.len() {
+                let Some(front) = self.take_good(&piece[used..]) else {
+                    break;
+                };
+                out[count] = front.event;
+                count += 1;
+                used += front.size;
+            }
+        }
+        Ahead { count, used }
     }
 
     /// The end where no more bytes come: `Truncated` inside the header or a record, and for an empty stream too, `NoClose`
@@ -304,6 +340,30 @@ impl Decoder {
         self.finish(said, size, size)
     }
 
+    /// Takes the record that begins with the piece, if it is whole and good, and the limit leaves
+    /// room for its event.
+    #[inline(always)]
+    fn take_good(&mut self, piece: &[u8]) -> Option<Front>
+        requires running { self.old.stop ≡ None }
+        requires in_records { 8 ≤ self.old.offset }
+        requires none_held { self.old.rest ≡ [] }
+        requires begun { 0 < length piece.now }
+        ensures none { IfNone result (self.new ≡ self.old) }
+        ensures between { (self.new.stop ≡ None) × (8 ≤ self.new.offset) × (self.new.rest ≡ []) }
+        ensures limit { self.new.limit ≡ self.old.limit }
+        ensures some { IfSome result (λ front. (0 < front.size) × (front.size ≤ length piece.now)
+            × ((text : List ℕ) (events : List Event) → StandsAt self.old text events →
+            StandsAt self.new (text ++ take front.size piece.now) (events ++ front.event ∷ []))) }
+    {
+        if self.events >= u64::from(self.limit) {
+            return None;
+        }
+        let front = read_front(piece)?;
+        self.events += 1;
+        self.offset += front.size as u64;
+        Some(front)
+    }
+
     /// Takes more bytes of the record that is held.
     fn take_more(&mut self, piece: &[u8]) -> Step
         requires running { self.old.stop ≡ None }
@@ -398,4 +458,41 @@ fn length_of(code: u8) -> usize
         FREE => PLACE_LENGTH,
         _ => 0,
     }
+}
+
+/// A whole good record: its event, and how many bytes it has.
+#[derive(Clone, Copy)]
+struct Front {
+    event: Event,
+    size: usize,
+}
+
+/// The record that these bytes begin with, if it is whole and good.
+#[inline(always)]
+fn read_front(bytes: &[u8]) -> Option<Front>
+    requires { 0 < length bytes.now }
+    ensures { IfSome result (λ front. (front.size ≤ length bytes.now)
+        × (take front.size bytes.now ≡ spelling front.event)) }
+{
+    match bytes[0] {
+        // Most records are these, and their length is a constant.
+        LOAD | STORE => read_whole(bytes, ACCESS_LENGTH),
+        code => read_whole(bytes, length_of(code)),
+    }
+}
+
+/// The record of `size` bytes that these begin with, if it is whole and good. No record has 0 bytes:
+/// that is the length of an unknown code.
+#[inline(always)]
+fn read_whole(bytes: &[u8], size: usize) -> Option<Front>
+    requires begun { 0 < length bytes.now }
+    requires size { size ≡ record_length (slice_index bytes.now 0) }
+    ensures { IfSome result (λ front. (front.size ≤ length bytes.now)
+        × (take front.size bytes.now ≡ spelling front.event)) }
+{
+    if size == 0 || bytes.len() < size {
+        return None;
+    }
+    let event = read_record(&bytes[..size]).ok()?;
+    Some(Front { event, size })
 }

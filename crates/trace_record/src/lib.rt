@@ -12,7 +12,7 @@ mod laws;
 #[cfg(test)]
 mod tests;
 
-pub use decoder::{Decoder, Out, Step};
+pub use decoder::{Ahead, Decoder, Out, Step};
 pub use encoding::encode;
 pub use end::{End, Fate, Flaw};
 pub use event::{Access, Event, Place, Region};
