@@ -89,8 +89,13 @@ impl<A: Allocator + Copy> Shadow<A> {
         requires { at < 2 ^ 47 }
         ensures { (marks : List Mark) → Shows self.now marks → result ≡ bad_byte_of (state_of marks) at size }
     {
+        let shadow = self.value_before_end(at / GRANULE);
+        // Most granules are addressable as a whole.
+        if shadow == 0 {
+            return None;
+        }
         let place = at % GRANULE;
-        let bad = place.max(front(self.value_before_end(at / GRANULE)) as u64);
+        let bad = place.max(front(shadow) as u64);
         if bad < place + size.min(GRANULE - place) {
             Some(at - place + bad)
         } else {
