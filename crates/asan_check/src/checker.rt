@@ -1,5 +1,5 @@
 //! The checker, which keeps the blocks and the shadow of a process and takes in its events.
-ghost use Rattle.std.specs.Prelude.{◌≡◌, ℕ, ◌+◌, ◌<◌, ◌≤◌, ◌^◌, ◌↔◌, List, [], ◌∷◌, ◌++◌, IfOk, IsErr, IsTrue, IsSomeAnd, OnOk, OnErr, true, false, not, length, None, Some, option_to_list};
+ghost use Rattle.std.specs.Prelude.{◌≡◌, ℕ, ◌+◌, ◌<◌, ◌≤◌, ◌^◌, ◌↔◌, List, [], ◌∷◌, ◌++◌, IfOk, IsErr, IsTrue, IsSomeAnd, OnOk, OnErr, true, false, not, length, take, reverse, None, Some, option_to_list};
 ghost use Rattle.trace_record.specs.declared.event.Event.{Event as AnEvent};
 ghost use Rattle.trace_record.specs.declared.event.Event.TheVariants as event;
 ghost use Rattle.trace_record.specs.declared.event.Place.{Place as APlace};
@@ -108,6 +108,41 @@ impl<A: Allocator + Copy> Checker<A> {
         };
         self.checked += 1;
         Ok(report)
+    }
+
+    /// Checks the loads and stores without a bad byte that the events begin with, and answers how
+    /// many they are. It does what [`step`](Checker::step) would do for each. Once a step has
+    /// failed, it checks none. There may be less than 2^64 events with those before.
+    pub fn pass(&mut self, events: &[Event]) -> usize
+        requires room { checked_of self.old + length events.now < 2 ^ 64 }
+        ensures most { result ≤ length events.now }
+        ensures stands { (bound : ℕ) (past : List AnEvent) → Stands bound self.old past →
+            Stands bound self.new (reverse (take result events.now) ++ past) }
+        ensures stays { has_failed self.old ≡ true → (result ≡ 0) × (self.new ≡ self.old) }
+        ensures count { checked_of self.new ≡ checked_of self.old + result }
+        ensures bound { bound_of self.new ≡ bound_of self.old }
+    {
+        let mut count = 0;
+        while count < events.len() && self.pass_one(&events[count]) {
+            count += 1;
+        }
+        count
+    }
+
+    /// Checks an event if it is a load or a store without a bad byte, and says whether it did.
+    #[inline(always)]
+    fn pass_one(&mut self, event: &Event) -> bool
+        requires room { checked_of self.old + 1 < 2 ^ 64 }
+        ensures stands { IsTrue result → (bound : ℕ) (past : List AnEvent) → Stands bound self.old past →
+            Stands bound self.new (event.now ∷ past) }
+        ensures count { IsTrue result → checked_of self.new ≡ checked_of self.old + 1 }
+        ensures running { IsTrue result → (has_failed self.old ≡ false) × (has_failed self.new ≡ false) }
+        ensures other { result ≡ false → self.new ≡ self.old }
+        ensures bound { bound_of self.new ≡ bound_of self.old }
+    {
+        let passed = !self.failed && self.is_good_access(event);
+        self.checked += u64::from(passed);
+        passed
     }
 
     /// How many events it has checked: those that were stepped without `Failed`.
