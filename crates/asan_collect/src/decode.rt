@@ -31,6 +31,12 @@ pub(crate) fn decode(decoder: &mut Decoder, piece: &[u8], events: &mut [Event]) 
 {
     let (mut used, mut count) = (0, 0);
     while count < events.len() {
+        let ahead = decoder.next_events(&piece[used..], &mut events[count..]);
+        used += ahead.used;
+        count += ahead.count;
+        if count == events.len() {
+            break;
+        }
         let step = decoder.next(&piece[used..]);
         used += step.used;
         match step.out {

@@ -1,9 +1,10 @@
 -- What a part more of a text does to where a decoder stands.
-use Rattle.std.proofs.Common.{◌≡◌, ◌≢◌, ℕ, ◌+◌, ◌<◌, ◌≤◌, false, List, [], ◌∷◌, ◌++◌, length, take, get_or, Some, refl, sym, ap, ◌∙◌, inl, inr, arith, append_assoc, length-append, eqb}
+use Rattle.std.proofs.Common.{◌≡◌, ◌≢◌, ℕ, ◌+◌, ◌<◌, ◌≤◌, false, List, [], ◌∷◌, ◌++◌, length, take, drop, get_or, Some, refl, sym, ap, ◌∙◌, inl, inr, arith, append_assoc, length-append, eqb}
 use Rattle.std.specs.List.{starts_with}
 use Rattle.std.proofs.lemmas.List.{append-nil, take_all, take_more, length-take}
 use Rattle.std.proofs.lemmas.Bool.{cases_Bool}
 use Rattle.std.proofs.lemmas.Bool.Decides.{nat_tests}
+use lib.Seq.{take-add}
 use lib.Pointwise.{pointwise, pointwise_long, bytes_decides}
 use Rattle.trace_record.specs.declared.event.Event.{Event}
 use Rattle.trace_record.specs.declared.end.Fate.TheVariants as fate
@@ -14,6 +15,10 @@ use Rattle.trace_record.specs.declared.fields.Fields.TheVariants as fields
 use Rattle.trace_record.specs.Spelling.{header, close, bytes_of, FitBytes, flaw_of, spellings, record_length}
 use Rattle.trace_record.specs.Stream.{IsInHeader, IsInRecords, IsUnfinished, MayFollow, offset_of, Spells, IsDecidedByLast}
 use Rattle.trace_record.specs.Standing.{Standing, StandsAt, end_of}
+
+-- some bytes of a piece, and some after them, behind what was read before
+pub joined : (text piece : List ℕ) (i n : ℕ) → (text ++ take i piece) ++ take n (drop i piece) ≡ text ++ take (i + n) piece
+joined text piece i n = append_assoc text (take i piece) (take n (drop i piece)) ∙ ap (λ (part : List ℕ). text ++ part) (sym (take-add i n piece))
 
 pub record_length-long : (code : ℕ) → record_length code ≢ 0 → 1 < record_length code
 record_length-long code not = grind (arith, nat_tests)

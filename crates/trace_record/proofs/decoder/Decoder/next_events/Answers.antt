@@ -1,15 +1,9 @@
-use Rattle.std.proofs.Common.{◌≡◌, ◌≤◌, ◌+◌, ℕ, List, [], ◌∷◌, ◌++◌, length, take, drop, sym, ap, ◌∙◌, subst, append_assoc, arith}
-use Rattle.std.proofs.lemmas.List.{take_rest, take_more_set, length-set, length-drop, drop-take, take-append-drop, take-take}
+use Rattle.std.proofs.Common.{◌≤◌, List, [], ◌∷◌, ◌++◌, length, take, drop, sym, ap, ◌∙◌, subst, append_assoc, arith}
+use Rattle.std.proofs.lemmas.List.{take_rest, take_more_set, length-set, length-drop}
 use Rattle.trace_record.specs.declared.event.Event.{Event}
 use Rattle.trace_record.specs.Standing.{Standing, StandsAt}
+use Rattle.trace_record.proofs.Steps.{joined}
 use Rattle.trace_record.proofs.decoder.Decoder.next_events.Goals as goal
-
--- what stands in front of a place, and some of what stands behind it
-two_parts : (text piece : List ℕ) (m n : ℕ) → (text ++ take m piece) ++ take n (drop m piece) ≡ text ++ take (m + n) piece
-two_parts text piece m n =
-    let front : take m (take (m + n) piece) ≡ take m piece = take-take m (m + n) piece (omega arith) in
-    let joined : take m piece ++ take n (drop m piece) ≡ take (m + n) piece = rw (← front, ← drop-take m n piece) (take-append-drop m (take (m + n) piece)) in
-    append_assoc text (take m piece) (take n (drop m piece)) ∙ ap (λ (p : List ℕ). text ++ p) joined
 
 pub loop-count-preserved : goal.loop-count-preserved
 loop-count-preserved c =
@@ -31,7 +25,7 @@ loop-count-preserved c =
       moved = λ _. (let some_size = some.0 in omega arith);
       answers = λ text events at.
           let told = some.2 (text ++ take c.loop-count.used piece) (events ++ take c.loop-count.count out) (was.answers text events at) in
-          let bytes = two_parts text piece c.loop-count.used front.size in
+          let bytes = joined text piece c.loop-count.used front.size in
           let more = append_assoc events (take c.loop-count.count out) (front.event ∷ []) ∙ ap (λ (es : List Event). events ++ es) (sym (take_more_set out c.loop-count.count front.event (omega arith))) in
           rw (bytes, more) at told;
     }
