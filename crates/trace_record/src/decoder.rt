@@ -112,6 +112,7 @@ impl Decoder {
     /// front of `out`, as many as have room there. It stops before anything else: a record that the
     /// piece cuts, a flaw, the close, or an event past the limit. Inside the header or a record,
     /// and after a `Stop`, it reads none. What it leaves is for [`next`](Decoder::next).
+    #[inline(never)]
     pub fn next_events(&mut self, piece: &[u8], out: &mut [Event]) -> Ahead
         ensures used { result.used ≤ length piece.now }
         ensures room { length out.new ≡ length out.old }

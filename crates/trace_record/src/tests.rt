@@ -53,6 +53,14 @@ fn read(alloc: Global, limit: u32, text: &[u8], cut: usize) -> Result<(Decoder, 
     Ok((decoder, events))
 }
 
+/// What a decoder that has read the header reads ahead of a piece, where four events have room.
+fn read_ahead(limit: u32, piece: &[u8]) -> Result<Ahead, Fail> {
+    let mut decoder = Decoder::new(limit).ok_or("no such limit")?;
+    let _ = decoder.next(&HEADER);
+    let mut events = [Event::Load(Access::new(0, 1)?); 4];
+    Ok(decoder.next_events(piece, &mut events))
+}
+
 /// The end of a stream of one record and the close.
 fn end_of_record(alloc: Global, record: &[u8]) -> Result<End, Fail> {
     let mut text = Vec::new(alloc);
@@ -146,6 +154,52 @@ fn record_limit(rt: HostRuntime) -> Result<(), Fail> {
         assert_eq!(rt; events.len(), 2);
         assert_eq!(rt; decoder.at_end(), want);
     }
+    Ok(())
+}
+
+#[test]
+fn whole_records_are_read_ahead(rt: HostRuntime) -> Result<(), Fail> {
+    let mut flawed = LOADS;
+    flawed[19] = 3;
+    let mut unknown = LOADS;
+    unknown[18] = 9;
+    let pieces: [(&[u8], u32, Ahead); 7] = [
+        (&LOADS[8..38], 1 << 24, Ahead { count: 3, used: 30 }),
+        (&LOADS[8..37], 1 << 24, Ahead { count: 2, used: 20 }),
+        (&LOADS[8..], 1 << 24, Ahead { count: 3, used: 30 }),
+        (&LOADS[8..], 2, Ahead { count: 2, used: 20 }),
+        (&flawed[8..], 1 << 24, Ahead { count: 1, used: 10 }),
+        (&unknown[8..], 1 << 24, Ahead { count: 1, used: 10 }),
+        (&LOADS[8..8], 1 << 24, Ahead { count: 0, used: 0 }),
+    ];
+    for (piece, limit, want) in pieces {
+        assert_eq!(rt; read_ahead(limit, piece)?, want);
+    }
+    Ok(())
+}
+
+#[test]
+fn reading_ahead_leaves_the_rest_for_next(rt: HostRuntime) -> Result<(), Fail> {
+    let malloc = Event::Malloc(Region::new(0x1000, 5)?);
+    let store = Event::Store(Access::new(0x1004, 4)?);
+    let load = Event::Load(Access::new(0, 1)?);
+    let none = Ahead { count: 0, used: 0 };
+    let mut decoder = Decoder::new(1 << 24).ok_or("no such limit")?;
+    let mut one = [load];
+    assert_eq!(rt; decoder.next_events(&STREAM, &mut one), none);
+    assert_eq!(rt; decoder.next(&HEADER).out, Out::Need);
+    let first = decoder.next_events(&STREAM[8..], &mut one);
+    assert_eq!(rt; first, Ahead { count: 1, used: 17 });
+    assert_eq!(rt; one, [malloc]);
+    assert_eq!(rt; decoder.next(&STREAM[25..30]).out, Out::Need);
+    let mut events = [load; 4];
+    assert_eq!(rt; decoder.next_events(&STREAM[30..], &mut events), none);
+    assert_eq!(rt; decoder.next(&STREAM[30..]).out, Out::Got(store));
+    assert_eq!(rt; decoder.next_events(&STREAM[35..], &mut events), none);
+    let closed = Out::Stop(end(Fate::Closed, 2, 36));
+    assert_eq!(rt; decoder.next(&STREAM[35..]).out, closed);
+    assert_eq!(rt; decoder.next_events(&STREAM[8..], &mut events), none);
+    assert_eq!(rt; decoder.next(&STREAM).out, closed);
     Ok(())
 }
 
