@@ -110,9 +110,10 @@ impl<A: Allocator + Copy> Checker<A> {
         Ok(report)
     }
 
-    /// Checks the loads and stores without a bad byte that the events begin with, and answers how
-    /// many they are. It does what [`step`](Checker::step) would do for each. Once a step has
-    /// failed, it checks none. There may be less than 2^64 events with those before.
+    /// Checks the loads and stores without a bad byte that the events begin with, as
+    /// [`step`](Checker::step) would, and answers how many they are. Once a step has failed, it
+    /// checks none. With those checked before, the events are fewer than 2^64.
+    #[inline(never)]
     pub fn pass(&mut self, events: &[Event]) -> usize
         requires room { checked_of self.old + length events.now < 2 ^ 64 }
         ensures most { result ≤ length events.now }
@@ -122,27 +123,15 @@ impl<A: Allocator + Copy> Checker<A> {
         ensures count { checked_of self.new ≡ checked_of self.old + result }
         ensures bound { bound_of self.new ≡ bound_of self.old }
     {
+        if self.failed {
+            return 0;
+        }
         let mut count = 0;
-        while count < events.len() && self.pass_one(&events[count]) {
+        while count < events.len() && self.is_good_access(&events[count]) {
             count += 1;
         }
+        self.checked += count as u64;
         count
-    }
-
-    /// Checks an event if it is a load or a store without a bad byte, and says whether it did.
-    #[inline(always)]
-    fn pass_one(&mut self, event: &Event) -> bool
-        requires room { checked_of self.old + 1 < 2 ^ 64 }
-        ensures stands { IsTrue result → (bound : ℕ) (past : List AnEvent) → Stands bound self.old past →
-            Stands bound self.new (event.now ∷ past) }
-        ensures count { IsTrue result → checked_of self.new ≡ checked_of self.old + 1 }
-        ensures running { IsTrue result → (has_failed self.old ≡ false) × (has_failed self.new ≡ false) }
-        ensures other { result ≡ false → self.new ≡ self.old }
-        ensures bound { bound_of self.new ≡ bound_of self.old }
-    {
-        let passed = !self.failed && self.is_good_access(event);
-        self.checked += u64::from(passed);
-        passed
     }
 
     /// How many events it has checked: those that were stepped without `Failed`.

@@ -1,5 +1,6 @@
 mod beside_the_model;
 mod model;
+mod passing;
 mod refusals;
 mod rows;
 
@@ -43,4 +44,10 @@ fn step<A: Allocator + Copy>(
 ) -> Result<Option<Report>, Failed> {
     assert!(rt; checker.checked() < u64::MAX);
     checker.step(event)
+}
+
+/// Passes what is good at the front of some events, which are fewer than the checker can count.
+fn pass<A: Allocator + Copy>(rt: &impl Abort, checker: &mut Checker<A>, events: &[Event]) -> usize {
+    assert!(rt; checker.checked() < u64::MAX - events.len() as u64);
+    checker.pass(events)
 }
