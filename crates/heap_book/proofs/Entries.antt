@@ -14,11 +14,12 @@ use Rattle.std.proofs.lemmas.List.Folds.{list_any-append}
 use Rattle.std.proofs.lemmas.List.Sorted.{IsPermutation-refl, IsPermutation-sym, IsPermutation-trans, IsPermutation-cons, IsPermutation-middle, IsPermutation-append_right, Contains-permutation, IsPermutation-to_front, list_any-IsPermutation, sum_by-IsPermutation}
 use Rattle.std.proofs.lemmas.List.Sums.{sum_by-cons, sum_by-append}
 use Rattle.std.proofs.lemmas.Map.Keys.{IsDistinct-cons, IsDistinct-IsPermutation}
-use Rattle.heap_book.specs.declared.spans.Slot.{Slot}
+use Rattle.line_map.specs.declared.mark.Slot.{Slot}
 use Rattle.heap_book.specs.Spans.{Extent, span_to, span_bytes, meets, starts_at}
 use Rattle.heap_book.specs.Slots.{block_of, blocks_of, live_of, freed_of, FollowFrom}
 use Rattle.heap_book.proofs.Permutations.{same, same-refl, same-true, IsPermutation-tail}
-use Rattle.heap_book.proofs.Following.{slot_at, block_in, at_self, at_true, some_is, found, total-follow, unmet-after}
+use Rattle.line_map.specs.Maps.{slot_at}
+use Rattle.heap_book.proofs.Following.{block_in, at_self, at_true, some_is, found, total-follow, unmet-after}
 use Rattle.heap_book.proofs.NeverMeet.{all-unmet, meets-flip}
 
 abbrev Entries : Type 0

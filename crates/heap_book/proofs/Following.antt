@@ -1,8 +1,8 @@
 -- The entries of a map whose spans follow one another.
-use Rattle.std.proofs.Common.{◌≡◌, ℕ, ◌+◌, ◌^◌, ◌<◌, ◌≤◌, Bool, true, false, cond, List, [], ◌∷◌, Option, Some, None, Ordering, refl, ap, arith, inl, inr}
+use Rattle.std.proofs.Common.{◌≡◌, ℕ, ◌+◌, ◌/◌, ◌^◌, ◌<◌, ◌≤◌, Bool, true, false, cond, List, [], ◌∷◌, Option, Some, None, Ordering, refl, ap, arith, inl, inr}
 use Rattle.std.specs.Prelude.{sum_by, IsSome}
 use Rattle.std.specs.List.{list_any}
-use Rattle.std.specs.Map.{lookup, remove_entry, set_value}
+use Rattle.std.specs.Map.{remove_entry, set_value}
 use Rattle.std.specs.BTreeMap.{is_at, insert_entry}
 use Rattle.std.specs.Ordering.{nat_cmp, match_ordering}
 use Rattle.std.specs.declared.cmp.Ordering.TheVariants as order
@@ -10,16 +10,13 @@ use Rattle.std.proofs.lemmas.Bool.{cases_lt, or_parts, or_from, or_left, or_righ
 use Rattle.std.proofs.lemmas.Bool.Decides.{nat_tests}
 use Rattle.std.proofs.lemmas.Grind.{common_steps}
 use Rattle.std.proofs.lemmas.List.Sums.{sum_by-cons}
-use Rattle.heap_book.specs.declared.spans.Slot.{Slot}
+use Rattle.line_map.specs.declared.mark.Slot.{Slot}
+use Rattle.line_map.specs.Maps.{slot_at}
 use Rattle.heap_book.specs.Spans.{Extent, IsPlaced, span_from, span_to, span_bytes, meets}
 use Rattle.heap_book.specs.Slots.{block_of, blocks_of, FollowFrom}
 
 abbrev Entries : Type 0
 Entries = List (ℕ × Slot)
-
--- the slot that the entries have at an address
-abbrev pub slot_at : Entries → ℕ → Option Slot
-slot_at es k = lookup (is_at (nat_cmp k)) es
 
 -- a block of a slot's size
 abbrev pub block_in : ℕ → Slot → Extent
@@ -165,6 +162,21 @@ pub absent : (b : Extent) (es : Entries) → list_any (meets b) (blocks_of es) �
 absent b es unmet = none_from (slot_at es b.at) (λ s is.
     let meet : meets b (block_in b.at s) ≡ true = grind (arith, nat_tests) in
     let any : list_any (meets b) (blocks_of es) ≡ true = met b b.at s es is meet in
+    cc)
+
+-- blocks that start less than 64 bytes apart meet
+near-meets : (b c : Extent) → IsPlaced b → IsPlaced c → c.at < b.at + 64 → b.at < c.at + 64 → meets b c ≡ true
+near-meets b c placed placed' near also = grind (arith, nat_tests)
+
+-- one whose span meets none has its line for itself
+pub alone : (b : Extent) (start : ℕ) (es : Entries) → IsPlaced b → FollowFrom start es → list_any (meets b) (blocks_of es) ≡ false
+    → (p : ℕ) → p / 64 ≡ b.at / 64 → slot_at es p ≡ None
+alone b start es placed follows unmet p line = none_from (slot_at es p) (λ s is.
+    let there = found start p s es is follows in
+    let near : p < b.at + 64 = omega arith in
+    let also : b.at < p + 64 = omega arith in
+    let meet : meets b (block_in p s) ≡ true = near-meets b (block_in p s) placed there.0 near also in
+    let any : list_any (meets b) (blocks_of es) ≡ true = met b p s es is meet in
     cc)
 
 -- ---- an entry that goes, or whose slot changes

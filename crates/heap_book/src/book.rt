@@ -1,3 +1,4 @@
+//! The book of a process's blocks.
 ghost use Rattle.std.specs.Prelude.{◌≡◌, ◌+◌, ◌^◌, ◌<◌, ◌≤◌, ◌↔◌, [], true, IsErr, IfOk, OnErr, IfSome, IfNone};
 ghost use Rattle.std.specs.List.{IsDistinct, list_any};
 ghost use Rattle.heap_book.specs.Spans.{Extent, held_of, may_be_admitted, meets, starts_at};
@@ -8,9 +9,10 @@ ghost use Rattle.heap_book.specs.Freed.{IsFreeAnswer, AfterFree};
 use crate::NoMemory;
 use crate::answers::{Admit, Bound, Freed};
 use crate::block::Block;
-use crate::spans::{Slot, is_free};
+use crate::spans::is_free;
+use line_map::{LineMap, Slot};
 use std::alloc::{Allocator, Global};
-use std::collections::{BTreeMap, VecDeque};
+use std::collections::VecDeque;
 use std::marker::Model;
 
 /// The greatest bound that a quarantine may have, in bytes of spans.
@@ -20,7 +22,7 @@ const MAX_BOUND: u64 = 1 << 40;
 #[derive(Drop)]
 pub struct Book<A: Allocator + Copy = Global> {
     /// The blocks that are live or in quarantine, by address.
-    blocks: BTreeMap<u64, Slot, A>,
+    blocks: LineMap<A>,
     /// Those in quarantine, with the one that was freed first in front.
     queue: VecDeque<Block, A>,
     /// How many bytes the spans of the queue have.
@@ -36,9 +38,9 @@ impl<A: Allocator + Copy> Model for Book<A> {
 
     ghost use Rattle.heap_book.specs.Slots.{live_of, IsKept};
 
-    ghost view = { λ b. record { live = live_of b.blocks.entries; queue = b.queue.items; bound = b.bound } };
+    ghost view = { λ b. record { live = live_of b.blocks; queue = b.queue.items; bound = b.bound } };
 
-    ghost invariant = { λ b. IsKept b.blocks.entries b.queue.items b.queued };
+    ghost invariant = { λ b. IsKept b.blocks b.queue.items b.queued };
 }
 
 impl<A: Allocator + Copy> Book<A> {
@@ -55,7 +57,7 @@ impl<A: Allocator + Copy> Book<A> {
             return Err(Bound);
         }
         Ok(Book {
-            blocks: BTreeMap::new(alloc),
+            blocks: LineMap::new(alloc),
             queue: VecDeque::new(alloc),
             queued: 0,
             bound,
@@ -105,7 +107,7 @@ impl<A: Allocator + Copy> Book<A> {
         if at == 0 {
             return Ok(Freed::Ignored);
         }
-        let Some(slot) = self.blocks.get_mut(&at) else {
+        let Some(slot) = self.blocks.get(at) else {
             return Ok(Freed::Stranger);
         };
         if !slot.live {
@@ -113,7 +115,13 @@ impl<A: Allocator + Copy> Book<A> {
         }
         let block = Block::from_parts(at, slot.size);
         self.queue.push_back(block)?;
-        slot.live = false;
+        self.blocks.set(
+            at,
+            Slot {
+                size: slot.size,
+                live: false,
+            },
+        );
         self.queued += block.to() - block.from();
         Ok(Freed::Held(block))
     }
@@ -135,7 +143,7 @@ impl<A: Allocator + Copy> Book<A> {
             return None;
         }
         let block = self.queue.pop_front()?;
-        self.blocks.remove(&block.at());
+        self.blocks.remove(block.at());
         self.queued -= block.to() - block.from();
         Some(block)
     }

@@ -1,4 +1,5 @@
-use Rattle.std.proofs.Common.{◌<◌, length, arith}
+use Rattle.std.proofs.Common.{◌≡◌, ◌<◌, ◌++◌, ◌∙◌, [], length, sym, ap, arith}
+use Rattle.std.proofs.lemmas.List.{append-nil, nil_from_length}
 use Rattle.std.proofs.lemmas.Bool.{false≢true}
 use Rattle.trace_lane.specs.Lanes.{taken_list, waiting, end_list}
 use Rattle.asan_collect.proofs.Draining.{taken_one}
@@ -22,3 +23,13 @@ loop-preserved g c =
           }
       | in_default w ↦ absurd (false≢true (rw w.in_default.is at (c.take.ensures.succeeds some)))
     ]
+
+pub returns : goal.returns
+returns g c =
+    let inv = c.loop.invariant in
+    let left = inv.left in
+    let over = c.loop-test.false in
+    let none : waiting c.loop.lane ≡ [] = nil_from_length (waiting c.loop.lane) (omega arith) in
+    let all : taken_list c.loop.lane ≡ end_list c.args.end =
+    sym (append-nil (taken_list c.loop.lane)) ∙ ap (λ rest. taken_list c.loop.lane ++ rest) (sym none) ∙ inv.whole in
+    rw (← all) inv.seen

@@ -2,7 +2,7 @@ use Rattle.std.proofs.Common.{◌≡◌, ◌<◌, ◌+◌, true, false, leb, ref
 use Rattle.std.specs.List.{list_any}
 use Rattle.std.proofs.lemmas.Bool.{cases_lt}
 use Rattle.std.proofs.lemmas.Bool.Decides.{nat_tests}
-use Rattle.heap_book.specs.declared.spans.Slot.{Slot}
+use Rattle.line_map.specs.declared.mark.Slot.{Slot}
 use Rattle.heap_book.specs.Spans.{Extent, IsPlaced, span_from, span_to, meets}
 use Rattle.heap_book.specs.Slots.{blocks_of}
 use Rattle.heap_book.proofs.Following.{met, unmet-last, unmet-none}
@@ -25,12 +25,12 @@ returns-in-Some g c =
     elim (cases_lt (span_from b) (span_to last)) [
       | inl lt ↦
           let meet : meets b last ≡ true = meets-past b last c.to.ensures.placed c.to-in-Some.ensures.placed (omega arith) lt in
-          let any : list_any (meets b) (blocks_of c.args.blocks.now.entries) ≡ true = met b last.at slot c.args.blocks.now.entries is.1 meet in
+          let any : list_any (meets b) (blocks_of c.args.blocks.now) ≡ true = met b last.at slot c.args.blocks.now is.1 meet in
           let test : leb c.to-in-Some.result c.from.result ≡ false = grind (arith, nat_tests) in
           rw (any, test) refl
       | inr le ↦
-          let any : list_any (meets b) (blocks_of c.args.blocks.now.entries) ≡ false =
-          unmet-last b 0 last.at slot c.args.blocks.now.entries is.1 (λ p lt some. c.in-Some.ensures.2 p (omega arith) some) le c.requires in
+          let any : list_any (meets b) (blocks_of c.args.blocks.now) ≡ false =
+          unmet-last b 0 last.at slot c.args.blocks.now is.1 (λ p lt some. c.in-Some.ensures.2 p (omega arith) some) le c.requires in
           let test : leb c.to-in-Some.result c.from.result ≡ true = grind (arith, nat_tests) in
           rw (any, test) refl
     ]
@@ -39,6 +39,6 @@ pub returns-in-None : goal.returns-in-None
 returns-in-None g c =
     let b : Extent = c.args.block.now in
     let end : c.to.result ≡ span_to b = c.to.ensures.to in
-    let any : list_any (meets b) (blocks_of c.args.blocks.now.entries) ≡ false =
-    unmet-none b 0 c.args.blocks.now.entries (λ p lt. c.in-None.ensures p (omega arith)) c.requires in
+    let any : list_any (meets b) (blocks_of c.args.blocks.now) ≡ false =
+    unmet-none b 0 c.args.blocks.now (λ p lt. c.in-None.ensures p (omega arith)) c.requires in
     rw any refl

@@ -1,0 +1,18 @@
+use Rattle.std.proofs.Common.{refl}
+use Rattle.std.proofs.lemmas.List.Sorted.{IsPermutation-refl}
+use Rattle.asan_check.proofs.checker.Checker.new.Goals as goal
+
+pub returns-clause-stands : goal.returns-clause-stands
+returns-clause-stands g c =
+    let book = c.in_ok-book.ensures.ok in
+    record {
+      running = refl;
+      shown = record {
+        shadow = c.new-2.ensures;
+        live_blocks = rw book (IsPermutation-refl _);
+        queue = rw book refl;
+        bound_is = rw book refl;
+      };
+      count = refl;
+      reports = c.new-3.ensures.items;
+    }

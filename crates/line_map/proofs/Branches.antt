@@ -1,0 +1,222 @@
+-- The marks of a branch by those of its sections.
+use Rattle.std.proofs.Common.{◌≡◌, ◌≢◌, ℕ, zero, suc, ◌+◌, ◌-◌, ◌*◌, ◌/◌, ◌%◌, ◌<◌, ◌≤◌, cond, eqb, true, false, List, [], ◌∷◌, ◌++◌, Option, Some, None, length, get_or, set, length-append, refl, sym, ap, ◌∙◌, arith, inl, inr}
+use Rattle.std.specs.Prelude.{map, nat_lt}
+use Rattle.std.proofs.lemmas.Bool.{cases_eq, cases_lt}
+use Rattle.std.proofs.lemmas.Bool.Decides.{nat_tests}
+use Rattle.std.proofs.lemmas.List.{get_or-map, get_or-set_same, get_or-set_other, get_or_past, get_or_append_left, get_or_default, map-set, length-set, length-map}
+use Rattle.std.proofs.Math.Seq.{get_or-append_seam}
+use Rattle.std.proofs.lemmas.Nat.{div-mul-add, mod-mul-add, div-add-mod'}
+use Rattle.std.proofs.Math.Nat.{mod-lt, mul-le-mul_right}
+use Rattle.line_map.specs.declared.mark.Mark.{Mark}
+use Rattle.line_map.specs.Sections.{IsPut, IsLastBelow}
+use Rattle.line_map.specs.Branches.{sections_mark}
+
+-- ---- a line of the branch, and the same line within its section
+same_line : (width line index : ℕ) → index / width ≡ line / width → eqb (index % width) (line % width) ≡ eqb index line
+same_line width line index same =
+    let split : line / width * width + line % width ≡ line = div-add-mod' line width in
+    let also : line / width * width + index % width ≡ index = rw (← same) (div-add-mod' index width) in
+    grind (arith, nat_tests)
+
+other_line : (width line index : ℕ) → index / width ≢ line / width → eqb index line ≡ false
+other_line width line index other =
+    elim (cases_eq index line) [
+      | inl same ↦ absurd (other (ap (λ i. i / width) same))
+      | inr apart ↦ grind (arith, nat_tests)
+    ]
+
+-- ---- whole sections
+pub within : (place width line : ℕ) → place * width ≤ line → line < place * width + width → line / width ≡ place
+within place width line low high =
+    let rest : line ≡ place * width + (line - place * width) = omega arith in
+    ap (λ i. i / width) rest ∙ div-mul-add place width (line - place * width) (omega arith)
+
+pub one_less : (place width : ℕ) → 0 < place → (place - 1) * width + width ≡ place * width
+one_less zero width lt = absurd (omega arith)
+one_less (suc place) width lt =
+    let less : suc place - 1 ≡ place = omega arith in
+    rw less (omega arith)
+
+pub one_lower : (first place width : ℕ) → 0 < place → (first + (place - 1)) * width + width ≡ (first + place) * width
+one_lower first place width lt =
+    let less : first + (place - 1) ≡ (first + place) - 1 = omega arith in
+    rw less (one_less (first + place) width (omega arith))
+
+pub reached : (number width line : ℕ) → number ≤ line / width → number * width ≤ line
+reached number width line le =
+    let split : line / width * width + line % width ≡ line = div-add-mod' line width in
+    let more : number * width ≤ line / width * width = mul-le-mul_right width le in
+    omega arith
+
+pub whole : (count width line : ℕ) → 0 < width → count * width ≤ line → count ≤ line / width
+whole count width line positive le =
+    elim (cases_lt (line / width) count) [
+      | inl lt ↦
+          let split : line / width * width + line % width ≡ line = div-add-mod' line width in
+          let rest : line % width < width = mod-lt line positive in
+          let more : (line / width + 1) * width ≤ count * width = mul-le-mul_right width (omega arith) in
+          absurd (omega arith)
+      | inr ge ↦ ge
+    ]
+
+-- ---- the last mark, where the lines above an end have none
+pub raised : (marks : ℕ → Option Mark) (low end : ℕ) (result : Option (ℕ × Mark)) → low ≤ end →
+    ((line : ℕ) → low ≤ line → line < end → marks line ≡ None) → IsLastBelow marks low result → IsLastBelow marks end result
+raised marks low end None le none last = λ line lt.
+    elim (cases_lt line low) [
+      | inl below ↦ last line below
+      | inr above ↦ none line above lt
+    ]
+raised marks low end (Some found) le none last = (
+  let below = last.0 in omega arith,
+  last.1,
+  λ line past lt.
+      elim (cases_lt line low) [
+        | inl below ↦ last.2 line past below
+        | inr above ↦ none line above lt
+      ],
+)
+
+-- ---- the mark of a line, by the section in which it lies
+module _ {S : Type 0} (mark_at : S → ℕ → Option Mark) (width first : ℕ) (sections : List S) where
+  abbrev marks : ℕ → Option Mark
+  marks line = sections_mark mark_at width first sections line
+
+  -- a section that is kept
+  pub kept_mark : (place line : ℕ) (section : S) → place < length sections → section ≡ get_or sections place section → line / width ≡ first + place →
+      marks line ≡ mark_at section (line % width)
+  kept_mark place line section lt is same =
+      let there : S → Option Mark = λ section. mark_at section (line % width) in
+      let no : nat_lt (line / width) first ≡ false = grind (arith, nat_tests) in
+      let at : line / width - first ≡ place = omega arith in
+      rw (no, at) (get_or-map there sections place section None lt ∙ ap there (sym is))
+
+  -- one below those that are kept
+  pub below_mark : (line : ℕ) → line / width < first → marks line ≡ None
+  below_mark line lt =
+      let yes : nat_lt (line / width) first ≡ true = grind (arith, nat_tests) in
+      rw yes refl
+
+  -- one above them
+  pub above_mark : (line : ℕ) → first + length sections ≤ line / width → marks line ≡ None
+  above_mark line le =
+      let there : S → Option Mark = λ section. mark_at section (line % width) in
+      let no : nat_lt (line / width) first ≡ false = grind (arith, nat_tests) in
+      let len : length (map there sections) ≡ length sections = length-map sections there in
+      rw no (get_or_past (map there sections) (line / width - first) None (omega arith))
+
+  -- ---- the last mark of a section, as one of the branch
+  module _ (place : ℕ) (section : S) (positive : 0 < width) (kept : place < length sections) (is : section ≡ get_or sections place section) where
+    pub none_below : (end : ℕ) → end ≤ width → IsLastBelow (mark_at section) end None →
+        (line : ℕ) → (first + place) * width ≤ line → line < (first + place) * width + end → marks line ≡ None
+    none_below end most none line low high =
+        let here : line / width ≡ first + place = within (first + place) width line low (omega arith) in
+        let split : line / width * width + line % width ≡ line = div-add-mod' line width in
+        let same : line / width * width ≡ (first + place) * width = ap (λ i. i * width) here in
+        kept_mark place line section kept is here ∙ none (line % width) (omega arith)
+
+    pub last_below : (end : ℕ) (found : ℕ × Mark) → end ≤ width → IsLastBelow (mark_at section) end (Some found) →
+        IsLastBelow marks ((first + place) * width + end) (Some ((first + place) * width + found.0, found.1))
+    last_below end found most last =
+        let below : found.0 < end = last.0 in
+        let here : ((first + place) * width + found.0) / width ≡ first + place = div-mul-add (first + place) width found.0 (omega arith) in
+        let rest : ((first + place) * width + found.0) % width ≡ found.0 = mod-mul-add (first + place) width found.0 (omega arith) in (
+          omega arith,
+          kept_mark place ((first + place) * width + found.0) section kept is here ∙ rw rest last.1,
+          λ line past lt.
+              let there : line / width ≡ first + place = within (first + place) width line (omega arith) (omega arith) in
+              let split : line / width * width + line % width ≡ line = div-add-mod' line width in
+              let same : line / width * width ≡ (first + place) * width = ap (λ i. i * width) there in
+              kept_mark place line section kept is there ∙ last.2 (line % width) (omega arith) (omega arith),
+        )
+
+module _ {S : Type 0} (mark_at : S → ℕ → Option Mark) (width first : ℕ) (sections : List S) where
+  abbrev old : ℕ → Option Mark
+  old line = sections_mark mark_at width first sections line
+
+  -- ---- one section is another now
+  module _ (place : ℕ) (new : S) (lt : place < length sections) where
+    abbrev now : ℕ → Option Mark
+    now line = sections_mark mark_at width first (set sections place new) line
+
+    here_mark : (line : ℕ) → line / width ≡ first + place → now line ≡ mark_at new (line % width)
+    here_mark line same =
+        kept_mark mark_at width first (set sections place new) place line new (rw length-set lt) (sym (get_or-set_same sections place new new lt)) same
+
+    other_mark : (line : ℕ) → line / width ≢ first + place → now line ≡ old line
+    other_mark line other =
+        elim (cases_lt (line / width) first) [
+          | inl below ↦ below_mark mark_at width first (set sections place new) line below ∙ sym (below_mark mark_at width first sections line below)
+          | inr above ↦
+              let there : S → Option Mark = λ section. mark_at section (line % width) in
+              let no : nat_lt (line / width) first ≡ false = grind (arith, nat_tests) in
+              rw no
+              (ap (λ (marks : List (Option Mark)). get_or marks (line / width - first) None) (map-set there sections place new)
+              ∙ get_or-set_other (map there sections) place (line / width - first) (there new) None (omega arith))
+        ]
+
+    -- one line of it is given a mark, or loses its own
+    pub section_put : (line : ℕ) (mark : Option Mark) (section : S) → 0 < width → line / width ≡ first + place → section ≡ get_or sections place section →
+        IsPut width (mark_at section) (mark_at new) (line % width) mark → (index : ℕ) → now index ≡ cond (eqb index line) mark (old index)
+    section_put line mark section positive here is put index =
+        elim (cases_eq (index / width) (line / width)) [
+          | inl same ↦
+              let was : old index ≡ mark_at section (index % width) = kept_mark mark_at width first sections place index section lt is (same ∙ here) in
+              here_mark index (same ∙ here) ∙ put (index % width) (mod-lt index positive) ∙ rw (was, same_line width line index same) refl
+          | inr other ↦ rw (other_line width line index other) (other_mark index (λ same. other (same ∙ sym here)))
+        ]
+
+    -- its marks are what they were
+    pub section_same : (section : S) → section ≡ get_or sections place section → ((line : ℕ) → mark_at new line ≡ mark_at section line) →
+        (line : ℕ) → now line ≡ old line
+    section_same section is same line =
+        elim (cases_eq (line / width) (first + place)) [
+          | inl here ↦ here_mark line here ∙ same (line % width) ∙ sym (kept_mark mark_at width first sections place line section lt is here)
+          | inr other ↦ other_mark line other
+        ]
+
+  -- ---- one section more is kept, which has no marks
+  module _ (section : S) (none : (line : ℕ) → mark_at section line ≡ None) where
+    -- above the others
+    pub pushed : (line : ℕ) → sections_mark mark_at width first (sections ++ section ∷ []) line ≡ old line
+    pushed line =
+        elim (cases_lt (line / width) first) [
+          | inl below ↦ below_mark mark_at width first (sections ++ section ∷ []) line below ∙ sym (below_mark mark_at width first sections line below)
+          | inr above ↦
+              let len : length (sections ++ section ∷ []) ≡ length sections + 1 = length-append sections (section ∷ []) in
+              elim (cases_lt (line / width) (first + length sections)) [
+                | inl kept ↦
+                    let place : ℕ = line / width - first in
+                    let lt : place < length sections = omega arith in
+                    let at : line / width ≡ first + place = omega arith in
+                    let had : S = get_or sections place section in
+                    let is : had ≡ get_or sections place had = get_or_default sections place section had lt in
+                    kept_mark mark_at width first (sections ++ section ∷ []) place line had (omega arith)
+                    (is ∙ sym (get_or_append_left sections (section ∷ []) had place lt)) at
+                    ∙ sym (kept_mark mark_at width first sections place line had lt is at)
+                | inr past ↦
+                    elim (cases_eq (line / width) (first + length sections)) [
+                      | inl same ↦
+                          kept_mark mark_at width first (sections ++ section ∷ []) (length sections) line section (omega arith) (sym (get_or-append_seam sections section [] section)) same
+                          ∙ none (line % width) ∙ sym (above_mark mark_at width first sections line past)
+                      | inr other ↦ above_mark mark_at width first (sections ++ section ∷ []) line (omega arith) ∙ sym (above_mark mark_at width first sections line past)
+                    ]
+              ]
+        ]
+
+    -- below the others
+    pub fronted : 0 < first → (line : ℕ) → sections_mark mark_at width (first - 1) (section ∷ sections) line ≡ old line
+    fronted positive line =
+        elim (cases_lt (line / width) first) [
+          | inl below ↦
+              (elim (cases_lt (line / width) (first - 1)) [
+                | inl low ↦ below_mark mark_at width (first - 1) (section ∷ sections) line low
+                | inr high ↦ kept_mark mark_at width (first - 1) (section ∷ sections) 0 line section (omega arith) refl (omega arith) ∙ none (line % width)
+              ]) ∙ sym (below_mark mark_at width first sections line below)
+          | inr above ↦
+              let there : S → Option Mark = λ section. mark_at section (line % width) in
+              let no : nat_lt (line / width) first ≡ false = grind (arith, nat_tests) in
+              let also : nat_lt (line / width) (first - 1) ≡ false = grind (arith, nat_tests) in
+              let next : line / width - (first - 1) ≡ suc (line / width - first) = omega arith in
+              rw (no, also, next) refl
+        ]

@@ -1,0 +1,19 @@
+//! A map from addresses to slots, with at most one slot in each line of 64 bytes.
+//!
+//! A line is 64 bytes side by side: line `l` has the addresses from `64 * l` on. A leaf has 64
+//! lines side by side, and is found through a tree, seven branches deep, by the number of a line.
+//! One way down this tree finds the slot at an address, or the last one before an address, or the
+//! place for a new one. A leaf or a branch without slots takes no memory.
+#![tactic(auto)]
+
+mod branch;
+mod leaf;
+mod map;
+mod mark;
+mod section;
+#[cfg(test)]
+mod tests;
+mod tree;
+
+pub use map::LineMap;
+pub use mark::Slot;

@@ -1,0 +1,138 @@
+//! The map: slots by address.
+ghost use Rattle.std.specs.Prelude.{◌≡◌, ℕ, ◌/◌, ◌^◌, ◌<◌, None, Some, [], IsSome, OnOk, OnErr};
+ghost use Rattle.std.specs.Map.{lookup, set_value, remove_entry};
+ghost use Rattle.std.specs.BTreeMap.{insert_entry, is_at};
+ghost use Rattle.std.specs.Ordering.{nat_cmp};
+ghost use Rattle.line_map.specs.Maps.{slot_at, IsLastBefore};
+
+use crate::mark::{Mark, Slot};
+use crate::tree::Tree;
+use std::alloc::{AllocError, Allocator, Global};
+use std::marker::Model;
+
+/// How many bytes a line has.
+const LINE: u64 = 64;
+
+/// How many lines a map has.
+const ALL: u64 = 1 << 41;
+
+/// Slots by address, at most one in each line of 64 bytes. Contracts see a map as the list of its
+/// addresses and their slots, in the order of the addresses.
+///
+/// A map without slots takes no memory. The first slot that is put into one takes 848 bytes: its
+/// leaf, and room for one section in each branch over the leaf. Any other takes at most 1,840
+/// bytes: room for 32 sections in one branch, and the branches below it and a leaf, which are new.
+#[derive(Drop)]
+pub struct LineMap<A: Allocator + Copy = Global> {
+    tree: Tree<A>,
+    alloc: A,
+}
+
+impl<A: Allocator + Copy> Model for LineMap<A> {
+    ghost use Rattle.std.specs.Prelude.{ℕ, List};
+    ghost use Rattle.line_map.specs.declared.mark.Slot.{Slot};
+
+    ghost Value = { List (ℕ × Slot) };
+
+    ghost use Rattle.line_map.specs.Entries.{entries_of, AreInLine};
+    ghost use Rattle.line_map.specs.Trees.{tree_mark};
+
+    ghost view = { λ m. entries_of (tree_mark m.tree) };
+
+    ghost invariant = { λ m. AreInLine (tree_mark m.tree) };
+}
+
+impl<A: Allocator + Copy> LineMap<A> {
+    /// The map without slots. Takes no memory.
+    pub fn new(alloc: A) -> LineMap<A>
+        ensures { result ≡ [] }
+    {
+        LineMap {
+            tree: Tree::empty(alloc),
+            alloc,
+        }
+    }
+
+    /// The slot at an address, which may be any number.
+    #[inline]
+    pub fn get(&self, at: u64) -> Option<Slot>
+        ensures { result ≡ slot_at self.now at }
+    {
+        let tree = &self.tree;
+        let line = at / LINE;
+        if line >= ALL {
+            return None;
+        }
+        match tree.get(line) {
+            Some(mark) => {
+                if u64::from(mark.offset) == at % LINE {
+                    Some(mark.slot)
+                } else {
+                    None
+                }
+            }
+            None => None,
+        }
+    }
+
+    /// The last slot before an address, with its own address: of those at addresses below `end`,
+    /// the one at the greatest.
+    #[inline]
+    pub fn last_before(&self, end: u64) -> Option<(u64, Slot)>
+        ensures { IsLastBefore self.now end result }
+    {
+        let lines = end.div_ceil(LINE).min(ALL);
+        match self.tree.last(lines) {
+            Some((line, mark)) => {
+                let at = line * LINE + u64::from(mark.offset);
+                if at < end {
+                    return Some((at, mark.slot));
+                }
+                match self.tree.last(line) {
+                    Some((before, mark)) => {
+                        Some((before * LINE + u64::from(mark.offset), mark.slot))
+                    }
+                    None => None,
+                }
+            }
+            None => None,
+        }
+    }
+
+    /// Puts a slot at an address below 2^47, in whose line there is none.
+    ///
+    /// # Errors
+    ///
+    /// `AllocError` if memory is refused. The map is then as it was.
+    #[inline]
+    pub fn insert(&mut self, at: u64, slot: Slot) -> Result<(), AllocError>
+        requires within { at < 2 ^ 47 }
+        requires alone { (other : ℕ) → other / 64 ≡ at / 64 →
+            slot_at self.old other ≡ None }
+        ensures ok { OnOk result (self.new ≡ insert_entry nat_cmp self.old at slot) }
+        ensures err { OnErr result (self.new ≡ self.old) }
+    {
+        let offset = (at % LINE) as u8;
+        self.tree.put(self.alloc, at / LINE, Mark { offset, slot })
+    }
+
+    /// Puts another slot at an address that has one. Takes no memory.
+    #[inline]
+    pub fn set(&mut self, at: u64, slot: Slot)
+        requires { IsSome (slot_at self.old at) }
+        ensures { self.new ≡ set_value (is_at (nat_cmp at)) self.old slot }
+    {
+        let offset = (at % LINE) as u8;
+        self.tree.set(at / LINE, Mark { offset, slot });
+    }
+
+    /// Takes out the slot at an address that has one. Gives back the memory of the leaf and the
+    /// branches that have no slots then.
+    #[inline]
+    pub fn remove(&mut self, at: u64)
+        requires { IsSome (slot_at self.old at) }
+        ensures { self.new ≡ remove_entry (is_at (nat_cmp at)) self.old }
+    {
+        self.tree.remove(self.alloc, at / LINE);
+    }
+}

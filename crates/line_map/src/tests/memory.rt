@@ -1,0 +1,142 @@
+//! What a call asks memory for, and that it is given back.
+ghost use Rattle.std.specs.Prelude.{◌^◌, ◌≤◌};
+
+use super::{WIDTHS, insert, live, remove};
+use crate::LineMap;
+use refuser::Refuser;
+use std::alloc::{AllocError, Allocator};
+use std::test::Fail;
+
+/// How many levels of branches a map has.
+const LEVELS: u64 = 7;
+
+/// How many sections a branch has room for at most.
+const SECTIONS: u64 = 32;
+
+/// How many bytes the marks of a leaf have: for each of its 64 lines 8 of a size, and 2 more.
+const MARKS: u64 = 640;
+
+/// How many bytes a section takes besides its own, in these tests: those of a handle on the test's
+/// allocator. The handle on the program's has none.
+const HANDLE: u64 = 8;
+
+/// How many bytes a leaf takes in the branch over it.
+const LEAF: u64 = 16 + HANDLE;
+
+/// How many bytes a branch takes in the branch over it.
+const BRANCH: u64 = 32 + HANDLE;
+
+/// The last line.
+const END: u64 = (1 << 47) - 64;
+
+/// How many bytes a new leaf asks for, and that many levels of new branches over it.
+fn chain(levels: u64) -> u64
+    requires { levels ≤ 7 }
+    ensures { result ≤ 2 ^ 16 }
+{
+    if levels == 0 {
+        MARKS
+    } else {
+        MARKS + LEAF + (levels - 1) * BRANCH
+    }
+}
+
+/// How many requests for memory it takes to put a slot at an address, and for how many bytes.
+fn asked<B: Allocator>(
+    heap: &Refuser<B>,
+    map: &mut LineMap<&Refuser<B>>,
+    at: u64,
+) -> Result<(u64, u64), AllocError> {
+    let (requests, bytes) = (heap.requests_made(), heap.bytes_asked());
+    insert(map, at, live(8))?;
+    Ok((
+        heap.requests_made().wrapping_sub(requests),
+        heap.bytes_asked().wrapping_sub(bytes),
+    ))
+}
+
+#[test]
+fn memory_of_a_lone_slot(rt: HostRuntime) -> Result<(), Fail> {
+    for width in WIDTHS {
+        for at in [width.saturating_sub(64), width.min(END)] {
+            let heap = Refuser::new(rt.alloc(), 0);
+            let mut map = LineMap::new(&heap);
+            assert_eq!(rt; asked(&heap, &mut map, at)?, (LEVELS + 1, chain(LEVELS)));
+        }
+    }
+    assert_eq!(rt; chain(LEVELS), 848 + LEVELS * HANDLE);
+    Ok(())
+}
+
+#[test]
+fn memory_of_a_slot_past_an_end(rt: HostRuntime) -> Result<(), Fail> {
+    for levels in 0..LEVELS {
+        // The line before an end of nodes of a level has a slot. The line after it asks for a leaf
+        // and a branch of each level below the node that has both, and that one makes room for a
+        // second section.
+        let end = WIDTHS[(levels + 1) as usize];
+        let section = if levels == 0 { LEAF } else { BRANCH };
+        let heap = Refuser::new(rt.alloc(), 0);
+        let mut map = LineMap::new(&heap);
+        asked(&heap, &mut map, end.saturating_sub(64))?;
+        assert_eq!(rt;
+            asked(&heap, &mut map, end)?,
+            (levels + 2, 2 * section + chain(levels)),
+            "levels {levels}"
+        );
+        assert_eq!(rt; asked(&heap, &mut map, end.saturating_add(64))?, (0, 0));
+    }
+    Ok(())
+}
+
+#[test]
+fn memory_of_a_slot_that_makes_a_branch_grow(rt: HostRuntime) -> Result<(), Fail> {
+    // One slot is in the first section of the branch over all the others, and one in its last.
+    for (first, second) in [(0, END), (END, 0)] {
+        let heap = Refuser::new(rt.alloc(), 0);
+        let mut map = LineMap::new(&heap);
+        asked(&heap, &mut map, first)?;
+        assert_eq!(rt;
+            asked(&heap, &mut map, second)?,
+            (LEVELS + 1, SECTIONS * BRANCH + chain(LEVELS - 1))
+        );
+    }
+    assert_eq!(rt;
+        SECTIONS * BRANCH + chain(LEVELS - 1),
+        1_840 + (SECTIONS + LEVELS - 1) * HANDLE
+    );
+    Ok(())
+}
+
+#[test]
+fn memory_of_what_has_no_slots_is_given_back(rt: HostRuntime) -> Result<(), Fail> {
+    let heap = Refuser::new(rt.alloc(), 0);
+    let mut map = LineMap::new(&heap);
+    asked(&heap, &mut map, 0x1000)?;
+    asked(&heap, &mut map, 0x2000)?;
+    // A leaf that had one slot is asked for again, and so is the way to the only one.
+    remove(&mut map, 0x2000);
+    assert_eq!(rt; asked(&heap, &mut map, 0x2000)?, (1, MARKS));
+    remove(&mut map, 0x1000);
+    remove(&mut map, 0x2000);
+    assert_eq!(rt;
+        asked(&heap, &mut map, 0x1000)?,
+        (LEVELS + 1, chain(LEVELS))
+    );
+    Ok(())
+}
+
+#[test]
+fn memory_of_a_refused_slot_is_given_back(rt: HostRuntime) -> Result<(), Fail> {
+    for turn in 1..=LEVELS + 1 {
+        let heap = Refuser::new(rt.alloc(), turn);
+        let mut map = LineMap::new(&heap);
+        assert!(rt; asked(&heap, &mut map, 0x1000).is_err(), "turn {turn}");
+        assert_eq!(rt;
+            asked(&heap, &mut map, 0x1000)?,
+            (LEVELS + 1, chain(LEVELS)),
+            "turn {turn}"
+        );
+    }
+    Ok(())
+}
