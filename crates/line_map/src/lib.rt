@@ -2,8 +2,9 @@
 //!
 //! A line is 64 bytes side by side: line `l` has the addresses from `64 * l` on. A leaf has 64
 //! lines side by side, and is found through a tree, seven branches deep, by the number of a line.
-//! One way down this tree finds the slot at an address, or the last one before an address, or the
-//! place for a new one. A leaf or a branch without slots takes no memory.
+//! One way down this tree finds the slot at an address, or the place for a new one, or the last
+//! slot before an address; a second way down is needed only where the address lies in a line whose
+//! slot is not before it. A leaf or a branch without slots holds no memory of its own.
 #![tactic(auto)]
 
 mod branch;

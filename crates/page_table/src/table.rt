@@ -79,8 +79,8 @@ impl<A: Allocator + Copy> PageTable<A> {
     }
 
     /// Sets the bytes of the granules from one on, run after run. It takes no more memory than a fill for each run does,
-    /// and is faster where all runs lie in one group. Where memory is refused, the granules below some place are set, and
-    /// the others are as they were.
+    /// and is faster where all runs lie in one page that has bytes of its own. Where memory is refused, the granules
+    /// below some place are set, and the others are as they were.
     #[tactic(auto, unfolding(crate::specs::Tables::byte_of))]
     pub fn fill_runs(&mut self, from: u64, runs: &[Run]) -> Result<(), AllocError>
         requires end { from + length_of runs.now ≤ 2 ^ 44 }
