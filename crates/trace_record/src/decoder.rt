@@ -122,6 +122,8 @@ impl Decoder {
         ensures stop { self.new.stop ≡ self.old.stop }
         ensures answers { (text : List ℕ) (events : List Event) → StandsAt self.old text events →
             StandsAt self.new (text ++ take result.used piece.now) (events ++ take result.count out.new) }
+        ensures stopped { IfSome self.old.stop
+            (λ _. (result ≡ record { count = 0; used = 0 }) × (self.new ≡ self.old)) }
     {
         let mut count = 0;
         let mut used = 0;
