@@ -1,10 +1,11 @@
 -- Where a decoder stands in a text, and what its answers say.
-use Rattle.std.specs.Prelude.{◌≡◌, ℕ, ◌+◌, List, [], ◌∷◌, ◌++◌, length, Option, Some, None}
+use Rattle.std.specs.Prelude.{◌≡◌, ℕ, ◌+◌, ◌<◌, ◌≤◌, List, [], ◌∷◌, ◌++◌, length, take, Option, Some, None}
 use Rattle.trace_record.specs.declared.event.Event.{Event}
 use Rattle.trace_record.specs.declared.end.End.{End}
 use Rattle.trace_record.specs.declared.end.Fate.{Fate}
 use Rattle.trace_record.specs.declared.decoder.Out.{Out}
 use Rattle.trace_record.specs.declared.decoder.Out.TheVariants as out
+use Rattle.trace_record.specs.declared.decoder.Step.{Step}
 use Rattle.trace_record.specs.Stream.{IsOpenWith, IsDecidedFate, IsDecidedByLast, Spells, offset_of, close_length}
 
 -- what a contract sees of a decoder: its event limit, the counts of good events and of the bytes of header and good
@@ -40,3 +41,14 @@ Answers d text events (out.Got e) = StandsAt d text (events ++ e ∷ []) × (d.r
 Answers d text events out.Need = StandsAt d text events
 Answers d text events (out.Stop end) =
     Spells d.limit text events end × IsDecidedFate end.fate × IsDecidedByLast d.limit text events
+
+-- what one call does with a piece: how much of it is used, that an event or an end is given only for some of its bytes,
+-- and that the decoder then stands where its answer says
+pub record Takes (old new : Standing) (piece : List ℕ) (step : Step) : Type 0 where
+  pub used : step.used ≤ length piece
+  pub got : (event : Event) → step.out ≡ out.Got event → 0 < step.used
+  pub ended : (end : End) → old.stop ≡ None → step.out ≡ out.Stop end → 0 < step.used
+  pub limit : new.limit ≡ old.limit
+  pub stop : new.stop ≡ stop_of step.out
+  pub answers : (text : List ℕ) (events : List Event) → StandsAt old text events →
+      Answers new (text ++ take step.used piece) events step.out

@@ -64,7 +64,7 @@ pub struct Ahead {
 }
 
 impl Decoder {
-    ghost use Rattle.trace_record.specs.Standing.{StandsAt, Answers, stop_of, end_of};
+    ghost use Rattle.trace_record.specs.Standing.{StandsAt, Answers, Takes, stop_of, end_of};
     ghost use Rattle.trace_record.specs.Stream.{Spells};
 
     /// A decoder at the start of a stream that may have at most `limit` events, or None unless the limit is 1 to 2^24.
@@ -177,14 +177,8 @@ impl Decoder {
     /// record.
     #[cold]
     fn next_apart(&mut self, piece: &[u8]) -> Step
-        ensures used { result.used ≤ length piece.now }
+        ensures takes { Takes self.old self.new piece.now result }
         ensures need { result.out ≡ Out.Need → result.used ≡ length piece.now }
-        ensures got { (event : Event) → result.out ≡ Out.Got event → 0 < result.used }
-        ensures ended { (end : End) → self.old.stop ≡ None → result.out ≡ Out.Stop end → 0 < result.used }
-        ensures limit { self.new.limit ≡ self.old.limit }
-        ensures stop { self.new.stop ≡ stop_of result.out }
-        ensures answers { (text : List ℕ) (events : List Event) → StandsAt self.old text events →
-            Answers self.new (text ++ take result.used piece.now) events result.out }
         ensures stopped { IfSome self.old.stop
             (λ end. (result ≡ record { used = 0; out = Out.Stop end }) × (self.new ≡ self.old)) }
     {
@@ -214,14 +208,8 @@ impl Decoder {
     fn take_header(&mut self, piece: &[u8]) -> Step
         requires running { self.old.stop ≡ None }
         requires in_header { self.old.offset < 8 }
-        ensures used { result.used ≤ length piece.now }
+        ensures takes { Takes self.old self.new piece.now result }
         ensures whole { result.out ≡ Out.Need → result.used < length piece.now → 8 ≤ self.new.offset }
-        ensures got { (event : Event) → result.out ≡ Out.Got event → 0 < result.used }
-        ensures ended { (end : End) → result.out ≡ Out.Stop end → 0 < result.used }
-        ensures limit { self.new.limit ≡ self.old.limit }
-        ensures stop { self.new.stop ≡ stop_of result.out }
-        ensures answers { (text : List ℕ) (events : List Event) → StandsAt self.old text events →
-            Answers self.new (text ++ take result.used piece.now) events result.out }
     {
         let missing = HEADER_LENGTH - self.held.len();
         if piece.len() < missing {
@@ -252,14 +240,8 @@ impl Decoder {
     fn take_record(&mut self, piece: &[u8]) -> Step
         requires running { self.old.stop ≡ None }
         requires in_records { 8 ≤ self.old.offset }
-        ensures used { result.used ≤ length piece.now }
+        ensures takes { Takes self.old self.new piece.now result }
         ensures need { result.out ≡ Out.Need → result.used ≡ length piece.now }
-        ensures got { (event : Event) → result.out ≡ Out.Got event → 0 < result.used }
-        ensures ended { (end : End) → result.out ≡ Out.Stop end → 0 < result.used }
-        ensures limit { self.new.limit ≡ self.old.limit }
-        ensures stop { self.new.stop ≡ stop_of result.out }
-        ensures answers { (text : List ℕ) (events : List Event) → StandsAt self.old text events →
-            Answers self.new (text ++ take result.used piece.now) events result.out }
     {
         if piece.is_empty() {
             return Step {
@@ -281,14 +263,8 @@ impl Decoder {
         requires in_records { 8 ≤ self.old.offset }
         requires none_held { self.old.rest ≡ [] }
         requires begun { 0 < length piece.now }
-        ensures used { result.used ≤ length piece.now }
+        ensures takes { Takes self.old self.new piece.now result }
         ensures need { result.out ≡ Out.Need → result.used ≡ length piece.now }
-        ensures got { (event : Event) → result.out ≡ Out.Got event → 0 < result.used }
-        ensures ended { (end : End) → result.out ≡ Out.Stop end → 0 < result.used }
-        ensures limit { self.new.limit ≡ self.old.limit }
-        ensures stop { self.new.stop ≡ stop_of result.out }
-        ensures answers { (text : List ℕ) (events : List Event) → StandsAt self.old text events →
-            Answers self.new (text ++ take result.used piece.now) events result.out }
     {
         match piece[0] {
             CLOSE => Step {
@@ -311,14 +287,8 @@ impl Decoder {
         requires begun { 0 < length piece.now }
         requires open { slice_index piece.now 0 ≢ 7 }
         requires size { size ≡ record_length (slice_index piece.now 0) }
-        ensures used { result.used ≤ length piece.now }
+        ensures takes { Takes self.old self.new piece.now result }
         ensures need { result.out ≡ Out.Need → result.used ≡ length piece.now }
-        ensures got { (event : Event) → result.out ≡ Out.Got event → 0 < result.used }
-        ensures ended { (end : End) → result.out ≡ Out.Stop end → 0 < result.used }
-        ensures limit { self.new.limit ≡ self.old.limit }
-        ensures stop { self.new.stop ≡ stop_of result.out }
-        ensures answers { (text : List ℕ) (events : List Event) → StandsAt self.old text events →
-            Answers self.new (text ++ take result.used piece.now) events result.out }
     {
         if self.events == u64::from(self.limit) {
             return Step {
@@ -372,14 +342,8 @@ impl Decoder {
         requires running { self.old.stop ≡ None }
         requires in_records { 8 ≤ self.old.offset }
         requires held { 0 < length self.old.rest }
-        ensures used { result.used ≤ length piece.now }
+        ensures takes { Takes self.old self.new piece.now result }
         ensures need { result.out ≡ Out.Need → result.used ≡ length piece.now }
-        ensures got { (event : Event) → result.out ≡ Out.Got event → 0 < result.used }
-        ensures ended { (end : End) → result.out ≡ Out.Stop end → 0 < result.used }
-        ensures limit { self.new.limit ≡ self.old.limit }
-        ensures stop { self.new.stop ≡ stop_of result.out }
-        ensures answers { (text : List ℕ) (events : List Event) → StandsAt self.old text events →
-            Answers self.new (text ++ take result.used piece.now) events result.out }
     {
         let length = length_of(self.held.as_slice()[0]);
         let missing = length - self.held.len();

@@ -1,4 +1,4 @@
-use Rattle.std.proofs.Common.{◌≡◌, ℕ, ◌+◌, ◌-◌, List, ◌++◌, take, drop, length, ap, ◌∙◌, append_assoc, subst, arith}
+use Rattle.std.proofs.Common.{rules, ◌≡◌, ℕ, ◌+◌, ◌-◌, List, ◌++◌, take, drop, length, ap, ◌∙◌, append_assoc, subst, arith}
 use Rattle.std.proofs.lemmas.List.{take_rest, drop-take, take-append-drop, take-take}
 use Rattle.trace_record.specs.declared.decoder.Out.{Out}
 use Rattle.trace_record.specs.Standing.{Answers}
@@ -11,10 +11,17 @@ two_parts text piece m n =
     let joined : take m piece ++ take n (drop m piece) ≡ take (m + n) piece = rw (← front, ← drop-take m n piece) (take-append-drop m (take (m + n) piece)) in
     rw (take_rest piece m) (append_assoc text (take m piece) (take n (drop m piece)) ∙ ap (λ (p : List ℕ). text ++ p) joined)
 
-pub returns-in-Need-clause-answers : goal.returns-in-Need-clause-answers
-returns-in-Need-clause-answers c text events h =
-    let piece = c.args.piece.now in
-    let m = c.take_header-header.result.used in
-    let n = c.take_record-record.result.used in
-    let first = subst (λ (o : Out). Answers c.take_header-header.new.self (text ++ take m piece) events o) c.in-Need.is (c.take_header-header.ensures.answers text events h) in
-    subst (λ (t : List ℕ). Answers c.take_record-record.new.self t events c.take_record-record.result.out) (two_parts text piece m n) (c.take_record-record.ensures.answers (text ++ take m piece) events first)
+pub returns-in-Need-clause-takes : goal.returns-in-Need-clause-takes
+returns-in-Need-clause-takes c = record {
+  used = search rules;
+  got = search rules;
+  ended = search rules;
+  limit = search rules;
+  stop = search rules;
+  answers = λ text events h.
+      let piece = c.args.piece.now in
+      let m = c.take_header-header.result.used in
+      let n = c.take_record-record.result.used in
+      let first = subst (λ (o : Out). Answers c.take_header-header.new.self (text ++ take m piece) events o) c.in-Need.is (c.take_header-header.ensures.takes.answers text events h) in
+      subst (λ (t : List ℕ). Answers c.take_record-record.new.self t events c.take_record-record.result.out) (two_parts text piece m n) (c.take_record-record.ensures.takes.answers (text ++ take m piece) events first);
+}

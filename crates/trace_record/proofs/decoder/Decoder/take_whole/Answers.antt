@@ -1,26 +1,47 @@
-use Rattle.std.proofs.Common.{◌≡◌, ◌≢◌, ◌<◌, ℕ, List, [], take, get_or, sym, ◌∙◌, arith, subst}
+use Rattle.std.proofs.Common.{rules, ◌≡◌, ◌≢◌, ◌<◌, ℕ, List, [], take, get_or, sym, ◌∙◌, arith, subst}
 use Rattle.std.proofs.lemmas.List.{take_more}
 use Rattle.trace_record.specs.Standing.{Standing, StandsAt}
 use Rattle.trace_record.proofs.Steps.{too_many, bad_code}
 use Rattle.trace_record.proofs.decoder.Decoder.take_whole.Goals as goal
 
-pub returns-then-self-from-clause-answers : goal.returns-then-self-from-clause-answers
-returns-then-self-from-clause-answers c text events h =
-    let one = take_more c.args.piece.now 0 0 c.requires.begun in
-    let not : get_or c.args.piece.now 0 0 ≢ 7 = omega arith in
-    let full = subst (λ (d : Standing). d.events ≡ d.limit) c.self.view_is (omega arith) in
-    let ended = too_many _ _ text events h c.requires.in_records (get_or c.args.piece.now 0 0) c.requires.none_held one not full in
-    rw (c.stop.ensures.told, c.stop.ensures.stops) (ended.0, tt, ended.1)
+pub returns-then-self-from-clause-takes : goal.returns-then-self-from-clause-takes
+returns-then-self-from-clause-takes c = record {
+  used = search rules;
+  got = search rules;
+  ended = search rules;
+  limit = search rules;
+  stop = search rules;
+  answers = λ text events h.
+      let one = take_more c.args.piece.now 0 0 c.requires.begun in
+      let not : get_or c.args.piece.now 0 0 ≢ 7 = omega arith in
+      let full = subst (λ (d : Standing). d.events ≡ d.limit) c.self.view_is (omega arith) in
+      let ended = too_many _ _ text events h c.requires.in_records (get_or c.args.piece.now 0 0) c.requires.none_held one not full in
+      rw (c.stop.ensures.told, c.stop.ensures.stops) (ended.0, tt, ended.1);
+}
 
-pub returns-then-size-eq0-clause-answers : goal.returns-then-size-eq0-clause-answers
-returns-then-size-eq0-clause-answers c text events h =
-    let one = take_more c.args.piece.now 0 0 c.requires.begun in
-    let not : get_or c.args.piece.now 0 0 ≢ 7 = omega arith in
-    let room = subst (λ (d : Standing). d.events < d.limit) c.self.view_is (let counted = c.self.invariant.counted in omega arith) in
-    let ended = bad_code _ _ text events h c.requires.in_records (get_or c.args.piece.now 0 0) c.requires.none_held one not room (sym c.requires.size ∙ omega arith) in
-    rw (c.stop-then-size-eq0.ensures.told, c.stop-then-size-eq0.ensures.stops) (ended.0, tt, ended.1)
+pub returns-then-size-eq0-clause-takes : goal.returns-then-size-eq0-clause-takes
+returns-then-size-eq0-clause-takes c = record {
+  used = search rules;
+  got = search rules;
+  ended = search rules;
+  limit = search rules;
+  stop = search rules;
+  answers = λ text events h.
+      let one = take_more c.args.piece.now 0 0 c.requires.begun in
+      let not : get_or c.args.piece.now 0 0 ≢ 7 = omega arith in
+      let room = subst (λ (d : Standing). d.events < d.limit) c.self.view_is (let counted = c.self.invariant.counted in omega arith) in
+      let ended = bad_code _ _ text events h c.requires.in_records (get_or c.args.piece.now 0 0) c.requires.none_held one not room (sym c.requires.size ∙ omega arith) in
+      rw (c.stop-then-size-eq0.ensures.told, c.stop-then-size-eq0.ensures.stops) (ended.0, tt, ended.1);
+}
 
-pub returns-clause-answers : goal.returns-clause-answers
-returns-clause-answers c text events h =
-    let at = subst (λ (rest : List ℕ). StandsAt (record c.args.self.now { rest = rest }) text events) c.requires.none_held h in
-    rw c.finish.ensures.used (c.finish.ensures.answers text events [] (take c.args.size c.args.piece.now) at c.read_record-said.ensures)
+pub returns-clause-takes : goal.returns-clause-takes
+returns-clause-takes c = record {
+  used = search rules;
+  got = search rules;
+  ended = search rules;
+  limit = search rules;
+  stop = search rules;
+  answers = λ text events h.
+      let at = subst (λ (rest : List ℕ). StandsAt (record c.args.self.now { rest = rest }) text events) c.requires.none_held h in
+      rw c.finish.ensures.used (c.finish.ensures.answers text events [] (take c.args.size c.args.piece.now) at c.read_record-said.ensures);
+}
