@@ -1,4 +1,4 @@
--- What is encoded is read: behind the header and whole records, an event's bytes give this event.
+-- What is encoded is read: after the header and whole records, an event's bytes give this event.
 use Rattle.std.proofs.Common.{◌≡◌, ℕ, ◌<◌, ◌≤◌, List, [], ◌∷◌, ◌++◌, length, take, drop, Some, None, refl, sym, ap, subst, ◌∙◌, arith, append_assoc, length-append, length-drop, inl, inr}
 use Rattle.std.proofs.lemmas.List.{append-nil, append_cancel_left, take-append-drop, take_all, flat_map_more}
 use Rattle.trace_record.specs.declared.event.Event.{Event}
@@ -14,10 +14,10 @@ use Rattle.trace_record.proofs.Same.{no_prefix}
 use Rattle.trace_record.proofs.Readings.{one_reading, stands}
 
 -- the whole text is open and holds this event too
-open_behind : (limit : ℕ) (events : List Event) (e : Event) → length events < limit → Reads limit ((header ++ spellings events) ++ spelling e) (events ++ e ∷ []) None
-open_behind limit events e room = ([], inr record { split = flat_map_more spelling header events e ∙ sym (append-nil (header ++ spellings (events ++ e ∷ []))); follows = omega (arith, length-append events (e ∷ [])) })
+open_with : (limit : ℕ) (events : List Event) (e : Event) → length events < limit → Reads limit ((header ++ spellings events) ++ spelling e) (events ++ e ∷ []) None
+open_with limit events e room = ([], inr record { split = flat_map_more spelling header events e ∙ sym (append-nil (header ++ spellings (events ++ e ∷ []))); follows = omega (arith, length-append events (e ∷ [])) })
 
--- what stands behind the events of an open text with nothing unfinished
+-- what follows the events of an open text with nothing unfinished
 spelled_last : (limit : ℕ) (events : List Event) (f : Event) (part : List ℕ) → IsOpenWith limit ((header ++ spellings events) ++ part) (events ++ f ∷ []) [] → part ≡ spelling f
 spelled_last limit events f part (inl h) = absurd (let e = ap length h.none in omega (arith, length-append events (f ∷ [])))
 spelled_last limit events f part (inr r) = append_cancel_left (header ++ spellings events) part (spelling f) (r.split ∙ append-nil (header ++ spellings (events ++ f ∷ [])) ∙ sym (flat_map_more spelling header events f))
@@ -41,11 +41,11 @@ read_back new events e used (out.Got f) room within need answers =
 read_back new events e used out.Need room within need answers =
     let whole : take used (spelling e) ≡ spelling e = take_all used (spelling e) (let n = need refl in omega arith) in
     let text : Reads new.limit ((header ++ spellings events) ++ spelling e) events None = subst (λ (part : List ℕ). Reads new.limit ((header ++ spellings events) ++ part) events None) whole (new.rest, answers.reads) in
-    absurd (let one = one_reading new.limit ((header ++ spellings events) ++ spelling e) events (events ++ e ∷ []) None None text (open_behind new.limit events e room) in let n = ap length one.0 in omega (arith, length-append events (e ∷ [])))
+    absurd (let one = one_reading new.limit ((header ++ spellings events) ++ spelling e) events (events ++ e ∷ []) None None text (open_with new.limit events e room) in let n = ap length one.0 in omega (arith, length-append events (e ∷ [])))
 read_back new events e used (out.Stop end) room within need answers =
     let front = (header ++ spellings events) ++ take used (spelling e) in
     let rest = drop used (spelling e) in
     let text : front ++ rest ≡ (header ++ spellings events) ++ spelling e = append_assoc (header ++ spellings events) (take used (spelling e)) rest ∙ ap (λ (t : List ℕ). (header ++ spellings events) ++ t) (take-append-drop used (spelling e)) in
     let decided : IsDecided new.limit front events end.fate = decided_of new.limit front events end.fate answers.1 answers.0.fate in
     let later : IsDecided new.limit ((header ++ spellings events) ++ spelling e) events end.fate = subst (λ (t : List ℕ). IsDecided new.limit t events end.fate) text (stands new.limit front rest events end.fate decided) in
-    absurd (let one = one_reading new.limit ((header ++ spellings events) ++ spelling e) events (events ++ e ∷ []) (Some end.fate) None later (open_behind new.limit events e room) in let no = one.1 in cc)
+    absurd (let one = one_reading new.limit ((header ++ spellings events) ++ spelling e) events (events ++ e ∷ []) (Some end.fate) None later (open_with new.limit events e room) in let no = one.1 in cc)

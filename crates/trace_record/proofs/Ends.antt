@@ -29,13 +29,13 @@ read_of limit text events fate.Truncated may = may.0
 read_of limit text events fate.NoClose may = ([], inr record { split = may.0 ∙ sym (append-nil (header ++ spellings events)); follows = may.1 })
 read_of limit text events fate.ReadFailed may = may
 
-told_fate : (f g : Fate) → decided_fate f ≡ Some g → f ≡ g
-told_fate fate.Closed g is = cc
-told_fate (fate.Malformed f) g is = cc
-told_fate fate.TooMany g is = cc
-told_fate fate.Truncated g is = absurd cc
-told_fate fate.NoClose g is = absurd cc
-told_fate fate.ReadFailed g is = absurd cc
+fate_decided : (f g : Fate) → decided_fate f ≡ Some g → f ≡ g
+fate_decided fate.Closed g is = cc
+fate_decided (fate.Malformed f) g is = cc
+fate_decided fate.TooMany g is = cc
+fate_decided fate.Truncated g is = absurd cc
+fate_decided fate.NoClose g is = absurd cc
+fate_decided fate.ReadFailed g is = absurd cc
 
 open_fate : (f : Fate) → f ≢ fate.ReadFailed → decided_fate f ≡ None → (f ≡ fate.Truncated) ⊎ (f ≡ fate.NoClose)
 open_fate fate.Closed not is = absurd cc
@@ -58,7 +58,7 @@ same_open limit text events f g a b (inr p) (inl q) = absurd (not_both limit tex
 same_open limit text events f g a b (inr p) (inr q) = p ∙ sym q
 
 same_fate : (limit : ℕ) (text : List ℕ) (events : List Event) (f g : Fate) (o : Option Fate) → MayEnd limit text events f → MayEnd limit text events g → f ≢ fate.ReadFailed → g ≢ fate.ReadFailed → decided_fate f ≡ o → decided_fate g ≡ o → f ≡ g
-same_fate limit text events f g (Some h) a b p q is is' = told_fate f h is ∙ sym (told_fate g h is')
+same_fate limit text events f g (Some h) a b p q is is' = fate_decided f h is ∙ sym (fate_decided g h is')
 same_fate limit text events f g None a b p q is is' = same_open limit text events f g a b (open_fate f p is) (open_fate g q is')
 
 same_end : (a b : End) → a.fate ≡ b.fate → a.events ≡ b.events → a.offset ≡ b.offset → a ≡ b

@@ -144,26 +144,26 @@ pub record HasReading (limit : ℕ) (text : List ℕ) : Type 0 where
   pub end : Option Fate
   pub reads : Reads limit text events end
 
-behind : (es : List Event) (part more : List ℕ) → header ++ spellings es ++ (part ++ more) ≡ (header ++ spellings es ++ part) ++ more
-behind es part more = sym (append_assoc (header ++ spellings es) part more)
+regrouped : (es : List Event) (part more : List ℕ) → header ++ spellings es ++ (part ++ more) ≡ (header ++ spellings es ++ part) ++ more
+regrouped es part more = sym (append_assoc (header ++ spellings es) part more)
 
 nothing_here : (limit : ℕ) (es : List Event) → length es ≤ limit → HasReading limit (header ++ spellings es ++ [])
 nothing_here limit es within = record { events = es; end = None; reads = ([], inr record { split = refl; follows = within }) }
 
 closed_here : (limit : ℕ) (es : List Event) (code : ℕ) (more : List ℕ) → length es ≤ limit → code ≡ close → HasReading limit (header ++ spellings es ++ code ∷ more)
-closed_here limit es code more within is = record { events = es; end = Some fate.Closed; reads = (within, (more, ap (λ (c : ℕ). (header ++ spellings es) ++ (c ∷ more)) is ∙ behind es (close ∷ []) more)) }
+closed_here limit es code more within is = record { events = es; end = Some fate.Closed; reads = (within, (more, ap (λ (c : ℕ). (header ++ spellings es) ++ (c ∷ more)) is ∙ regrouped es (close ∷ []) more)) }
 
 many_here : (limit : ℕ) (es : List Event) (code : ℕ) (more : List ℕ) → length es ≡ limit → code ≢ close → HasReading limit (header ++ spellings es ++ code ∷ more)
-many_here limit es code more full not = record { events = es; end = Some fate.TooMany; reads = (full, code, not, (more, behind es (code ∷ []) more)) }
+many_here limit es code more full not = record { events = es; end = Some fate.TooMany; reads = (full, code, not, (more, regrouped es (code ∷ []) more)) }
 
 code_here : (limit : ℕ) (es : List Event) (code : ℕ) (more : List ℕ) → length es < limit → code ≢ close → record_length code ≡ 0 → HasReading limit (header ++ spellings es ++ code ∷ more)
-code_here limit es code more room not unknown = record { events = es; end = Some (fate.Malformed flaw.Code); reads = inr (room, code ∷ [], inl (refl, code, record { alone = refl; no_record = unknown; no_close = not }), (more, behind es (code ∷ []) more)) }
+code_here limit es code more room not unknown = record { events = es; end = Some (fate.Malformed flaw.Code); reads = inr (room, code ∷ [], inl (refl, code, record { alone = refl; no_record = unknown; no_close = not }), (more, regrouped es (code ∷ []) more)) }
 
 unfinished_here : (limit : ℕ) (es : List Event) (code : ℕ) (more : List ℕ) → length es < limit → length (code ∷ more) < record_length code → HasReading limit (header ++ spellings es ++ code ∷ more)
 unfinished_here limit es code more room short = record { events = es; end = None; reads = (code ∷ more, inr record { split = refl; follows = (room, short) }) }
 
 flawed_here : (limit : ℕ) (es : List Event) (part rest tail : List ℕ) (f : Flaw) (x : Fields) → length es < limit → tail ≡ part ++ rest → IsFlawedRecord part f x → HasReading limit (header ++ spellings es ++ tail)
-flawed_here limit es part rest tail f x room same bad = record { events = es; end = Some (fate.Malformed f); reads = inr (room, part, inr (x, bad), (rest, ap (λ (t : List ℕ). (header ++ spellings es) ++ t) same ∙ behind es part rest)) }
+flawed_here limit es part rest tail f x room same bad = record { events = es; end = Some (fate.Malformed f); reads = inr (room, part, inr (x, bad), (rest, ap (λ (t : List ℕ). (header ++ spellings es) ++ t) same ∙ regrouped es part rest)) }
 
 event_here : (es : List Event) (e : Event) (part rest tail : List ℕ) → tail ≡ part ++ rest → part ≡ spelling e → header ++ spellings (es ++ e ∷ []) ++ rest ≡ header ++ spellings es ++ tail
 event_here es e part rest tail same is =

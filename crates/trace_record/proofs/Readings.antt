@@ -20,7 +20,7 @@ use Rattle.trace_record.proofs.Same.{no_prefix, event_fits, event_flawless}
 abbrev pub NoEvent : List ℕ → Type 0
 NoEvent tail = (e : Event) (more : List ℕ) → tail ≢ spelling e ++ more
 
--- what is behind the events tells the fate
+-- the fate that what follows the events decides
 abbrev fate_at : ℕ → ℕ → List ℕ → Option Fate
 fate_at limit count [] = None
 fate_at limit count (code ∷ more) =
@@ -30,26 +30,26 @@ fate_at limit count (code ∷ more) =
     else (if nat_lt (length (code ∷ more)) (record_length code) then None
     else option_map (λ f. fate.Malformed f) (flaw_of (fields_at (code ∷ more))))))
 
--- the text is the header, these events and this tail, which tells the fate
+-- the text is the header, these events and this tail, which decides the fate
 record IsSplit (limit : ℕ) (text : List ℕ) (events : List Event) (tail : List ℕ) (end : Option Fate) : Type 0 where
   split : text ≡ header ++ spellings events ++ tail
   within : length events ≤ limit
   stuck : length events < limit → NoEvent tail
-  tells : end ≡ fate_at limit (length events) tail
+  fate_is : end ≡ fate_at limit (length events) tail
 
 -- the text has no header: it is too short for one, or it begins in another way
 record IsShort (text : List ℕ) (events : List Event) (end : Option Fate) : Type 0 where
   short : length text < 8
   none : events ≡ []
-  tells : end ≡ None
+  fate_is : end ≡ None
 
 record IsOther (text : List ℕ) (events : List Event) (end : Option Fate) : Type 0 where
   long : 8 ≤ length text
   other : take 8 text ≢ header
   none : events ≡ []
-  tells : end ≡ Some (fate.Malformed flaw.Header)
+  fate_is : end ≡ Some (fate.Malformed flaw.Header)
 
--- a whole record has its length, which its code tells
+-- a whole record has the length of its code
 abbrev IsLong : List ℕ → Type 0
 IsLong [] = ⊥
 IsLong (code ∷ more) = (0 < record_length code) × (record_length code ≤ length (code ∷ more))
@@ -79,7 +79,7 @@ within_of limit count (code ∷ more) may = let room : count < limit = may.0 in 
 not_close : (code : ℕ) → 0 < record_length code → code ≢ 7
 not_close code some is = absurd (let zero : record_length code ≡ 0 = ap record_length is in omega arith)
 
--- behind fewer events than the limit, a code that is no close and stands for a record
+-- after fewer events than the limit, a code that is no close and stands for a record
 settled : {A : Type 0} (code count limit wanted have : ℕ) (v w x y z : A) → code ≢ 7 → count ≢ limit → wanted ≢ 0 → (if code == 7 then v else (if count == limit then w else (if wanted == 0 then x else (if nat_lt have wanted then y else z)))) ≡ (if nat_lt have wanted then y else z)
 settled code count limit wanted have v w x y z other room known = grind (arith, nat_tests)
 
@@ -89,28 +89,28 @@ smaller have wanted y z lt = grind (arith, nat_tests)
 not_smaller : {A : Type 0} (have wanted : ℕ) (y z : A) → wanted ≤ have → (if nat_lt have wanted then y else z) ≡ z
 not_smaller have wanted y z le = grind (arith, nat_tests)
 
-open_tells : (limit count : ℕ) (tail : List ℕ) → MayFollow limit count tail → None ≡ fate_at limit count tail
-open_tells limit count [] may = refl
-open_tells limit count (code ∷ more) may =
+open_fate : (limit count : ℕ) (tail : List ℕ) → MayFollow limit count tail → None ≡ fate_at limit count tail
+open_fate limit count [] may = refl
+open_fate limit count (code ∷ more) may =
     let room : count < limit = may.0 in
     let short : length (code ∷ more) < record_length code = may.1 in
     sym (settled code count limit (record_length code) (length (code ∷ more)) _ _ _ _ _ (not_close code (omega arith)) (omega arith) (omega arith) ∙ smaller _ _ _ _ short)
 
-long_tells : (limit count : ℕ) (tail : List ℕ) → count < limit → IsLong tail → option_map (λ f. fate.Malformed f) (flaw_of (fields_at tail)) ≡ fate_at limit count tail
-long_tells limit count [] room long = absurd long
-long_tells limit count (code ∷ more) room long =
+long_fate : (limit count : ℕ) (tail : List ℕ) → count < limit → IsLong tail → option_map (λ f. fate.Malformed f) (flaw_of (fields_at tail)) ≡ fate_at limit count tail
+long_fate limit count [] room long = absurd long
+long_fate limit count (code ∷ more) room long =
     let some : 0 < record_length code = long.0 in
     sym (settled code count limit (record_length code) (length (code ∷ more)) _ _ _ _ _ (not_close code some) (omega arith) (omega arith) ∙ not_smaller _ _ _ _ long.1)
 
-record_tells : (limit count : ℕ) (x : Fields) (more : List ℕ) → count < limit → FitBytes x → option_map (λ f. fate.Malformed f) (flaw_of x) ≡ fate_at limit count (bytes_of x ++ more)
-record_tells limit count x more room fit =
-    ap (λ (y : Fields). option_map (λ f. fate.Malformed f) (flaw_of y)) (sym (fields_at-bytes_of x more fit)) ∙ long_tells limit count (bytes_of x ++ more) room (spelled_long x more)
+record_fate : (limit count : ℕ) (x : Fields) (more : List ℕ) → count < limit → FitBytes x → option_map (λ f. fate.Malformed f) (flaw_of x) ≡ fate_at limit count (bytes_of x ++ more)
+record_fate limit count x more room fit =
+    ap (λ (y : Fields). option_map (λ f. fate.Malformed f) (flaw_of y)) (sym (fields_at-bytes_of x more fit)) ∙ long_fate limit count (bytes_of x ++ more) room (spelled_long x more)
 
-code_tells : (limit count code : ℕ) (more : List ℕ) → count < limit → code ≢ 7 → record_length code ≡ 0 → Some (fate.Malformed flaw.Code) ≡ fate_at limit count (code ∷ more)
-code_tells limit count code more room other unknown = grind (arith, nat_tests)
+code_fate : (limit count code : ℕ) (more : List ℕ) → count < limit → code ≢ 7 → record_length code ≡ 0 → Some (fate.Malformed flaw.Code) ≡ fate_at limit count (code ∷ more)
+code_fate limit count code more room other unknown = grind (arith, nat_tests)
 
-many_tells : (limit count byte : ℕ) (more : List ℕ) → count ≡ limit → byte ≢ 7 → Some fate.TooMany ≡ fate_at limit count (byte ∷ more)
-many_tells limit count byte more full other = grind (arith, nat_tests)
+many_fate : (limit count byte : ℕ) (more : List ℕ) → count ≡ limit → byte ≢ 7 → Some fate.TooMany ≡ fate_at limit count (byte ∷ more)
+many_fate limit count byte more full other = grind (arith, nat_tests)
 
 -- a flawed record is no event
 flawed_no_event : (x : Fields) (more : List ℕ) (f : Flaw) → FitBytes x → flaw_of x ≡ Some f → NoEvent (bytes_of x ++ more)
@@ -127,15 +127,15 @@ split_at : (limit : ℕ) (text : List ℕ) (events : List Event) (part more tail
 split_at limit text events part more tail is same = is ∙ append_assoc (header ++ spellings events) part more ∙ ap (λ (t : List ℕ). (header ++ spellings events) ++ t) same
 
 form_of : (limit : ℕ) (text : List ℕ) (events : List Event) (end : Option Fate) → Reads limit text events end → Form limit text events end
-form_of limit text events None (rest, inl h) = inl record { short = h.short; none = h.none; tells = refl }
-form_of limit text events None (rest, inr r) = inr (inr (rest, record { split = r.split; within = within_of limit (length events) rest r.follows; stuck = λ _. nothing_follows limit (length events) rest r.follows; tells = open_tells limit (length events) rest r.follows }))
-form_of limit text events (Some fate.Closed) (within, (more, is)) = inr (inr (7 ∷ more, record { split = split_at limit text events (7 ∷ []) more (7 ∷ more) is refl; within = within; stuck = λ _. no_record 7 more refl; tells = refl }))
-form_of limit text events (Some (fate.Malformed f)) (inl (is, bad)) = inr (inl record { long = bad.long; other = bad.other; none = bad.none; tells = ap (λ g. Some (fate.Malformed g)) is })
+form_of limit text events None (rest, inl h) = inl record { short = h.short; none = h.none; fate_is = refl }
+form_of limit text events None (rest, inr r) = inr (inr (rest, record { split = r.split; within = within_of limit (length events) rest r.follows; stuck = λ _. nothing_follows limit (length events) rest r.follows; fate_is = open_fate limit (length events) rest r.follows }))
+form_of limit text events (Some fate.Closed) (within, (more, is)) = inr (inr (7 ∷ more, record { split = split_at limit text events (7 ∷ []) more (7 ∷ more) is refl; within = within; stuck = λ _. no_record 7 more refl; fate_is = refl }))
+form_of limit text events (Some (fate.Malformed f)) (inl (is, bad)) = inr (inl record { long = bad.long; other = bad.other; none = bad.none; fate_is = ap (λ g. Some (fate.Malformed g)) is })
 form_of limit text events (Some (fate.Malformed f)) (inr (room, part, inl (is, byte, bad), (more, split))) =
-    inr (inr (byte ∷ more, record { split = split_at limit text events part more (byte ∷ more) split (ap (λ (p : List ℕ). p ++ more) bad.alone); within = omega arith; stuck = λ _. no_record byte more bad.no_record; tells = ap (λ g. Some (fate.Malformed g)) is ∙ code_tells limit (length events) byte more room bad.no_close bad.no_record }))
+    inr (inr (byte ∷ more, record { split = split_at limit text events part more (byte ∷ more) split (ap (λ (p : List ℕ). p ++ more) bad.alone); within = omega arith; stuck = λ _. no_record byte more bad.no_record; fate_is = ap (λ g. Some (fate.Malformed g)) is ∙ code_fate limit (length events) byte more room bad.no_close bad.no_record }))
 form_of limit text events (Some (fate.Malformed f)) (inr (room, part, inr (x, bad), (more, split))) =
-    inr (inr (bytes_of x ++ more, record { split = split_at limit text events part more (bytes_of x ++ more) split (ap (λ (p : List ℕ). p ++ more) bad.whole); within = omega arith; stuck = λ _. flawed_no_event x more f bad.fit bad.first; tells = ap (option_map (λ g. fate.Malformed g)) (sym bad.first) ∙ record_tells limit (length events) x more room bad.fit }))
-form_of limit text events (Some fate.TooMany) (full, byte, other, (more, is)) = inr (inr (byte ∷ more, record { split = split_at limit text events (byte ∷ []) more (byte ∷ more) is refl; within = omega arith; stuck = λ room. absurd (omega arith); tells = many_tells limit (length events) byte more full other }))
+    inr (inr (bytes_of x ++ more, record { split = split_at limit text events part more (bytes_of x ++ more) split (ap (λ (p : List ℕ). p ++ more) bad.whole); within = omega arith; stuck = λ _. flawed_no_event x more f bad.fit bad.first; fate_is = ap (option_map (λ g. fate.Malformed g)) (sym bad.first) ∙ record_fate limit (length events) x more room bad.fit }))
+form_of limit text events (Some fate.TooMany) (full, byte, other, (more, is)) = inr (inr (byte ∷ more, record { split = split_at limit text events (byte ∷ []) more (byte ∷ more) is refl; within = omega arith; stuck = λ room. absurd (omega arith); fate_is = many_fate limit (length events) byte more full other }))
 form_of limit text events (Some fate.Truncated) reads = absurd reads
 form_of limit text events (Some fate.NoClose) reads = absurd reads
 form_of limit text events (Some fate.ReadFailed) reads = absurd reads
@@ -178,14 +178,14 @@ same_split limit text es fs r s end end' a b =
     let none : length there.0 ≡ 0 = let e = ap length there.1 in let f = ap length back.1 in omega (arith, length-append es there.0, length-append fs back.0) in
     let events : es ≡ fs = sym (no_more es there.0 none) ∙ sym there.1 in
     let tails : r ≡ s = append_cancel_left (spellings fs) r s (sym (ap (λ (xs : List Event). spellings xs ++ r) events) ∙ here) in
-    (events, a.tells ∙ cc (events, tails) ∙ sym b.tells)
+    (events, a.fate_is ∙ cc (events, tails) ∙ sym b.fate_is)
 
 one_form : (limit : ℕ) (text : List ℕ) (es fs : List Event) (end end' : Option Fate) → Form limit text es end → Form limit text fs end' → (es ≡ fs) × (end ≡ end')
-one_form limit text es fs end end' (inl a) (inl b) = (a.none ∙ sym b.none, a.tells ∙ sym b.tells)
+one_form limit text es fs end end' (inl a) (inl b) = (a.none ∙ sym b.none, a.fate_is ∙ sym b.fate_is)
 one_form limit text es fs end end' (inl a) (inr (inl b)) = absurd (let m = a.short in let n = b.long in omega arith)
 one_form limit text es fs end end' (inl a) (inr (inr (s, b))) = absurd (let m = a.short in let n = split_long limit text fs s end' b in omega arith)
 one_form limit text es fs end end' (inr (inl a)) (inl b) = absurd (let m = b.short in let n = a.long in omega arith)
-one_form limit text es fs end end' (inr (inl a)) (inr (inl b)) = (a.none ∙ sym b.none, a.tells ∙ sym b.tells)
+one_form limit text es fs end end' (inr (inl a)) (inr (inl b)) = (a.none ∙ sym b.none, a.fate_is ∙ sym b.fate_is)
 one_form limit text es fs end end' (inr (inl a)) (inr (inr (s, b))) = absurd (a.other (split_header limit text fs s end' b))
 one_form limit text es fs end end' (inr (inr (r, a))) (inl b) = absurd (let m = b.short in let n = split_long limit text es r end a in omega arith)
 one_form limit text es fs end end' (inr (inr (r, a))) (inr (inl b)) = absurd (b.other (split_header limit text es r end a))
@@ -213,7 +213,7 @@ stands limit text more events fate.NoClose decided = absurd decided
 stands limit text more events fate.ReadFailed decided = absurd decided
 
 form_long : (limit : ℕ) (text : List ℕ) (events : List Event) (fate : Fate) → Form limit text events (Some fate) → 8 ≤ length text
-form_long limit text events fate (inl a) = absurd (let e = a.tells in cc)
+form_long limit text events fate (inl a) = absurd (let e = a.fate_is in cc)
 form_long limit text events fate (inr (inl b)) = b.long
 form_long limit text events fate (inr (inr (tail, s))) = split_long limit text events tail (Some fate) s
 

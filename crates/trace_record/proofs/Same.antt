@@ -1,4 +1,4 @@
--- An event is told by its numbers, which fit their bytes and have no flaw; numbers without a flaw are those of an event.
+-- An event is known by its numbers, which fit their bytes and have no flaw; numbers without a flaw are those of an event.
 use Rattle.std.proofs.Common.{◌≡◌, ℕ, ◌+◌, ◌^◌, ◌<◌, ◌≤◌, List, ◌++◌, None, refl, ap, subst, arith}
 use Rattle.std.specs.Prelude.{IsTrue}
 use Rattle.std.proofs.Math.Bridge.{le_prop}

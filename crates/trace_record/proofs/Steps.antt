@@ -16,7 +16,7 @@ use Rattle.trace_record.specs.Spelling.{header, close, bytes_of, FitBytes, flaw_
 use Rattle.trace_record.specs.Stream.{IsInHeader, IsInRecords, IsUnfinished, MayFollow, offset_of, Spells, IsDecidedByLast}
 use Rattle.trace_record.specs.Standing.{Standing, StandsAt, end_of}
 
--- some bytes of a piece, and some after them, behind what was read before
+-- some bytes of a piece, and some after them, follow what was read before
 pub joined : (text piece : List ℕ) (i n : ℕ) → (text ++ take i piece) ++ take n (drop i piece) ≡ text ++ take (i + n) piece
 joined text piece i n = append_assoc text (take i piece) (take n (drop i piece)) ∙ ap (λ (part : List ℕ). text ++ part) (sym (take-add i n piece))
 
@@ -26,7 +26,7 @@ record_length-long code not = grind (arith, nat_tests)
 pub record_length-small : (code : ℕ) → record_length code ≤ 17
 record_length-small code = grind (arith, nat_tests)
 
--- a list of so many bytes has a last one
+-- a list of one byte or more has a last one
 pub last_of : (n : ℕ) (xs : List ℕ) → length xs ≡ n + 1 → xs ≡ take n xs ++ get_or xs n 0 ∷ []
 last_of n xs len = sym (take_all (n + 1) xs (omega arith)) ∙ take_more xs n 0 (omega arith)
 

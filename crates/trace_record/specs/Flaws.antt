@@ -7,12 +7,15 @@ use Rattle.trace_record.specs.Ranges.{is_width, largest_region, address_end}
 -- of an access: its width is none that an access has, or it reaches past the last address
 abbrev pub access_flaw : ℕ → ℕ → Option Flaw
 access_flaw at width =
-    if is_width width then (if nat_le (at + width) address_end then None else Some flaw.Range) else Some flaw.Width
+    if is_width width then (if nat_le (at + width) address_end then None else Some flaw.Range)
+    else Some flaw.Width
 
 -- of a region: it is too large, or it reaches past the last address
 abbrev pub region_flaw : ℕ → ℕ → Option Flaw
 region_flaw at size =
-    if nat_le size largest_region then (if nat_le (at + size) address_end then None else Some flaw.Range) else Some flaw.Size
+    if nat_le size largest_region
+    then (if nat_le (at + size) address_end then None else Some flaw.Range)
+    else Some flaw.Size
 
 -- of a place to be freed: it lies past the last address
 abbrev pub place_flaw : ℕ → Option Flaw

@@ -1,5 +1,6 @@
 -- What can be read of bytes at all: the words of the laws of the format.
-use Rattle.std.specs.Prelude.{◌≡◌, ℕ, ◌<◌, List, [], ◌∷◌, length, All, Option, Some, None, Result, Ok, Err}
+use Rattle.std.specs.Prelude.{◌≡◌, ℕ, ◌<◌, List, [], ◌∷◌, length, All}
+use Rattle.std.specs.Prelude.{Option, Some, None, Result, Ok, Err}
 use Rattle.trace_record.specs.declared.event.Event.{Event}
 use Rattle.trace_record.specs.declared.end.Fate.{Fate}
 use Rattle.trace_record.specs.declared.end.Flaw.{Flaw}
@@ -21,7 +22,8 @@ abbrev pub Says : List ℕ → Result Event Flaw → Type 0
 Says part (Ok event) = part ≡ spelling event
 Says part (Err f) = (numbers : Fields) × IsFlawedRecord part f numbers
 
--- a reading of a text: it is open and holds these events, or is decided with these events and this fate
+-- a reading of a text: it is open and holds these events, or is decided with these events and this
+-- fate
 abbrev pub Reads : ℕ → List ℕ → List Event → Option Fate → Type 0
 Reads limit text events None = IsOpen limit text events
 Reads limit text events (Some fate) = IsDecided limit text events fate

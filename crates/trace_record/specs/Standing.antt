@@ -1,15 +1,17 @@
 -- Where a decoder stands in a text, and what its answers say.
-use Rattle.std.specs.Prelude.{◌≡◌, ℕ, ◌+◌, ◌<◌, ◌≤◌, List, [], ◌∷◌, ◌++◌, length, take, Option, Some, None}
+use Rattle.std.specs.Prelude.{◌≡◌, ℕ, ◌+◌, ◌<◌, ◌≤◌, List, [], ◌∷◌, ◌++◌, length, take}
+use Rattle.std.specs.Prelude.{Option, Some, None}
 use Rattle.trace_record.specs.declared.event.Event.{Event}
 use Rattle.trace_record.specs.declared.end.End.{End}
 use Rattle.trace_record.specs.declared.end.Fate.{Fate}
 use Rattle.trace_record.specs.declared.decoder.Out.{Out}
 use Rattle.trace_record.specs.declared.decoder.Out.TheVariants as out
 use Rattle.trace_record.specs.declared.decoder.Step.{Step}
-use Rattle.trace_record.specs.Stream.{IsOpenWith, IsDecidedFate, IsDecidedByLast, Spells, offset_of, close_length}
+use Rattle.trace_record.specs.Stream.{IsOpenWith, IsDecidedFate, IsDecidedByLast, Spells}
+use Rattle.trace_record.specs.Stream.{offset_of, close_length}
 
--- what a contract sees of a decoder: its event limit, the counts of good events and of the bytes of header and good
--- records, the unfinished rest of the text, and the end that it has given, if one
+-- what a contract sees of a decoder: its event limit, the counts of good events and of the bytes of
+-- header and good records, the unfinished rest of the text, and the end that it has given, if one
 pub record Standing : Type 0 where
   pub limit : ℕ
   pub events : ℕ
@@ -34,16 +36,17 @@ stop_of (out.Got e) = None
 stop_of out.Need = None
 stop_of (out.Stop end) = Some end
 
--- what an answer says of the text that the decoder has read with it, where these were the events before: one event
--- more and nothing unfinished; no event more; or the text spells this end, which its last byte decided
+-- what an answer says of the text that the decoder has read with it, where these were the events
+-- before: one event more and nothing unfinished; no event more; or the text spells this end, which
+-- its last byte decided
 abbrev pub Answers : Standing → List ℕ → List Event → Out → Type 0
 Answers d text events (out.Got e) = StandsAt d text (events ++ e ∷ []) × (d.rest ≡ [])
 Answers d text events out.Need = StandsAt d text events
 Answers d text events (out.Stop end) =
     Spells d.limit text events end × IsDecidedFate end.fate × IsDecidedByLast d.limit text events
 
--- what one call does with a piece: how much of it is used, that an event or an end is given only for some of its bytes,
--- and that the decoder then stands where its answer says
+-- what one step of a decoder takes of a piece: at most all of it, and a byte at least for an event or
+-- an end; the limit stays, an end is kept, and the decoder then stands where its answer says
 pub record Takes (old new : Standing) (piece : List ℕ) (step : Step) : Type 0 where
   pub used : step.used ≤ length piece
   pub got : (event : Event) → step.out ≡ out.Got event → 0 < step.used

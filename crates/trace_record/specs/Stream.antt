@@ -1,8 +1,9 @@
 -- What a whole text spells: its events, oldest first, and whether and how it has ended (profile).
 --
--- Nothing here speaks of pieces or of a reader: each definition looks at the text from its first byte. An event limit
--- says how many events a text may have.
-use Rattle.std.specs.Prelude.{◌≡◌, ◌≢◌, ℕ, ◌+◌, ◌<◌, ◌≤◌, ◌⊎◌, nat_eq, if◌then◌else◌, List, [], ◌∷◌, ◌++◌, length, take, Some}
+-- Nothing here speaks of pieces or of a reader: each definition looks at the text from its first
+-- byte. An event limit says how many events a text may have.
+use Rattle.std.specs.Prelude.{◌≡◌, ◌≢◌, ℕ, ◌+◌, ◌<◌, ◌≤◌, ◌⊎◌, nat_eq, if◌then◌else◌}
+use Rattle.std.specs.Prelude.{List, [], ◌∷◌, ◌++◌, length, take, Some}
 use Rattle.std.specs.List.{starts_with}
 use Rattle.trace_record.specs.declared.event.Event.{Event}
 use Rattle.trace_record.specs.declared.end.End.{End}
@@ -11,7 +12,8 @@ use Rattle.trace_record.specs.declared.end.Fate.TheVariants as fate
 use Rattle.trace_record.specs.declared.end.Flaw.{Flaw}
 use Rattle.trace_record.specs.declared.end.Flaw.TheVariants as flaw
 use Rattle.trace_record.specs.declared.fields.Fields.{Fields}
-use Rattle.trace_record.specs.Spelling.{header, close, bytes_of, FitBytes, spellings, flaw_of, record_length}
+use Rattle.trace_record.specs.Spelling.{header, close, bytes_of, FitBytes, spellings, flaw_of}
+use Rattle.trace_record.specs.Spelling.{record_length}
 
 -- the text begins with this front
 abbrev pub BeginsWith : List ℕ → List ℕ → Type 0
@@ -29,10 +31,12 @@ pub record IsFlawedRecord (part : List ℕ) (f : Flaw) (numbers : Fields) : Type
   pub fit : FitBytes numbers
   pub first : flaw_of numbers ≡ Some f
 
--- a flawed record, with its first flaw: an unknown code, or a whole record with a flaw in its numbers
+-- a flawed record, with its first flaw: an unknown code, or a whole record with a flaw in its
+-- numbers
 abbrev pub IsFlawed : List ℕ → Flaw → Type 0
 IsFlawed part f =
-    ((f ≡ flaw.Code) × (byte : ℕ) × IsUnknownCode part byte) ⊎ ((numbers : Fields) × IsFlawedRecord part f numbers)
+    ((f ≡ flaw.Code) × (byte : ℕ) × IsUnknownCode part byte)
+    ⊎ ((numbers : Fields) × IsFlawedRecord part f numbers)
 
 -- an unfinished record: it begins with a record's code and has fewer bytes than that record
 abbrev pub IsUnfinished : List ℕ → Type 0
@@ -45,17 +49,19 @@ pub record IsInHeader (text : List ℕ) (events : List Event) (rest : List ℕ) 
   pub none : events ≡ []
   pub rest_is : rest ≡ text
 
--- what may stand behind so many whole records: nothing, or an unfinished record where the limit leaves room for it
+-- what may follow this count of whole records: nothing, or an unfinished record where the limit
+-- leaves room for it
 abbrev pub MayFollow : ℕ → ℕ → List ℕ → Type 0
 MayFollow limit count [] = count ≤ limit
 MayFollow limit count (code ∷ more) = (count < limit) × IsUnfinished (code ∷ more)
 
 -- the header, these events, and at most an unfinished record
-pub record IsInRecords (limit : ℕ) (text : List ℕ) (events : List Event) (rest : List ℕ) : Type 0 where
+pub record IsInRecords (limit : ℕ) (text : List ℕ) (events : List Event) (rest : List ℕ)
+    : Type 0 where
   pub split : text ≡ header ++ spellings events ++ rest
   pub follows : MayFollow limit (length events) rest
 
--- the text is open: nothing has ended it; it holds these events, and behind them this unfinished rest
+-- the text is open: nothing has ended it; it holds these events, and after them this unfinished rest
 abbrev pub IsOpenWith : ℕ → List ℕ → List Event → List ℕ → Type 0
 IsOpenWith limit text events rest = IsInHeader text events rest ⊎ IsInRecords limit text events rest
 
@@ -69,10 +75,11 @@ pub record HasBadHeader (text : List ℕ) (events : List Event) : Type 0 where
   pub other : take 8 text ≢ header
   pub none : events ≡ []
 
--- behind these events, fewer than the limit, the text has a flawed record
+-- after these events, fewer than the limit, the text has a flawed record
 abbrev pub HasFlawedRecord : ℕ → List ℕ → List Event → Flaw → Type 0
 HasFlawedRecord limit text events f =
-    (length events < limit) × (part : List ℕ) × IsFlawed part f × BeginsWith (header ++ spellings events ++ part) text
+    (length events < limit) × (part : List ℕ) × IsFlawed part f
+    × BeginsWith (header ++ spellings events ++ part) text
 
 -- the text is decided: these are its events and this is its fate, whatever follows
 abbrev pub IsDecided : ℕ → List ℕ → List Event → Fate → Type 0
@@ -81,17 +88,20 @@ IsDecided limit text events fate.Closed =
 IsDecided limit text events (fate.Malformed f) =
     ((f ≡ flaw.Header) × HasBadHeader text events) ⊎ HasFlawedRecord limit text events f
 IsDecided limit text events fate.TooMany =
-    (length events ≡ limit) × (byte : ℕ) × (byte ≢ close) × BeginsWith (header ++ spellings events ++ byte ∷ []) text
+    (length events ≡ limit) × (byte : ℕ) × (byte ≢ close)
+    × BeginsWith (header ++ spellings events ++ byte ∷ []) text
 IsDecided limit text events fate.Truncated = ⊥
 IsDecided limit text events fate.NoClose = ⊥
 IsDecided limit text events fate.ReadFailed = ⊥
 
--- the fate that the text may have where no more of it comes: decided fates are decided by the text, the others are for
--- an open one. Truncated: the input ended inside the header or a record; no-close: right behind the header or a record;
--- read-failed: a read failed
+-- the fate that the text may have where no more of it comes: decided fates are decided by the text,
+-- the others are for an open one. Truncated: the input ended inside the header or a record;
+-- no-close: right after the header or a record; read-failed: a read failed
 abbrev pub MayEnd : ℕ → List ℕ → List Event → Fate → Type 0
-MayEnd limit text events fate.Truncated = IsOpen limit text events × (text ≢ header ++ spellings events)
-MayEnd limit text events fate.NoClose = (text ≡ header ++ spellings events) × (length events ≤ limit)
+MayEnd limit text events fate.Truncated =
+    IsOpen limit text events × (text ≢ header ++ spellings events)
+MayEnd limit text events fate.NoClose =
+    (text ≡ header ++ spellings events) × (length events ≤ limit)
 MayEnd limit text events fate.ReadFailed = IsOpen limit text events
 MayEnd limit text events fate.Closed = IsDecided limit text events fate.Closed
 MayEnd limit text events fate.TooMany = IsDecided limit text events fate.TooMany

@@ -1,4 +1,8 @@
-ghost use Rattle.std.specs.Prelude.{◌≡◌, ◌≢◌, ◌<◌, ◌≤◌, ◌↔◌, ◌⊎◌, ℕ, List, [], ◌∷◌, ◌++◌, length, slice_index, take, IsTrue, IsSome, IfSome, IfNone, IfOk, Some, None};
+//! The decoder: it reads one stream, whose bytes come in pieces, and gives its events and its end.
+
+ghost use Rattle.std.specs.Prelude.{◌≡◌, ◌≢◌, ◌<◌, ◌≤◌, ◌↔◌, ◌⊎◌, [], ◌∷◌, ◌++◌};
+ghost use Rattle.std.specs.Prelude.{ℕ, List, length, slice_index, take};
+ghost use Rattle.std.specs.Prelude.{IsTrue, IsSome, IfSome, IfNone, IfOk, Some, None};
 ghost use Rattle.trace_record.specs.Ranges.{largest_limit};
 ghost use Rattle.trace_record.specs.Reading.{Says};
 ghost use Rattle.trace_record.specs.Spelling.{record_length, spelling};
@@ -6,24 +10,23 @@ ghost use Rattle.trace_record.specs.Spelling.{record_length, spelling};
 use crate::end::{End, Fate, Flaw};
 use crate::event::Event;
 use crate::fields::read_record;
-use crate::format::{
-    ACCESS_LENGTH, CLOSE, FREE, HEADER, HEADER_LENGTH, LOAD, MALLOC, PLACE_LENGTH, POISON,
-    REGION_LENGTH, STORE, UNPOISON,
-};
-use crate::held::Held;
+use crate::format::{ACCESS_LENGTH, CLOSE, HEADER, HEADER_LENGTH, LOAD, STORE, length_of};
+use crate::partial::Partial;
 use std::marker::Model;
 
 /// The greatest event limit.
 const LARGEST_LIMIT: u32 = 1 << 24;
 
-/// Reads one stream, whose bytes come in pieces of any lengths, record by record. It takes no memory: of what it has read
-/// it keeps two counts, and the bytes of a header or record that a piece cut.
+/// Reads one stream, whose bytes come in pieces of any lengths, record by record.
+///
+/// It takes no memory. Of what it has read it keeps two counts, and the bytes of a header or record
+/// that a piece cut.
 #[derive(Drop)]
 pub struct Decoder {
     limit: u32,
     events: u64,
     offset: u64,
-    held: Held,
+    partial: Partial,
     stop: Option<End>,
 }
 
@@ -33,7 +36,13 @@ impl Model for Decoder {
 
     ghost Value = { Standing };
 
-    ghost view = { λ d. record { limit = d.limit; events = d.events; offset = d.offset; rest = d.held; stop = d.stop } };
+    ghost view = { λ d. record {
+      limit = d.limit;
+      events = d.events;
+      offset = d.offset;
+      rest = d.partial;
+      stop = d.stop;
+    } };
 
     ghost invariant = { IsSound };
 }
@@ -67,7 +76,8 @@ impl Decoder {
     ghost use Rattle.trace_record.specs.Standing.{StandsAt, Answers, Takes, stop_of, end_of};
     ghost use Rattle.trace_record.specs.Stream.{Spells};
 
-    /// A decoder at the start of a stream that may have at most `limit` events, or None unless the limit is 1 to 2^24.
+    /// A decoder at the start of a stream that may have at most `limit` events, or `None` unless the
+    /// limit is 1 to 2^24.
     pub fn new(limit: u32) -> Option<Decoder>
         ensures made { IsSome result ↔ ((0 < limit) × (limit ≤ largest_limit)) }
         ensures at_start { IfSome result (λ d. (d.limit ≡ limit) × StandsAt d [] []) }
@@ -79,20 +89,23 @@ impl Decoder {
             limit,
             events: 0,
             offset: 0,
-            held: Held::new(),
+            partial: Partial::new(),
             stop: None,
         })
     }
 
-    /// Reads what comes next of the stream: up to the end of its next record, or up to the byte that ends the stream, or
-    /// all of the piece where it has neither. Bytes behind that are not looked at, and are to be given again. After a
-    /// `Stop` each call answers the same `Stop`, uses no byte and leaves the decoder as it is.
+    /// Reads what comes next of the stream: up to the end of its next record, or up to the byte that
+    /// ends the stream, or all of the piece where it has neither.
+    ///
+    /// The bytes after that are not looked at: give them again in the next call. After a `Stop` each
+    /// call answers the same `Stop`, uses no byte and leaves the decoder as it is.
     #[inline(always)]
     pub fn next(&mut self, piece: &[u8]) -> Step
         ensures used { result.used ≤ length piece.now }
         ensures need { result.out ≡ Out.Need → result.used ≡ length piece.now }
         ensures got { (event : Event) → result.out ≡ Out.Got event → 0 < result.used }
-        ensures ended { (end : End) → self.old.stop ≡ None → result.out ≡ Out.Stop end → 0 < result.used }
+        ensures ended { (end : End) → self.old.stop ≡ None →
+            result.out ≡ Out.Stop end → 0 < result.used }
         ensures limit { self.new.limit ≡ self.old.limit }
         ensures stop { self.new.stop ≡ stop_of result.out }
         ensures answers { (text : List ℕ) (events : List Event) → StandsAt self.old text events →
@@ -103,7 +116,8 @@ impl Decoder {
         if self.is_between_records() && !piece.is_empty() {
             return self.take_first(piece);
         }
-        // Taken apart and put together: else the answer would be copied through memory on the short way too.
+        // Split into its fields and put together again, so that the answer of the common way above
+        // stays in registers too.
         let Step { used, out } = self.next_apart(piece);
         Step { used, out }
     }
@@ -121,7 +135,8 @@ impl Decoder {
         ensures limit { self.new.limit ≡ self.old.limit }
         ensures stop { self.new.stop ≡ self.old.stop }
         ensures answers { (text : List ℕ) (events : List Event) → StandsAt self.old text events →
-            StandsAt self.new (text ++ take result.used piece.now) (events ++ take result.count out.new) }
+            StandsAt self.new (text ++ take result.used piece.now)
+            (events ++ take result.count out.new) }
         ensures stopped { IfSome self.old.stop
             (λ _. (result ≡ record { count = 0; used = 0 }) × (self.new ≡ self.old)) }
     {
@@ -140,23 +155,26 @@ impl Decoder {
         Ahead { count, used }
     }
 
-    /// The end where no more bytes come: `Truncated` inside the header or a record, and for an empty stream too, `NoClose`
-    /// right behind the header or a whole record. After a `Stop` it is that one's end.
+    /// The end where no more bytes come: `Truncated` inside the header or a record, and for an empty
+    /// stream, `NoClose` right after the header or a whole record. After a `Stop` it is the end that
+    /// the `Stop` gave.
     pub fn at_end(self) -> End
         ensures stopped { IfSome self.stop (λ end. result ≡ end) }
         ensures ends { (text : List ℕ) (events : List Event) → StandsAt self text events →
-            Spells self.limit text events result × ((result.fate ≡ Fate.Truncated) ⊎ (result.fate ≡ Fate.NoClose)) }
+            Spells self.limit text events result ×
+            ((result.fate ≡ Fate.Truncated) ⊎ (result.fate ≡ Fate.NoClose)) }
     {
         match self.stop {
             Some(end) => end,
-            None if self.offset >= HEADER_LENGTH as u64 && self.held.is_empty() => {
+            None if self.offset >= HEADER_LENGTH as u64 && self.partial.is_empty() => {
                 self.end(Fate::NoClose)
             }
             None => self.end(Fate::Truncated),
         }
     }
 
-    /// The end where the next bytes cannot be read: `ReadFailed`, or after a `Stop` that one's end.
+    /// The end where the next bytes cannot be read: `ReadFailed`, or after a `Stop` the end that it
+    /// gave.
     pub fn at_fault(self) -> End
         ensures stopped { IfSome self.stop (λ end. result ≡ end) }
         ensures ends { (text : List ℕ) (events : List Event) → StandsAt self text events →
@@ -168,13 +186,14 @@ impl Decoder {
     /// Whether the next byte is the first of a record.
     #[inline(always)]
     fn is_between_records(&self) -> bool
-        ensures { IsTrue result → (self.now.stop ≡ None) × (8 ≤ self.now.offset) × (self.now.rest ≡ []) }
+        ensures { IsTrue result →
+            (self.now.stop ≡ None) × (8 ≤ self.now.offset) × (self.now.rest ≡ []) }
     {
-        self.stop.is_none() && self.offset >= HEADER_LENGTH as u64 && self.held.is_empty()
+        self.stop.is_none() && self.offset >= HEADER_LENGTH as u64 && self.partial.is_empty()
     }
 
-    /// Reads what comes next anywhere, as [`next`](Decoder::next) does. Cold: most calls find a piece that begins with a
-    /// record.
+    /// Reads what comes next anywhere, as [`next`](Decoder::next) does. Cold: most calls find a piece
+    /// that begins with a record.
     #[cold]
     fn next_apart(&mut self, piece: &[u8]) -> Step
         ensures takes { Takes self.old self.new piece.now result }
@@ -209,19 +228,20 @@ impl Decoder {
         requires running { self.old.stop ≡ None }
         requires in_header { self.old.offset < 8 }
         ensures takes { Takes self.old self.new piece.now result }
-        ensures whole { result.out ≡ Out.Need → result.used < length piece.now → 8 ≤ self.new.offset }
+        ensures whole { result.out ≡ Out.Need → result.used < length piece.now →
+            8 ≤ self.new.offset }
     {
-        let missing = HEADER_LENGTH - self.held.len();
+        let missing = HEADER_LENGTH - self.partial.len();
         if piece.len() < missing {
-            self.held.append(piece);
+            self.partial.append(piece);
             return Step {
                 used: piece.len(),
                 out: Out::Need,
             };
         }
-        self.held.append(&piece[..missing]);
-        let good = self.held.as_slice() == HEADER.as_slice();
-        self.held.clear();
+        self.partial.append(&piece[..missing]);
+        let good = self.partial.as_slice() == HEADER.as_slice();
+        self.partial.clear();
         if good {
             self.offset = HEADER_LENGTH as u64;
             Step {
@@ -249,7 +269,7 @@ impl Decoder {
                 out: Out::Need,
             };
         }
-        if self.held.is_empty() {
+        if self.partial.is_empty() {
             self.take_first(piece)
         } else {
             self.take_more(piece)
@@ -261,7 +281,7 @@ impl Decoder {
     fn take_first(&mut self, piece: &[u8]) -> Step
         requires running { self.old.stop ≡ None }
         requires in_records { 8 ≤ self.old.offset }
-        requires none_held { self.old.rest ≡ [] }
+        requires none_cut { self.old.rest ≡ [] }
         requires begun { 0 < length piece.now }
         ensures takes { Takes self.old self.new piece.now result }
         ensures need { result.out ≡ Out.Need → result.used ≡ length piece.now }
@@ -277,13 +297,13 @@ impl Decoder {
         }
     }
 
-    /// Takes a record of so many bytes that begins with the piece, or holds its first bytes where the piece cuts it. No
-    /// record has 0 bytes: that is the length of an unknown code.
+    /// Takes a record of `size` bytes that begins with the piece, or keeps its first bytes where the
+    /// piece cuts it. No record has 0 bytes: that is the length of an unknown code.
     #[inline(always)]
     fn take_whole(&mut self, piece: &[u8], size: usize) -> Step
         requires running { self.old.stop ≡ None }
         requires in_records { 8 ≤ self.old.offset }
-        requires none_held { self.old.rest ≡ [] }
+        requires none_cut { self.old.rest ≡ [] }
         requires begun { 0 < length piece.now }
         requires open { slice_index piece.now 0 ≢ 7 }
         requires size { size ≡ record_length (slice_index piece.now 0) }
@@ -303,7 +323,7 @@ impl Decoder {
             };
         }
         if piece.len() < size {
-            self.held.append(piece);
+            self.partial.append(piece);
             return Step {
                 used: piece.len(),
                 out: Out::Need,
@@ -319,7 +339,7 @@ impl Decoder {
     fn take_good(&mut self, piece: &[u8]) -> Option<Front>
         requires running { self.old.stop ≡ None }
         requires in_records { 8 ≤ self.old.offset }
-        requires none_held { self.old.rest ≡ [] }
+        requires none_cut { self.old.rest ≡ [] }
         requires begun { 0 < length piece.now }
         ensures none { IfNone result (self.new ≡ self.old) }
         ensures between { (self.new.stop ≡ None) × (8 ≤ self.new.offset) × (self.new.rest ≡ []) }
@@ -337,26 +357,26 @@ impl Decoder {
         Some(front)
     }
 
-    /// Takes more bytes of the record that is held.
+    /// Takes more bytes of the record that was cut.
     fn take_more(&mut self, piece: &[u8]) -> Step
         requires running { self.old.stop ≡ None }
         requires in_records { 8 ≤ self.old.offset }
-        requires held { 0 < length self.old.rest }
+        requires cut { 0 < length self.old.rest }
         ensures takes { Takes self.old self.new piece.now result }
         ensures need { result.out ≡ Out.Need → result.used ≡ length piece.now }
     {
-        let length = length_of(self.held.as_slice()[0]);
-        let missing = length - self.held.len();
+        let length = length_of(self.partial.as_slice()[0]);
+        let missing = length - self.partial.len();
         if piece.len() < missing {
-            self.held.append(piece);
+            self.partial.append(piece);
             return Step {
                 used: piece.len(),
                 out: Out::Need,
             };
         }
-        self.held.append(&piece[..missing]);
-        let said = read_record(self.held.as_slice());
-        self.held.clear();
+        self.partial.append(&piece[..missing]);
+        let said = read_record(self.partial.as_slice());
+        self.partial.clear();
         self.finish(said, length, missing)
     }
 
@@ -365,7 +385,7 @@ impl Decoder {
     fn finish(&mut self, said: Result<Event, Flaw>, size: usize, used: usize) -> Step
         requires running { self.old.stop ≡ None }
         requires in_records { 8 ≤ self.old.offset }
-        requires none_held { self.old.rest ≡ [] }
+        requires none_cut { self.old.rest ≡ [] }
         requires room { self.old.events < self.old.limit }
         requires size { IfOk said (λ event. size ≡ length (spelling event)) }
         ensures used { result.used ≡ used }
@@ -395,7 +415,7 @@ impl Decoder {
     /// Ends the stream.
     fn stop(&mut self, fate: Fate) -> Out
         ensures stops { self.new ≡ record self.old { stop = Some (end_of self.old fate) } }
-        ensures told { result ≡ Out.Stop (end_of self.old fate) }
+        ensures answer { result ≡ Out.Stop (end_of self.old fate) }
     {
         let end = self.end(fate);
         self.stop = Some(end);
@@ -412,18 +432,6 @@ impl Decoder {
             events: self.events,
             offset: self.offset + close,
         }
-    }
-}
-
-/// How many bytes a record of this code has, or 0 where no record has it.
-fn length_of(code: u8) -> usize
-    ensures { result ≡ record_length code }
-{
-    match code {
-        LOAD | STORE => ACCESS_LENGTH,
-        MALLOC | POISON | UNPOISON => REGION_LENGTH,
-        FREE => PLACE_LENGTH,
-        _ => 0,
     }
 }
 
@@ -448,8 +456,8 @@ fn read_front(bytes: &[u8]) -> Option<Front>
     }
 }
 
-/// The record of `size` bytes that these begin with, if it is whole and good. No record has 0 bytes:
-/// that is the length of an unknown code.
+/// The record of `size` bytes that these begin with, if it is whole and good. No record has 0
+/// bytes: that is the length of an unknown code.
 #[inline(always)]
 fn read_whole(bytes: &[u8], size: usize) -> Option<Front>
     requires begun { 0 < length bytes.now }

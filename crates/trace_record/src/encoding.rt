@@ -1,3 +1,5 @@
+//! The encoder: it puts the record of an event into a buffer.
+
 ghost use Rattle.std.specs.Prelude.{◌≡◌, ◌+◌, ◌≤◌, ◌∷◌, ◌++◌, length, take, drop};
 ghost use Rattle.std.specs.Int.{w64, to_le_bytes};
 ghost use Rattle.trace_record.specs.Spelling.{spelling};
@@ -9,7 +11,8 @@ use crate::format::{
 };
 use byteorder::{ByteOrder, LittleEndian};
 
-/// Puts an event's record at the front of `out` and answers how many bytes it has, at most 17. The bytes behind it stay.
+/// Puts an event's record at the front of `out` and answers how many bytes it has, at most 17. The
+/// bytes after it stay.
 pub fn encode(event: &Event, out: &mut [u8; RECORD_ROOM]) -> usize
     ensures length { result ≡ length (spelling event.now) }
     ensures front { take result out.new ≡ spelling event.now }
@@ -40,7 +43,8 @@ fn encode_access(code: u8, access: &Access, out: &mut [u8; RECORD_ROOM]) -> usiz
 /// The record of a malloc, a poison or an unpoison.
 fn encode_region(code: u8, region: &Region, out: &mut [u8; RECORD_ROOM]) -> usize
     ensures length { result ≡ 17 }
-    ensures front { take 17 out.new ≡ code ∷ to_le_bytes w64 region.now.at ++ to_le_bytes w64 region.now.size }
+    ensures front { take 17 out.new
+        ≡ code ∷ to_le_bytes w64 region.now.at ++ to_le_bytes w64 region.now.size }
     ensures rest { drop 17 out.new ≡ drop 17 out.old }
 {
     out[0] = code;

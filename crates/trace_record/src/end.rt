@@ -1,6 +1,9 @@
+//! How a stream ended, and what was wrong with it.
+
 use thiserror::Error;
 
-/// What is wrong with a header or a record. Of a record that has several, the first in this order is told.
+/// What is wrong with a header or a record. Where a record has several flaws, it is the first in
+/// this order.
 #[derive(Clone, Copy, Debug, PartialEq, Eq, Error)]
 pub enum Flaw {
     /// The first eight bytes are not the header.
@@ -29,7 +32,7 @@ pub enum Fate {
     Malformed(Flaw),
     /// The input ended inside the header or inside a record; an empty input too.
     Truncated,
-    /// The input ended right behind the header or a whole record.
+    /// The input ended right after the header or a whole record.
     NoClose,
     /// A read failed before anything else had ended the stream.
     ReadFailed,

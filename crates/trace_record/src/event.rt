@@ -1,3 +1,5 @@
+//! The events of a trace, and the ranges that their numbers keep.
+
 ghost use Rattle.std.specs.Prelude.{◌≡◌, ◌+◌, ◌<◌, ◌≤◌, IsTrue, MatchResult, Some};
 ghost use Rattle.trace_record.specs.Ranges.{is_width, largest_region, address_end};
 
@@ -48,10 +50,11 @@ pub enum Event {
 impl Access {
     ghost use Rattle.trace_record.specs.Flaws.{access_flaw};
 
-    /// The access of `width` bytes at the address `at`, or the first flaw of these numbers: `Width` unless the width
-    /// is 1, 2, 4 or 8, then `Range` if the access ends past 2^47.
+    /// The access of `width` bytes at the address `at`, or the first flaw of these numbers: `Width`
+    /// unless the width is 1, 2, 4 or 8, then `Range` if the access ends past 2^47.
     pub fn new(at: u64, width: u8) -> Result<Access, Flaw>
-        ensures { MatchResult result (λ a. (a.at ≡ at) × (a.width ≡ width)) (λ f. access_flaw at width ≡ Some f) }
+        ensures { MatchResult result
+            (λ a. (a.at ≡ at) × (a.width ≡ width)) (λ f. access_flaw at width ≡ Some f) }
     {
         if !is_width(width) {
             return Err(Flaw::Width);
@@ -80,10 +83,12 @@ impl Access {
 impl Region {
     ghost use Rattle.trace_record.specs.Flaws.{region_flaw};
 
-    /// The region of `size` bytes at the address `at`, or the first flaw of these numbers: `Size` if it has more than
-    /// 2^28 bytes, then `Range` if it ends past 2^47. A region of size 0 may lie at 2^47.
+    /// The region of `size` bytes at the address `at`, or the first flaw of these numbers: `Size` if
+    /// it has more than 2^28 bytes, then `Range` if it ends past 2^47. A region of size 0 may lie at
+    /// 2^47.
     pub fn new(at: u64, size: u64) -> Result<Region, Flaw>
-        ensures { MatchResult result (λ r. (r.at ≡ at) × (r.size ≡ size)) (λ f. region_flaw at size ≡ Some f) }
+        ensures { MatchResult result
+            (λ r. (r.at ≡ at) × (r.size ≡ size)) (λ f. region_flaw at size ≡ Some f) }
     {
         if size > LARGEST_REGION {
             return Err(Flaw::Size);
@@ -130,8 +135,8 @@ impl Place {
     }
 }
 
-/// Whether an access can have so many bytes. Told by arithmetic, since of four compares a processor would often guess one
-/// wrong.
+/// Whether an access can have this width. It is computed without branches: of four comparisons a
+/// processor would often predict one wrong.
 #[inline]
 fn is_width(width: u8) -> bool
     ensures { result ≡ is_width width }

@@ -1,4 +1,7 @@
-ghost use Rattle.std.specs.Prelude.{◌≡◌, ◌+◌, ◌≤◌, ◌<◌, length, take, drop, slice_index, MatchResult, Some};
+//! The numbers of a whole record: they are read from its bytes, and an event is made of them.
+
+ghost use Rattle.std.specs.Prelude.{◌≡◌, ◌+◌, ◌≤◌, ◌<◌};
+ghost use Rattle.std.specs.Prelude.{length, take, drop, slice_index, MatchResult, Some};
 ghost use Rattle.std.specs.Int.{w64, to_le_bytes};
 ghost use Rattle.trace_record.specs.Reading.{Says};
 ghost use Rattle.trace_record.specs.Spelling.{bytes_of, fields_of, flaw_of, record_length};
@@ -79,8 +82,8 @@ impl Fields {
     }
 }
 
-/// What a whole record says: its event, or its first flaw. Inlined with the two steps that it takes, so that a record's
-/// numbers stay in registers.
+/// What a whole record says: its event, or its first flaw. Inlined with the two steps that it takes,
+/// so that a record's numbers stay in registers.
 #[inline(always)]
 pub fn read_record(bytes: &[u8]) -> Result<Event, Flaw>
     requires begun { 0 < length bytes.now }

@@ -1,4 +1,10 @@
-/// The eight bytes that every stream begins with: `ASTR`, and the version 1 as a number of four bytes.
+//! The bytes of a stream: its header, its close, and the codes of records with their lengths.
+
+ghost use Rattle.std.specs.Prelude.{◌≡◌};
+ghost use Rattle.trace_record.specs.Spelling.{record_length};
+
+/// The eight bytes that every stream begins with: `ASTR`, and the version 1 as a number of four
+/// bytes.
 pub const HEADER: [u8; 8] = [b'A', b'S', b'T', b'R', 1, 0, 0, 0];
 
 /// The byte that closes a stream. No record begins with it.
@@ -26,8 +32,21 @@ pub const UNPOISON: u8 = 6;
 /// How many bytes the record of a load or a store has: its code, a width and an address.
 pub const ACCESS_LENGTH: usize = 10;
 
-/// How many bytes the record of a malloc, a poison or an unpoison has: its code, an address and a size.
+/// How many bytes the record of a malloc, a poison or an unpoison has: its code, an address and a
+/// size.
 pub const REGION_LENGTH: usize = 17;
 
 /// How many bytes the record of a free has: its code and an address.
 pub const PLACE_LENGTH: usize = 9;
+
+/// How many bytes a record of this code has, or 0 where no record has it.
+pub fn length_of(code: u8) -> usize
+    ensures { result ≡ record_length code }
+{
+    match code {
+        LOAD | STORE => ACCESS_LENGTH,
+        MALLOC | POISON | UNPOISON => REGION_LENGTH,
+        FREE => PLACE_LENGTH,
+        _ => 0,
+    }
+}

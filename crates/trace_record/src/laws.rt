@@ -1,6 +1,7 @@
 //! Laws of the format. Each is a function that does nothing: its contract is the law.
 
-ghost use Rattle.std.specs.Prelude.{◌≡◌, ◌≢◌, ◌<◌, ◌≤◌, ◌++◌, ℕ, List, Option, Result, length, take};
+ghost use Rattle.std.specs.Prelude.{◌≡◌, ◌≢◌, ◌<◌, ◌≤◌, ◌++◌};
+ghost use Rattle.std.specs.Prelude.{ℕ, List, Option, Result, length, take};
 ghost use Rattle.trace_record.specs.declared.event.Event.{Event};
 ghost use Rattle.trace_record.specs.declared.end.End.{End};
 ghost use Rattle.trace_record.specs.declared.end.Fate.{Fate};
@@ -13,24 +14,29 @@ ghost use Rattle.trace_record.specs.Spelling.{header, spelling, spellings};
 ghost use Rattle.trace_record.specs.Stream.{IsDecided, IsDecidedFate, Spells};
 ghost use Rattle.trace_record.specs.Reading.{AreBytes, IsWholeRecord, Reads, Says};
 
-/// No event's spelling begins another's: what bytes begin with tells the event and where it ends.
+/// No event's spelling begins another's: the event that bytes begin with is known from them, and
+/// where it ends.
 pub fn spellings_are_prefix_free()
     ensures { (e f : Event) (x y : List ℕ) → spelling e ++ x ≡ spelling f ++ y → (e ≡ f) × (x ≡ y) }
 {}
 
 /// A whole record is the spelling of one event, or it has one first flaw.
 pub fn whole_records_say_one_thing()
-    ensures something { (part : List ℕ) → IsWholeRecord part → (said : Result Event Flaw) × Says part said }
-    ensures one_thing { (part : List ℕ) (said other : Result Event Flaw) → Says part said → Says part other → said ≡ other }
+    ensures something { (part : List ℕ) → IsWholeRecord part →
+        (said : Result Event Flaw) × Says part said }
+    ensures one_thing { (part : List ℕ) (said other : Result Event Flaw) →
+        Says part said → Says part other → said ≡ other }
 {}
 
-/// Every text has one reading under a limit: it is open, with one list of events, or it is decided, with one list of
-/// events and one fate, and never both.
+/// Every text has one reading under a limit: it is open, with one list of events, or it is decided,
+/// with one list of events and one fate, and never both.
 pub fn texts_have_one_reading()
     ensures some { (limit : ℕ) (text : List ℕ) → AreBytes text →
         (events : List Event) × (decided : Option Fate) × Reads limit text events decided }
-    ensures one { (limit : ℕ) (text : List ℕ) (events others : List Event) (decided other : Option Fate) →
-        Reads limit text events decided → Reads limit text others other → (events ≡ others) × (decided ≡ other) }
+    ensures one { (limit : ℕ) (text : List ℕ)
+        (events others : List Event) (decided other : Option Fate) →
+        Reads limit text events decided → Reads limit text others other →
+        (events ≡ others) × (decided ≡ other) }
 {}
 
 /// What is decided for a text is decided, with the same events and fate, whatever follows it.
@@ -38,12 +44,14 @@ pub fn decisions_stand()
     ensures decided { (limit : ℕ) (text more : List ℕ) (events : List Event) (decided : Fate) →
         IsDecided limit text events decided → IsDecided limit (text ++ more) events decided }
     ensures end { (limit : ℕ) (text more : List ℕ) (events : List Event) (end : End) →
-        Spells limit text events end → IsDecidedFate end.fate → Spells limit (text ++ more) events end }
+        Spells limit text events end → IsDecidedFate end.fate →
+        Spells limit (text ++ more) events end }
 {}
 
 /// The events of a text are the first events of each text that begins with it.
 pub fn events_stand()
-    ensures { (limit : ℕ) (text more : List ℕ) (events longer : List Event) (decided other : Option Fate) →
+    ensures { (limit : ℕ) (text more : List ℕ)
+        (events longer : List Event) (decided other : Option Fate) →
         Reads limit text events decided → Reads limit (text ++ more) longer other →
         (later : List Event) × (longer ≡ events ++ later) }
 {}
@@ -52,11 +60,12 @@ pub fn events_stand()
 pub fn texts_spell_one_end()
     ensures { (limit : ℕ) (text : List ℕ) (events others : List Event) (end other : End) →
         Spells limit text events end → Spells limit text others other →
-        end.fate ≢ fate.ReadFailed → other.fate ≢ fate.ReadFailed → (events ≡ others) × (end ≡ other) }
+        end.fate ≢ fate.ReadFailed → other.fate ≢ fate.ReadFailed →
+        (events ≡ others) × (end ≡ other) }
 {}
 
-/// A decoder that stands behind the header and whole records, fewer than its limit, answers to an event's bytes with
-/// this event, and uses all of them.
+/// A decoder that stands after the header and whole records, fewer than its limit, answers to an
+/// event's bytes with this event, and uses all of them.
 pub fn encoded_events_are_read()
     ensures { (new : Standing) (events : List Event) (event : Event) (used : ℕ) (answer : Out) →
         length events < new.limit → used ≤ length (spelling event) →

@@ -1,4 +1,5 @@
-//! The records of a trace: what a stream of bytes says that a process did, and how that is spelled in bytes.
+//! The records of a trace: what a stream of bytes says that a process did, and how that is spelled
+//! in bytes.
 #![tactic(auto)]
 
 mod decoder;
@@ -7,8 +8,8 @@ mod end;
 mod event;
 mod fields;
 mod format;
-mod held;
 mod laws;
+mod partial;
 #[cfg(test)]
 mod tests;
 

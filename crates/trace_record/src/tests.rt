@@ -1,10 +1,13 @@
+//! Tests of the decoder and the encoder by bytes and events that are written out.
+
 ghost use Rattle.std.specs.Prelude.{◌≤◌, length};
 
 use super::*;
 use std::alloc::{AllocError, Global};
 use std::test::Fail;
 
-/// A malloc of 5 bytes at 0x1000, a store of 4 bytes at 0x1004, the close, and 20 bytes that nobody reads.
+/// A malloc of 5 bytes at 0x1000, a store of 4 bytes at 0x1004, the close, and 20 bytes that nobody
+/// reads.
 const STREAM: [u8; 56] = [
     0x41, 0x53, 0x54, 0x52, 1, 0, 0, 0, 3, 0, 0x10, 0, 0, 0, 0, 0, 0, 5, 0, 0, 0, 0, 0, 0, 0, 2, 4,
     4, 0x10, 0, 0, 0, 0, 0, 0, 7, 1, 2, 3, 4, 5, 6, 7, 8, 9, 10, 11, 12, 13, 14, 15, 16, 17, 18,

@@ -11,5 +11,5 @@ returns-clause-front c =
 
 pub returns-clause-rest : goal.returns-clause-rest
 returns-clause-rest c =
-    let behind = ap (drop 8) (c.put_number.ensures.rest ∙ drop-set-lt 9 c.args.out.now 0 c.args.code (omega arith)) in
-    c.put_number-2.ensures.rest ∙ sym (drop-drop 8 9 c.put_number.new.out) ∙ behind ∙ drop-drop 8 9 c.args.out.now
+    let past = ap (drop 8) (c.put_number.ensures.rest ∙ drop-set-lt 9 c.args.out.now 0 c.args.code (omega arith)) in
+    c.put_number-2.ensures.rest ∙ sym (drop-drop 8 9 c.put_number.new.out) ∙ past ∙ drop-drop 8 9 c.args.out.now

@@ -5,7 +5,7 @@ use Rattle.std.specs.Int.{w64, to_le_bytes}
 use Rattle.trace_record.proofs.encoding.put_number.Goals as goal
 use Rattle.trace_record.proofs.encoding.put_number.Goals.{After-write_u64}
 
--- the eight bytes that are written, and none behind them
+-- the eight bytes that are written, and none after them
 written : (c : After-write_u64) → c.write_u64.new.buf ≡ to_le_bytes w64 c.args.number
 written c =
     let part = take (c.args.from + 8 - c.args.from) (drop c.args.from c.args.out.now) in

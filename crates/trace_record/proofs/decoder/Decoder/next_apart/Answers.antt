@@ -4,7 +4,7 @@ use Rattle.trace_record.specs.declared.decoder.Out.{Out}
 use Rattle.trace_record.specs.Standing.{Answers}
 use Rattle.trace_record.proofs.decoder.Decoder.next_apart.Goals as goal
 
--- what stands in front of a place, and some of what stands behind it
+-- what comes before a place, and some of what comes after it
 two_parts : (text piece : List ℕ) (m n : ℕ) → (text ++ take m piece) ++ take n (take (length piece - m) (drop m piece)) ≡ text ++ take (m + n) piece
 two_parts text piece m n =
     let front : take m (take (m + n) piece) ≡ take m piece = take-take m (m + n) piece (omega arith) in

@@ -17,17 +17,17 @@ loop-count-preserved c =
     record {
       running = c.take_good.ensures.between.0;
       in_records = c.take_good.ensures.between.1;
-      none_held = c.take_good.ensures.between.2;
+      none_cut = c.take_good.ensures.between.2;
       limit = c.take_good.ensures.limit ∙ was.limit;
       within = (let within = was.within in omega (arith, length-drop c.loop-count.used piece));
       room = (let room = was.room in omega (arith, length-set out c.loop-count.count front.event));
       some = omega (arith, length-set out c.loop-count.count front.event);
       moved = λ _. (let some_size = some.0 in omega arith);
       answers = λ text events at.
-          let told = some.2 (text ++ take c.loop-count.used piece) (events ++ take c.loop-count.count out) (was.answers text events at) in
+          let stood = some.2 (text ++ take c.loop-count.used piece) (events ++ take c.loop-count.count out) (was.answers text events at) in
           let bytes = joined text piece c.loop-count.used front.size in
           let more = append_assoc events (take c.loop-count.count out) (front.event ∷ []) ∙ ap (λ (es : List Event). events ++ es) (sym (take_more_set out c.loop-count.count front.event (omega arith))) in
-          rw (bytes, more) at told;
+          rw (bytes, more) at stood;
     }
 
 pub returns-in_default-clause-answers : goal.returns-in_default-clause-answers

@@ -7,7 +7,7 @@ abbrev pub invariant-loop-count : goal.invariant-loop-count
 invariant-loop-count l = record {
   running : l.self.stop ≡ None;
   in_records : 8 ≤ l.self.offset;
-  none_held : l.self.rest ≡ [];
+  none_cut : l.self.rest ≡ [];
   limit : l.self.limit ≡ l.fn.self.limit;
   within : l.used ≤ length l.piece;
   room : length l.out ≡ length l.fn.out;

@@ -15,8 +15,8 @@ returns-then-self-from-clause-takes c = record {
       let one = take_more c.args.piece.now 0 0 c.requires.begun in
       let not : get_or c.args.piece.now 0 0 ≢ 7 = omega arith in
       let full = subst (λ (d : Standing). d.events ≡ d.limit) c.self.view_is (omega arith) in
-      let ended = too_many _ _ text events h c.requires.in_records (get_or c.args.piece.now 0 0) c.requires.none_held one not full in
-      rw (c.stop.ensures.told, c.stop.ensures.stops) (ended.0, tt, ended.1);
+      let ended = too_many _ _ text events h c.requires.in_records (get_or c.args.piece.now 0 0) c.requires.none_cut one not full in
+      rw (c.stop.ensures.answer, c.stop.ensures.stops) (ended.0, tt, ended.1);
 }
 
 pub returns-then-size-eq0-clause-takes : goal.returns-then-size-eq0-clause-takes
@@ -30,8 +30,8 @@ returns-then-size-eq0-clause-takes c = record {
       let one = take_more c.args.piece.now 0 0 c.requires.begun in
       let not : get_or c.args.piece.now 0 0 ≢ 7 = omega arith in
       let room = subst (λ (d : Standing). d.events < d.limit) c.self.view_is (let counted = c.self.invariant.counted in omega arith) in
-      let ended = bad_code _ _ text events h c.requires.in_records (get_or c.args.piece.now 0 0) c.requires.none_held one not room (sym c.requires.size ∙ omega arith) in
-      rw (c.stop-then-size-eq0.ensures.told, c.stop-then-size-eq0.ensures.stops) (ended.0, tt, ended.1);
+      let ended = bad_code _ _ text events h c.requires.in_records (get_or c.args.piece.now 0 0) c.requires.none_cut one not room (sym c.requires.size ∙ omega arith) in
+      rw (c.stop-then-size-eq0.ensures.answer, c.stop-then-size-eq0.ensures.stops) (ended.0, tt, ended.1);
 }
 
 pub returns-clause-takes : goal.returns-clause-takes
@@ -42,6 +42,6 @@ returns-clause-takes c = record {
   limit = search rules;
   stop = search rules;
   answers = λ text events h.
-      let at = subst (λ (rest : List ℕ). StandsAt (record c.args.self.now { rest = rest }) text events) c.requires.none_held h in
+      let at = subst (λ (rest : List ℕ). StandsAt (record c.args.self.now { rest = rest }) text events) c.requires.none_cut h in
       rw c.finish.ensures.used (c.finish.ensures.answers text events [] (take c.args.size c.args.piece.now) at c.read_record-said.ensures);
 }

@@ -1,3 +1,5 @@
+//! The bytes of a header or record that a piece cut.
+
 ghost use Rattle.std.specs.Prelude.{◌≡◌, ◌+◌, ◌≤◌, ◌++◌, ◌↔◌, IsTrue, [], List, ℕ, length, take};
 
 use crate::format::RECORD_ROOM;
@@ -5,12 +7,12 @@ use std::marker::Model;
 
 /// The bytes of a header or record that a piece cut, in room for the longest.
 #[derive(Drop)]
-pub struct Held {
+pub struct Partial {
     bytes: [u8; RECORD_ROOM],
     len: usize,
 }
 
-impl Model for Held {
+impl Model for Partial {
     ghost Value = { List ℕ };
 
     ghost view = { λ h. take h.len h.bytes };
@@ -18,12 +20,12 @@ impl Model for Held {
     ghost invariant = { λ h. h.len ≤ 24 };
 }
 
-impl Held {
+impl Partial {
     /// No bytes.
-    pub fn new() -> Held
+    pub fn new() -> Partial
         ensures { result ≡ [] }
     {
-        Held {
+        Partial {
             bytes: [0; RECORD_ROOM],
             len: 0,
         }
@@ -50,7 +52,7 @@ impl Held {
         self.len == 0
     }
 
-    /// Puts more bytes behind those that are here.
+    /// Puts more bytes after those that are here.
     pub fn append(&mut self, more: &[u8])
         requires { length self.old + length more.now ≤ 24 }
         ensures { self.new ≡ self.old ++ more.now }
