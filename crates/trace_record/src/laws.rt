@@ -1,6 +1,6 @@
 //! Laws of the format. Each is a function that does nothing: its contract is the law.
 
-ghost use Rattle.std.specs.Prelude.{◌≡◌, ◌≢◌, ◌<◌, ◌≤◌, ◌++◌};
+ghost use Rattle.std.specs.Prelude.{◌≡◌, ◌≢◌, ◌+◌, ◌*◌, ◌<◌, ◌≤◌, ◌++◌};
 ghost use Rattle.std.specs.Prelude.{ℕ, List, Option, Result, length, take};
 ghost use Rattle.trace_record.specs.declared.event.Event.{Event};
 ghost use Rattle.trace_record.specs.declared.end.End.{End};
@@ -11,7 +11,7 @@ ghost use Rattle.trace_record.specs.declared.decoder.Out.{Out};
 ghost use Rattle.trace_record.specs.declared.decoder.Out.TheVariants as out;
 ghost use Rattle.trace_record.specs.Standing.{Standing, Answers};
 ghost use Rattle.trace_record.specs.Spelling.{header, spelling, spellings};
-ghost use Rattle.trace_record.specs.Stream.{IsDecided, IsDecidedFate, Spells};
+ghost use Rattle.trace_record.specs.Stream.{IsDecided, IsDecidedFate, IsOpen, Spells};
 ghost use Rattle.trace_record.specs.Reading.{AreBytes, IsWholeRecord, Reads, Says};
 
 /// No event's spelling begins another's: the event that bytes begin with is known from them, and
@@ -37,6 +37,12 @@ pub fn texts_have_one_reading()
         (events others : List Event) (decided other : Option Fate) →
         Reads limit text events decided → Reads limit text others other →
         (events ≡ others) × (decided ≡ other) }
+{}
+
+/// An open text is no longer than the header and the longest records that the limit allows.
+pub fn open_texts_are_short()
+    ensures { (limit : ℕ) (text : List ℕ) (events : List Event) →
+        IsOpen limit text events → length text ≤ 17 * limit + 8 }
 {}
 
 /// What is decided for a text is decided, with the same events and fate, whatever follows it.

@@ -19,6 +19,7 @@ pub use end::{End, Fate, Flaw};
 pub use event::{Access, Event, Place, Region};
 pub use format::{CLOSE, HEADER, RECORD_ROOM};
 pub use laws::{
-    decisions_stand, encoded_events_are_read, events_stand, spellings_are_prefix_free,
-    texts_have_one_reading, texts_spell_one_end, whole_records_say_one_thing,
+    decisions_stand, encoded_events_are_read, events_stand, open_texts_are_short,
+    spellings_are_prefix_free, texts_have_one_reading, texts_spell_one_end,
+    whole_records_say_one_thing,
 };
