@@ -27,9 +27,9 @@ taken all before s i j x is low high at =
     rw e (take_at (before ++ x ∷ []) (piece (i + 1) j s) _ (omega (arith, rest, length-append (before ++ x ∷ []) (piece (i + 1) j s))))
 
 -- and all that was received still ends with what is left of the part
-pub held : {T : Type 0} (all before s : List T) (i j : ℕ) (x : T) → all ≡ before ++ piece i j s → i < j → j ≤ length s
+pub still_last : {T : Type 0} (all before s : List T) (i j : ℕ) (x : T) → all ≡ before ++ piece i j s → i < j → j ≤ length s
     → x ≡ slice_index_or s i x → all ≡ take (length all - (j - (i + 1))) all ++ piece (i + 1) j s
-held all before s i j x is low high at =
+still_last all before s i j x is low high at =
     moved all before s i j x is low high at ∙ ap (λ l. l ++ piece (i + 1) j s) (sym (taken all before s i j x is low high at))
 
 -- more items became known to wait in the ring, after those in the buffer

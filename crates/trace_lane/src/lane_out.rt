@@ -20,13 +20,15 @@ pub struct LaneOut<T: Copy + Send, A: Allocator + Copy = Global> {
     to: usize,
     // Whether the lane was settled: from then on no item moves into the buffer.
     settled: bool,
-    ghost low: { (from ≤ to) × (to ≤ vec_len buffer) },
-    ghost held: { received ring ≡ take (length (received ring) - (to - from)) (received ring)
+    ghost in_buffer: { (from ≤ to) × (to ≤ vec_len buffer) },
+    ghost last_received: { received ring
+        ≡ take (length (received ring) - (to - from)) (received ring)
         ++ piece from to buffer.items },
 }
 
 impl<T: Copy + Send, A: Allocator + Copy> LaneOut<T, A> {
-    ghost use Rattle.std.specs.Prelude.{◌≡◌, ◌<◌, List, [], ◌∷◌, ◌++◌, length, IfSome, IfNone, IsSome, true, false};
+    ghost use Rattle.std.specs.Prelude.{◌≡◌, ◌<◌, List, [], ◌∷◌, ◌++◌, length};
+    ghost use Rattle.std.specs.Prelude.{IfSome, IfNone, IsSome, true, false};
     ghost use Rattle.rtrb.specs.Ring.{received};
     ghost use Rattle.trace_lane.specs.Lanes.{out_lane, end_lane, taken_list, waiting, end_list};
 

@@ -1,6 +1,7 @@
 //! The making of a lane.
 ghost use Rattle.std.specs.Prelude.{◌≡◌, ◌<◌, ◌≤◌, ◌⊎◌, ◌↔◌, [], IfOk, IfErr};
-ghost use Rattle.trace_lane.specs.Lanes.{in_lane, most_items, out_lane, put_list, taken_list, waiting};
+ghost use Rattle.trace_lane.specs.Lanes.{in_lane, out_lane, most_items};
+ghost use Rattle.trace_lane.specs.Lanes.{put_list, taken_list, waiting};
 
 use crate::lane_in::LaneIn;
 use crate::lane_out::LaneOut;
@@ -12,7 +13,7 @@ use thiserror::Error;
 const MOST_ITEMS: usize = 1 << 16;
 
 /// The most items that the buffer of the taking end holds.
-const MOST_AT_ONCE: usize = 64;
+const MOST_BUFFERED: usize = 64;
 
 /// No lane was made.
 #[derive(Clone, Copy, Debug, PartialEq, Eq, Error)]
@@ -48,7 +49,7 @@ pub fn lane<T: Copy + Send, A: Allocator + Copy>(
     if !(1..=MOST_ITEMS).contains(&capacity) {
         return Err(LaneError::Capacity);
     }
-    let Ok(buffer) = Vec::with_capacity(alloc, capacity.min(MOST_AT_ONCE)) else {
+    let Ok(buffer) = Vec::with_capacity(alloc, capacity.min(MOST_BUFFERED)) else {
         return Err(LaneError::NoMemory);
     };
     let Ok((producer, consumer)) = RingBuffer::new(alloc, capacity) else {

@@ -2,22 +2,22 @@
 use Rattle.std.proofs.Common.{◌++◌, [], ap, arith, cond}
 use Rattle.rtrb.specs.Ring.{known_items}
 use Rattle.trace_lane.specs.Lanes.{taken_list, waiting}
-use Rattle.trace_lane.proofs.Pieces.{first, taken, held}
+use Rattle.trace_lane.proofs.Pieces.{first, taken, still_last}
 use Rattle.trace_lane.proofs.lane_out.LaneOut.take.Goals as goal
 
-pub invariant_of-self-clause-held : goal.invariant_of-self-clause-held
-invariant_of-self-clause-held g c =
+pub invariant_of-self-clause-last_received : goal.invariant_of-self-clause-last_received
+invariant_of-self-clause-last_received g c =
     let old = c.args.self.now in
-    held _ _ old.buffer.items old.from old.to c.index-item.result.now old.held c.if-self.true (omega (arith, old.low.1, old.buffer.ok.0)) c.index-item.ensures
+    still_last _ _ old.buffer.items old.from old.to c.index-item.result.now old.last_received c.if-self.true (omega (arith, old.in_buffer.1, old.buffer.ok.0)) c.index-item.ensures
 
 pub returns-then-self-clause-some : goal.returns-then-self-clause-some
 unfolding taken_list
 returns-then-self-clause-some g c =
     let old = c.args.self.now in
-    taken _ _ old.buffer.items old.from old.to c.index-item.result.now old.held c.if-self.true (omega (arith, old.low.1, old.buffer.ok.0)) c.index-item.ensures
+    taken _ _ old.buffer.items old.from old.to c.index-item.result.now old.last_received c.if-self.true (omega (arith, old.in_buffer.1, old.buffer.ok.0)) c.index-item.ensures
 
 pub returns-then-self-clause-known : goal.returns-then-self-clause-known
 unfolding waiting
 returns-then-self-clause-known g c = λ some.
     let old = c.args.self.now in
-    ap (λ l. l ++ cond old.settled (known_items old.ring) []) (first old.buffer.items old.from old.to c.index-item.result.now c.if-self.true (omega (arith, old.low.1, old.buffer.ok.0)) c.index-item.ensures)
+    ap (λ l. l ++ cond old.settled (known_items old.ring) []) (first old.buffer.items old.from old.to c.index-item.result.now c.if-self.true (omega (arith, old.in_buffer.1, old.buffer.ok.0)) c.index-item.ensures)
