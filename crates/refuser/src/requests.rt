@@ -1,8 +1,11 @@
+//! The count of requests and of their bytes.
+
 ghost use Rattle.std.specs.Prelude.{◌≡◌, false};
 
 use std::sync::atomic::{AtomicU64, Ordering};
 
-/// Counts the requests that are made and the bytes that they ask for, and knows which of them is to be refused.
+/// Counts the requests that are made and the bytes that they ask for, and knows which of them is to
+/// be refused.
 #[derive(Drop)]
 pub struct Requests {
     refused: u64,
@@ -11,7 +14,7 @@ pub struct Requests {
 }
 
 impl Requests {
-    /// No request was made yet; the one with the number `refused`, counted from 1, is to be refused.
+    /// No request was made yet. The one with the number `refused`, counted from 1, is to be refused.
     pub fn new(refused: u64) -> Requests
         ensures { result.refused ≡ refused }
     {

@@ -1,3 +1,5 @@
+//! Tests of a refuser: which request it refuses, and what it counts.
+
 use crate::Refuser;
 use std::test::Fail;
 
