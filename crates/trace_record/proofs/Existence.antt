@@ -14,10 +14,10 @@ use Rattle.trace_record.specs.declared.end.Fate.TheVariants as fate
 use Rattle.trace_record.specs.declared.end.Flaw.{Flaw}
 use Rattle.trace_record.specs.declared.end.Flaw.TheVariants as flaw
 use Rattle.trace_record.specs.declared.fields.Fields.{Fields}
-use Rattle.trace_record.specs.Spelling.{header, close, bytes_of, FitBytes, fields_of, flaw_of, spelling, spellings, record_length}
+use Rattle.trace_record.specs.Spelling.{header, close, record_bytes, bytes_of, FitBytes, Fit, fields_of, flaw_of, spelling, spellings, record_length}
 use Rattle.trace_record.specs.Reading.{AreBytes, IsWholeRecord, Says, Reads}
 use Rattle.trace_record.specs.Stream.{IsFlawedRecord}
-use Rattle.trace_record.proofs.Numbers.{number, fields_at, same_fields}
+use Rattle.trace_record.proofs.Numbers.{number, numbers_at, fields_at, same_fields}
 use Rattle.trace_record.proofs.Same.{event_of, event_fits, event_flawless, no_prefix}
 
 byte_at : (xs : List ℕ) (i : ℕ) → AreBytes xs → get_or xs i 0 < 256
@@ -54,58 +54,58 @@ region_back more bytes len =
 place_back : (more : List ℕ) → AreBytes more → length more ≡ 8 → more ≡ to_le_bytes w64 (number more)
 place_back more bytes len = sym (number_back more bytes (omega arith) ∙ take_all 8 more (omega arith))
 
-none_past : (code : ℕ) → 6 < code → record_length code ≡ 0
-none_past code past = grind (arith, nat_tests)
+-- the lengths that records have
+record_lengths : (code : ℕ) → 0 < record_length code → (record_length code ≡ 10) ⊎ ((record_length code ≡ 17) ⊎ (record_length code ≡ 9))
+record_lengths code some =
+    elim (cases_eq (record_length code) 10) [
+      | inl is ↦ inl is
+      | inr other ↦ elim (cases_eq (record_length code) 17) [
+        | inl is ↦ inr (inl is)
+        | inr more ↦ inr (inr (grind (arith, nat_tests)))
+      ]
+    ]
+
+-- a code and the bytes after it spell the numbers at these bytes, in a record of this length
+record Spelled (code long : ℕ) (more : List ℕ) : Type 0 where
+  whole : code ∷ more ≡ record_bytes code (numbers_at long more)
+  long_is : length (record_bytes code (numbers_at long more)) ≡ long
+  fit : FitBytes (numbers_at long more)
+
+spelled : (code long : ℕ) (more : List ℕ) → AreBytes more → suc (length more) ≡ long → (long ≡ 10) ⊎ ((long ≡ 17) ⊎ (long ≡ 9)) → Spelled code long more
+spelled code long more bytes len (inl is) =
+    subst (λ (n : ℕ). Spelled code n more) (sym is) record { whole = ap (λ (t : List ℕ). code ∷ t) (access_back more bytes (omega arith)); long_is = refl; fit = (byte_at more 0 bytes, number_fits (drop 1 more) (All-drop (λ b. b < 256) 1 more bytes)) }
+spelled code long more bytes len (inr (inl is)) =
+    subst (λ (n : ℕ). Spelled code n more) (sym is) record { whole = ap (λ (t : List ℕ). code ∷ t) (region_back more bytes (omega arith)); long_is = refl; fit = (number_fits more bytes, number_fits (drop 8 more) (All-drop (λ b. b < 256) 8 more bytes)) }
+spelled code long more bytes len (inr (inr is)) =
+    subst (λ (n : ℕ). Spelled code n more) (sym is) record { whole = ap (λ (t : List ℕ). code ∷ t) (place_back more bytes (omega arith)); long_is = refl; fit = number_fits more bytes }
 
 record Back (part : List ℕ) : Type 0 where
   whole : part ≡ bytes_of (fields_at part)
-  fit : FitBytes (fields_at part)
+  fit : Fit (fields_at part)
 
--- the numbers of a whole record spell it
+-- the fields of a whole record spell it
 back : (part : List ℕ) → IsWholeRecord part → Back part
 back [] whole = absurd whole
-back (zero ∷ more) whole = absurd (let len : suc (length more) ≡ 0 = whole.1 in omega arith)
-back (suc zero ∷ more) whole =
-    let bytes = All-tail (λ b. b < 256) 1 more whole.0 in
-    let len : length more ≡ 9 = let e = whole.1 in omega arith in
-    record { whole = ap (λ (t : List ℕ). 1 ∷ t) (access_back more bytes len); fit = (byte_at more 0 bytes, number_fits (drop 1 more) (All-drop (λ b. b < 256) 1 more bytes)) }
-back (suc (suc zero) ∷ more) whole =
-    let bytes = All-tail (λ b. b < 256) 2 more whole.0 in
-    let len : length more ≡ 9 = let e = whole.1 in omega arith in
-    record { whole = ap (λ (t : List ℕ). 2 ∷ t) (access_back more bytes len); fit = (byte_at more 0 bytes, number_fits (drop 1 more) (All-drop (λ b. b < 256) 1 more bytes)) }
-back (suc (suc (suc zero)) ∷ more) whole =
-    let bytes = All-tail (λ b. b < 256) 3 more whole.0 in
-    let len : length more ≡ 16 = let e = whole.1 in omega arith in
-    record { whole = ap (λ (t : List ℕ). 3 ∷ t) (region_back more bytes len); fit = (number_fits more bytes, number_fits (drop 8 more) (All-drop (λ b. b < 256) 8 more bytes)) }
-back (suc (suc (suc (suc zero))) ∷ more) whole =
-    let bytes = All-tail (λ b. b < 256) 4 more whole.0 in
-    let len : length more ≡ 8 = let e = whole.1 in omega arith in
-    record { whole = ap (λ (t : List ℕ). 4 ∷ t) (place_back more bytes len); fit = number_fits more bytes }
-back (suc (suc (suc (suc (suc zero)))) ∷ more) whole =
-    let bytes = All-tail (λ b. b < 256) 5 more whole.0 in
-    let len : length more ≡ 16 = let e = whole.1 in omega arith in
-    record { whole = ap (λ (t : List ℕ). 5 ∷ t) (region_back more bytes len); fit = (number_fits more bytes, number_fits (drop 8 more) (All-drop (λ b. b < 256) 8 more bytes)) }
-back (suc (suc (suc (suc (suc (suc zero))))) ∷ more) whole =
-    let bytes = All-tail (λ b. b < 256) 6 more whole.0 in
-    let len : length more ≡ 16 = let e = whole.1 in omega arith in
-    record { whole = ap (λ (t : List ℕ). 6 ∷ t) (region_back more bytes len); fit = (number_fits more bytes, number_fits (drop 8 more) (All-drop (λ b. b < 256) 8 more bytes)) }
-back (suc (suc (suc (suc (suc (suc (suc code)))))) ∷ more) whole = absurd (let len = whole.1 in let none = none_past (suc (suc (suc (suc (suc (suc (suc code))))))) (omega arith) in omega arith)
+back (code ∷ more) whole =
+    let len : suc (length more) ≡ record_length code = whole.1 in
+    let s = spelled code (record_length code) more (All-tail (λ b. b < 256) code more whole.0) len (record_lengths code (omega arith)) in
+    record { whole = s.whole; fit = (s.long_is, s.fit) }
 
-said_by : (part : List ℕ) (o : Option Flaw) → Back part → flaw_of (fields_at part) ≡ o → (said : Result Event Flaw) × Says part said
-said_by part None b is = let e = event_of (fields_at part) is in (Ok e.0, b.whole ∙ ap bytes_of (sym e.1))
+said_by : (part : List ℕ) (o : Option Flaw) → Back part → flaw_of (fields_at part).numbers ≡ o → (said : Result Event Flaw) × Says part said
+said_by part None b is = let e = event_of (fields_at part) b.fit is in (Ok e.0, b.whole ∙ ap bytes_of (sym e.1))
 said_by part (Some f) b is = (Err f, (fields_at part, record { whole = b.whole; fit = b.fit; first = is }))
 
 -- no event is spelled as a flawed record
 says_not : (e : Event) (part : List ℕ) (x : Fields) (f : Flaw) → part ≡ spelling e → IsFlawedRecord part f x → ⊥
 says_not e part x f is bad =
     let same : x ≡ fields_of e = (same_fields x (fields_of e) [] [] bad.fit (event_fits e) (ap (λ (t : List ℕ). t ++ []) (sym bad.whole ∙ is))).0 in
-    let none : flaw_of x ≡ None = ap flaw_of same ∙ event_flawless e in
-    let first : flaw_of x ≡ Some f = bad.first in
+    let none : flaw_of x.numbers ≡ None = ap (λ (y : Fields). flaw_of y.numbers) same ∙ event_flawless e in
+    let first : flaw_of x.numbers ≡ Some f = bad.first in
     cc
 
 -- a whole record says something
 pub says : (part : List ℕ) → IsWholeRecord part → (said : Result Event Flaw) × Says part said
-says part whole = said_by part (flaw_of (fields_at part)) (back part whole) refl
+says part whole = said_by part (flaw_of (fields_at part).numbers) (back part whole) refl
 
 -- two things that a record says are one
 pub says_one : (part : List ℕ) (said other : Result Event Flaw) → Says part said → Says part other → said ≡ other
@@ -114,7 +114,7 @@ says_one part (Ok e) (Err f) a (x, bad) = absurd (says_not e part x f a bad)
 says_one part (Err f) (Ok e) (x, bad) b = absurd (says_not e part x f b bad)
 says_one part (Err f) (Err g) (x, a) (y, b) =
     let same : x ≡ y = (same_fields x y [] [] a.fit b.fit (ap (λ (t : List ℕ). t ++ []) (sym a.whole ∙ b.whole))).0 in
-    let first : Some f ≡ Some g = sym a.first ∙ ap flaw_of same ∙ b.first in
+    let first : Some f ≡ Some g = sym a.first ∙ ap (λ (z : Fields). flaw_of z.numbers) same ∙ b.first in
     cc
 
 -- a text begins with a whole record

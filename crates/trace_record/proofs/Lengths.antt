@@ -1,18 +1,16 @@
 -- How long an open text can be.
 use Rattle.std.proofs.Common.{◌≡◌, ℕ, ◌+◌, ◌*◌, ◌<◌, ◌≤◌, List, [], ◌∷◌, ◌++◌, length, ap, inl, inr, arith, length-append}
 use Rattle.trace_record.specs.declared.event.Event.{Event}
-use Rattle.trace_record.specs.declared.event.Event.TheVariants as event
-use Rattle.trace_record.specs.Spelling.{header, spelling, spellings, record_length}
+use Rattle.trace_record.specs.Spelling.{header, fields_of, spelling, spellings, record_length}
 use Rattle.trace_record.specs.Stream.{IsOpenWith, MayFollow}
+use Rattle.trace_record.proofs.Same.{event_fits}
 use Rattle.trace_record.proofs.Steps.{record_length-small}
 
 spelling_short : (e : Event) → length (spelling e) ≤ 17
-spelling_short (event.Load a) = omega arith
-spelling_short (event.Store a) = omega arith
-spelling_short (event.Malloc r) = omega arith
-spelling_short (event.Free p) = omega arith
-spelling_short (event.Poison r) = omega arith
-spelling_short (event.Unpoison r) = omega arith
+spelling_short e =
+    let long : length (spelling e) ≡ record_length (fields_of e).code = (event_fits e).0 in
+    let most = record_length-small (fields_of e).code in
+    omega arith
 
 spellings_short : (es : List Event) → length (spellings es) ≤ 17 * length es
 spellings_short [] = omega arith

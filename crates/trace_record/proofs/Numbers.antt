@@ -1,39 +1,49 @@
 -- The numbers of a record can be had back from its bytes.
-use Rattle.std.proofs.Common.{◌≡◌, ℕ, List, [], ◌∷◌, ◌++◌, take, drop, sym, ap, ◌∙◌}
+use Rattle.std.proofs.Common.{◌≡◌, ℕ, List, [], ◌∷◌, ◌++◌, length, take, drop, sym, ap, ◌∙◌}
 use Rattle.std.specs.Prelude.{◌==◌, if◌then◌else◌, slice_index}
-use Rattle.std.specs.Int.{w64, from_le_bytes}
+use Rattle.std.specs.Int.{w64, from_le_bytes, to_le_bytes}
 use Rattle.std.proofs.lemmas.Nat.{from_le_bytes-to_le_bytes_8}
 use Rattle.std.proofs.lemmas.List.{append_cancel_left}
 use Rattle.trace_record.specs.declared.fields.Fields.{Fields}
-use Rattle.trace_record.specs.declared.fields.Fields.TheVariants as fields
-use Rattle.trace_record.specs.Spelling.{bytes_of, FitBytes}
+use Rattle.trace_record.specs.declared.fields.Numbers.{Numbers}
+use Rattle.trace_record.specs.declared.fields.Numbers.TheVariants as numbers
+use Rattle.trace_record.specs.Spelling.{record_bytes, bytes_of, FitBytes, Fit, record_length}
 
 -- the number that eight bytes begin with
 abbrev pub number : List ℕ → ℕ
 number bytes = from_le_bytes w64 (take 8 bytes)
 
--- the numbers that bytes begin with, where they begin with a whole record
+-- the numbers after a code, in a record of this length
+abbrev pub numbers_at : ℕ → List ℕ → Numbers
+numbers_at long more =
+    if long == 10 then numbers.Access (slice_index more 0) (number (drop 1 more))
+    else (if long == 17 then numbers.Region (number more) (number (drop 8 more))
+    else numbers.Place (number more))
+
+-- the fields that bytes begin with, where they begin with a whole record
 abbrev pub fields_at : List ℕ → Fields
-fields_at [] = fields.Free 0
-fields_at (code ∷ more) =
-    if code == 1 then fields.Load (slice_index more 0) (number (drop 1 more))
-    else (if code == 2 then fields.Store (slice_index more 0) (number (drop 1 more))
-    else (if code == 3 then fields.Malloc (number more) (number (drop 8 more))
-    else (if code == 4 then fields.Free (number more)
-    else (if code == 5 then fields.Poison (number more) (number (drop 8 more))
-    else fields.Unpoison (number more) (number (drop 8 more))))))
+fields_at [] = record { code = 0; numbers = numbers.Place 0 }
+fields_at (code ∷ more) = record { code = code; numbers = numbers_at (record_length code) more }
 
 -- the numbers that were spelled are read back
-pub fields_at-bytes_of : (x : Fields) (more : List ℕ) → FitBytes x → fields_at (bytes_of x ++ more) ≡ x
-fields_at-bytes_of (fields.Load width at) more fit = ap (fields.Load width) (from_le_bytes-to_le_bytes_8 at fit.1)
-fields_at-bytes_of (fields.Store width at) more fit = ap (fields.Store width) (from_le_bytes-to_le_bytes_8 at fit.1)
-fields_at-bytes_of (fields.Malloc at size) more fit = cc (from_le_bytes-to_le_bytes_8 at fit.0, from_le_bytes-to_le_bytes_8 size fit.1)
-fields_at-bytes_of (fields.Free at) more fit = ap fields.Free (from_le_bytes-to_le_bytes_8 at fit)
-fields_at-bytes_of (fields.Poison at size) more fit = cc (from_le_bytes-to_le_bytes_8 at fit.0, from_le_bytes-to_le_bytes_8 size fit.1)
-fields_at-bytes_of (fields.Unpoison at size) more fit = cc (from_le_bytes-to_le_bytes_8 at fit.0, from_le_bytes-to_le_bytes_8 size fit.1)
+numbers_back : (code : ℕ) (x : Numbers) (more : List ℕ) → length (record_bytes code x) ≡ record_length code → FitBytes x → fields_at (record_bytes code x ++ more) ≡ record { code = code; numbers = x }
+numbers_back code (numbers.Access width at) more long fit =
+    let same : numbers_at (record_length code) (width ∷ to_le_bytes w64 at ++ more) ≡ numbers.Access width at = ap (λ (n : ℕ). numbers_at n (width ∷ to_le_bytes w64 at ++ more)) (sym long) ∙ ap (numbers.Access width) (from_le_bytes-to_le_bytes_8 at fit.1) in
+    λ i. record { code = code; numbers = same i }
+numbers_back code (numbers.Region at size) more long fit =
+    let bytes = (to_le_bytes w64 at ++ to_le_bytes w64 size) ++ more in
+    let read : numbers_at 17 bytes ≡ numbers.Region at size = cc (from_le_bytes-to_le_bytes_8 at fit.0, from_le_bytes-to_le_bytes_8 size fit.1) in
+    let same : numbers_at (record_length code) bytes ≡ numbers.Region at size = ap (λ (n : ℕ). numbers_at n bytes) (sym long) ∙ read in
+    λ i. record { code = code; numbers = same i }
+numbers_back code (numbers.Place at) more long fit =
+    let same : numbers_at (record_length code) (to_le_bytes w64 at ++ more) ≡ numbers.Place at = ap (λ (n : ℕ). numbers_at n (to_le_bytes w64 at ++ more)) (sym long) ∙ ap numbers.Place (from_le_bytes-to_le_bytes_8 at fit) in
+    λ i. record { code = code; numbers = same i }
+
+pub fields_at-bytes_of : (x : Fields) (more : List ℕ) → Fit x → fields_at (bytes_of x ++ more) ≡ x
+fields_at-bytes_of x more fit = numbers_back x.code x.numbers more fit.0 fit.1
 
 -- so no record begins another
-pub same_fields : (x y : Fields) (r s : List ℕ) → FitBytes x → FitBytes y → bytes_of x ++ r ≡ bytes_of y ++ s → (x ≡ y) × (r ≡ s)
+pub same_fields : (x y : Fields) (r s : List ℕ) → Fit x → Fit y → bytes_of x ++ r ≡ bytes_of y ++ s → (x ≡ y) × (r ≡ s)
 same_fields x y r s fx fy e =
     let same : x ≡ y = sym (fields_at-bytes_of x r fx) ∙ ap fields_at e ∙ fields_at-bytes_of y s fy in
     (same, append_cancel_left (bytes_of y) r s (sym (ap (λ (z : Fields). bytes_of z ++ r) same) ∙ e))

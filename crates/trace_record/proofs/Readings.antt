@@ -9,8 +9,9 @@ use Rattle.trace_record.specs.declared.end.Fate.TheVariants as fate
 use Rattle.trace_record.specs.declared.end.Flaw.{Flaw}
 use Rattle.trace_record.specs.declared.end.Flaw.TheVariants as flaw
 use Rattle.trace_record.specs.declared.fields.Fields.{Fields}
-use Rattle.trace_record.specs.declared.fields.Fields.TheVariants as fields
-use Rattle.trace_record.specs.Spelling.{header, close, bytes_of, FitBytes, fields_of, flaw_of, spelling, spellings, record_length}
+use Rattle.trace_record.specs.declared.fields.Numbers.{Numbers}
+use Rattle.trace_record.specs.declared.fields.Numbers.TheVariants as numbers
+use Rattle.trace_record.specs.Spelling.{header, close, record_bytes, bytes_of, Fit, fields_of, flaw_of, spelling, spellings, record_length}
 use Rattle.trace_record.specs.Stream.{IsDecided, MayFollow, BeginsWith}
 use Rattle.trace_record.specs.Reading.{Reads}
 use Rattle.trace_record.proofs.Numbers.{fields_at, fields_at-bytes_of, same_fields}
@@ -28,7 +29,7 @@ fate_at limit count (code ∷ more) =
     else (if count == limit then Some fate.TooMany
     else (if record_length code == 0 then Some (fate.Malformed flaw.Code)
     else (if nat_lt (length (code ∷ more)) (record_length code) then None
-    else option_map (λ f. fate.Malformed f) (flaw_of (fields_at (code ∷ more))))))
+    else option_map (λ f. fate.Malformed f) (flaw_of (fields_at (code ∷ more)).numbers))))
 
 -- the text is the header, these events and this tail, which decides the fate
 record IsSplit (limit : ℕ) (text : List ℕ) (events : List Event) (tail : List ℕ) (end : Option Fate) : Type 0 where
@@ -54,16 +55,16 @@ abbrev IsLong : List ℕ → Type 0
 IsLong [] = ⊥
 IsLong (code ∷ more) = (0 < record_length code) × (record_length code ≤ length (code ∷ more))
 
-spelled_long : (x : Fields) (more : List ℕ) → IsLong (bytes_of x ++ more)
-spelled_long (fields.Load width at) more = (omega arith, omega arith)
-spelled_long (fields.Store width at) more = (omega arith, omega arith)
-spelled_long (fields.Malloc at size) more = (omega arith, omega arith)
-spelled_long (fields.Free at) more = (omega arith, omega arith)
-spelled_long (fields.Poison at size) more = (omega arith, omega arith)
-spelled_long (fields.Unpoison at size) more = (omega arith, omega arith)
+code_long : (code : ℕ) (x : Numbers) (more : List ℕ) → length (record_bytes code x) ≡ record_length code → IsLong (record_bytes code x ++ more)
+code_long code (numbers.Access width at) more long = (omega arith, omega arith)
+code_long code (numbers.Region at size) more long = (omega arith, omega arith)
+code_long code (numbers.Place at) more long = (omega arith, omega arith)
+
+spelled_long : (x : Fields) (more : List ℕ) → Fit x → IsLong (bytes_of x ++ more)
+spelled_long x more fit = code_long x.code x.numbers more fit.0
 
 long_of : (tail : List ℕ) (e : Event) (more : List ℕ) → tail ≡ spelling e ++ more → IsLong tail
-long_of tail e more is = subst IsLong (sym is) (spelled_long (fields_of e) more)
+long_of tail e more is = subst IsLong (sym is) (spelled_long (fields_of e) more (event_fits e))
 
 no_record : (code : ℕ) (more : List ℕ) → record_length code ≡ 0 → NoEvent (code ∷ more)
 no_record code more zero e rest is = absurd (let h = long_of (code ∷ more) e rest is in omega arith)
@@ -96,15 +97,15 @@ open_fate limit count (code ∷ more) may =
     let short : length (code ∷ more) < record_length code = may.1 in
     sym (settled code count limit (record_length code) (length (code ∷ more)) _ _ _ _ _ (not_close code (omega arith)) (omega arith) (omega arith) ∙ smaller _ _ _ _ short)
 
-long_fate : (limit count : ℕ) (tail : List ℕ) → count < limit → IsLong tail → option_map (λ f. fate.Malformed f) (flaw_of (fields_at tail)) ≡ fate_at limit count tail
+long_fate : (limit count : ℕ) (tail : List ℕ) → count < limit → IsLong tail → option_map (λ f. fate.Malformed f) (flaw_of (fields_at tail).numbers) ≡ fate_at limit count tail
 long_fate limit count [] room long = absurd long
 long_fate limit count (code ∷ more) room long =
     let some : 0 < record_length code = long.0 in
     sym (settled code count limit (record_length code) (length (code ∷ more)) _ _ _ _ _ (not_close code some) (omega arith) (omega arith) ∙ not_smaller _ _ _ _ long.1)
 
-record_fate : (limit count : ℕ) (x : Fields) (more : List ℕ) → count < limit → FitBytes x → option_map (λ f. fate.Malformed f) (flaw_of x) ≡ fate_at limit count (bytes_of x ++ more)
+record_fate : (limit count : ℕ) (x : Fields) (more : List ℕ) → count < limit → Fit x → option_map (λ f. fate.Malformed f) (flaw_of x.numbers) ≡ fate_at limit count (bytes_of x ++ more)
 record_fate limit count x more room fit =
-    ap (λ (y : Fields). option_map (λ f. fate.Malformed f) (flaw_of y)) (sym (fields_at-bytes_of x more fit)) ∙ long_fate limit count (bytes_of x ++ more) room (spelled_long x more)
+    ap (λ (y : Fields). option_map (λ f. fate.Malformed f) (flaw_of y.numbers)) (sym (fields_at-bytes_of x more fit)) ∙ long_fate limit count (bytes_of x ++ more) room (spelled_long x more fit)
 
 code_fate : (limit count code : ℕ) (more : List ℕ) → count < limit → code ≢ 7 → record_length code ≡ 0 → Some (fate.Malformed flaw.Code) ≡ fate_at limit count (code ∷ more)
 code_fate limit count code more room other unknown = grind (arith, nat_tests)
@@ -113,10 +114,10 @@ many_fate : (limit count byte : ℕ) (more : List ℕ) → count ≡ limit → b
 many_fate limit count byte more full other = grind (arith, nat_tests)
 
 -- a flawed record is no event
-flawed_no_event : (x : Fields) (more : List ℕ) (f : Flaw) → FitBytes x → flaw_of x ≡ Some f → NoEvent (bytes_of x ++ more)
+flawed_no_event : (x : Fields) (more : List ℕ) (f : Flaw) → Fit x → flaw_of x.numbers ≡ Some f → NoEvent (bytes_of x ++ more)
 flawed_no_event x more f fit first e rest is =
     let same : x ≡ fields_of e = (same_fields x (fields_of e) more rest fit (event_fits e) is).0 in
-    let none : flaw_of x ≡ None = ap flaw_of same ∙ event_flawless e in
+    let none : flaw_of x.numbers ≡ None = ap (λ (y : Fields). flaw_of y.numbers) same ∙ event_flawless e in
     cc
 
 -- each reading of a text has one of these three forms

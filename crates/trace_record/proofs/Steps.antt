@@ -11,8 +11,9 @@ use Rattle.trace_record.specs.declared.end.Fate.TheVariants as fate
 use Rattle.trace_record.specs.declared.end.Flaw.{Flaw}
 use Rattle.trace_record.specs.declared.end.Flaw.TheVariants as flaw
 use Rattle.trace_record.specs.declared.fields.Fields.{Fields}
-use Rattle.trace_record.specs.declared.fields.Fields.TheVariants as fields
-use Rattle.trace_record.specs.Spelling.{header, close, bytes_of, FitBytes, flaw_of, spellings, record_length}
+use Rattle.trace_record.specs.declared.fields.Numbers.{Numbers}
+use Rattle.trace_record.specs.declared.fields.Numbers.TheVariants as numbers
+use Rattle.trace_record.specs.Spelling.{header, close, record_bytes, bytes_of, Fit, flaw_of, spellings, record_length}
 use Rattle.trace_record.specs.Stream.{IsInHeader, IsInRecords, IsUnfinished, MayFollow, offset_of, Spells, IsDecidedByLast}
 use Rattle.trace_record.specs.Standing.{Standing, StandsAt, end_of}
 
@@ -31,13 +32,13 @@ pub last_of : (n : ℕ) (xs : List ℕ) → length xs ≡ n + 1 → xs ≡ take 
 last_of n xs len = sym (take_all (n + 1) xs (omega arith)) ∙ take_more xs n 0 (omega arith)
 
 -- a whole record without its last byte is unfinished
-pub unfinished_of : (numbers : Fields) → (before : List ℕ) × (byte : ℕ) × (bytes_of numbers ≡ before ++ byte ∷ []) × IsUnfinished before
-unfinished_of (fields.Load width at) = let bytes = bytes_of (fields.Load width at) in (take 9 bytes, get_or bytes 9 0, refl, omega arith)
-unfinished_of (fields.Store width at) = let bytes = bytes_of (fields.Store width at) in (take 9 bytes, get_or bytes 9 0, refl, omega arith)
-unfinished_of (fields.Malloc at size) = let bytes = bytes_of (fields.Malloc at size) in (take 16 bytes, get_or bytes 16 0, refl, omega arith)
-unfinished_of (fields.Free at) = let bytes = bytes_of (fields.Free at) in (take 8 bytes, get_or bytes 8 0, refl, omega arith)
-unfinished_of (fields.Poison at size) = let bytes = bytes_of (fields.Poison at size) in (take 16 bytes, get_or bytes 16 0, refl, omega arith)
-unfinished_of (fields.Unpoison at size) = let bytes = bytes_of (fields.Unpoison at size) in (take 16 bytes, get_or bytes 16 0, refl, omega arith)
+abbrev WithoutLast : List ℕ → Type 0
+WithoutLast bytes = (before : List ℕ) × (byte : ℕ) × (bytes ≡ before ++ byte ∷ []) × IsUnfinished before
+
+without_last : (code : ℕ) (x : Numbers) → length (record_bytes code x) ≡ record_length code → WithoutLast (record_bytes code x)
+without_last code (numbers.Access width at) long = let bytes = record_bytes code (numbers.Access width at) in (take 9 bytes, get_or bytes 9 0, refl, omega arith)
+without_last code (numbers.Region at size) long = let bytes = record_bytes code (numbers.Region at size) in (take 16 bytes, get_or bytes 16 0, refl, omega arith)
+without_last code (numbers.Place at) long = let bytes = record_bytes code (numbers.Place at) in (take 8 bytes, get_or bytes 8 0, refl, omega arith)
 
 follows_unfinished : (limit count : ℕ) (rest : List ℕ) → count < limit → IsUnfinished rest → MayFollow limit count rest
 follows_unfinished limit count [] room bad = absurd bad
@@ -123,14 +124,14 @@ module _ (d : Standing) (part text : List ℕ) (events : List Event) (at : Stand
         (text, byte, ap (λ (p : List ℕ). text ++ p) one, (_, at.reads)),
       )
 
-  pub bad_record : (numbers : Fields) (f : Flaw) → d.rest ++ part ≡ bytes_of numbers → FitBytes numbers → flaw_of numbers ≡ Some f → d.events < d.limit → Spells d.limit (text ++ part) events (end_of d (fate.Malformed f)) × IsDecidedByLast d.limit (text ++ part) events
-  bad_record numbers f is fit first room =
+  pub bad_record : (x : Fields) (f : Flaw) → d.rest ++ part ≡ bytes_of x → Fit x → flaw_of x.numbers ≡ Some f → d.events < d.limit → Spells d.limit (text ++ part) events (end_of d (fate.Malformed f)) × IsDecidedByLast d.limit (text ++ part) events
+  bad_record x f is fit first room =
       let front = header ++ spellings events in
-      let s : text ++ part ≡ front ++ bytes_of numbers = split_more ∙ ap (λ (p : List ℕ). front ++ p) is in
-      let short = unfinished_of numbers in
+      let s : text ++ part ≡ front ++ bytes_of x = split_more ∙ ap (λ (p : List ℕ). front ++ p) is in
+      let short = without_last x.code x.numbers fit.0 in
       let within : length events < d.limit = let e = at.count in omega arith in (
         record {
-          fate = inr (within, bytes_of numbers, inr (numbers, record { whole = refl; fit = fit; first = first }), ([], s ∙ sym (append-nil _)));
+          fate = inr (within, bytes_of x, inr (x, record { whole = refl; fit = fit; first = first }), ([], s ∙ sym (append-nil _)));
           count = at.count;
           offset = let e = offset_more in omega arith;
         },

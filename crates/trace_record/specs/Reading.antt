@@ -20,7 +20,7 @@ IsWholeRecord (code ∷ more) = AreBytes (code ∷ more) × (length (code ∷ mo
 -- what a whole record says: the event that it spells, or its first flaw
 abbrev pub Says : List ℕ → Result Event Flaw → Type 0
 Says part (Ok event) = part ≡ spelling event
-Says part (Err f) = (numbers : Fields) × IsFlawedRecord part f numbers
+Says part (Err f) = (x : Fields) × IsFlawedRecord part f x
 
 -- a reading of a text: it is open and holds these events, or is decided with these events and this
 -- fate

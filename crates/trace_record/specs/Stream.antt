@@ -12,7 +12,7 @@ use Rattle.trace_record.specs.declared.end.Fate.TheVariants as fate
 use Rattle.trace_record.specs.declared.end.Flaw.{Flaw}
 use Rattle.trace_record.specs.declared.end.Flaw.TheVariants as flaw
 use Rattle.trace_record.specs.declared.fields.Fields.{Fields}
-use Rattle.trace_record.specs.Spelling.{header, close, bytes_of, FitBytes, spellings, flaw_of}
+use Rattle.trace_record.specs.Spelling.{header, close, bytes_of, Fit, spellings, flaw_of}
 use Rattle.trace_record.specs.Spelling.{record_length}
 
 -- the text begins with this front
@@ -26,17 +26,17 @@ pub record IsUnknownCode (part : List ℕ) (byte : ℕ) : Type 0 where
   pub no_close : byte ≢ close
 
 -- one whole record whose numbers have this first flaw
-pub record IsFlawedRecord (part : List ℕ) (f : Flaw) (numbers : Fields) : Type 0 where
-  pub whole : part ≡ bytes_of numbers
-  pub fit : FitBytes numbers
-  pub first : flaw_of numbers ≡ Some f
+pub record IsFlawedRecord (part : List ℕ) (f : Flaw) (x : Fields) : Type 0 where
+  pub whole : part ≡ bytes_of x
+  pub fit : Fit x
+  pub first : flaw_of x.numbers ≡ Some f
 
 -- a flawed record, with its first flaw: an unknown code, or a whole record with a flaw in its
 -- numbers
 abbrev pub IsFlawed : List ℕ → Flaw → Type 0
 IsFlawed part f =
     ((f ≡ flaw.Code) × (byte : ℕ) × IsUnknownCode part byte)
-    ⊎ ((numbers : Fields) × IsFlawedRecord part f numbers)
+    ⊎ ((x : Fields) × IsFlawedRecord part f x)
 
 -- an unfinished record: it begins with a record's code and has fewer bytes than that record
 abbrev pub IsUnfinished : List ℕ → Type 0

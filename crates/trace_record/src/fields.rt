@@ -8,76 +8,83 @@ ghost use Rattle.trace_record.specs.Spelling.{bytes_of, fields_of, flaw_of, reco
 
 use crate::end::Flaw;
 use crate::event::{Access, Event, Place, Region};
-use crate::format::{FREE, LOAD, MALLOC, POISON, STORE};
+use crate::format::{ACCESS_LENGTH, LOAD, MALLOC, POISON, REGION_LENGTH};
 use byteorder::{ByteOrder, LittleEndian};
 
-/// The numbers of a whole record, before their ranges are tested.
+/// The numbers of a record, before their ranges are tested.
 #[derive(Clone, Copy)]
-pub enum Fields {
-    Load { width: u8, at: u64 },
-    Store { width: u8, at: u64 },
-    Malloc { at: u64, size: u64 },
-    Free { at: u64 },
-    Poison { at: u64, size: u64 },
-    Unpoison { at: u64, size: u64 },
+pub enum Numbers {
+    /// Those of a load or a store.
+    Access { width: u8, at: u64 },
+    /// Those of a malloc, a poison or an unpoison.
+    Region { at: u64, size: u64 },
+    /// That of a free.
+    Place { at: u64 },
+}
+
+/// What a whole record is made of.
+#[derive(Clone, Copy)]
+pub struct Fields {
+    code: u8,
+    numbers: Numbers,
 }
 
 impl Fields {
-    ghost use Rattle.trace_record.specs.Spelling.{FitBytes};
+    ghost use Rattle.trace_record.specs.Spelling.{Fit};
 
-    /// The numbers of a whole record.
+    /// The fields of a whole record. How many bytes it has says which numbers these are.
     #[inline(always)]
     fn read(bytes: &[u8]) -> Fields
         requires begun { 0 < length bytes.now }
         requires whole { length bytes.now ≡ record_length (slice_index bytes.now 0) }
         ensures spelled { bytes_of result ≡ bytes.now }
-        ensures fit { FitBytes result }
+        ensures fit { Fit result }
     {
-        match bytes[0] {
-            code @ (LOAD | STORE) => {
-                let (width, at) = (bytes[1], number_at(bytes, 2));
-                if code == LOAD {
-                    Fields::Load { width, at }
-                } else {
-                    Fields::Store { width, at }
-                }
-            }
-            MALLOC => Fields::Malloc {
+        let numbers = match bytes.len() {
+            ACCESS_LENGTH => Numbers::Access {
+                width: bytes[1],
+                at: number_at(bytes, 2),
+            },
+            REGION_LENGTH => Numbers::Region {
                 at: number_at(bytes, 1),
                 size: number_at(bytes, 9),
             },
-            FREE => Fields::Free {
+            _ => Numbers::Place {
                 at: number_at(bytes, 1),
             },
-            POISON => Fields::Poison {
-                at: number_at(bytes, 1),
-                size: number_at(bytes, 9),
-            },
-            _ => Fields::Unpoison {
-                at: number_at(bytes, 1),
-                size: number_at(bytes, 9),
-            },
+        };
+        Fields {
+            code: bytes[0],
+            numbers,
         }
     }
 
-    /// The event with these numbers, or their first flaw.
+    /// The event with these fields, or the first flaw of its numbers.
     #[inline(always)]
     fn event(self) -> Result<Event, Flaw>
-        ensures { MatchResult result (λ e. fields_of e ≡ self) (λ f. flaw_of self ≡ Some f) }
+        requires { Fit self }
+        ensures { MatchResult result
+            (λ e. fields_of e ≡ self) (λ f. flaw_of self.numbers ≡ Some f) }
     {
-        match self {
-            Fields::Load { width, at } | Fields::Store { width, at } => {
+        let code = self.code;
+        match self.numbers {
+            Numbers::Access { width, at } => {
                 let access = Access::new(at, width)?;
-                Ok(if matches!(self, Fields::Load { .. }) {
+                Ok(if code == LOAD {
                     Event::Load(access)
                 } else {
                     Event::Store(access)
                 })
             }
-            Fields::Malloc { at, size } => Region::new(at, size).map(Event::Malloc),
-            Fields::Free { at } => Place::new(at).map(Event::Free),
-            Fields::Poison { at, size } => Region::new(at, size).map(Event::Poison),
-            Fields::Unpoison { at, size } => Region::new(at, size).map(Event::Unpoison),
+            Numbers::Region { at, size } => {
+                let region = Region::new(at, size)?;
+                Ok(match code {
+                    MALLOC => Event::Malloc(region),
+                    POISON => Event::Poison(region),
+                    _ => Event::Unpoison(region),
+                })
+            }
+            Numbers::Place { at } => Place::new(at).map(Event::Free),
         }
     }
 }
