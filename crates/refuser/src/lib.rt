@@ -1,5 +1,5 @@
-//! An allocator for tests: it passes each request on to another allocator, and refuses the one whose
-//! turn is set. It counts the requests and the bytes that they ask for.
+//! An allocator for tests: it passes each request on to another allocator, and refuses the one
+//! whose turn is set. It counts the requests and the bytes that they ask for.
 #![tactic(auto)]
 
 mod requests;
@@ -16,13 +16,13 @@ use std::alloc::{AllocError, Allocator};
 /// on.
 ///
 /// A request is a call of `allocate`. Each growth and each shrink of a collection makes one, since
-/// `grow` and `shrink` are the trait's own, which allocate the new block. Requests after the refused
-/// one are passed on again, so that a test sees what a refused growth leaves.
+/// `grow` and `shrink` are the trait's own, which allocate the new block. Requests after the
+/// refused one are passed on again, so that a test sees what a refused growth leaves.
 ///
 /// A collection takes it by `&`, so that the test can ask it afterwards. It is proved that a block
-/// has the room that was asked for, that the right to free it is `inner`'s, and that `inner` gets it
-/// back with its own size and alignment. No contract says which request is refused, what is counted,
-/// or that a freed block does reach `inner`. Tests show the first two.
+/// has the room that was asked for, that the right to free it is `inner`'s, and that `inner` gets
+/// it back with its own size and alignment. No contract says which request is refused, what is
+/// counted, or that a freed block does reach `inner`. Tests show the first two.
 pub struct Refuser<B: Allocator> {
     inner: B,
     requests: Requests,

@@ -14,7 +14,8 @@ pub struct Requests {
 }
 
 impl Requests {
-    /// No request was made yet. The one with the number `refused`, counted from 1, is to be refused.
+    /// No request was made yet. The one with the number `refused`, counted from 1, is to be
+    /// refused.
     pub fn new(refused: u64) -> Requests
         ensures { result.refused ≡ refused }
     {

@@ -1,5 +1,5 @@
--- The ranges that events keep. The widths are those of the paper of 2012; the rest is this project's
--- choice (profile).
+-- The ranges that events keep. The widths are those of the paper of 2012; the rest is this
+-- project's choice (profile).
 use Rattle.std.specs.Prelude.{ℕ, ◌^◌, Bool, ◌==◌, ◌||◌}
 
 -- the first address past those that a process has

@@ -1,5 +1,5 @@
--- What the fields of a decoder keep, beside what contracts say of it: its counts fit their types, and
--- the bytes of a cut header or record are fewer than all of them.
+-- What the fields of a decoder keep, beside what contracts say of it: its counts fit their types,
+-- and the bytes of a cut header or record are fewer than all of them.
 use Rattle.std.specs.Prelude.{◌+◌, ◌*◌, ◌<◌, ◌≤◌, length, slice_index}
 use Rattle.trace_record.specs.declared.decoder.Decoder.TheInside.{Inside}
 use Rattle.trace_record.specs.Ranges.{largest_limit}

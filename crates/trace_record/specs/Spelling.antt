@@ -1,5 +1,5 @@
--- How events are spelled in bytes, and what a whole record says (the record layout is this project's
--- choice, profile).
+-- How events are spelled in bytes, and what a whole record says (the record layout is this
+-- project's choice, profile).
 use Rattle.std.specs.Prelude.{◌≡◌, ℕ, ◌^◌, ◌<◌, ◌==◌, ◌||◌, if◌then◌else◌}
 use Rattle.std.specs.Prelude.{List, [], ◌∷◌, ◌++◌, length, Option}
 use Rattle.std.specs.List.{flat_map}

@@ -45,8 +45,8 @@ Answers d text events out.Need = StandsAt d text events
 Answers d text events (out.Stop end) =
     Spells d.limit text events end × IsDecidedFate end.fate × IsDecidedByLast d.limit text events
 
--- what one step of a decoder takes of a piece: at most all of it, and a byte at least for an event or
--- an end; the limit stays, an end is kept, and the decoder then stands where its answer says
+-- what one step of a decoder takes of a piece: at most all of it, and a byte at least for an event
+-- or an end; the limit stays, an end is kept, and the decoder then stands where its answer says
 pub record Takes (old new : Standing) (piece : List ℕ) (step : Step) : Type 0 where
   pub used : step.used ≤ length piece
   pub got : (event : Event) → step.out ≡ out.Got event → 0 < step.used

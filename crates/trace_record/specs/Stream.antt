@@ -61,7 +61,8 @@ pub record IsInRecords (limit : ℕ) (text : List ℕ) (events : List Event) (re
   pub split : text ≡ header ++ spellings events ++ rest
   pub follows : MayFollow limit (length events) rest
 
--- the text is open: nothing has ended it; it holds these events, and after them this unfinished rest
+-- the text is open: nothing has ended it; it holds these events, and after them this unfinished
+-- rest
 abbrev pub IsOpenWith : ℕ → List ℕ → List Event → List ℕ → Type 0
 IsOpenWith limit text events rest = IsInHeader text events rest ⊎ IsInRecords limit text events rest
 

@@ -76,8 +76,8 @@ impl Decoder {
     ghost use Rattle.trace_record.specs.Standing.{StandsAt, Answers, Takes, stop_of, end_of};
     ghost use Rattle.trace_record.specs.Stream.{Spells};
 
-    /// A decoder at the start of a stream that may have at most `limit` events, or `None` unless the
-    /// limit is 1 to 2^24.
+    /// A decoder at the start of a stream that may have at most `limit` events, or `None` unless
+    /// the limit is 1 to 2^24.
     pub fn new(limit: u32) -> Option<Decoder>
         ensures made { IsSome result ↔ ((0 < limit) × (limit ≤ largest_limit)) }
         ensures at_start { IfSome result (λ d. (d.limit ≡ limit) × StandsAt d [] []) }
@@ -94,11 +94,11 @@ impl Decoder {
         })
     }
 
-    /// Reads what comes next of the stream: up to the end of its next record, or up to the byte that
-    /// ends the stream, or all of the piece where it has neither.
+    /// Reads what comes next of the stream: up to the end of its next record, or up to the byte
+    /// that ends the stream, or all of the piece where it has neither.
     ///
-    /// The bytes after that are not looked at: give them again in the next call. After a `Stop` each
-    /// call answers the same `Stop`, uses no byte and leaves the decoder as it is.
+    /// The bytes after that are not looked at: give them again in the next call. After a `Stop`
+    /// each call answers the same `Stop`, uses no byte and leaves the decoder as it is.
     #[inline(always)]
     pub fn next(&mut self, piece: &[u8]) -> Step
         ensures used { result.used ≤ length piece.now }
@@ -155,9 +155,9 @@ impl Decoder {
         Ahead { count, used }
     }
 
-    /// The end where no more bytes come: `Truncated` inside the header or a record, and for an empty
-    /// stream, `NoClose` right after the header or a whole record. After a `Stop` it is the end that
-    /// the `Stop` gave.
+    /// The end where no more bytes come: `Truncated` inside the header or a record, and for an
+    /// empty stream too; `NoClose` right after the header or a whole record. After a `Stop` it is
+    /// the end that the `Stop` gave.
     pub fn at_end(self) -> End
         ensures stopped { IfSome self.stop (λ end. result ≡ end) }
         ensures ends { (text : List ℕ) (events : List Event) → StandsAt self text events →
@@ -192,8 +192,8 @@ impl Decoder {
         self.stop.is_none() && self.offset >= HEADER_LENGTH as u64 && self.partial.is_empty()
     }
 
-    /// Reads what comes next anywhere, as [`next`](Decoder::next) does. Cold: most calls find a piece
-    /// that begins with a record.
+    /// Reads what comes next anywhere, as [`next`](Decoder::next) does. Cold: most calls find a
+    /// piece that begins with a record.
     #[cold]
     fn next_apart(&mut self, piece: &[u8]) -> Step
         ensures takes { Takes self.old self.new piece.now result }
@@ -297,8 +297,8 @@ impl Decoder {
         }
     }
 
-    /// Takes a record of `size` bytes that begins with the piece, or keeps its first bytes where the
-    /// piece cuts it. No record has 0 bytes: that is the length of an unknown code.
+    /// Takes a record of `size` bytes that begins with the piece, or keeps its first bytes where
+    /// the piece cuts it. No record has 0 bytes: that is the length of an unknown code.
     #[inline(always)]
     fn take_whole(&mut self, piece: &[u8], size: usize) -> Step
         requires running { self.old.stop ≡ None }

@@ -83,9 +83,9 @@ impl Access {
 impl Region {
     ghost use Rattle.trace_record.specs.Flaws.{region_flaw};
 
-    /// The region of `size` bytes at the address `at`, or the first flaw of these numbers: `Size` if
-    /// it has more than 2^28 bytes, then `Range` if it ends past 2^47. A region of size 0 may lie at
-    /// 2^47.
+    /// The region of `size` bytes at the address `at`, or the first flaw of these numbers: `Size`
+    /// if it has more than 2^28 bytes, then `Range` if it ends past 2^47. A region of size 0 may
+    /// lie at 2^47.
     pub fn new(at: u64, size: u64) -> Result<Region, Flaw>
         ensures { MatchResult result
             (λ r. (r.at ≡ at) × (r.size ≡ size)) (λ f. region_flaw at size ≡ Some f) }

@@ -25,8 +25,8 @@ pub enum Numbers {
 /// What a whole record is made of.
 #[derive(Clone, Copy)]
 pub struct Fields {
-    code: u8,
-    numbers: Numbers,
+    pub code: u8,
+    pub numbers: Numbers,
 }
 
 impl Fields {
@@ -89,8 +89,8 @@ impl Fields {
     }
 }
 
-/// What a whole record says: its event, or its first flaw. Inlined with the two steps that it takes,
-/// so that a record's numbers stay in registers.
+/// What a whole record says: its event, or its first flaw. Inlined with the two steps that it
+/// takes, so that a record's numbers stay in registers.
 #[inline(always)]
 pub fn read_record(bytes: &[u8]) -> Result<Event, Flaw>
     requires begun { 0 < length bytes.now }
