@@ -1,3 +1,4 @@
+pub mod Leaves
 pub mod Branches
 pub mod Entries
 pub mod Found

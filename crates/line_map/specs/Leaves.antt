@@ -1,29 +1,21 @@
 -- The marks of a leaf.
-use Rattle.std.specs.Prelude.{ℕ, true, false, Option, Some, None, slice_index, slice_index_or}
-use Rattle.std.specs.declared.boxed.Box.{Box}
+use Rattle.std.specs.Prelude.{ℕ, ◌+◌, ◌*◌, ◌^◌, ◌==◌, Bool, Option, option_map}
+use Rattle.std.specs.List.{find}
 use Rattle.line_map.specs.declared.mark.Mark.{Mark}
-use Rattle.line_map.specs.declared.leaf.Place.{Place}
-use Rattle.line_map.specs.declared.leaf.Place.TheVariants.{Empty, Live, Freed}
-use Rattle.line_map.specs.declared.leaf.Marks.{Marks}
+use Rattle.line_map.specs.declared.leaf.Entry.{Entry}
 use Rattle.line_map.specs.declared.leaf.Leaf.{Leaf}
 
--- the mark that a place and a size stand for
-abbrev pub mark_of : Place → ℕ → Option Mark
-mark_of Empty size = None
-mark_of (Live offset) size =
-    Some (record { offset = offset; slot = record { size = size; live = true } })
-mark_of (Freed offset) size =
-    Some (record { offset = offset; slot = record { size = size; live = false } })
+-- whether an entry is of a line
+abbrev pub is_of : ℕ → Entry → Bool
+is_of line entry = entry.line == line
 
--- the mark of a line
-abbrev pub mark_in : Marks → ℕ → Option Mark
-mark_in marks line = mark_of (slice_index_or marks.places line Empty) (slice_index marks.sizes line)
+-- the mark of an entry
+abbrev pub mark_of : Entry → Mark
+mark_of entry = record {
+  offset = entry.offset;
+  slot = record { size = entry.size_high * 2 ^ 32 + entry.size_low; live = entry.live };
+}
 
--- where there is no box, no line has a mark
-abbrev pub boxed_mark : {A : Type 0} → Option (Box Marks A) → ℕ → Option Mark
-boxed_mark (Some marks) line = mark_in marks.value line
-boxed_mark None line = None
-
--- the mark of a line of a leaf
+-- the mark of a line of a leaf: that of the first entry of this line
 abbrev pub leaf_mark : {A : Type 0} → Leaf A → ℕ → Option Mark
-leaf_mark leaf line = boxed_mark leaf.marks line
+leaf_mark leaf line = option_map mark_of (find (is_of line) leaf.entries.items)

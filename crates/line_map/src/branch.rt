@@ -8,7 +8,7 @@ use crate::section::Section;
 use std::alloc::{AllocError, Allocator, Global};
 
 /// How many sections a branch has.
-const SECTIONS: usize = 32;
+const SECTIONS: usize = 64;
 
 /// Sections of one width, side by side. Those that are not kept have no marks.
 #[derive(Drop)]

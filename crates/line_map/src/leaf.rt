@@ -1,109 +1,77 @@
-//! A leaf of a map: lines side by side, each with a mark or none.
-ghost use Rattle.std.specs.Prelude.{◌≡◌, ℕ, ◌<◌, ◌≤◌, true, Option, None, Some, IfOk};
+//! A leaf of a map: lines side by side, some of which have a mark.
+ghost use Rattle.std.specs.Prelude.{◌≡◌, ℕ, ◌<◌, ◌≤◌, ◌==◌, take, slice_index_or, vec_len, true, Option, None, Some, IfSome, IfNone};
+ghost use Rattle.std.specs.List.{position};
 ghost use Rattle.line_map.specs.declared.leaf.TheConstants.{LINES};
-ghost use Rattle.line_map.specs.declared.mark.Mark.{Mark};
+ghost use Rattle.line_map.specs.declared.leaf.Entry.{Entry as AnEntry};
 ghost use Rattle.line_map.specs.Sections.{IsWidth, IsPut, IsLastBelow};
-ghost use Rattle.line_map.specs.Leaves.{leaf_mark, mark_in};
+ghost use Rattle.line_map.specs.Leaves.{is_of, mark_of, leaf_mark};
 
 use crate::mark::{Mark, Slot};
 use crate::section::Section;
 use std::alloc::{AllocError, Allocator, Global};
 
 /// How many lines a leaf has.
-const LINES: usize = 64;
+const LINES: usize = 32;
 
-/// What a leaf keeps of a line besides a size: that it has no mark, or the mark's offset and
-/// whether its slot is live.
-#[derive(Clone, Copy, Debug, PartialEq, Eq)]
-enum Place {
-    Empty,
-    Live(u8),
-    Freed(u8),
-}
+/// How many values a half of a size has.
+const HALF: u64 = 1 << 32;
 
-/// The marks of a leaf's lines. The sizes stand apart, so that a search for the last mark reads
-/// little memory.
+/// A line of a leaf, and its mark. The size is in two halves, so that an entry takes 12 bytes.
 #[derive(Clone, Copy)]
-struct Marks {
-    places: [Place; LINES],
-    sizes: [u64; LINES],
+struct Entry {
+    size_low: u32,
+    size_high: u32,
+    line: u8,
+    offset: u8,
+    live: bool,
 }
 
-impl Marks {
-    /// The mark of a line.
+const _: () = prove!(size_of::<Entry>() == 12);
+
+impl Entry {
     #[inline]
-    fn get(&self, line: usize) -> Option<Mark>
-        requires { line < LINES }
-        ensures { result ≡ mark_in self.now line }
+    fn new(line: u8, mark: Mark) -> Entry
+        ensures line { result.line ≡ line }
+        ensures mark { mark_of result ≡ mark }
     {
-        let size = self.sizes[line];
-        match self.places[line] {
-            Place::Empty => None,
-            Place::Live(offset) => Some(Mark {
-                offset,
-                slot: Slot { size, live: true },
-            }),
-            Place::Freed(offset) => Some(Mark {
-                offset,
-                slot: Slot { size, live: false },
-            }),
+        Entry {
+            size_low: (mark.slot.size % HALF) as u32,
+            size_high: (mark.slot.size / HALF) as u32,
+            line,
+            offset: mark.offset,
+            live: mark.slot.live,
         }
     }
 
-    /// Gives a line a mark.
     #[inline]
-    fn set(&mut self, line: usize, mark: Mark)
-        requires { line < LINES }
-        ensures { IsPut LINES (mark_in self.old) (mark_in self.new) line (Some mark) }
+    fn mark(&self) -> Mark
+        ensures { result ≡ mark_of self.now }
     {
-        self.sizes[line] = mark.slot.size;
-        self.places[line] = if mark.slot.live {
-            Place::Live(mark.offset)
-        } else {
-            Place::Freed(mark.offset)
-        };
-    }
-
-    /// Takes a line's mark, if it has one.
-    #[inline]
-    fn remove(&mut self, line: usize)
-        requires { line < LINES }
-        ensures { IsPut LINES (mark_in self.old) (mark_in self.new) line None }
-    {
-        self.places[line] = Place::Empty;
-    }
-
-    /// Whether no line has a mark.
-    #[inline]
-    fn is_empty(&self) -> bool
-        ensures { result ≡ true → (line : ℕ) → mark_in self.now line ≡ None }
-    {
-        self.places
-            .iter()
-            .all(|place| matches!(place, Place::Empty))
-    }
-
-    /// The last mark of the lines below one, with its line.
-    #[inline]
-    fn last(&self, end: usize) -> Option<(usize, Mark)>
-        requires { end ≤ LINES }
-        ensures { IsLastBelow (mark_in self.now) end result }
-    {
-        let mut line = end;
-        while line > 0 {
-            line -= 1;
-            if let Some(mark) = self.get(line) {
-                return Some((line, mark));
-            }
+        Mark {
+            offset: self.offset,
+            slot: Slot {
+                size: u64::from(self.size_high) * HALF + u64::from(self.size_low),
+                live: self.live,
+            },
         }
-        None
     }
 }
 
-/// Lines side by side. Their marks are in a box, and there is no box while no line has a mark.
+/// Lines side by side. Those that have a mark have an entry, in no order, and nothing else takes
+/// memory.
 #[derive(Drop)]
 pub struct Leaf<A: Allocator = Global> {
-    marks: Option<Box<Marks, A>>,
+    entries: Vec<Entry, A>,
+}
+
+impl<A: Allocator + Copy> Leaf<A> {
+    /// Where the first entry of a line is.
+    #[inline]
+    fn place_of(&self, line: u8) -> Option<usize>
+        ensures { result ≡ position (is_of line) self.now.entries.items }
+    {
+        self.entries.iter().position(|entry| entry.line == line)
+    }
 }
 
 impl<A: Allocator + Copy> Section<A> for Leaf<A> {
@@ -119,77 +87,69 @@ impl<A: Allocator + Copy> Section<A> for Leaf<A> {
     }
 
     #[inline]
-    fn empty(_alloc: A) -> Self {
-        Leaf { marks: None }
+    fn empty(alloc: A) -> Self {
+        Leaf {
+            entries: Vec::new(alloc),
+        }
     }
 
     #[inline]
     fn is_empty(&self) -> bool {
-        self.marks.is_none()
+        self.entries.is_empty()
     }
 
     #[inline]
     fn get(&self, line: u64) -> Option<Mark> {
-        match &self.marks {
-            Some(marks) => marks.get(line as usize),
+        match self.place_of(line as u8) {
+            Some(place) => Some(self.entries[place].mark()),
             None => None,
         }
     }
 
     #[inline]
     fn last(&self, end: u64) -> Option<(u64, Mark)> {
-        match &self.marks {
-            Some(marks) => {
-                let (line, mark) = marks.last(end as usize)?;
-                Some((line as u64, mark))
+        let mut last: Option<Entry> = None;
+        for entry in &self.entries {
+            if u64::from(entry.line) < end {
+                last = match last {
+                    Some(found) if found.line >= entry.line => last,
+                    _ => Some(*entry),
+                };
             }
+        }
+        match last {
+            Some(entry) => Some((u64::from(entry.line), entry.mark())),
             None => None,
         }
     }
 
     #[inline]
-    fn put(&mut self, alloc: A, line: u64, mark: Mark) -> Result<(), AllocError> {
-        match &mut self.marks {
-            Some(marks) => marks.set(line as usize, mark),
-            None => {
-                let mut marks = box_empty(alloc)?;
-                marks.set(line as usize, mark);
-                self.marks = Some(marks);
-            }
+    fn put(&mut self, _alloc: A, line: u64, mark: Mark) -> Result<(), AllocError> {
+        let entry = Entry::new(line as u8, mark);
+        match self.place_of(line as u8) {
+            Some(place) => self.entries[place] = entry,
+            None => self.entries.push(entry)?,
         }
         Ok(())
     }
 
     #[inline]
     fn set(&mut self, line: u64, mark: Mark) {
-        if let Some(marks) = &mut self.marks {
-            marks.set(line as usize, mark);
+        match self.place_of(line as u8) {
+            Some(place) => self.entries[place] = Entry::new(line as u8, mark),
+            None => {}
         }
     }
 
     #[inline]
-    fn remove(&mut self, _alloc: A, line: u64) {
-        if let Some(mut marks) = self.marks.take() {
-            marks.remove(line as usize);
-            if !marks.is_empty() {
-                self.marks = Some(marks);
-            }
+    fn remove(&mut self, alloc: A, line: u64) {
+        while let Some(place) = self.place_of(line as u8) {
+            let _ = self.entries.remove(place);
+        }
+        if self.entries.is_empty() {
+            *self = Leaf::empty(alloc);
         }
     }
 
     ghost is_width = { λ fits. fits };
-}
-
-/// The marks of a leaf whose lines have none, in a box.
-#[inline(never)]
-fn box_empty<A: Allocator + Copy>(alloc: A) -> Result<Box<Marks, A>, AllocError>
-    ensures { IfOk result (λ marks. (line : ℕ) → mark_in marks.value line ≡ None) }
-{
-    Ok(Box::new(
-        alloc,
-        Marks {
-            places: [Place::Empty; LINES],
-            sizes: [0; LINES],
-        },
-    )?)
 }

@@ -12,15 +12,14 @@ use std::test::Fail;
 
 /// How many bytes the nodes of a map have: a line, a leaf, and a branch of each level, of which the
 /// last is the whole map.
-const WIDTHS: [u64; 9] = [
+const WIDTHS: [u64; 8] = [
     1 << 6,
-    1 << 12,
+    1 << 11,
     1 << 17,
-    1 << 22,
-    1 << 27,
-    1 << 32,
-    1 << 37,
-    1 << 42,
+    1 << 23,
+    1 << 29,
+    1 << 35,
+    1 << 41,
     1 << 47,
 ];
 

@@ -1,4 +1,4 @@
-//! The tree of lines: seven levels of branches over the leaves.
+//! The tree of lines: six levels of branches over the leaves.
 ghost use Rattle.std.specs.Prelude.{◌≡◌, ℕ, ◌^◌, ◌<◌, ◌≤◌, Some, None, IsSome, OnOk, OnErr};
 ghost use Rattle.line_map.specs.Sections.{IsPut, IsLastBelow};
 ghost use Rattle.line_map.specs.Trees.{tree_mark};
@@ -9,7 +9,7 @@ use crate::mark::Mark;
 use crate::section::Section;
 use std::alloc::{AllocError, Allocator, Global};
 
-// The branches, by how many levels of them there are. Each has 32 times the lines of one of the
+// The branches, by how many levels of them there are. Each has 64 times the lines of one of the
 // level below.
 type Level1<A> = Branch<Leaf<A>, A>;
 
@@ -23,19 +23,17 @@ type Level5<A> = Branch<Level4<A>, A>;
 
 type Level6<A> = Branch<Level5<A>, A>;
 
-type Level7<A> = Branch<Level6<A>, A>;
-
 // What a section takes where it stands, without what it holds.
-const _: () = prove!(size_of::<Leaf>() == 16);
+const _: () = prove!(size_of::<Leaf>() == 24);
 
 const _: () = prove!(size_of::<Level1<Global>>() == 32);
 
-const _: () = prove!(size_of::<Level7<Global>>() == 32);
+const _: () = prove!(size_of::<Level6<Global>>() == 32);
 
 /// A mark or none for each line below 2^41.
 #[derive(Drop)]
 pub struct Tree<A: Allocator + Copy = Global> {
-    root: Level7<A>,
+    root: Level6<A>,
 }
 
 impl<A: Allocator + Copy> Tree<A> {

@@ -31,7 +31,7 @@ impl Draws {
 
     /// An address at most two lines from an end of a node of some level, mostly below 2^47.
     fn address(&mut self) -> u64 {
-        let width = WIDTHS[self.below(9) as usize];
+        let width = WIDTHS[self.below(8) as usize];
         let end = width.wrapping_mul(self.below(4) + 1);
         let line = end.wrapping_add(self.below(4) * 64).wrapping_sub(128);
         line.wrapping_add(self.below(2) * self.below(64))

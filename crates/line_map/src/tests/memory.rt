@@ -8,20 +8,23 @@ use std::alloc::{AllocError, Allocator};
 use std::test::Fail;
 
 /// How many levels of branches a map has.
-const LEVELS: u64 = 7;
+const LEVELS: u64 = 6;
 
 /// How many sections a branch has room for at most.
-const SECTIONS: u64 = 32;
+const SECTIONS: u64 = 64;
 
-/// How many bytes the marks of a leaf have: for each of its 64 lines 8 of a size, and 2 more.
-const MARKS: u64 = 640;
+/// How many bytes an entry of a leaf takes.
+const ENTRY: u64 = 12;
+
+/// How many bytes a leaf asks for with its first entry: it makes room for four.
+const ENTRIES: u64 = 4 * ENTRY;
 
 /// How many bytes a section takes besides its own, in these tests: those of a handle on the test's
 /// allocator. The handle on the program's has none.
 const HANDLE: u64 = 8;
 
 /// How many bytes a leaf takes in the branch over it.
-const LEAF: u64 = 16 + HANDLE;
+const LEAF: u64 = 24 + HANDLE;
 
 /// How many bytes a branch takes in the branch over it.
 const BRANCH: u64 = 32 + HANDLE;
@@ -31,13 +34,13 @@ const END: u64 = (1 << 47) - 64;
 
 /// How many bytes a new leaf asks for, and that many levels of new branches over it.
 fn chain(levels: u64) -> u64
-    requires { levels ≤ 7 }
+    requires { levels ≤ 6 }
     ensures { result ≤ 2 ^ 16 }
 {
     if levels == 0 {
-        MARKS
+        ENTRIES
     } else {
-        MARKS + LEAF + (levels - 1) * BRANCH
+        ENTRIES + LEAF + (levels - 1) * BRANCH
     }
 }
 
@@ -64,7 +67,7 @@ fn memory_of_a_lone_slot(rt: HostRuntime) -> Result<(), Fail> {
             assert_eq!(rt; asked(&heap, &mut map, at)?, (LEVELS + 1, chain(LEVELS)));
         }
     }
-    assert_eq!(rt; chain(LEVELS), 848 + LEVELS * HANDLE);
+    assert_eq!(rt; chain(LEVELS), 232 + LEVELS * HANDLE);
     Ok(())
 }
 
@@ -90,6 +93,25 @@ fn memory_of_a_slot_past_an_end(rt: HostRuntime) -> Result<(), Fail> {
 }
 
 #[test]
+fn memory_of_a_leaf(rt: HostRuntime) -> Result<(), Fail> {
+    let heap = Refuser::new(rt.alloc(), 0);
+    let mut map = LineMap::new(&heap);
+    asked(&heap, &mut map, 0)?;
+    let mut room = 4;
+    for line in 1..32 {
+        // Where there is no room for an entry more, the leaf makes room for twice as many.
+        let more = if line == room { 2 * room } else { 0 };
+        room = room.max(more);
+        assert_eq!(rt;
+            asked(&heap, &mut map, line * 64)?,
+            (u64::from(more > 0), more * ENTRY),
+            "line {line}"
+        );
+    }
+    Ok(())
+}
+
+#[test]
 fn memory_of_a_slot_that_makes_a_branch_grow(rt: HostRuntime) -> Result<(), Fail> {
     // One slot is in the first section of the branch over all the others, and one in its last.
     for (first, second) in [(0, END), (END, 0)] {
@@ -103,7 +125,7 @@ fn memory_of_a_slot_that_makes_a_branch_grow(rt: HostRuntime) -> Result<(), Fail
     }
     assert_eq!(rt;
         SECTIONS * BRANCH + chain(LEVELS - 1),
-        1_840 + (SECTIONS + LEVELS - 1) * HANDLE
+        2_248 + (SECTIONS + LEVELS - 1) * HANDLE
     );
     Ok(())
 }
@@ -116,7 +138,7 @@ fn memory_of_what_has_no_slots_is_given_back(rt: HostRuntime) -> Result<(), Fail
     asked(&heap, &mut map, 0x2000)?;
     // A leaf that had one slot is asked for again, and so is the way to the only one.
     remove(&mut map, 0x2000);
-    assert_eq!(rt; asked(&heap, &mut map, 0x2000)?, (1, MARKS));
+    assert_eq!(rt; asked(&heap, &mut map, 0x2000)?, (1, ENTRIES));
     remove(&mut map, 0x1000);
     remove(&mut map, 0x2000);
     assert_eq!(rt;
@@ -137,6 +159,57 @@ fn memory_of_a_refused_slot_is_given_back(rt: HostRuntime) -> Result<(), Fail> {
             (LEVELS + 1, chain(LEVELS)),
             "turn {turn}"
         );
+    }
+    Ok(())
+}
+
+#[test]
+fn memory_is_given_back_in_any_order(rt: HostRuntime) -> Result<(), Fail> {
+    // On both sides of the ends of nodes of each level, taken out from the first on or the last.
+    for is_upward in [true, false] {
+        let heap = Refuser::new(rt.alloc(), 0);
+        let mut map = LineMap::new(&heap);
+        for width in WIDTHS {
+            insert(&mut map, width.saturating_sub(64), live(8))?;
+            insert(&mut map, width.min(END), live(8))?;
+        }
+        for place in 0..WIDTHS.len() {
+            let width = WIDTHS[if is_upward { place } else { 7 - place }];
+            remove(&mut map, width.saturating_sub(64));
+            remove(&mut map, width.min(END));
+        }
+        assert_eq!(rt;
+            asked(&heap, &mut map, 0x1000)?,
+            (LEVELS + 1, chain(LEVELS)),
+            "upward {is_upward}"
+        );
+    }
+    Ok(())
+}
+
+#[test]
+fn room_is_kept_round_one_slot(rt: HostRuntime) -> Result<(), Fail> {
+    let heap = Refuser::new(rt.alloc(), 0);
+    let mut map = LineMap::new(&heap);
+    asked(&heap, &mut map, 0)?;
+    for levels in 1..=LEVELS {
+        let last = WIDTHS[(levels + 1) as usize].saturating_sub(64);
+        let section = if levels == 1 { LEAF } else { BRANCH };
+        assert_eq!(rt;
+            asked(&heap, &mut map, last)?,
+            (levels + 1, SECTIONS * section + chain(levels - 1)),
+            "levels {levels}"
+        );
+        remove(&mut map, last);
+    }
+    for levels in 1..=LEVELS {
+        let last = WIDTHS[(levels + 1) as usize].saturating_sub(64);
+        assert_eq!(rt;
+            asked(&heap, &mut map, last)?,
+            (levels, chain(levels - 1)),
+            "levels {levels}"
+        );
+        remove(&mut map, last);
     }
     Ok(())
 }

@@ -6,11 +6,11 @@ use std::alloc::{AllocError, Allocator, Global};
 use std::test::Fail;
 
 /// What a map has before and after the ends of its nodes, of each level.
-type Seen = [[Option<(u64, Slot)>; 3]; 9];
+type Seen = [[Option<(u64, Slot)>; 3]; 8];
 
 /// What a map answers at these places.
 fn seen<A: Allocator + Copy>(map: &LineMap<A>) -> Seen {
-    let mut seen = [[None; 3]; 9];
+    let mut seen = [[None; 3]; 8];
     for (width, seen) in WIDTHS.iter().zip(&mut seen) {
         *seen = [
             map.last_before(width.saturating_sub(64)),
@@ -57,7 +57,7 @@ fn calls_refused_at(alloc: Global, turn: u64, is_upward: bool) -> Result<Outcome
     let mut ample = LineMap::new(alloc);
     let (mut refused, mut right) = (false, true);
     for place in 0..WIDTHS.len() {
-        let width = WIDTHS[if is_upward { place } else { 8 - place }];
+        let width = WIDTHS[if is_upward { place } else { 7 - place }];
         for at in [width - 8, width] {
             let outcome = insert_both(&mut map, &mut ample, at)?;
             refused |= outcome.refused;
