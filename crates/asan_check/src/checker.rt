@@ -110,6 +110,26 @@ impl<A: Allocator + Copy> Checker<A> {
         Ok(report)
     }
 
+    /// Reads what the checker keeps of the blocks of the events to come, so that the processor has
+    /// it at hand when they are stepped. Changes nothing.
+    #[inline(never)]
+    pub fn fetch(&mut self, events: &[Event])
+        ensures { self.new ≡ self.old }
+    {
+        let mut frees = 0;
+        for event in events {
+            match event {
+                Event::Malloc(region) => self.book.fetch(region.at()),
+                Event::Free(place) => {
+                    self.book.fetch(place.at());
+                    self.book.fetch_held(frees);
+                    frees += 1;
+                }
+                _ => {}
+            }
+        }
+    }
+
     /// Checks the loads and stores without a bad byte that the events begin with, as
     /// [`step`](Checker::step) would, and answers how many they are. Once a step has failed, it
     /// checks none. With those checked before, the events are fewer than 2^64.

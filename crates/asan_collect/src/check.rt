@@ -45,20 +45,45 @@ pub fn check_feed<F: Feed, A: Allocator + Copy>(
     }
 }
 
+/// How many events the checker is to fetch at once.
+const AHEAD: usize = 8;
+
 /// Hands the events to the checker, in order. A checker that has failed stays so, and says it in the end.
 pub(crate) fn check_each<A: Allocator + Copy>(checker: &mut Checker<A>, events: &[Event])
     requires room { checked_of checker.old + length events.now < 2 ^ 64 }
     ensures { (bound : ℕ) (past : List AnEvent) → StandsOrFailed bound checker.old past →
         StandsOrFailed bound checker.new (reverse events.now ++ past) }
 {
-    let mut from = 0;
+    let (mut from, mut fetched) = (0, 0_usize);
     while from < events.len() {
         from += checker.pass(&events[from..]);
         if from < events.len() {
+            let ahead = fetch_ahead(checker, &events[from..], fetched.saturating_sub(from));
+            fetched = from.saturating_add(ahead);
             let _ = checker.step(&events[from]);
             from += 1;
         }
     }
+}
+
+/// Has the checker fetch the next events, if it has not fetched the first of them. How many of them
+/// it has fetched then.
+#[inline]
+fn fetch_ahead<A: Allocator + Copy>(
+    checker: &mut Checker<A>,
+    events: &[Event],
+    fetched: usize,
+) -> usize
+    requires { 0 < length events.now }
+    ensures same { checker.new ≡ checker.old }
+    ensures most { result ≤ length events.now + fetched }
+{
+    if fetched > 0 {
+        return fetched;
+    }
+    let count = events.len().min(AHEAD);
+    checker.fetch(&events[..count]);
+    count
 }
 
 /// What became of a feed whose checker was handed this number of events.

@@ -64,6 +64,27 @@ impl<A: Allocator + Copy> Book<A> {
         })
     }
 
+    /// Reads what the book keeps at an address, so that the processor has it at hand when a malloc
+    /// or a free of this address follows. Changes nothing.
+    #[inline]
+    pub fn fetch(&mut self, at: u64)
+        ensures { self.new ≡ self.old }
+    {
+        self.blocks.fetch(at);
+    }
+
+    /// Does the same for a block in quarantine, by its place there: 0 is the one that was freed first.
+    /// There need not be one.
+    #[inline]
+    pub fn fetch_held(&mut self, place: usize)
+        ensures { self.new ≡ self.old }
+    {
+        match self.queue.get(place) {
+            Some(block) => self.blocks.fetch(block.at()),
+            None => {}
+        }
+    }
+
     /// Takes in what a malloc gave: a block of `size` bytes at the address `at`, which ends at most at 2^47. The book notes
     /// its place, and never touches its bytes.
     ///

@@ -56,6 +56,15 @@ impl<S: Section<A>, A: Allocator + Copy> Section<A> for Branch<S, A> {
     }
 
     #[inline]
+    fn fetch(&self, line: u64) -> u64 {
+        let width = S::width();
+        match self.place_of((line / width) as usize) {
+            Some(place) => self.kept[place].fetch(line % width),
+            None => 0,
+        }
+    }
+
+    #[inline]
     fn last(&self, end: u64) -> Option<(u64, Mark)> {
         let width = S::width();
         let section = (end / width) as usize;

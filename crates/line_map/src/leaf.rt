@@ -107,6 +107,14 @@ impl<A: Allocator + Copy> Section<A> for Leaf<A> {
     }
 
     #[inline]
+    fn fetch(&self, _line: u64) -> u64 {
+        match (self.entries.first(), self.entries.last()) {
+            (Some(first), Some(last)) => u64::from(first.line ^ last.line),
+            _ => 0,
+        }
+    }
+
+    #[inline]
     fn last(&self, end: u64) -> Option<(u64, Mark)> {
         let mut last: Option<Entry> = None;
         for entry in &self.entries {

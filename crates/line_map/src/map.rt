@@ -26,6 +26,9 @@ const ALL: u64 = 1 << 41;
 pub struct LineMap<A: Allocator + Copy = Global> {
     tree: Tree<A>,
     alloc: A,
+    /// What [`fetch`](LineMap::fetch) has read, all together: without a place for it, the compiler
+    /// would leave the reads out.
+    fetched: u64,
 }
 
 impl<A: Allocator + Copy> Model for LineMap<A> {
@@ -50,6 +53,19 @@ impl<A: Allocator + Copy> LineMap<A> {
         LineMap {
             tree: Tree::empty(alloc),
             alloc,
+            fetched: 0,
+        }
+    }
+
+    /// Reads what the map keeps of an address' line, so that the processor has it at hand when a
+    /// call on this address follows. The address may be any number.
+    #[inline]
+    pub fn fetch(&mut self, at: u64)
+        ensures { self.new ≡ self.old }
+    {
+        let line = at / LINE;
+        if line < ALL {
+            self.fetched ^= self.tree.fetch(line);
         }
     }
 

@@ -34,6 +34,12 @@ pub trait Section<A: Allocator + Copy>: Drop {
         requires within { line < width }
         ensures { result ≡ mark_at self.now line };
 
+    /// Reads what it keeps of a line, so that the processor has it at hand, and answers some
+    /// number that depends on it.
+    fn fetch(&self, line: u64) -> u64
+        requires fits { fits }
+        requires within { line < width };
+
     /// The last mark of the lines below one, with its line.
     fn last(&self, end: u64) -> Option<(u64, Mark)>
         requires fits { fits }

@@ -87,6 +87,12 @@ fn map_calls(rt: HostRuntime) -> Result<(), Fail> {
     assert_eq!(rt; map.last_before(0x1039), Some((0x1038, live(8))));
     map.set(0x1038, freed);
     assert_eq!(rt; map.get(0x1038), Some(freed));
+    for at in [0x1038, 0x5000, 1 << 47, u64::MAX] {
+        map.fetch(at);
+    }
+    map.set(0x1038, live(u64::MAX));
+    assert_eq!(rt; map.get(0x1038), Some(live(u64::MAX)));
+    map.set(0x1038, freed);
     assert_eq!(rt; map.last_before(u64::MAX), Some((0x1038, freed)));
     map.remove(0x1038);
     assert_eq!(rt; map.get(0x1038), None);

@@ -57,6 +57,15 @@ impl<A: Allocator + Copy> Tree<A> {
         self.root.get(line)
     }
 
+    /// Reads what it keeps of a line, so that the processor has it at hand, and answers some
+    /// number that depends on it.
+    #[inline]
+    pub fn fetch(&self, line: u64) -> u64
+        requires { line < 2 ^ 41 }
+    {
+        self.root.fetch(line)
+    }
+
     /// The last mark of the lines below one, with its line.
     #[inline]
     #[tactic(auto, unfolding(crate::specs::Trees::tree_mark))]

@@ -1,4 +1,4 @@
-use Rattle.std.proofs.Common.{◌≤◌, ◌+◌, sym, arith}
+use Rattle.std.proofs.Common.{◌≡◌, ◌≤◌, ◌+◌, ap, sym, arith}
 use Rattle.std.proofs.lemmas.List.{take_rest, length-drop, take_all}
 use Rattle.asan_check.specs.Standing.{checked_of}
 use Rattle.asan_collect.proofs.Stepping.{passed_on, one_on, stepped, counted}
@@ -25,12 +25,13 @@ loop-from-preserved-then-from-events g c =
     let n = c.pass-from.result in
     let rest = take_rest events from in
     let e = c.index-events-from.result in
+    let same : c.fetch_ahead-ahead.new.checker ≡ c.pass-from.new.self = c.fetch_ahead-ahead.ensures.same in
     record {
       within = omega arith;
-      counted = (let was = c.loop-from.invariant.counted in let now = c.pass-from.ensures.count in let more : checked_of c.step.new.self ≤ checked_of c.pass-from.new.self + 1 = counted c.pass-from.new.self c.step.new.self c.step.result c.step.ensures.count c.step.ensures.kept in omega arith);
+      counted = (let was = c.loop-from.invariant.counted in let now = c.pass-from.ensures.count in let more : checked_of c.step.new.self ≤ checked_of c.fetch_ahead-ahead.new.checker + 1 = counted c.fetch_ahead-ahead.new.checker c.step.new.self c.step.result c.step.ensures.count c.step.ensures.kept in let fetched = ap checked_of same in omega arith);
       stands = λ bound past at.
           let before = passed_on bound _ _ from n events past (rw rest at c.pass-from.ensures.stands) c.pass-from.ensures.stays (c.loop-from.invariant.stands bound past at) in
-          one_on bound _ events past (from + n) e (omega arith) (sym c.index-events-from.is) (stepped bound _ _ c.step.result e _ c.step.ensures.checked c.step.ensures.failed c.step.ensures.stays before);
+          one_on bound _ events past (from + n) e (omega arith) (sym c.index-events-from.is) (stepped bound _ _ c.step.result e _ c.step.ensures.checked c.step.ensures.failed c.step.ensures.stays (rw same before));
     }
 
 pub returns : goal.returns
