@@ -141,6 +141,7 @@ impl<A: Allocator + Copy> Checker<A> {
             Stands bound self.new (reverse (take result events.now) ++ past) }
         ensures stays { has_failed self.old ≡ true → (result ≡ 0) × (self.new ≡ self.old) }
         ensures count { checked_of self.new ≡ checked_of self.old + result }
+        ensures kept { reports_of self.new ≡ reports_of self.old }
         ensures bound { bound_of self.new ≡ bound_of self.old }
     {
         if self.failed {
