@@ -10,7 +10,7 @@ use Rattle.page_table.specs.declared.run.Run.{Run}
 use Rattle.page_table.specs.Runs.{byte_of_runs}
 use Rattle.page_table.specs.Sections.{IsFilled, HasRunsUpTo}
 
-past_the_kept : {X : Type 0} (f : X → ℕ) (sections : List X) (place rest : ℕ) → length sections ≤ place → get_or (map f sections) place rest ≡ rest
+pub past_the_kept : {X : Type 0} (f : X → ℕ) (sections : List X) (place rest : ℕ) → length sections ≤ place → get_or (map f sections) place rest ≡ rest
 past_the_kept f [] place rest le = refl
 past_the_kept f (section ∷ sections) zero rest le = absurd (omega arith)
 past_the_kept f (section ∷ sections) (suc place) rest le = past_the_kept f sections place rest (omega arith)
@@ -97,6 +97,14 @@ module _ {S : Type 0} (byte_at : S → ℕ → ℕ) (width : ℕ) where
               rw was (either (leb from index && ltb index to) byte)
           | inr other ↦ rw (other_section width from to index within other) refl
         ]
+
+  -- the byte at an index in one of the sections
+  pub section_byte : (sections : List S) (place rest index : ℕ) (section : S) → place < length sections →
+      section ≡ get_or sections place section → index / width ≡ place →
+      byte_from sections rest index ≡ byte_at section (index % width)
+  section_byte sections place rest index section lt is same =
+      let there : S → ℕ = λ section. byte_at section (index % width) in
+      rw same (get_or-map there sections place section rest lt ∙ ap there (sym is))
 
   -- one of the sections has the bytes that it had
   pub section_same : (sections : List S) (place rest index : ℕ) (section new : S) → 0 < width → place < length sections → section ≡ get_or sections place section →

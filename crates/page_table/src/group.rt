@@ -1,9 +1,8 @@
 //! A group of pages.
-ghost use Rattle.std.specs.Prelude.{◌≡◌, ℕ, ◌+◌, ◌-◌, ◌%◌, ◌<◌, ◌≤◌, ◌&&◌, nat_le, nat_lt, if◌then◌else◌, OnOk, OnErr, IfOk, slice_index};
-ghost use Rattle.page_table.specs.declared.group.TheConstants.{PAGE, GROUP};
+ghost use Rattle.std.specs.Prelude.{◌≡◌, ◌≢◌, ℕ, ◌+◌, ◌-◌, ◌%◌, ◌<◌, ◌≤◌, ◌&&◌, nat_le, nat_lt, if◌then◌else◌, OnOk, OnErr, IfOk, IsSome, None, slice_index, slice_index_or};
+ghost use Rattle.page_table.specs.declared.group.TheConstants.{PAGE, PAGES, GROUP};
 ghost use Rattle.page_table.specs.Sections.{IsWidth, IsFilled, HasRuns};
 ghost use Rattle.page_table.specs.Runs.{length_of};
-ghost use Rattle.page_table.specs.Groups.{group_byte};
 
 use crate::run::Run;
 use crate::section::Section;
@@ -26,9 +25,14 @@ pub struct Group<A: Allocator = Global> {
 
     // The bytes of the others, each at its place. The box stays until the group is filled whole.
     each: Option<Box<[u8; GROUP], A>>,
+
+    // Where a page is not kept as one byte, there is the box.
+    ghost boxed: { (page : ℕ) → page < PAGES → slice_index_or same page None ≡ None → IsSome each },
 }
 
 impl<A: Allocator + Copy> Section<A> for Group<A> {
+    ghost use Rattle.page_table.specs.Groups.{group_byte};
+
     ghost width = { GROUP };
 
     ghost fits = { IsWidth GROUP };
@@ -93,6 +97,8 @@ impl<A: Allocator + Copy> Section<A> for Group<A> {
 }
 
 impl<A: Allocator + Copy> Group<A> {
+    ghost use Rattle.page_table.specs.Groups.{group_byte};
+
     /// Sets the bytes from an index up to another, which lie in one page. Takes memory once, for all pages of the group.
     fn fill_page(&mut self, alloc: A, from: usize, to: usize, byte: u8) -> Result<(), AllocError>
         requires order { from < to }
@@ -100,6 +106,7 @@ impl<A: Allocator + Copy> Group<A> {
         requires end { to ≤ GROUP }
         ensures ok { OnOk result (IsFilled GROUP (group_byte self.old) (group_byte self.new) from to byte) }
         ensures err { OnErr result ((index : ℕ) → group_byte self.new index ≡ group_byte self.old index) }
+        ensures needed { OnErr result (group_byte self.old from ≢ byte) }
     {
         let page = from / PAGE;
         if to - from == PAGE {

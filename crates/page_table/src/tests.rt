@@ -1,4 +1,4 @@
-//! Runs beside a fill for each of them.
+//! Runs beside a fill for each of them, and fills of any width.
 ghost use Rattle.std.specs.Prelude.{◌≡◌, ◌+◌, ◌^◌, ◌≤◌};
 
 use super::*;
@@ -74,5 +74,37 @@ fn runs_without_granules(rt: HostRuntime) -> Result<(), Fail> {
     table.fill_runs(1 << 44, &[run(0, 3), run(0, 5)])?;
     table.fill_runs(0, &[run(0, 3), run(1 << 44, 5)])?;
     assert_eq!(rt; [table.byte(0), table.byte((1 << 44) - 1)], [5, 5]);
+    Ok(())
+}
+
+/// The bytes of the granules on both sides of the two ends of a fill, from granule 1 up to another.
+fn around_fill(alloc: Global, width: u64) -> Result<[u8; 4], AllocError>
+    requires some { 2 ≤ width }
+    requires most { width + 1 ≤ 2 ^ 44 }
+{
+    let mut table = PageTable::new(alloc);
+    table.fill(1, width, 7)?;
+    Ok([
+        table.byte(0),
+        table.byte(1),
+        table.byte(width - 1),
+        table.byte(width),
+    ])
+}
+
+#[test]
+fn fills_of_any_width(rt: HostRuntime) -> Result<(), Fail> {
+    let alloc = rt.alloc();
+    for bit in 1..44u32 {
+        assert_eq!(rt;
+            around_fill(alloc, 1 << bit)?,
+            [0, 7, 7, 0],
+            "2^{bit} granules"
+        );
+    }
+    assert_eq!(rt; around_fill(alloc, (1 << 44) - 1)?, [0, 7, 7, 0]);
+    let mut table = PageTable::new(alloc);
+    table.fill(0, 1 << 44, 7)?;
+    assert_eq!(rt; [table.byte(0), table.byte((1 << 44) - 1)], [7, 7]);
     Ok(())
 }

@@ -1,6 +1,5 @@
 use Rattle.std.proofs.Common.{arith}
 use Rattle.std.specs.Prelude.{slice_index}
-use Rattle.page_table.specs.declared.run.Run.{Run}
 use Rattle.page_table.specs.declared.group.TheConstants.{GROUP}
 use Rattle.page_table.proofs.Runs.{filled_on, length_on}
 use Rattle.page_table.proofs.group.fill_runs.Goals as goal

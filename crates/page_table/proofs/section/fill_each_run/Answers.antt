@@ -1,8 +1,9 @@
-use Rattle.std.proofs.Common.{◌≡◌, ◌+◌, take, arith}
+use Rattle.std.proofs.Common.{◌≡◌, ◌+◌, ◌-◌, leb, ltb, false, take, ◌∙◌, arith}
+use Rattle.std.specs.Prelude.{◌&&◌}
+use Rattle.std.proofs.lemmas.Bool.Decides.{nat_tests}
 use Rattle.std.proofs.lemmas.Result.{err_from_is_err_and}
-use Rattle.page_table.specs.declared.run.Run.{Run}
 use Rattle.page_table.specs.Runs.{length_of}
-use Rattle.page_table.proofs.Runs.{filled_on, length_on, length_within}
+use Rattle.page_table.proofs.Runs.{byte_in_run, filled_on, length_on, length_within}
 use Rattle.page_table.proofs.section.fill_each_run.Goals as goal
 use Rattle.page_table.proofs.section.fill_each_run.Goals.{then-at-next+in_ok-fill, else-at-next}
 
@@ -46,4 +47,10 @@ returns-in_err-fill-clause-err g c =
       (let high = e.2 in omega arith),
       filled_on width (byte_at c.args.section.now) (byte_at c.loop-run.section) (byte_at c.fill.new.self) c.args.from c.loop-run.at runs i lt reached
           e.0 e.1 (let high = e.2 in omega arith) c.loop-run.invariant.filled e.3,
+      λ same. e.4 (
+          let low = e.1 in
+          let high = e.2 in
+          let past : (leb c.args.from e.0 && ltb e.0 c.loop-run.at) ≡ false = grind (arith, nat_tests) in
+          c.loop-run.invariant.filled e.0 (omega arith) ∙ rw past same ∙ byte_in_run runs i (e.0 - c.args.from) lt (omega arith) (omega arith)
+          ),
     )

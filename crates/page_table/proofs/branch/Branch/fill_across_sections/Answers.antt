@@ -13,4 +13,4 @@ returns-in_err-fill_within_section-clause-err g c =
     rw p.1
     (broken_off_later (SECTIONS * g.S.Section.width) (bytes c.args.self.now) (bytes c.loop-at.self) (bytes c.fill_within_section.new.self)
     c.args.from c.loop-at.at c.args.byte c.loop-at.invariant.low c.loop-at.invariant.filled
-    c.min-next.result c.args.to (let is = c.min-next.ensures in omega arith) c.in_err-fill_within_section.ensures.err)
+    c.min-next.result c.args.to (let is = c.min-next.ensures in omega arith) c.requires.end c.in_err-fill_within_section.ensures.err)

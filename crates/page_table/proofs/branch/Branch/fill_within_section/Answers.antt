@@ -1,12 +1,13 @@
-use Rattle.std.proofs.Common.{◌≡◌, ℕ, ◌+◌, ◌-◌, ◌*◌, ◌/◌, ◌%◌, ◌<◌, ◌≤◌, refl, ◌∙◌, arith, length}
+use Rattle.std.proofs.Common.{◌≡◌, ℕ, ◌+◌, ◌-◌, ◌*◌, ◌/◌, ◌%◌, ◌<◌, ◌≤◌, refl, sym, ap, ◌∙◌, arith, length}
 use Rattle.std.specs.Prelude.{vec_len}
 use Rattle.std.proofs.lemmas.Result.{err_from_is_err_and, on_ok_weaker, on_err_weaker}
+use Rattle.std.proofs.lemmas.Nat.{div-mul-add, div-add-mod'}
 use Rattle.std.proofs.Math.Nat.{mod-lt}
 use Rattle.std.specs.Vec.{with_item}
 use Rattle.page_table.specs.declared.branch.TheConstants.{SECTIONS}
 use Rattle.page_table.specs.Branches.{branch_byte}
 use Rattle.page_table.specs.Sections.{IsFilled}
-use Rattle.page_table.proofs.Branches.{section_filled, rest_filled}
+use Rattle.page_table.proofs.Branches.{past_the_kept, section_byte, section_filled, rest_filled}
 use Rattle.page_table.proofs.Fills.{broken_off_at_once}
 use Rattle.page_table.proofs.branch.Branch.fill_within_section.Goals as goal
 use Rattle.page_table.proofs.branch.Branch.fill_within_section.Goals.{then-place-len+else-self-byte+in_ok-keep, else-place-len}
@@ -20,7 +21,12 @@ returns-then-self-byte-clause-ok g c index lt =
 pub returns-in_err-keep-clause-err : goal.returns-in_err-keep-clause-err
 returns-in_err-keep-clause-err g c =
     let p = err_from_is_err_and c.from_residual.result c.from_residual.ensures.1 in
-    rw p.1 (broken_off_at_once (SECTIONS * g.S.Section.width) _ _ c.args.from c.args.to c.args.byte c.requires.order c.keep.ensures.same)
+    let old = c.args.self.now in
+    let width = g.S.Section.width in
+    let missing : length old.kept.items ≤ c.args.from / width = rw (← c.width-width.ensures) (let is = old.kept.ok.0 in let past = c.if-place-len.true in let len = c.len.ensures in omega arith) in
+    let rest : branch_byte g.S.Section.byte_at width old c.args.from ≡ old.rest = past_the_kept (λ section. g.S.Section.byte_at section (c.args.from % width)) old.kept.items (c.args.from / width) old.rest missing in
+    rw p.1 (broken_off_at_once (SECTIONS * width) (branch_byte g.S.Section.byte_at width old) _ c.args.from c.args.to c.args.byte c.requires.order
+    (λ same. c.if-self-byte.false (sym rest ∙ same)) c.keep.ensures.same)
 
 pub returns : goal.returns
 returns g c =
@@ -52,6 +58,19 @@ returns g c =
           let low = torn.1 in
           let below = torn.2 in
           let place : first + (stop - c.args.from) ≡ torn.0 = omega arith in
-          (stop, omega arith, omega arith, filled stop (omega arith) (omega arith) (rw place torn.3)))
+          let split : c.args.from / width * width + first ≡ c.args.from = div-add-mod' c.args.from width in
+          let inside : torn.0 < width = omega arith in
+          let stop_is : stop ≡ c.args.from / width * width + torn.0 = omega arith in
+          let section : stop / width ≡ c.args.from / width = ap (λ n. n / width) stop_is ∙ div-mul-add (c.args.from / width) width torn.0 inside in
+          let also : stop / width * width + stop % width ≡ stop = div-add-mod' stop width in
+          let same : stop % width ≡ torn.0 = (let alike = rw section at also in omega arith) in (
+            stop,
+            omega arith,
+            omega arith,
+            filled stop (omega arith) (omega arith) (rw place torn.3),
+            λ is. torn.4 (ap (byte_at c.index_mut.result.now) (sym same)
+                ∙ sym (section_byte byte_at width branch.kept.items (c.args.from / width) branch.rest stop c.index_mut.result.now lt lent section)
+                ∙ grown.1 stop ∙ is),
+          ))
           (rw c.width-width.ensures at c.fill.ensures.err);
     })
