@@ -1,11 +1,14 @@
 -- From granules to marks: a call that makes of each shadow byte what a mark does adds that mark.
-use Rattle.std.proofs.Common.{◌≡◌, ℕ, ◌/◌, ◌%◌, ◌^◌, ◌<◌, ◌≤◌, cond, ltb, ◌∙◌}
-use Rattle.std.specs.Prelude.{IsTrue}
+use Rattle.std.proofs.Common.{◌≡◌, ◌≢◌, ℕ, ◌*◌, ◌/◌, ◌%◌, ◌^◌, ◌<◌, ◌≤◌, true, leb, ltb, sym, ◌∙◌, arith}
+use Rattle.std.specs.Prelude.{◌&&◌, IsTrue}
+use Rattle.std.proofs.lemmas.Bool.Decides.{nat_tests}
 use Rattle.shadow_map.specs.declared.shadow.Shadow.{Shadow}
-use Rattle.shadow_map.specs.States.{State, Addressable, HeapRedzone, Freed, UserPoison, code_of, Mark, Fill, IsMark}
+use Rattle.shadow_map.specs.States.{State, Addressable, HeapRedzone, Freed, UserPoison, code_of, Mark, Fill, Block, Poison, Unpoison, IsMark}
 use Rattle.shadow_map.specs.Shows.{value_at}
-use Rattle.shadow_map.specs.Calls.{is_code, Adds, AddsInPart}
+use Rattle.shadow_map.specs.Calls.{is_code, range_from, range_to, Adds, AddsInPart, IsBrokenOff}
+use Rattle.shadow_map.proofs.Fronts.{fill_keeps}
 use Rattle.shadow_map.proofs.Bytes.{MakesOfBytes, fill_makes}
+use Rattle.shadow_map.proofs.Cuts.{LeavesMarks, fill_leaves}
 use Rattle.shadow_map.proofs.Fills.{IsFilled, torn_fill, either}
 
 -- a fill by a code, as a mark that a call may make
@@ -14,6 +17,13 @@ fill_is_mark from to Addressable code granules order end = absurd cc
 fill_is_mark from to HeapRedzone code granules order end = (granules.0, granules.1, order, end)
 fill_is_mark from to Freed code granules order end = (granules.0, granules.1, order, end)
 fill_is_mark from to UserPoison code granules order end = (granules.0, granules.1, order, end)
+
+-- a mark that a call may make ends within the memory
+mark_ends : (mark : Mark) → IsMark mark → range_to mark ≤ 2 ^ 47
+mark_ends (Fill from to state) is = (fill_keeps from to state is).3
+mark_ends (Block at size) is = is.2
+mark_ends (Poison at size) is = is
+mark_ends (Unpoison at size) is = is
 
 module _ {A : Type 0} (old new : Shadow A) where
   pub adds : (mark : Mark) (byte_after : ℕ → ℕ → ℕ) → IsMark mark → MakesOfBytes mark byte_after →
@@ -24,14 +34,27 @@ module _ {A : Type 0} (old new : Shadow A) where
   }
 
   pub adds_in_part : (mark : Mark) (byte_after : ℕ → ℕ → ℕ) → IsMark mark → MakesOfBytes mark byte_after →
-      (place : ℕ) × ((granule : ℕ) → value_at new granule ≡ cond (ltb granule place) (byte_after (value_at old granule) granule) (value_at old granule)) →
-      AddsInPart old new mark
-  adds_in_part mark byte_after is makes torn = (
-    torn.0,
-    λ marks shows granule lt.
-        either (ltb granule torn.0) _ _ _ _ _ (torn.1 granule)
-        (makes marks shows.are_marks granule (value_at old granule) (shows.values granule lt)) (shows.values granule lt),
-  )
+      LeavesMarks mark byte_after → IsBrokenOff (range_from mark) (range_to mark) byte_after old new → AddsInPart old new mark
+  adds_in_part mark byte_after is makes leaves torn = record {
+    byte = torn.byte;
+    in_range = torn.in_range;
+    shown = λ marks shows granule lt.
+        either (ltb granule (torn.byte / 8)) _ _ _ _ _ (torn.values granule)
+        (makes marks shows.are_marks granule (value_at old granule) (shows.values granule lt)) (shows.values granule lt);
+    due = λ marks shows same.
+        let end = mark_ends mark is in
+        let below = torn.in_range.1 in
+        let was = shows.values (torn.byte / 8) (omega arith) in
+        torn.due (makes marks shows.are_marks (torn.byte / 8) (value_at old (torn.byte / 8)) was ∙ same ∙ sym was);
+    some_marks = λ marks shows.
+        let left = leaves marks shows.are_marks torn.byte torn.in_range in (
+          left.0,
+          record {
+            are_marks = left.1;
+            values = λ granule lt. torn.values granule ∙ left.2 granule (value_at old granule) (shows.values granule lt);
+          },
+        );
+  }
 
   module _ (from to code : ℕ) (state : State) (code_is : code_of state ≡ code)
       (granules : (from % 8 ≡ 0) × (to % 8 ≡ 0)) (order : from ≤ to) (end : to ≤ 2 ^ 47) (is_a_code : IsTrue (is_code code)) where
@@ -42,6 +65,18 @@ module _ {A : Type 0} (old new : Shadow A) where
     fill_adds each = adds (Fill from to state) _ mark_is (fill_makes from to state mark_is) (rw code_is each)
 
     pub fill_adds_in_part : (place : ℕ) × (from / 8 ≤ place) × (place < to / 8)
-        × IsFilled (λ g. value_at old g) (λ g. value_at new g) (from / 8) place code → AddsInPart old new (Fill from to state)
-    fill_adds_in_part torn = adds_in_part (Fill from to state) _ mark_is (fill_makes from to state mark_is)
-        (torn.0, λ g. torn.3 g ∙ rw code_is (torn_fill (from / 8) (to / 8) torn.0 code (value_at old g) g torn.2))
+        × IsFilled (λ g. value_at old g) (λ g. value_at new g) (from / 8) place code × (value_at old place ≢ code) →
+        AddsInPart old new (Fill from to state)
+    fill_adds_in_part torn =
+        let low = torn.1 in
+        let below = torn.2 in
+        let aligned = granules.0 in
+        let also = granules.1 in
+        let place : 8 * torn.0 / 8 ≡ torn.0 = omega arith in
+        let in_it : (leb (from / 8) torn.0 && ltb torn.0 (to / 8)) ≡ true = grind (arith, nat_tests) in
+        adds_in_part (Fill from to state) _ mark_is (fill_makes from to state mark_is) (fill_leaves from to state mark_is) record {
+          byte = 8 * torn.0;
+          in_range = (omega arith, omega arith);
+          values = rw place (λ g. torn.3 g ∙ rw code_is (torn_fill (from / 8) (to / 8) torn.0 code (value_at old g) g torn.2));
+          due = rw place (rw in_it (λ is. torn.4 (sym is ∙ code_is)));
+        }

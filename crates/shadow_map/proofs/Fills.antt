@@ -85,6 +85,14 @@ poison_past byte a e g order le =
 unpoison_nothing : (byte from to : ℕ) → to ≤ from → unpoisoned_byte byte from to ≡ byte
 unpoison_nothing byte from to le = let empty : ltb from to ≡ false = grind (arith, nat_tests) in rw empty refl
 
+-- nothing changes where no byte of the granule lies in the region
+pub changed_nothing : (change : Change) (byte from to : ℕ) → to ≤ from → changed_byte change byte from to ≡ byte
+changed_nothing Poisoned byte from to le =
+    let empty : ltb from to ≡ false = grind (arith, nat_tests) in
+    let part : (eqb from 0 && eqb to 8) ≡ false = grind (arith, nat_tests) in
+    rw (part, empty) (grind (arith, nat_tests))
+changed_nothing Unpoisoned byte from to le = unpoison_nothing byte from to le
+
 pub change_before : (change : Change) (byte a e g : ℕ) → g < a / 8 → changed_byte change byte (min 8 (a - 8 * g)) (min 8 (e - 8 * g)) ≡ byte
 change_before Poisoned byte a e g lt = poison_before byte a e g lt
 change_before Unpoisoned byte a e g lt = unpoison_nothing byte _ _ (omega arith)
@@ -129,7 +137,7 @@ module _ (change : Change) (at end : ℕ) where
         | inr ragged ↦ inr (ragged, λ g. let both : (eqb g (edge / 8) && not (eqb (edge % 8) 0)) ≡ eqb g (edge / 8) = grind (arith, nat_tests) in each g ∙ rw both refl)
       ]
 
-  first_unchanged : (old : ℕ → ℕ) → IsChangeUpTo old old (at / 8)
+  pub first_unchanged : (old : ℕ → ℕ) → IsChangeUpTo old old (at / 8)
   first_unchanged old = upto_start old (λ g. changed_granule (old g) g) (at / 8) (λ g lt. change_before change (old g) at end g lt)
 
   pub first_changed : (old next : ℕ → ℕ) → IsEdge old next at → IsChangeUpTo old next ((at + 7) / 8)
@@ -167,10 +175,10 @@ module _ (at size : ℕ) where
       (cond (ltb (offset - 4 - size / 8) ((size + 7) / 8 - size / 8)) (size % 8)
       (cond (ltb (offset - 4 - size / 8 - ((size + 7) / 8 - size / 8)) 4) 0xfa 0)))
 
-  block_before : (byte g : ℕ) → g < at / 8 - 4 → block_byte at size g byte ≡ byte
+  pub block_before : (byte g : ℕ) → g < at / 8 - 4 → block_byte at size g byte ≡ byte
   block_before byte g lt = grind (arith, nat_tests)
 
-  block_within : (byte g : ℕ) → 4 ≤ at / 8 → at / 8 - 4 ≤ g → g < at / 8 + (size + 7) / 8 + 4 →
+  pub block_within : (byte g : ℕ) → 4 ≤ at / 8 → at / 8 - 4 ≤ g → g < at / 8 + (size + 7) / 8 + 4 →
       block_byte at size g byte ≡ span_byte (g - (at / 8 - 4))
   block_within byte g room low high = grind (arith, nat_tests)
 

@@ -4,4 +4,5 @@ pub mod Bytes
 pub mod Queries
 pub mod Ends
 pub mod Fills
+pub mod Cuts
 pub mod Adds

@@ -1,5 +1,5 @@
 -- What each call makes of one granule's shadow byte, in numbers. Two laws and the contracts of private functions cite this.
-use Rattle.std.specs.Prelude.{ℕ, ◌+◌, ◌-◌, ◌/◌, ◌%◌, ◌==◌, ◌&&◌, nat_lt, nat_le, if◌then◌else◌}
+use Rattle.std.specs.Prelude.{ℕ, ◌+◌, ◌-◌, ◌*◌, ◌/◌, ◌%◌, ◌==◌, ◌&&◌, nat_lt, nat_le, if◌then◌else◌, min}
 use Rattle.shadow_map.specs.declared.granule.Change.{Change}
 use Rattle.shadow_map.specs.declared.granule.Change.TheVariants.{Poisoned, Unpoisoned}
 
@@ -29,6 +29,11 @@ unpoisoned_byte shadow from to =
 abbrev pub changed_byte : Change → ℕ → ℕ → ℕ → ℕ
 changed_byte Poisoned shadow from to = poisoned_byte shadow from to
 changed_byte Unpoisoned shadow from to = unpoisoned_byte shadow from to
+
+-- the same of a region from one address up to another, by the granule's number
+abbrev pub changed_in : Change → ℕ → ℕ → ℕ → ℕ → ℕ
+changed_in change at end shadow granule =
+    changed_byte change shadow (min 8 (at - 8 * granule)) (min 8 (end - 8 * granule))
 
 -- the shadow byte of a granule that lies wholly in the region of a change
 abbrev pub inside_byte : Change → ℕ

@@ -1,9 +1,9 @@
 //! The calls that mark memory.
-ghost use Rattle.std.specs.Prelude.{◌≡◌, ℕ, ◌+◌, ◌-◌, ◌*◌, ◌/◌, ◌%◌, ◌^◌, ◌≤◌, ◌==◌, ◌&&◌, not, min, nat_lt, if◌then◌else◌, IsTrue, OnOk, OnErr};
+ghost use Rattle.std.specs.Prelude.{◌≡◌, ◌≢◌, ℕ, ◌+◌, ◌-◌, ◌/◌, ◌%◌, ◌^◌, ◌<◌, ◌≤◌, ◌==◌, ◌&&◌, not, if◌then◌else◌, IsTrue, OnOk, OnErr};
 ghost use Rattle.shadow_map.specs.States.{State, Fill, Block, Poison, Unpoison, code_of, redzone, rounded};
 ghost use Rattle.shadow_map.specs.Shows.{value_at};
-ghost use Rattle.shadow_map.specs.Calls.{is_code, Adds, AddsInPart};
-ghost use Rattle.shadow_map.specs.Granules.{block_byte, changed_byte};
+ghost use Rattle.shadow_map.specs.Calls.{is_code, Adds, AddsInPart, IsBrokenOff};
+ghost use Rattle.shadow_map.specs.Granules.{block_byte, changed_in};
 
 use crate::granule::{Change, GRANULE, HEAP_REDZONE, part};
 use crate::{NoMemory, Shadow};
@@ -13,8 +13,10 @@ use std::alloc::Allocator;
 /// How many granules a redzone has.
 const REDZONE: u64 = 4;
 
-/// After `NoMemory` a call is done in part: there is a granule below which all are as after the call, and from which on all
-/// are as before it. A granule that keeps its shadow byte takes no memory.
+/// After `NoMemory` a call is done in part: there is a granule of its range below which all are as
+/// after the call, and from which on all are as before it. The call had still to change that
+/// granule, so a granule that keeps its shadow byte takes no memory. A region of size 0 has no
+/// granule, and its call does nothing.
 impl<A: Allocator + Copy> Shadow<A> {
     /// Marks the whole granules from one address up to another by a code: [`HEAP_REDZONE`], [`FREED`] or [`USER_POISON`].
     ///
@@ -25,8 +27,10 @@ impl<A: Allocator + Copy> Shadow<A> {
         requires order { from ≤ to }
         requires end { to ≤ 2 ^ 47 }
         requires code { IsTrue (is_code code) }
-        ensures ok { OnOk result ((state : State) → code_of state ≡ code → Adds self.old self.new (Fill from to state)) }
-        ensures err { OnErr result ((state : State) → code_of state ≡ code → AddsInPart self.old self.new (Fill from to state)) }
+        ensures ok { OnOk result ((state : State) → code_of state ≡ code →
+            Adds self.old self.new (Fill from to state)) }
+        ensures err { OnErr result ((state : State) → code_of state ≡ code →
+            AddsInPart self.old self.new (Fill from to state)) }
     {
         self.fill(from / GRANULE, to / GRANULE, code)
     }
@@ -63,16 +67,15 @@ impl<A: Allocator + Copy> Shadow<A> {
         self.change(Change::Unpoisoned, at, size)
     }
 
-    /// `block`, told by granules.
+    /// Marks a block, run after run of granules.
     fn block_granules(&mut self, at: u64, size: u64) -> Result<(), NoMemory>
         requires granules { at % 8 ≡ 0 }
         requires room { redzone ≤ at }
         requires end { at + rounded size + redzone ≤ 2 ^ 47 }
         ensures ok { OnOk result ((granule : ℕ) → value_at self.new granule
             ≡ block_byte at size granule (value_at self.old granule)) }
-        ensures err { OnErr result ((place : ℕ) × ((granule : ℕ) → value_at self.new granule
-            ≡ (if nat_lt granule place then block_byte at size granule (value_at self.old granule)
-            else value_at self.old granule))) }
+        ensures err { OnErr result (IsBrokenOff (at - redzone) (at + rounded size + redzone)
+            (λ shadow granule. block_byte at size granule shadow) self.old self.new) }
     {
         let first = at / GRANULE;
         let redzone = Run {
@@ -94,12 +97,13 @@ impl<A: Allocator + Copy> Shadow<A> {
     fn change(&mut self, change: Change, at: u64, size: u64) -> Result<(), NoMemory>
         requires { at + size ≤ 2 ^ 47 }
         ensures ok { OnOk result ((granule : ℕ) → value_at self.new granule
-            ≡ changed_byte change (value_at self.old granule) (min 8 (at - 8 * granule)) (min 8 (at + size - 8 * granule))) }
-        ensures err { OnErr result ((place : ℕ) × ((granule : ℕ) → value_at self.new granule
-            ≡ (if nat_lt granule place
-            then changed_byte change (value_at self.old granule) (min 8 (at - 8 * granule)) (min 8 (at + size - 8 * granule))
-            else value_at self.old granule))) }
+            ≡ changed_in change at (at + size) (value_at self.old granule) granule) }
+        ensures err { OnErr result (IsBrokenOff at (at + size)
+            (changed_in change at (at + size)) self.old self.new) }
     {
+        if size == 0 {
+            return Ok(());
+        }
         let end = at + size;
         let first = at.div_ceil(GRANULE);
         let stop = end / GRANULE;
@@ -116,10 +120,14 @@ impl<A: Allocator + Copy> Shadow<A> {
     /// Changes the granule that an edge of a region cuts in two, if it cuts one.
     fn change_edge(&mut self, change: Change, at: u64, end: u64, edge: u64) -> Result<(), NoMemory>
         requires { edge ≤ 2 ^ 47 }
-        ensures ok { OnOk result ((granule : ℕ) → value_at self.new granule ≡ (if granule == edge / 8 && not (edge % 8 == 0)
-            then changed_byte change (value_at self.old granule) (min 8 (at - 8 * granule)) (min 8 (end - 8 * granule))
+        ensures ok { OnOk result ((granule : ℕ) → value_at self.new granule
+            ≡ (if granule == edge / 8 && not (edge % 8 == 0)
+            then changed_in change at end (value_at self.old granule) granule
             else value_at self.old granule)) }
-        ensures err { OnErr result ((granule : ℕ) → value_at self.new granule ≡ value_at self.old granule) }
+        ensures err { OnErr result ((0 < edge % 8)
+            × ((granule : ℕ) → value_at self.new granule ≡ value_at self.old granule)
+            × (changed_in change at end (value_at self.old (edge / 8)) (edge / 8)
+            ≢ value_at self.old (edge / 8))) }
     {
         if edge % GRANULE == 0 {
             return Ok(());

@@ -1,6 +1,6 @@
 //! The shadow, and what is asked of it.
 ghost use Rattle.page_table.specs.Runs.{length_of, byte_of_runs};
-ghost use Rattle.std.specs.Prelude.{◌≡◌, ℕ, ◌+◌, ◌-◌, ◌^◌, ◌<◌, ◌≤◌, ◌&&◌, not, nat_le, nat_lt, if◌then◌else◌, List, [], IsTrue, OnOk, OnErr};
+ghost use Rattle.std.specs.Prelude.{◌≡◌, ◌≢◌, ℕ, ◌+◌, ◌-◌, ◌^◌, ◌<◌, ◌≤◌, ◌&&◌, not, nat_le, nat_lt, if◌then◌else◌, List, [], IsTrue, OnOk, OnErr};
 ghost use Rattle.shadow_map.specs.States.{Mark, is_addressable, state_of, lift, least_unaddressable, bad_byte_of};
 ghost use Rattle.shadow_map.specs.Checks.{is_width};
 ghost use Rattle.shadow_map.specs.Shows.{Shows, value_at};
@@ -114,22 +114,24 @@ impl<A: Allocator + Copy> Shadow<A> {
         self.granules.byte(granule)
     }
 
-    /// Sets the shadow bytes of the granules from one up to another. Where a growth is refused, those below some granule
-    /// are set, and the others are as they were.
+    /// Sets the shadow bytes of the granules from one up to another. Where a growth is refused,
+    /// those below some granule are set, which had still to change, and the others are as they were.
     #[tactic(auto, unfolding(crate::specs::Shows::value_at))]
     pub(crate) fn fill(&mut self, from: u64, to: u64, value: u8) -> Result<(), NoMemory>
         requires order { from ≤ to }
         requires end { to ≤ 2 ^ 44 }
         ensures ok { OnOk result ((granule : ℕ) → value_at self.new granule
             ≡ (if nat_le from granule && nat_lt granule to then value else value_at self.old granule)) }
-        ensures err { OnErr result ((place : ℕ) × (from ≤ place) × (place < to) × ((granule : ℕ) → value_at self.new granule
-            ≡ (if nat_le from granule && nat_lt granule place then value else value_at self.old granule))) }
+        ensures err { OnErr result ((place : ℕ) × (from ≤ place) × (place < to)
+            × ((granule : ℕ) → value_at self.new granule
+            ≡ (if nat_le from granule && nat_lt granule place then value else value_at self.old granule))
+            × (value_at self.old place ≢ value)) }
     {
         self.granules.fill(from, to, value)
     }
 
-    /// Sets the shadow bytes of the granules from one on, run after run. Where a growth is refused, those below some granule
-    /// are set, and the others are as they were.
+    /// Sets the shadow bytes of the granules from one on, run after run. Where a growth is refused,
+    /// those below some granule are set, which had still to change, and the others are as they were.
     #[tactic(auto, unfolding(crate::specs::Shows::value_at))]
     pub(crate) fn fill_runs(&mut self, from: u64, runs: &[Run]) -> Result<(), NoMemory>
         requires end { from + length_of runs.now ≤ 2 ^ 44 }
@@ -139,7 +141,8 @@ impl<A: Allocator + Copy> Shadow<A> {
         ensures err { OnErr result ((place : ℕ) × (from ≤ place) × (place < from + length_of runs.now)
             × ((granule : ℕ) → value_at self.new granule
             ≡ (if nat_le from granule && nat_lt granule place
-            then byte_of_runs runs.now (granule - from) else value_at self.old granule))) }
+            then byte_of_runs runs.now (granule - from) else value_at self.old granule))
+            × (value_at self.old place ≢ byte_of_runs runs.now (place - from))) }
     {
         self.granules.fill_runs(from, runs)
     }

@@ -141,3 +141,34 @@ fn one_page_wide_poison(rt: HostRuntime) -> Result<(), Fail> {
     );
     Ok(())
 }
+
+/// The largest block that a record can ask for: its first and last byte and the one past it, while it
+/// is live, when it is freed and when it is released.
+#[test]
+fn largest_block(rt: HostRuntime) -> Result<(), Fail> {
+    let (at, end) = (0x4000_0000, 0x5000_0000);
+    let mut shadow = Shadow::new(rt.alloc());
+    shadow.block(at, 1 << 28)?;
+    assert_eq!(rt;
+        [
+            shadow.bad_byte(at, 8),
+            shadow.bad_byte(end - 1, 1),
+            shadow.bad_byte(end, 1)
+        ],
+        [None, None, Some(end)]
+    );
+    assert_eq!(rt;
+        [
+            shadow.first_poisoned(at, 1 << 28),
+            shadow.first_poisoned(at, (1 << 28) + 1)
+        ],
+        [None, Some(end)]
+    );
+    shadow.mark(at, end, FREED)?;
+    assert_eq!(rt; values(&shadow, at / 8 - 1), [HEAP_REDZONE, FREED]);
+    assert_eq!(rt; values(&shadow, end / 8 - 1), [FREED, HEAP_REDZONE]);
+    shadow.mark(at - 32, end + 32, HEAP_REDZONE)?;
+    assert_eq!(rt; values(&shadow, at / 8 - 5), [0, HEAP_REDZONE]);
+    assert_eq!(rt; values(&shadow, end / 8 + 3), [HEAP_REDZONE, 0]);
+    Ok(())
+}
