@@ -61,6 +61,16 @@ fault_of bound past (event.Free p) = free_fault bound past p.at
 fault_of bound past (event.Poison r) = None
 fault_of bound past (event.Unpoison r) = None
 
+-- whether an event lays no mark whatever came before it: a load, a store, a malloc or a free at address 0, and a poison or
+-- an unpoison of no bytes
+abbrev pub marks_none : Event → Bool
+marks_none (event.Load a) = true
+marks_none (event.Store a) = true
+marks_none (event.Malloc r) = r.at == 0
+marks_none (event.Free p) = p.at == 0
+marks_none (event.Poison r) = r.size == 0
+marks_none (event.Unpoison r) = r.size == 0
+
 -- the verdict on an event after a history: a report with the event's number, or nothing
 abbrev pub verdict : ℕ → List Event → Event → Option Report
 verdict bound past e = option_map (λ f. record { number = length past + 1; fault = f }) (fault_of bound past e)

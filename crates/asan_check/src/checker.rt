@@ -1,11 +1,11 @@
 //! The checker, which keeps the blocks and the shadow of a process and takes in its events.
-ghost use Rattle.std.specs.Prelude.{◌≡◌, ℕ, ◌+◌, ◌<◌, ◌≤◌, ◌^◌, ◌↔◌, List, [], ◌∷◌, ◌++◌, IfOk, IsErr, IsTrue, IsSomeAnd, OnOk, OnErr, true, false, not, length, take, reverse, None, Some, option_to_list};
+ghost use Rattle.std.specs.Prelude.{◌≡◌, ℕ, ◌+◌, ◌<◌, ◌≤◌, ◌^◌, ◌↔◌, List, [], ◌∷◌, ◌++◌, IfOk, IsErr, IsTrue, IsSome, IsSomeAnd, OnOk, OnErr, true, false, not, length, take, reverse, None, Some, option_to_list};
 ghost use Rattle.trace_record.specs.declared.event.Event.{Event as AnEvent};
 ghost use Rattle.trace_record.specs.declared.event.Event.TheVariants as event;
 ghost use Rattle.trace_record.specs.declared.event.Place.{Place as APlace};
 ghost use Rattle.shadow_map.specs.States.{is_addressable, state_of, least_unaddressable};
 ghost use Rattle.asan_check.specs.History.{marks};
-ghost use Rattle.asan_check.specs.Verdicts.{verdict, fault_of, access_fault, malloc_fault, free_fault, class_of};
+ghost use Rattle.asan_check.specs.Verdicts.{verdict, fault_of, access_fault, malloc_fault, free_fault, class_of, marks_none};
 ghost use Rattle.asan_check.specs.Laws.{class_of_shadow};
 
 use crate::NoMemory;
@@ -77,8 +77,10 @@ impl<A: Allocator + Copy> Checker<A> {
     ///
     /// # Errors
     ///
-    /// `Failed` where a growth was refused, in this call or in an earlier one. From then on every step answers `Failed`, and
-    /// the reports and the count stay as they were before the first refused event.
+    /// `Failed` where a growth was refused, in this call or in an earlier one. From then on every
+    /// step answers `Failed`, and the reports and the count stay as they were before the first
+    /// refused event. An event that lays no mark and that nothing is wrong with needs no memory:
+    /// such a step fails only after an earlier one.
     #[inline]
     pub fn step(&mut self, event: &Event) -> Result<Option<Report>, Failed>
         requires room { checked_of self.old + 1 < 2 ^ 64 }
@@ -86,6 +88,8 @@ impl<A: Allocator + Copy> Checker<A> {
             (report ≡ verdict bound past event.now) × Stands bound self.new (event.now ∷ past)) }
         ensures failed { OnErr result ((bound : ℕ) (past : List AnEvent) → Stands bound self.old past →
             FailedAt bound self.new (event.now ∷ past) × (checked_of self.new ≡ length past)) }
+        ensures spared { OnErr result ((bound : ℕ) (past : List AnEvent) → Stands bound self.old past →
+            marks_none event.now ≡ true → IsSome (fault_of bound past event.now)) }
         ensures count { OnOk result (checked_of self.new ≡ checked_of self.old + 1) }
         ensures kept { OnErr result ((has_failed self.new ≡ true) × (checked_of self.new ≡ checked_of self.old)
             × (reports_of self.new ≡ reports_of self.old)) }
@@ -225,6 +229,8 @@ impl<A: Allocator + Copy> Checker<A> {
             (report ≡ verdict bound past event.now) × ShowsHistory bound self.new (event.now ∷ past)
             × (reports_of self.new ≡ reports_of self.old ++ option_to_list report)) }
         ensures err { OnErr result (reports_of self.new ≡ reports_of self.old) }
+        ensures spared { OnErr result ((bound : ℕ) (past : List AnEvent) → Stands bound self.old past →
+            marks_none event.now ≡ true → IsSome (fault_of bound past event.now)) }
         ensures others { (checked_of self.new ≡ checked_of self.old) × (has_failed self.new ≡ has_failed self.old)
             × (bound_of self.new ≡ bound_of self.old) }
     {
@@ -243,6 +249,7 @@ impl<A: Allocator + Copy> Checker<A> {
     fn apply(&mut self, event: &Event) -> Result<Option<Fault>, NoMemory>
         ensures ok { IfOk result (λ fault. (bound : ℕ) (past : List AnEvent) → ShowsHistory bound self.old past →
             (fault ≡ fault_of bound past event.now) × ShowsHistory bound self.new (event.now ∷ past)) }
+        ensures spared { OnErr result (marks_none event.now ≡ false) }
         ensures tally { KeepsTally self.old self.new }
     {
         match event {
@@ -297,6 +304,7 @@ impl<A: Allocator + Copy> Checker<A> {
         ensures ok { IfOk result (λ fault. (bound : ℕ) (past : List AnEvent) → ShowsHistory bound self.old past →
             (fault ≡ malloc_fault bound past region.now.at region.now.size)
             × ShowsHistory bound self.new (event.Malloc region.now ∷ past)) }
+        ensures spared { OnErr result (0 < region.now.at) }
         ensures tally { KeepsTally self.old self.new }
     {
         match self.book.admit(region.at(), region.size())? {
@@ -316,6 +324,7 @@ impl<A: Allocator + Copy> Checker<A> {
     fn free(&mut self, place: &Place) -> Result<Option<Fault>, NoMemory>
         ensures ok { IfOk result (λ fault. (bound : ℕ) (past : List AnEvent) → ShowsHistory bound self.old past →
             (fault ≡ free_fault bound past place.now.at) × ShowsHistory bound self.new (event.Free place.now ∷ past)) }
+        ensures spared { OnErr result (0 < place.now.at) }
         ensures tally { KeepsTally self.old self.new }
     {
         let at = place.at();
