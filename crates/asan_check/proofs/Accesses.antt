@@ -12,6 +12,7 @@ use Rattle.asan_check.specs.declared.report.Class.TheVariants as class
 use Rattle.asan_check.specs.declared.report.Fault.{Fault}
 use Rattle.asan_check.specs.declared.report.Fault.TheVariants as fault
 use Rattle.asan_check.specs.History.{live, held, marks}
+use Rattle.asan_check.proofs.Classes.{none_is, some_is}
 use Rattle.asan_check.specs.Verdicts.{class_of_state, class_of, access_fault, verdict}
 use Rattle.asan_check.specs.Laws.{since_malloc, since_free, NoPoisonShares, NoUnpoisonShares, access_event, LiesInside, StartsAround, StartsWithin, first_byte_report, shadow_around}
 use Rattle.asan_check.proofs.Blocks.{IsPlaced, live_placed, held_placed}
@@ -70,8 +71,8 @@ module _ (states : ℕ → State) where
   front_zero byte zero bad = refl
   front_zero byte (suc count) bad = rw bad refl
 
-  own_class : (at : ℕ) → is_addressable (states (8 * (at / 8))) ≡ false → class_of states at ≡ class_of_state (states (8 * (at / 8)))
-  own_class at bad = ap (λ (k : ℕ). class_of_state (states (8 * (cond (eqb k 0) (at / 8) (at / 8 + 1))))) (front_zero (8 * (at / 8)) 8 bad)
+  own_class : (at : ℕ) → ((i : ℕ) → i < 8 → is_addressable (states (8 * (at / 8) + i)) ≡ false) → class_of states at ≡ class_of_state (states (8 * (at / 8)))
+  own_class at bad = ap (λ t. class_of_state (states (8 * (cond t (at / 8) (at / 8 + 1))))) (none_is states (at / 8) bad)
 
   own_shadow : (granule : ℕ) → is_addressable (states (8 * granule)) ≡ false → lift states granule ≡ code_of (states (8 * granule))
   own_shadow granule bad = ap (λ (k : ℕ). shadow_byte k (states (8 * granule))) (front_zero (8 * granule) 8 bad)
@@ -86,11 +87,8 @@ module _ (states : ℕ → State) where
 
     next_class : class_of states at ≡ class_of_state (states (8 * (at / 8 + 1)))
     next_class =
-        ap (λ (j : ℕ). class_of_state (states (8 * (cond (eqb j 0) (at / 8) (at / 8 + 1))))) front_is
-        ∙ ap (λ t. class_of_state (states (8 * (cond t (at / 8) (at / 8 + 1))))) (not_zero k some)
-      where
-        not_zero : (m : ℕ) → 0 < m → eqb m 0 ≡ false
-        not_zero m lt = grind (arith, nat_tests)
+        ap (λ t. class_of_state (states (8 * (cond t (at / 8) (at / 8 + 1)))))
+        (some_is states (at / 8) (rw (← add-zero (8 * (at / 8))) (each 0 (omega arith) ∙ grind (arith, nat_tests))))
 
     part_shadow : lift states (at / 8) ≡ k
     part_shadow = ap (λ (j : ℕ). shadow_byte j (states (8 * (at / 8)))) front_is ∙ counted k (code_of (states (8 * (at / 8)))) some part
@@ -140,7 +138,12 @@ module _ (states : ℕ → State) (b : Extent) (placed : IsPlaced b) (each : (by
       let base_out : (8 * (at / 8) < b.at) ⊎ (b.at + b.size ≤ 8 * (at / 8)) = elim out [ inl less ↦ inl (omega arith) | inr more ↦ inr (omega arith) ] in
       let is = outside (8 * (at / 8)) base_in base_out in
       let bad : is_addressable (states (8 * (at / 8))) ≡ false = ap is_addressable is in
-      (own_class states at bad ∙ ap class_of_state is, own_shadow states (at / 8) bad ∙ ap code_of is)
+      let none : (i : ℕ) → i < 8 → is_addressable (states (8 * (at / 8) + i)) ≡ false =
+      λ i lt.
+      let in_it : IsInSpan b (8 * (at / 8) + i) = record { from = omega arith; to = omega arith } in
+      let out_of_it : (8 * (at / 8) + i < b.at) ⊎ (b.at + b.size ≤ 8 * (at / 8) + i) = elim out [ inl less ↦ inl (omega arith) | inr more ↦ inr (omega arith) ] in
+      ap is_addressable (outside (8 * (at / 8) + i) in_it out_of_it) in
+      (own_class states at none ∙ ap class_of_state is, own_shadow states (at / 8) bad ∙ ap code_of is)
 
   -- in the granule of the block's last bytes
   in_tail_granule : (at : ℕ) → b.at + b.size ≤ at → at < b.at + rounded b.size → (class_of states at ≡ class.HeapBufferOverflow) × (lift states (at / 8) ≡ b.size % 8)
@@ -202,5 +205,6 @@ late bound past b is_store a has start clear clear' =
     let bad = ap is_addressable (each a.at from to) in
     let base = each (8 * (a.at / 8)) (omega arith) (omega arith) in
     let closed = ap is_addressable base in
+    let none : (i : ℕ) → i < 8 → is_addressable (states (8 * (a.at / 8) + i)) ≡ false = λ i lt. ap is_addressable (each (8 * (a.at / 8) + i) (omega arith) (omega arith)) in
     verdict_from bound past is_store a _ (first_fault states is_store a bad)
-    ∙ some_report past is_store a _ _ _ _ (own_class states a.at closed ∙ ap class_of_state base) (own_shadow states (a.at / 8) closed ∙ ap code_of base)
+    ∙ some_report past is_store a _ _ _ _ (own_class states a.at none ∙ ap class_of_state base) (own_shadow states (a.at / 8) closed ∙ ap code_of base)

@@ -1,10 +1,13 @@
 -- The class of a bad access, from shadow bytes: of its own granule, or of the next one.
-use Rattle.std.proofs.Common.{◌≡◌, ℕ, zero, suc, ◌+◌, ◌*◌, ◌/◌, ◌≤◌, ◌<◌, Bool, true, false, cond, ltb, eqb, refl, sym, ap, ◌∙◌, arith}
+use Rattle.std.proofs.Common.{◌≡◌, ℕ, zero, suc, ◌+◌, ◌*◌, ◌/◌, ◌≤◌, ◌<◌, Bool, true, false, cond, ltb, eqb, List, refl, sym, ap, ◌∙◌, arith, add-zero}
+use Rattle.std.specs.Prelude.{IsTrue}
 use Rattle.std.proofs.lemmas.Bool.{false≢true}
 use Rattle.std.proofs.lemmas.Bool.Decides.{nat_tests}
-use Rattle.shadow_map.specs.States.{State, Addressable, HeapRedzone, Freed, UserPoison, is_addressable, code_of, addressable_front, shadow_byte, lift}
+use Rattle.shadow_map.specs.States.{State, Addressable, HeapRedzone, Freed, UserPoison, is_addressable, code_of, Mark, AreMarks, state_of, addressable_front, shadow_byte, lift}
+use Rattle.shadow_map.specs.Checks.{is_negative}
+use Rattle.shadow_map.proofs.Queries.{shadow_byte_tells_the_granule}
 use Rattle.asan_check.specs.declared.report.Class.TheVariants as class
-use Rattle.asan_check.specs.Verdicts.{class_of_state, class_of}
+use Rattle.asan_check.specs.Verdicts.{class_of_state, has_none_addressable, class_of}
 use Rattle.asan_check.specs.Laws.{class_of_shadow}
 
 unknown_below : (shadow : ℕ) → shadow ≤ 8 → class_of_shadow shadow ≡ class.UnknownCrash
@@ -55,23 +58,42 @@ module _ (states : ℕ → State) where
   pub class_shown : (granule : ℕ) → class_of_shadow (lift states granule) ≡ class_of_state (states (8 * granule))
   class_shown granule = told (states (8 * granule)) (addressable_front states (8 * granule) 8) (first_is granule) (front_most (8 * granule) 8)
 
-  -- where the access's own shadow byte is below zero, as a signed number, it tells the class
-  pub class_own : (at : ℕ) → 128 ≤ lift states (at / 8) → class_of states at ≡ class_of_shadow (lift states (at / 8))
-  class_own at negative =
-      let none : eqb (addressable_front states (8 * (at / 8)) 8) 0 ≡ true =
-      is_zero (addressable_front states (8 * (at / 8)) 8) (states (8 * (at / 8))) (front_most (8 * (at / 8)) 8) negative in
-      ap (λ t. class_of_state (states (8 * (cond t (at / 8) (at / 8 + 1))))) none ∙ sym (class_shown (at / 8))
-    where
-      is_zero : (k : ℕ) (first : State) → k ≤ 8 → 128 ≤ shadow_byte k first → eqb k 0 ≡ true
-      is_zero k first most big = grind (arith, nat_tests)
+  -- whether a granule has no addressable byte, where none is addressable and where the first one is
+  pub none_is : (granule : ℕ) → ((i : ℕ) → i < 8 → is_addressable (states (8 * granule + i)) ≡ false) → has_none_addressable states granule ≡ true
+  none_is granule bad =
+      rw (bad 0 (omega arith), bad 1 (omega arith), bad 2 (omega arith), bad 3 (omega arith), bad 4 (omega arith), bad 5 (omega arith), bad 6 (omega arith), bad 7 (omega arith)) refl
 
-  -- else the next granule's shadow byte does
+  pub some_is : (granule : ℕ) → is_addressable (states (8 * granule)) ≡ true → has_none_addressable states granule ≡ false
+  some_is granule first =
+      let here : is_addressable (states (8 * granule + 0)) ≡ true = rw (add-zero (8 * granule)) first in
+      rw here refl
+
+  -- where the access's own shadow byte is below 128, the next granule's shadow byte tells the class
   pub class_next : (at : ℕ) → lift states (at / 8) < 128 → class_of states at ≡ class_of_shadow (lift states (at / 8 + 1))
   class_next at positive =
-      let some : eqb (addressable_front states (8 * (at / 8)) 8) 0 ≡ false =
-      not_zero (addressable_front states (8 * (at / 8)) 8) (states (8 * (at / 8))) (first_is (at / 8)) positive in
-      ap (λ t. class_of_state (states (8 * (cond t (at / 8) (at / 8 + 1))))) some ∙ sym (class_shown (at / 8 + 1))
+      let first : is_addressable (states (8 * (at / 8))) ≡ true =
+      first_is (at / 8) ∙ not_zero (addressable_front states (8 * (at / 8)) 8) (states (8 * (at / 8))) (first_is (at / 8)) positive in
+      ap (λ t. class_of_state (states (8 * (cond t (at / 8) (at / 8 + 1))))) (some_is (at / 8) first) ∙ sym (class_shown (at / 8 + 1))
     where
-      not_zero : (k : ℕ) (first : State) → is_addressable first ≡ ltb 0 k → shadow_byte k first < 128 → eqb k 0 ≡ false
+      not_zero : (k : ℕ) (first : State) → is_addressable first ≡ ltb 0 k → shadow_byte k first < 128 → ltb 0 k ≡ true
       not_zero zero first is small = let big = high_code first is in absurd (omega arith)
       not_zero (suc k) first is small = grind (arith, nat_tests)
+
+not_addressable : (state : State) → ¬ (state ≡ Addressable) → is_addressable state ≡ false
+not_addressable Addressable other = absurd (other refl)
+not_addressable HeapRedzone other = refl
+not_addressable Freed other = refl
+not_addressable UserPoison other = refl
+
+is_high : (shadow : ℕ) → 128 ≤ shadow → IsTrue (is_negative shadow)
+is_high shadow high = grind (arith, nat_tests)
+
+-- else its own does
+pub class_own : (marks : List Mark) → AreMarks marks → (at : ℕ) → 128 ≤ lift (state_of marks) (at / 8) →
+    class_of (state_of marks) at ≡ class_of_shadow (lift (state_of marks) (at / 8))
+class_own marks ok at negative =
+    let states : ℕ → State = state_of marks in
+    let none = (shadow_byte_tells_the_granule marks ok (at / 8)).none.0 (is_high _ negative) in
+    ap (λ t. class_of_state (states (8 * (cond t (at / 8) (at / 8 + 1)))))
+    (none_is states (at / 8) (λ i lt. not_addressable (states (8 * (at / 8) + i)) (none i lt)))
+    ∙ sym (class_shown states (at / 8))

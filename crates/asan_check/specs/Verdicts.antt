@@ -2,13 +2,13 @@
 --
 -- The check of an access is that of the paper of 2012. The classes, the verdicts on frees and mallocs, and that the replay
 -- goes on after a report are this project's choice (profile).
-use Rattle.std.specs.Prelude.{ℕ, ◌+◌, ◌*◌, ◌/◌, Bool, true, false, ◌||◌, ◌==◌, if◌then◌else◌, List, [], ◌∷◌, ◌++◌, length, Option, Some, None, option_to_list, reverse}
-use Rattle.std.specs.List.{list_any}
+use Rattle.std.specs.Prelude.{ℕ, ◌+◌, ◌*◌, ◌/◌, Bool, true, false, not, ◌||◌, ◌==◌, if◌then◌else◌, List, [], ◌∷◌, ◌++◌, length, Option, Some, None, option_to_list, reverse}
+use Rattle.std.specs.List.{list_all, list_any}
 use Rattle.std.specs.Option.{option_map}
 use Rattle.trace_record.specs.declared.event.Event.{Event}
 use Rattle.trace_record.specs.declared.event.Event.TheVariants as event
 use Rattle.trace_record.specs.declared.event.Access.{Access}
-use Rattle.shadow_map.specs.States.{State, Addressable, HeapRedzone, Freed, UserPoison, addressable_front, state_of, lift, bad_byte_of}
+use Rattle.shadow_map.specs.States.{State, Addressable, HeapRedzone, Freed, UserPoison, is_addressable, places, state_of, lift, bad_byte_of}
 use Rattle.heap_book.specs.Spans.{starts_at}
 use Rattle.asan_check.specs.declared.report.Class.{Class}
 use Rattle.asan_check.specs.declared.report.Class.TheVariants as class
@@ -26,7 +26,8 @@ class_of_state UserPoison = class.UseAfterPoison
 
 -- whether a granule has no addressable byte
 abbrev pub has_none_addressable : (ℕ → State) → ℕ → Bool
-has_none_addressable states granule = addressable_front states (8 * granule) 8 == 0
+has_none_addressable states granule =
+    list_all (λ place. not (is_addressable (states (8 * granule + place)))) places
 
 -- the class of a bad access: that of the first byte of its granule if none of the granule's bytes is addressable, else
 -- that of the first byte of the next granule
