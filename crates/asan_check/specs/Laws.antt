@@ -1,6 +1,6 @@
 -- The words of the laws about reports: since when a block is live or held, which events come near it, the report of an
 -- access whose first byte is bad, and the class that a shadow byte tells.
-use Rattle.std.specs.Prelude.{ℕ, ◌≡◌, ◌≢◌, ◌+◌, ◌/◌, ◌%◌, ◌<◌, ◌≤◌, Bool, true, false, ◌&&◌, ◌==◌, if◌then◌else◌, ◌⊎◌, IsTrue, List, [], ◌∷◌, ◌++◌, length, Contains}
+use Rattle.std.specs.Prelude.{ℕ, ◌≡◌, ◌≢◌, ◌+◌, ◌/◌, ◌%◌, ◌<◌, ◌≤◌, Bool, true, false, ◌&&◌, ◌==◌, if◌then◌else◌, ◌⊎◌, IsTrue, List, [], ◌∷◌, ◌++◌, length, reverse, Contains, Some}
 use Rattle.std.specs.List.{list_any}
 use Rattle.trace_record.specs.declared.event.Event.{Event}
 use Rattle.trace_record.specs.declared.event.Event.TheVariants as event
@@ -14,6 +14,7 @@ use Rattle.asan_check.specs.declared.report.Class.TheVariants as class
 use Rattle.asan_check.specs.declared.report.Fault.TheVariants as fault
 use Rattle.asan_check.specs.declared.report.Report.{Report}
 use Rattle.asan_check.specs.History.{block_of, live, held, admits}
+use Rattle.asan_check.specs.Verdicts.{verdict}
 
 -- ---- since when a block is live
 
@@ -102,6 +103,22 @@ first_byte_report past is_store a class shadow =
 -- where it has none
 abbrev pub shadow_around : Extent → ℕ → ℕ
 shadow_around b at = if lies_in b.at (b.at + rounded b.size) at then b.size % 8 else code_of HeapRedzone
+
+-- ---- spans, and the reports on events
+
+-- some byte lies in the spans of both blocks
+pub record SharesByte (b c : Extent) : Type 0 where
+  pub byte : ℕ
+  pub in_one : (span_from b ≤ byte) × (byte < span_to b)
+  pub in_other : (span_from c ≤ byte) × (byte < span_to c)
+
+-- one of the events, which stand in their order, has this report as its verdict after the events before it
+pub record IsReportedAmong (bound : ℕ) (events : List Event) (report : Report) : Type 0 where
+  pub before : List Event
+  pub event : Event
+  pub after : List Event
+  pub split : events ≡ before ++ event ∷ after
+  pub is_verdict : verdict bound (reverse before) event ≡ Some report
 
 -- ---- classes
 

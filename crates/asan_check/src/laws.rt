@@ -1,7 +1,7 @@
 //! What the definitions of histories and verdicts come to, in the words of somebody who reads the reports. Each function
 //! does nothing: its contract is the law.
 
-ghost use Rattle.std.specs.Prelude.{◌≡◌, ◌+◌, ◌∷◌, ◌++◌, ℕ, Bool, List, Some, None, Contains, option_to_list, reverse};
+ghost use Rattle.std.specs.Prelude.{◌≡◌, ◌↔◌, ◌+◌, ◌∷◌, ◌++◌, ℕ, Bool, IsTrue, List, Some, None, Contains, option_to_list, reverse};
 ghost use Rattle.std.specs.List.{IsDistinct};
 ghost use Rattle.trace_record.specs.declared.event.Event.{Event};
 ghost use Rattle.trace_record.specs.declared.event.Access.{Access};
@@ -11,12 +11,18 @@ ghost use Rattle.asan_check.specs.declared.report.Class.TheVariants as class;
 ghost use Rattle.asan_check.specs.declared.report.Report.{Report};
 ghost use Rattle.asan_check.specs.History.{live, held};
 ghost use Rattle.asan_check.specs.Verdicts.{verdict, verdicts};
+ghost use Rattle.asan_check.specs.Laws.{SharesByte, IsReportedAmong};
 ghost use Rattle.asan_check.specs.Laws.{since_malloc, since_free, IsLiveSince, IsHeldSince, NoPoisonShares, NoUnpoisonShares};
 ghost use Rattle.asan_check.specs.Laws.{access_event, LiesInside, StartsAround, StartsWithin, first_byte_report, shadow_around};
 
 /// The spans of live and held blocks never meet, after any history and with any bound on the quarantine.
 pub fn spans_never_meet()
     ensures { (bound : ℕ) (past : List Event) → IsDistinct meets (live bound past ++ held bound past) }
+{}
+
+/// Two blocks meet exactly where their spans share a byte.
+pub fn blocks_meet_where_spans_share_a_byte()
+    ensures { (one other : Extent) → IsTrue (meets one other) ↔ SharesByte one other }
 {}
 
 /// A block is live exactly where the history has a malloc that was admitted for it, and no free at its address since; the
@@ -79,4 +85,11 @@ pub fn each_event_has_its_verdict()
     ensures { (bound : ℕ) (before after : List Event) (event : Event) → (later : List Report)
         × (verdicts bound (before ++ event ∷ after)
         ≡ (verdicts bound before ++ option_to_list (verdict bound (reverse before) event)) ++ later) }
+{}
+
+/// A report is one of the reports on some events exactly where one of these events has it as its
+/// verdict after the events before it.
+pub fn reports_are_verdicts()
+    ensures { (bound : ℕ) (events : List Event) (report : Report) →
+        Contains (verdicts bound events) report ↔ IsReportedAmong bound events report }
 {}

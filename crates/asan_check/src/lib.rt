@@ -13,8 +13,9 @@ pub use checker::{Checker, Failed};
 pub use ending::Ending;
 pub use heap_book::Bound;
 pub use laws::{
-    each_event_has_its_verdict, held_since_its_free, live_since_its_malloc, overflow_is_reported,
-    quiet_inside_live_block, spans_never_meet, use_after_free_is_reported,
+    blocks_meet_where_spans_share_a_byte, each_event_has_its_verdict, held_since_its_free,
+    live_since_its_malloc, overflow_is_reported, quiet_inside_live_block, reports_are_verdicts,
+    spans_never_meet, use_after_free_is_reported,
 };
 pub use report::{Class, Fault, Report};
 pub use std::alloc::AllocError as NoMemory;
