@@ -1,4 +1,4 @@
-ghost use Rattle.std.specs.Prelude.{◌+◌, ◌^◌, ◌≤◌};
+ghost use Rattle.std.specs.Prelude.{◌+◌, ◌-◌, ◌^◌, ◌≤◌};
 
 use crate::{Admit, Block, Book, Bound, Freed, NoMemory};
 use refuser::Refuser;
@@ -44,6 +44,30 @@ fn spans(rt: HostRuntime) -> Result<(), Fail> {
     assert_eq!(rt; span_of(alloc, 1 << 47, 0)?, None);
     // A block starts at a granule.
     assert_eq!(rt; span_of(alloc, 0x1004, 8)?, None);
+    Ok(())
+}
+
+/// Whether a book that holds nothing admits a block of a size, at the first place where one can be,
+/// takes in its free, and lets go of it.
+fn is_kept(alloc: Global, size: u64) -> Result<bool, Fail>
+    requires { size ≤ 2 ^ 47 - 64 }
+{
+    let mut book = Book::new(alloc, 0)?;
+    let Admit::Admitted(block) = book.admit(32, size)? else {
+        return Ok(false);
+    };
+    let is_held = book.free(32)? == Freed::Held(block);
+    let is_released = book.evict() == Some(block) && book.evict().is_none();
+    Ok(block.at() == 32 && block.size() == size && is_held && is_released)
+}
+
+#[test]
+fn blocks_of_any_size(rt: HostRuntime) -> Result<(), Fail> {
+    let alloc = rt.alloc();
+    assert!(rt; is_kept(alloc, 137)?);
+    assert!(rt; is_kept(alloc, 1 << 20)?);
+    assert!(rt; is_kept(alloc, 1 << 28)?);
+    assert!(rt; is_kept(alloc, (1 << 47) - 64)?);
     Ok(())
 }
 

@@ -95,13 +95,12 @@ fn around_fill(alloc: Global, width: u64) -> Result<[u8; 4], AllocError>
 #[test]
 fn fills_of_any_width(rt: HostRuntime) -> Result<(), Fail> {
     let alloc = rt.alloc();
-    for bit in 1..44u32 {
-        assert_eq!(rt;
-            around_fill(alloc, 1 << bit)?,
-            [0, 7, 7, 0],
-            "2^{bit} granules"
-        );
-    }
+    assert_eq!(rt; around_fill(alloc, 2)?, [0, 7, 7, 0]);
+    assert_eq!(rt; around_fill(alloc, 1 << 10)?, [0, 7, 7, 0]);
+    assert_eq!(rt; around_fill(alloc, 1 << 20)?, [0, 7, 7, 0]);
+    assert_eq!(rt; around_fill(alloc, (1 << 25) + 8)?, [0, 7, 7, 0]);
+    assert_eq!(rt; around_fill(alloc, 1 << 30)?, [0, 7, 7, 0]);
+    assert_eq!(rt; around_fill(alloc, 1 << 40)?, [0, 7, 7, 0]);
     assert_eq!(rt; around_fill(alloc, (1 << 44) - 1)?, [0, 7, 7, 0]);
     let mut table = PageTable::new(alloc);
     table.fill(0, 1 << 44, 7)?;

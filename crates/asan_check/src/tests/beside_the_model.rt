@@ -16,7 +16,7 @@ const EVENTS: u64 = 70;
 /// How many bytes the window has in which the addresses lie.
 const WINDOW: u64 = 0x200;
 
-/// The greatest size of a block or a region.
+/// The greatest size of most blocks and regions.
 const GREATEST_SIZE: u64 = 40;
 
 /// How far apart blocks start, most of them: by their sizes, spans of neighbours have room between them, touch or meet.
@@ -41,10 +41,21 @@ impl Draws {
         (self.state >> 33) % bound
     }
 
-    /// An event in the window from an address on, or a flaw where it would reach past the last address.
+    /// A size: a small one mostly, else one from a power of two on.
+    fn size(&mut self) -> u64 {
+        if self.below(16) == 0 {
+            let power = 1u64 << self.below(29);
+            power.saturating_add(self.below(9))
+        } else {
+            self.below(GREATEST_SIZE + 1)
+        }
+    }
+
+    /// An event in the window from an address on, or a flaw where it would reach past the last
+    /// address, or is too large.
     fn event(&mut self, base: u64) -> Result<Event, Flaw> {
         let at = base.saturating_add(self.below(WINDOW));
-        let size = self.below(GREATEST_SIZE + 1);
+        let size = self.size();
         let width = 1 << self.below(4);
         let stray = if self.below(8) == 0 {
             self.below(STRIDE)

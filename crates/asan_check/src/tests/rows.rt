@@ -4,7 +4,7 @@ use crate::{Bound, Checker, report_text};
 use std::alloc::Global;
 use std::process::Abort;
 use std::test::Fail;
-use trace_record::Event;
+use trace_record::{Event, Flaw};
 
 /// The lines of the reports of a checker with this bound on its quarantine, after these events.
 fn lines(rt: &impl Abort, alloc: Global, bound: u64, events: &[Event]) -> Result<String, Fail> {
@@ -334,5 +334,73 @@ fn queries(rt: HostRuntime) -> Result<(), Fail> {
     assert_eq!(rt; checker.first_poisoned(0x1000, 5), Some(None));
     assert_eq!(rt; checker.first_poisoned(0xfd0, 64), Some(Some(0xfe0)));
     assert_eq!(rt; checker.first_poisoned(1 << 47, 0), Some(None));
+    Ok(())
+}
+
+/// The events of the largest block: accesses to its first and last byte and to the one past it, while
+/// it is live and once it is freed.
+fn largest_block() -> Result<[Event; 8], Flaw> {
+    let (at, end) = (0x4000_0000, 0x5000_0000);
+    Ok([
+        malloc(at, 1 << 28)?,
+        load(8, at)?,
+        store(1, end - 1)?,
+        load(1, end)?,
+        free(at)?,
+        load(1, at)?,
+        load(1, end - 1)?,
+        free(at)?,
+    ])
+}
+
+#[test]
+fn largest_block_is_held(rt: HostRuntime) -> Result<(), Fail> {
+    let wanted = "\
+p0 #4 load 1 at 000050000000 bad 000050000000 heap-buffer-overflow shadow fa
+p0 #6 load 1 at 000040000000 bad 000040000000 heap-use-after-free shadow fd
+p0 #7 load 1 at 00004fffffff bad 00004fffffff heap-use-after-free shadow fd
+p0 #8 free at 000040000000 double-free
+";
+    assert_eq!(rt;
+        lines(&rt, rt.alloc(), 1 << 40, &largest_block()?)?.as_str(),
+        wanted
+    );
+    Ok(())
+}
+
+#[test]
+fn largest_block_is_released(rt: HostRuntime) -> Result<(), Fail> {
+    let wanted = "\
+p0 #4 load 1 at 000050000000 bad 000050000000 heap-buffer-overflow shadow fa
+p0 #6 load 1 at 000040000000 bad 000040000000 heap-buffer-overflow shadow fa
+p0 #7 load 1 at 00004fffffff bad 00004fffffff heap-buffer-overflow shadow fa
+p0 #8 free at 000040000000 bad-free
+";
+    assert_eq!(rt;
+        lines(&rt, rt.alloc(), 0, &largest_block()?)?.as_str(),
+        wanted
+    );
+    Ok(())
+}
+
+/// A long run with a large block and many reports never runs out of memory.
+#[test]
+fn long_run(rt: HostRuntime) -> Result<(), Fail> {
+    let mut checker = Checker::new(rt.alloc(), USUAL)?;
+    step(&rt, &mut checker, &malloc(0x1000, 1 << 28)?)?;
+    let (good, bad) = (load(8, 0x1000)?, store(1, 0xfff)?);
+    for number in 2..=80_000u64 {
+        let is_bad = number % 32 == 0;
+        let event = if is_bad { &bad } else { &good };
+        let report = step(&rt, &mut checker, event)?;
+        assert_eq!(rt;
+            report.map(|report| report.number),
+            is_bad.then_some(number)
+        );
+    }
+    assert_eq!(rt;
+        (checker.checked(), checker.reports().len()),
+        (80_000, 2_500)
+    );
     Ok(())
 }
