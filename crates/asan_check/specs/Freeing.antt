@@ -10,9 +10,10 @@ use Rattle.asan_check.specs.History.{live, held, marks}
 use Rattle.asan_check.specs.Standing.{bound_of}
 
 module _ {A : Type 0} where
-  -- a block that was live after the history is freed at its address: the book has moved it into the quarantine, from which
-  -- nothing was released yet, and the shadow was not told
-  pub record IsFreeing (bound : ℕ) (c : Checker A) (past : List Event) (p : Place) (b : Extent) : Type 0 where
+  -- a block that was live after the history is freed at its address: the book has moved it into the
+  -- quarantine, from which nothing was released yet, and the shadow is as it was
+  pub record IsFreeing (bound : ℕ) (c : Checker A) (past : List Event) (p : Place)
+      (b : Extent) : Type 0 where
     pub was_live : Contains (live bound past) b
     pub here : b.at ≡ p.at
     pub shadow : Shows c.shadow (marks bound past)

@@ -1,15 +1,18 @@
 -- What a history of events says of blocks and of bytes.
 --
--- A history has its newest event first: `e ∷ past` is the event e after the events of past. So what stands before an
--- event is the rest of the list behind it. Redzones, the marking of freed memory and the quarantine are those of the
--- paper of 2012; what a release leaves, and when a malloc is admitted, are this project's choice (profile).
-use Rattle.std.specs.Prelude.{ℕ, ◌+◌, Bool, false, not, ◌&&◌, ◌||◌, ◌==◌, nat_le, if◌then◌else◌, List, [], ◌∷◌, ◌++◌, length, filter, map}
+-- A history has its newest event first: `e ∷ past` is the event e after the events of past. So what
+-- stands before an event is the rest of the list after it. Redzones, the marking of freed memory
+-- and the quarantine are those of the paper of 2012; what a release leaves, and when a malloc is
+-- admitted, are this project's choice (profile).
+use Rattle.std.specs.Prelude.{ℕ, ◌+◌, Bool, false, not, ◌&&◌, ◌||◌, ◌==◌, nat_le, if◌then◌else◌}
+use Rattle.std.specs.Prelude.{List, [], ◌∷◌, ◌++◌, length, filter, map}
 use Rattle.std.specs.List.{list_any}
 use Rattle.trace_record.specs.declared.event.Event.{Event}
 use Rattle.trace_record.specs.declared.event.Event.TheVariants as event
 use Rattle.trace_record.specs.declared.event.Region.{Region}
 use Rattle.shadow_map.specs.States.{Freed, HeapRedzone, Mark, Fill, Block, Poison, Unpoison}
-use Rattle.heap_book.specs.Spans.{Extent, rounded, span_from, span_to, may_be_admitted, held_of, starts_at}
+use Rattle.heap_book.specs.Spans.{Extent, rounded, span_from, span_to, may_be_admitted, held_of}
+use Rattle.heap_book.specs.Spans.{starts_at}
 
 -- the block that a malloc asks for
 abbrev pub block_of : Region → Extent
@@ -40,11 +43,12 @@ abbrev pub freed_among : List Event → List Admitted → List Extent
 freed_among [] blocks = []
 freed_among (event.Free p ∷ past) blocks =
     freed_among past blocks
-    ++ map (λ b. b.block) (filter (λ b. b.block.at == p.at && nat_le b.number (length past) && is_unfreed past b) blocks)
+    ++ map (λ b. b.block) (filter (λ b. b.block.at == p.at && nat_le b.number (length past)
+    && is_unfreed past b) blocks)
 freed_among (e ∷ past) blocks = freed_among past blocks
 
--- whether a malloc after the history is admitted, where these blocks were admitted in it: its span meets that of no live
--- and of no held block
+-- whether a malloc after the history is admitted, where these blocks were admitted in it: its span
+-- meets that of no live and of no held block
 abbrev pub admits_among : ℕ → List Event → List Admitted → Extent → Bool
 admits_among bound past blocks b =
     may_be_admitted (live_among past blocks ++ held_of bound (freed_among past blocks)) b
@@ -62,7 +66,8 @@ admitted bound (e ∷ past) = admitted bound past
 abbrev pub live : ℕ → List Event → List Extent
 live bound past = live_among past (admitted bound past)
 
--- the freed blocks: those of admitted mallocs that a free has followed, in the order of the first such frees
+-- the freed blocks: those of admitted mallocs that a free has followed, in the order of the first
+-- such frees
 abbrev pub freed : ℕ → List Event → List Extent
 freed bound past = freed_among past (admitted bound past)
 
@@ -91,13 +96,15 @@ abbrev pub marked : (Extent → Mark) → List Extent → List Mark → List Mar
 marked mark [] marks = marks
 marked mark (b ∷ blocks) marks = marked mark blocks (mark b ∷ marks)
 
--- the marks of a history, the newest first. An admitted malloc lays its block. A free of a live block marks its bytes as
--- freed, and then releases each block that was held before, or that it freed, and that is not held after it, oldest free
--- first. Poison and unpoison are marks themselves.
+-- the marks of a history, the newest first. An admitted malloc lays its block. A free of a live
+-- block marks its bytes as freed, and then releases each block that was held before, or that it
+-- freed, and that is not held after it, oldest free first. Poison and unpoison are marks
+-- themselves.
 abbrev pub marks : ℕ → List Event → List Mark
 marks bound [] = []
 marks bound (event.Malloc r ∷ past) =
-    if admits bound past (block_of r) then Block r.at r.size ∷ marks bound past else marks bound past
+    if admits bound past (block_of r) then Block r.at r.size ∷ marks bound past
+    else marks bound past
 marks bound (event.Free p ∷ past) =
     let freed_now = filter (starts_at p.at) (live bound past)
     in marked released_mark (gone (held bound past ++ freed_now) (held bound (event.Free p ∷ past)))

@@ -1,6 +1,8 @@
--- The words of the laws about reports: since when a block is live or held, which events come near it, the report of an
--- access whose first byte is bad, and the class that a shadow byte tells.
-use Rattle.std.specs.Prelude.{ℕ, ◌≡◌, ◌≢◌, ◌+◌, ◌/◌, ◌%◌, ◌<◌, ◌≤◌, Bool, true, false, ◌&&◌, ◌==◌, if◌then◌else◌, ◌⊎◌, IsTrue, List, [], ◌∷◌, ◌++◌, length, reverse, Contains, Some}
+-- The words of the laws about reports: since when a block is live or held, which events come near
+-- it, the report of an access whose first byte is bad, and the class that a shadow byte stands for.
+use Rattle.std.specs.Prelude.{ℕ, ◌≡◌, ◌≢◌, ◌+◌, ◌/◌, ◌%◌, ◌<◌, ◌≤◌, Bool, true, false, ◌&&◌, ◌==◌}
+use Rattle.std.specs.Prelude.{if◌then◌else◌, ◌⊎◌, IsTrue, List, [], ◌∷◌, ◌++◌, length, reverse}
+use Rattle.std.specs.Prelude.{Contains, Some}
 use Rattle.std.specs.List.{list_any}
 use Rattle.trace_record.specs.declared.event.Event.{Event}
 use Rattle.trace_record.specs.declared.event.Event.TheVariants as event
@@ -29,8 +31,10 @@ since_malloc bound (event.Malloc r ∷ past) b =
     if asks_for b r && admits bound past b then [] else event.Malloc r ∷ since_malloc bound past b
 since_malloc bound (e ∷ past) b = e ∷ since_malloc bound past b
 
--- in the history stands a malloc that was admitted for the block, and then these events, of which none frees it
-pub record IsLiveSince (bound : ℕ) (past : List Event) (b : Extent) (since : List Event) : Type 0 where
+-- in the history stands a malloc that was admitted for the block, and then these events, of which
+-- none frees it
+pub record IsLiveSince (bound : ℕ) (past : List Event) (b : Extent)
+    (since : List Event) : Type 0 where
   pub before : List Event
   pub malloc : Region
   pub split : past ≡ since ++ event.Malloc malloc ∷ before
@@ -40,26 +44,31 @@ pub record IsLiveSince (bound : ℕ) (past : List Event) (b : Extent) (since : L
 
 -- ---- since when a block is held
 
--- the events after the free of a block: after the last free at its address when a live block started there
+-- the events after the free of a block: after the last free at its address when a live block
+-- started there
 abbrev pub since_free : ℕ → List Event → Extent → List Event
 since_free bound [] b = []
 since_free bound (event.Free p ∷ past) b =
-    if starts_at p.at b && list_any (starts_at p.at) (live bound past) then [] else event.Free p ∷ since_free bound past b
+    if starts_at p.at b && list_any (starts_at p.at) (live bound past) then []
+    else event.Free p ∷ since_free bound past b
 since_free bound (e ∷ past) b = e ∷ since_free bound past b
 
--- in the history stands a free of the block while it was live, and then these events, through all of which it was held
-pub record IsHeldSince (bound : ℕ) (past : List Event) (b : Extent) (since : List Event) : Type 0 where
+-- in the history stands a free of the block while it was live, and then these events, through all
+-- of which it was held
+pub record IsHeldSince (bound : ℕ) (past : List Event) (b : Extent)
+    (since : List Event) : Type 0 where
   pub before : List Event
   pub free : Place
   pub split : past ≡ since ++ event.Free free ∷ before
   pub at_block : free.at ≡ b.at
   pub was_live : Contains (live bound before) b
-  pub held_through : (newer older : List Event) → since ≡ newer ++ older → Contains (held bound (older ++ event.Free free ∷ before)) b
+  pub held_through : (newer older : List Event) → since ≡ newer ++ older →
+      Contains (held bound (older ++ event.Free free ∷ before)) b
 
 -- ---- events that come near a range of bytes
 
--- a region shares a granule with the bytes from an address up to another: a byte of the one and a byte of the other lie in
--- one granule
+-- a region shares a granule with the bytes from an address up to another: a byte of the one and a
+-- byte of the other lie in one granule
 pub record SharesGranule (r : Region) (from to : ℕ) : Type 0 where
   pub own : ℕ
   pub other : ℕ
@@ -69,11 +78,13 @@ pub record SharesGranule (r : Region) (from to : ℕ) : Type 0 where
 
 -- no poison among these events shares a granule with the bytes from an address up to another
 abbrev pub NoPoisonShares : List Event → ℕ → ℕ → Type 0
-NoPoisonShares events from to = (r : Region) → Contains events (event.Poison r) → ¬ SharesGranule r from to
+NoPoisonShares events from to =
+    (r : Region) → Contains events (event.Poison r) → ¬ SharesGranule r from to
 
 -- no unpoison does
 abbrev pub NoUnpoisonShares : List Event → ℕ → ℕ → Type 0
-NoUnpoisonShares events from to = (r : Region) → Contains events (event.Unpoison r) → ¬ SharesGranule r from to
+NoUnpoisonShares events from to =
+    (r : Region) → Contains events (event.Unpoison r) → ¬ SharesGranule r from to
 
 -- ---- accesses
 
@@ -88,7 +99,8 @@ LiesInside b a = (b.at ≤ a.at) × (a.at + a.width ≤ b.at + b.size)
 
 -- an access that starts in a block's span, but before or past the block's bytes
 abbrev pub StartsAround : Extent → Access → Type 0
-StartsAround b a = (span_from b ≤ a.at) × (a.at < span_to b) × ((a.at < b.at) ⊎ (b.at + b.size ≤ a.at))
+StartsAround b a =
+    (span_from b ≤ a.at) × (a.at < span_to b) × ((a.at < b.at) ⊎ (b.at + b.size ≤ a.at))
 
 -- an access that starts at a block's bytes, or at those that round its size up
 abbrev pub StartsWithin : Extent → Access → Type 0
@@ -97,12 +109,16 @@ StartsWithin b a = (b.at ≤ a.at) × (a.at < b.at + rounded b.size)
 -- the report on an access after a history, where the access's first byte is the bad one
 abbrev pub first_byte_report : List Event → Bool → Access → Class → ℕ → Report
 first_byte_report past is_store a class shadow =
-    record { number = length past + 1; fault = fault.Access is_store a.width a.at a.at class shadow }
+    record {
+      number = length past + 1;
+      fault = fault.Access is_store a.width a.at a.at class shadow;
+    }
 
--- the shadow byte of an address around a block: how many bytes the block has in the address's granule, or a redzone's code
--- where it has none
+-- the shadow byte of an address around a block: how many bytes the block has in the address's
+-- granule, or a redzone's code where it has none
 abbrev pub shadow_around : Extent → ℕ → ℕ
-shadow_around b at = if lies_in b.at (b.at + rounded b.size) at then b.size % 8 else code_of HeapRedzone
+shadow_around b at =
+    if lies_in b.at (b.at + rounded b.size) at then b.size % 8 else code_of HeapRedzone
 
 -- ---- spans, and the reports on events
 
@@ -112,7 +128,8 @@ pub record SharesByte (b c : Extent) : Type 0 where
   pub in_one : (span_from b ≤ byte) × (byte < span_to b)
   pub in_other : (span_from c ≤ byte) × (byte < span_to c)
 
--- one of the events, which stand in their order, has this report as its verdict after the events before it
+-- one of the events, which stand in their order, has this report as its verdict after the events
+-- before it
 pub record IsReportedAmong (bound : ℕ) (events : List Event) (report : Report) : Type 0 where
   pub before : List Event
   pub event : Event
@@ -122,7 +139,7 @@ pub record IsReportedAmong (bound : ℕ) (events : List Event) (report : Report)
 
 -- ---- classes
 
--- the class that the shadow byte of a granule tells of its first byte
+-- the class of a granule's first byte, by the granule's shadow byte
 abbrev pub class_of_shadow : ℕ → Class
 class_of_shadow shadow =
     if shadow == code_of HeapRedzone then class.HeapBufferOverflow

@@ -1,5 +1,6 @@
 -- The lines that are printed of a process (profile). Each ends with a line feed.
-use Rattle.std.specs.Prelude.{ℕ, ◌-◌, Bool, true, false, List, ◌++◌, length, codes, decimal, replicate}
+use Rattle.std.specs.Prelude.{ℕ, ◌-◌, Bool, true, false, List, ◌++◌, length, codes, decimal}
+use Rattle.std.specs.Prelude.{replicate}
 use Rattle.std.specs.List.{flat_map}
 use Rattle.std.specs.Fmt.{digits}
 use Rattle.trace_record.specs.declared.end.Fate.{Fate}
@@ -51,24 +52,28 @@ abbrev pub kind_text : Bool → List ℕ
 kind_text true = codes " store "
 kind_text false = codes " load "
 
--- what stands behind the event's number
+-- what stands after the event's number
 abbrev pub fault_text : Fault → List ℕ
 fault_text (fault.Access is_store width at bad class shadow) =
-    kind_text is_store ++ decimal width ++ codes " at " ++ address_text at ++ codes " bad " ++ address_text bad
+    kind_text is_store ++ decimal width ++ codes " at " ++ address_text at ++ codes " bad "
+    ++ address_text bad
     ++ codes " " ++ class_text class ++ codes " shadow " ++ shadow_text shadow
 fault_text (fault.DoubleFree at) = codes " free at " ++ address_text at ++ codes " double-free"
 fault_text (fault.BadFree at) = codes " free at " ++ address_text at ++ codes " bad-free"
-fault_text (fault.BadMalloc at size) = codes " malloc " ++ decimal size ++ codes " at " ++ address_text at ++ codes " bad-malloc"
+fault_text (fault.BadMalloc at size) =
+    codes " malloc " ++ decimal size ++ codes " at " ++ address_text at ++ codes " bad-malloc"
 
 -- the line of a report of a process
 abbrev pub report_line : ℕ → Report → List ℕ
 report_line process report =
-    codes "p" ++ decimal process ++ codes " #" ++ decimal report.number ++ fault_text report.fault ++ codes "\n"
+    codes "p" ++ decimal process ++ codes " #" ++ decimal report.number ++ fault_text report.fault
+    ++ codes "\n"
 
--- what stands behind `end`
+-- what stands after `end`
 abbrev pub ending_text : Ending → List ℕ
 ending_text (ending.Ran end reports) =
-    fate_text end.fate ++ codes " events " ++ decimal end.events ++ codes " offset " ++ decimal end.offset
+    fate_text end.fate ++ codes " events " ++ decimal end.events ++ codes " offset "
+    ++ decimal end.offset
     ++ codes " reports " ++ decimal reports
 ending_text (ending.NoMemory checked reports) =
     codes "no-memory checked " ++ decimal checked ++ codes " reports " ++ decimal reports
@@ -78,7 +83,8 @@ ending_text ending.Unsettled = codes "unsettled"
 
 -- the line of the end of a process
 abbrev pub end_line : ℕ → Ending → List ℕ
-end_line process end = codes "p" ++ decimal process ++ codes " end " ++ ending_text end ++ codes "\n"
+end_line process end =
+    codes "p" ++ decimal process ++ codes " end " ++ ending_text end ++ codes "\n"
 
 -- no line of numbers of 64 bits is longer
 abbrev pub longest_line : ℕ

@@ -1,5 +1,6 @@
 -- Where a checker stands after a history.
-use Rattle.std.specs.Prelude.{◌≡◌, ℕ, ◌-◌, ◌<◌, ◌⊎◌, Bool, true, false, List, length, drop, IsPermutation}
+use Rattle.std.specs.Prelude.{◌≡◌, ℕ, ◌-◌, ◌<◌, ◌⊎◌, Bool, true, false, List, length, drop}
+use Rattle.std.specs.Prelude.{IsPermutation}
 use Rattle.trace_record.specs.declared.event.Event.{Event}
 use Rattle.shadow_map.specs.Shows.{Shows}
 use Rattle.asan_check.specs.declared.checker.Checker.{Checker}
@@ -8,8 +9,8 @@ use Rattle.asan_check.specs.History.{live, held, marks}
 use Rattle.asan_check.specs.Verdicts.{verdicts_of}
 
 module _ {A : Type 0} where
-  -- what a contract sees of a checker: whether it has failed, how many events it has checked, its reports, and the bound on
-  -- the bytes of spans in its quarantine
+  -- what a contract sees of a checker: whether it has failed, how many events it has checked, its
+  -- reports, and the bound on the bytes of spans in its quarantine
   abbrev pub has_failed : Checker A → Bool
   has_failed c = c.failed
 
@@ -36,16 +37,16 @@ module _ {A : Type 0} where
     pub queue : c.book.queue ≡ held bound past
     pub bound_is : bound_of c ≡ bound
 
-  -- the checker stands where this history leads: it hasn't failed, it shows what the history has left, it has checked all
-  -- of its events, and its reports are the verdicts on them
+  -- the checker stands where this history leads: it hasn't failed, it shows what the history has
+  -- left, it has checked all of its events, and its reports are the verdicts on them
   pub record Stands (bound : ℕ) (c : Checker A) (past : List Event) : Type 0 where
     pub running : has_failed c ≡ false
     pub shown : ShowsHistory bound c past
     pub count : checked_of c ≡ length past
     pub reports : reports_of c ≡ verdicts_of bound past
 
-  -- the checker has failed within this history: its reports are the verdicts on the events that it had checked by then,
-  -- which are the first of the history and so the last of the list
+  -- the checker has failed within this history: its reports are the verdicts on the events that it
+  -- had checked by then, which are the first of the history and so the last of the list
   pub record FailedAt (bound : ℕ) (c : Checker A) (past : List Event) : Type 0 where
     pub failed : has_failed c ≡ true
     pub bound_is : bound_of c ≡ bound

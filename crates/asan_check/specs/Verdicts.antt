@@ -1,14 +1,17 @@
 -- What the checker says of each event of a history.
 --
--- The check of an access is that of the paper of 2012. The classes, the verdicts on frees and mallocs, and that the replay
--- goes on after a report are this project's choice (profile).
-use Rattle.std.specs.Prelude.{ℕ, ◌+◌, ◌*◌, ◌/◌, Bool, true, false, not, ◌||◌, ◌==◌, if◌then◌else◌, List, [], ◌∷◌, ◌++◌, length, Option, Some, None, option_to_list, reverse}
+-- The check of an access is that of the paper of 2012. The classes, the verdicts on frees and
+-- mallocs, and that the replay goes on after a report are this project's choice (profile).
+use Rattle.std.specs.Prelude.{ℕ, ◌+◌, ◌*◌, ◌/◌, Bool, true, false, not, ◌||◌, ◌==◌, if◌then◌else◌}
+use Rattle.std.specs.Prelude.{List, [], ◌∷◌, ◌++◌, length, Option, Some, None, option_to_list}
+use Rattle.std.specs.Prelude.{reverse}
 use Rattle.std.specs.List.{list_all, list_any}
 use Rattle.std.specs.Option.{option_map}
 use Rattle.trace_record.specs.declared.event.Event.{Event}
 use Rattle.trace_record.specs.declared.event.Event.TheVariants as event
 use Rattle.trace_record.specs.declared.event.Access.{Access}
-use Rattle.shadow_map.specs.States.{State, Addressable, HeapRedzone, Freed, UserPoison, is_addressable, places, state_of, lift, bad_byte_of}
+use Rattle.shadow_map.specs.States.{State, Addressable, HeapRedzone, Freed, UserPoison}
+use Rattle.shadow_map.specs.States.{is_addressable, places, state_of, lift, bad_byte_of}
 use Rattle.heap_book.specs.Spans.{starts_at}
 use Rattle.asan_check.specs.declared.report.Class.{Class}
 use Rattle.asan_check.specs.declared.report.Class.TheVariants as class
@@ -17,7 +20,7 @@ use Rattle.asan_check.specs.declared.report.Fault.TheVariants as fault
 use Rattle.asan_check.specs.declared.report.Report.{Report}
 use Rattle.asan_check.specs.History.{live, held, admits, marks}
 
--- the class that a state tells
+-- the class that a state stands for
 abbrev pub class_of_state : State → Class
 class_of_state Addressable = class.UnknownCrash
 class_of_state HeapRedzone = class.HeapBufferOverflow
@@ -29,29 +32,34 @@ abbrev pub has_none_addressable : (ℕ → State) → ℕ → Bool
 has_none_addressable states granule =
     list_all (λ place. not (is_addressable (states (8 * granule + place)))) places
 
--- the class of a bad access: that of the first byte of its granule if none of the granule's bytes is addressable, else
--- that of the first byte of the next granule
+-- the class of a bad access: that of the first byte of its granule if none of the granule's bytes
+-- is addressable, else that of the first byte of the next granule
 abbrev pub class_of : (ℕ → State) → ℕ → Class
 class_of states at =
     let granule = at / 8
-    in class_of_state (states (8 * (if has_none_addressable states granule then granule else granule + 1)))
+    in class_of_state (states (8 * (if has_none_addressable states granule then granule
+    else granule + 1)))
 
 -- what is wrong with a load or a store of memory in these states
 abbrev pub access_fault : (ℕ → State) → Bool → Access → Option Fault
 access_fault states is_store a =
-    option_map (λ bad. fault.Access is_store a.width a.at bad (class_of states a.at) (lift states (a.at / 8)))
+    option_map (λ bad. fault.Access is_store a.width a.at bad (class_of states a.at) (lift states
+    (a.at / 8)))
     (bad_byte_of states a.at a.width)
 
--- what is wrong with a malloc after a history: nothing at address 0, which says that the allocator refused
+-- what is wrong with a malloc after a history: nothing at address 0, which says that the allocator
+-- refused
 abbrev pub malloc_fault : ℕ → List Event → ℕ → ℕ → Option Fault
 malloc_fault bound past at size =
-    if at == 0 || admits bound past (record { at = at; size = size }) then None else Some (fault.BadMalloc at size)
+    if at == 0 || admits bound past (record { at = at; size = size }) then None
+    else Some (fault.BadMalloc at size)
 
 -- what is wrong with a free after a history: nothing at address 0 or where a live block starts
 abbrev pub free_fault : ℕ → List Event → ℕ → Option Fault
 free_fault bound past at =
     if at == 0 || list_any (starts_at at) (live bound past) then None
-    else (if list_any (starts_at at) (held bound past) then Some (fault.DoubleFree at) else Some (fault.BadFree at))
+    else (if list_any (starts_at at) (held bound past) then Some (fault.DoubleFree at)
+    else Some (fault.BadFree at))
 
 -- what is wrong with an event after a history, with this bound on the quarantine
 abbrev pub fault_of : ℕ → List Event → Event → Option Fault
@@ -62,8 +70,8 @@ fault_of bound past (event.Free p) = free_fault bound past p.at
 fault_of bound past (event.Poison r) = None
 fault_of bound past (event.Unpoison r) = None
 
--- whether an event lays no mark whatever came before it: a load, a store, a malloc or a free at address 0, and a poison or
--- an unpoison of no bytes
+-- whether an event lays no mark whatever came before it: a load, a store, a malloc or a free at
+-- address 0, and a poison or an unpoison of no bytes
 abbrev pub marks_none : Event → Bool
 marks_none (event.Load a) = true
 marks_none (event.Store a) = true
@@ -74,9 +82,11 @@ marks_none (event.Unpoison r) = r.size == 0
 
 -- the verdict on an event after a history: a report with the event's number, or nothing
 abbrev pub verdict : ℕ → List Event → Event → Option Report
-verdict bound past e = option_map (λ f. record { number = length past + 1; fault = f }) (fault_of bound past e)
+verdict bound past e =
+    option_map (λ f. record { number = length past + 1; fault = f }) (fault_of bound past e)
 
--- the verdicts on a history, oldest first: that of each event on the events before it, nothings left out
+-- the verdicts on a history, oldest first: that of each event on the events before it, nothings
+-- left out
 abbrev pub verdicts_of : ℕ → List Event → List Report
 verdicts_of bound [] = []
 verdicts_of bound (e ∷ past) = verdicts_of bound past ++ option_to_list (verdict bound past e)

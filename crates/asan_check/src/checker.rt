@@ -1,11 +1,14 @@
 //! The checker, which keeps the blocks and the shadow of a process and takes in its events.
-ghost use Rattle.std.specs.Prelude.{◌≡◌, ℕ, ◌+◌, ◌<◌, ◌≤◌, ◌^◌, ◌↔◌, List, [], ◌∷◌, ◌++◌, IfOk, IsErr, IsTrue, IsSome, IsSomeAnd, OnOk, OnErr, true, false, not, length, take, reverse, None, Some, option_to_list};
+ghost use Rattle.std.specs.Prelude.{◌≡◌, ℕ, ◌+◌, ◌<◌, ◌≤◌, ◌^◌, ◌↔◌, List, [], ◌∷◌, ◌++◌, IfOk};
+ghost use Rattle.std.specs.Prelude.{IsErr, IsTrue, IsSome, IsSomeAnd, OnOk, OnErr, true, false};
+ghost use Rattle.std.specs.Prelude.{not, length, take, reverse, None, Some, option_to_list};
 ghost use Rattle.trace_record.specs.declared.event.Event.{Event as AnEvent};
 ghost use Rattle.trace_record.specs.declared.event.Event.TheVariants as event;
 ghost use Rattle.trace_record.specs.declared.event.Place.{Place as APlace};
 ghost use Rattle.shadow_map.specs.States.{is_addressable, state_of, least_unaddressable};
 ghost use Rattle.asan_check.specs.History.{marks};
-ghost use Rattle.asan_check.specs.Verdicts.{verdict, fault_of, access_fault, malloc_fault, free_fault, class_of, marks_none};
+ghost use Rattle.asan_check.specs.Verdicts.{verdict, fault_of, access_fault, malloc_fault};
+ghost use Rattle.asan_check.specs.Verdicts.{free_fault, class_of, marks_none};
 ghost use Rattle.asan_check.specs.Laws.{class_of_shadow};
 
 use crate::NoMemory;
@@ -22,7 +25,8 @@ const GRANULE: u64 = 8;
 /// How many bytes a redzone has.
 const REDZONE: u64 = 32;
 
-/// The least shadow byte that is a code. A granule with one has no addressable byte, and the code tells what it is.
+/// The least shadow byte that is a code. A granule with one has no addressable byte, and the code
+/// says what it is.
 const LEAST_CODE: u8 = 0x80;
 
 /// There was no memory for this event or for an earlier one.
@@ -32,8 +36,9 @@ pub struct Failed;
 
 /// Checks the events of one process, one after another, and keeps the reports on the bad ones.
 ///
-/// A bad event doesn't end the check: the next one meets the memory as the events before the bad one left it. Addresses
-/// and sizes are in bytes. They are those of the traced process, whose memory is never touched.
+/// A bad event doesn't end the check: the next one meets the memory as the events before the bad
+/// one left it. Addresses and sizes are in bytes. They are those of the traced process, whose
+/// memory is never touched.
 #[derive(Drop)]
 pub struct Checker<A: Allocator + Copy = Global> {
     /// What each byte of the process is: addressable, or why not.
@@ -50,10 +55,11 @@ pub struct Checker<A: Allocator + Copy = Global> {
 
 impl<A: Allocator + Copy> Checker<A> {
     ghost use Rattle.asan_check.specs.Freeing.{IsFreeing};
-    ghost use Rattle.asan_check.specs.Standing.{KeepsTally, ShowsHistory, Stands, FailedAt, has_failed, checked_of, reports_of, bound_of};
+    ghost use Rattle.asan_check.specs.Standing.{KeepsTally, ShowsHistory, Stands, FailedAt};
+    ghost use Rattle.asan_check.specs.Standing.{has_failed, checked_of, reports_of, bound_of};
 
-    /// A checker that has checked no event, and whose quarantine holds spans of at most `bound` bytes together. Takes no
-    /// memory.
+    /// A checker that has checked no event, and whose quarantine holds spans of at most `bound`
+    /// bytes together. Takes no memory.
     ///
     /// # Errors
     ///
@@ -72,8 +78,9 @@ impl<A: Allocator + Copy> Checker<A> {
         })
     }
 
-    /// Checks the next event, which is one of less than 2^64, and answers the report on it if it is a bad one. A bad event
-    /// adds its report to [`reports`](Checker::reports), and changes nothing else.
+    /// Checks the next event, which is one of less than 2^64, and answers the report on it if it is
+    /// a bad one. A bad event adds its report to [`reports`](Checker::reports), and changes nothing
+    /// else.
     ///
     /// # Errors
     ///
@@ -84,14 +91,18 @@ impl<A: Allocator + Copy> Checker<A> {
     #[inline]
     pub fn step(&mut self, event: &Event) -> Result<Option<Report>, Failed>
         requires room { checked_of self.old + 1 < 2 ^ 64 }
-        ensures checked { IfOk result (λ report. (bound : ℕ) (past : List AnEvent) → Stands bound self.old past →
+        ensures checked { IfOk result (λ report. (bound : ℕ) (past : List AnEvent) →
+            Stands bound self.old past →
             (report ≡ verdict bound past event.now) × Stands bound self.new (event.now ∷ past)) }
-        ensures failed { OnErr result ((bound : ℕ) (past : List AnEvent) → Stands bound self.old past →
+        ensures failed { OnErr result ((bound : ℕ) (past : List AnEvent) →
+            Stands bound self.old past →
             FailedAt bound self.new (event.now ∷ past) × (checked_of self.new ≡ length past)) }
-        ensures spared { OnErr result ((bound : ℕ) (past : List AnEvent) → Stands bound self.old past →
+        ensures spared { OnErr result ((bound : ℕ) (past : List AnEvent) →
+            Stands bound self.old past →
             marks_none event.now ≡ true → IsSome (fault_of bound past event.now)) }
         ensures count { OnOk result (checked_of self.new ≡ checked_of self.old + 1) }
-        ensures kept { OnErr result ((has_failed self.new ≡ true) × (checked_of self.new ≡ checked_of self.old)
+        ensures kept { OnErr result ((has_failed self.new ≡ true)
+            × (checked_of self.new ≡ checked_of self.old)
             × (reports_of self.new ≡ reports_of self.old)) }
         ensures stays { has_failed self.old ≡ true → IsErr result × (self.new ≡ self.old) }
         ensures bound { bound_of self.new ≡ bound_of self.old }
@@ -173,15 +184,16 @@ impl<A: Allocator + Copy> Checker<A> {
         &self.reports
     }
 
-    /// The reports on the events that it has checked, in their order, for the caller to keep. Takes no memory.
+    /// The reports on the events that it has checked, in their order, for the caller to keep. Takes
+    /// no memory.
     pub fn into_reports(self) -> Vec<Report, A>
         ensures { result.items ≡ reports_of self }
     {
         self.reports
     }
 
-    /// Whether a load of the byte at `at` would be reported, or `None` once a step has failed. A byte at 2^47 or past it never
-    /// is. Takes no memory.
+    /// Whether a load of the byte at `at` would be reported, or `None` once a step has failed. A
+    /// byte at 2^47 or past it never is. Takes no memory.
     pub fn is_poisoned(&self, at: u64) -> Option<bool>
         ensures stands { (bound : ℕ) (past : List AnEvent) → Stands bound self.now past →
             result ≡ Some (not (is_addressable (state_of (marks bound past) at))) }
@@ -193,8 +205,8 @@ impl<A: Allocator + Copy> Checker<A> {
         Some(self.shadow.is_poisoned(at))
     }
 
-    /// The address of the first of `size` bytes from `at` on that is not addressable, if there is one, or `None` once a step
-    /// has failed. The bytes end at most at 2^47. Takes no memory.
+    /// The address of the first of `size` bytes from `at` on that is not addressable, if there is
+    /// one, or `None` once a step has failed. The bytes end at most at 2^47. Takes no memory.
     pub fn first_poisoned(&self, at: u64, size: u64) -> Option<Option<u64>>
         requires { at + size ≤ 2 ^ 47 }
         ensures stands { (bound : ℕ) (past : List AnEvent) → Stands bound self.now past →
@@ -210,8 +222,10 @@ impl<A: Allocator + Copy> Checker<A> {
     /// Whether an event is a load or a store that isn't bad. Most are, and they change nothing.
     #[inline]
     fn is_good_access(&self, event: &Event) -> bool
-        ensures { IsTrue result → (bound : ℕ) (past : List AnEvent) → ShowsHistory bound self.now past →
-            (fault_of bound past event.now ≡ None) × ShowsHistory bound self.now (event.now ∷ past) }
+        ensures { IsTrue result → (bound : ℕ) (past : List AnEvent) →
+            ShowsHistory bound self.now past →
+            (fault_of bound past event.now ≡ None)
+            × ShowsHistory bound self.now (event.now ∷ past) }
     {
         match event {
             Event::Load(access) | Event::Store(access) => {
@@ -225,13 +239,16 @@ impl<A: Allocator + Copy> Checker<A> {
     #[inline(never)]
     fn check(&mut self, event: &Event) -> Result<Option<Report>, NoMemory>
         requires room { checked_of self.old + 1 < 2 ^ 64 }
-        ensures ok { IfOk result (λ report. (bound : ℕ) (past : List AnEvent) → Stands bound self.old past →
+        ensures ok { IfOk result (λ report. (bound : ℕ) (past : List AnEvent) →
+            Stands bound self.old past →
             (report ≡ verdict bound past event.now) × ShowsHistory bound self.new (event.now ∷ past)
             × (reports_of self.new ≡ reports_of self.old ++ option_to_list report)) }
         ensures err { OnErr result (reports_of self.new ≡ reports_of self.old) }
-        ensures spared { OnErr result ((bound : ℕ) (past : List AnEvent) → Stands bound self.old past →
+        ensures spared { OnErr result ((bound : ℕ) (past : List AnEvent) →
+            Stands bound self.old past →
             marks_none event.now ≡ true → IsSome (fault_of bound past event.now)) }
-        ensures others { (checked_of self.new ≡ checked_of self.old) × (has_failed self.new ≡ has_failed self.old)
+        ensures others { (checked_of self.new ≡ checked_of self.old)
+            × (has_failed self.new ≡ has_failed self.old)
             × (bound_of self.new ≡ bound_of self.old) }
     {
         let Some(fault) = self.apply(event)? else {
@@ -247,8 +264,10 @@ impl<A: Allocator + Copy> Checker<A> {
 
     /// Applies an event to the blocks and to the shadow, and answers what is wrong with it.
     fn apply(&mut self, event: &Event) -> Result<Option<Fault>, NoMemory>
-        ensures ok { IfOk result (λ fault. (bound : ℕ) (past : List AnEvent) → ShowsHistory bound self.old past →
-            (fault ≡ fault_of bound past event.now) × ShowsHistory bound self.new (event.now ∷ past)) }
+        ensures ok { IfOk result (λ fault. (bound : ℕ) (past : List AnEvent) →
+            ShowsHistory bound self.old past →
+            (fault ≡ fault_of bound past event.now)
+            × ShowsHistory bound self.new (event.now ∷ past)) }
         ensures spared { OnErr result (marks_none event.now ≡ false) }
         ensures tally { KeepsTally self.old self.new }
     {
@@ -284,8 +303,8 @@ impl<A: Allocator + Copy> Checker<A> {
         })
     }
 
-    /// The class of a bad access at `at`. The first byte of its granule tells it if none of the granule's bytes is
-    /// addressable, else the first byte of the next granule.
+    /// The class of a bad access at `at`. The first byte of its granule decides if none of the
+    /// granule's bytes is addressable, else the first byte of the next granule.
     fn class_at(&self, at: u64) -> Class
         requires { at < 2 ^ 47 }
         ensures { (bound : ℕ) (past : List AnEvent) → ShowsHistory bound self.now past →
@@ -301,7 +320,8 @@ impl<A: Allocator + Copy> Checker<A> {
 
     /// Applies a malloc, and answers what is wrong with it.
     fn malloc(&mut self, region: &Region) -> Result<Option<Fault>, NoMemory>
-        ensures ok { IfOk result (λ fault. (bound : ℕ) (past : List AnEvent) → ShowsHistory bound self.old past →
+        ensures ok { IfOk result (λ fault. (bound : ℕ) (past : List AnEvent) →
+            ShowsHistory bound self.old past →
             (fault ≡ malloc_fault bound past region.now.at region.now.size)
             × ShowsHistory bound self.new (event.Malloc region.now ∷ past)) }
         ensures spared { OnErr result (0 < region.now.at) }
@@ -322,8 +342,10 @@ impl<A: Allocator + Copy> Checker<A> {
 
     /// Applies a free, and answers what is wrong with it.
     fn free(&mut self, place: &Place) -> Result<Option<Fault>, NoMemory>
-        ensures ok { IfOk result (λ fault. (bound : ℕ) (past : List AnEvent) → ShowsHistory bound self.old past →
-            (fault ≡ free_fault bound past place.now.at) × ShowsHistory bound self.new (event.Free place.now ∷ past)) }
+        ensures ok { IfOk result (λ fault. (bound : ℕ) (past : List AnEvent) →
+            ShowsHistory bound self.old past →
+            (fault ≡ free_fault bound past place.now.at)
+            × ShowsHistory bound self.new (event.Free place.now ∷ past)) }
         ensures spared { OnErr result (0 < place.now.at) }
         ensures tally { KeepsTally self.old self.new }
     {
@@ -339,10 +361,11 @@ impl<A: Allocator + Copy> Checker<A> {
         }
     }
 
-    /// Marks the granules of a block that has joined the quarantine as freed, and then releases the oldest blocks past the
-    /// quarantine's bound: their whole spans become redzone.
+    /// Marks the granules of a block that has joined the quarantine as freed, and then releases the
+    /// oldest blocks past the quarantine's bound: their whole spans become redzone.
     fn hold(&mut self, block: &Block) -> Result<(), NoMemory>
-        ensures ok { OnOk result ((bound : ℕ) (past : List AnEvent) (p : APlace) → IsFreeing bound self.old past p block.now →
+        ensures ok { OnOk result ((bound : ℕ) (past : List AnEvent) (p : APlace) →
+            IsFreeing bound self.old past p block.now →
             ShowsHistory bound self.new (event.Free p ∷ past)) }
         ensures tally { KeepsTally self.old self.new }
     {
@@ -354,7 +377,7 @@ impl<A: Allocator + Copy> Checker<A> {
     }
 }
 
-/// The class that a shadow byte tells.
+/// The class that a shadow byte stands for.
 fn class_by(shadow: u8) -> Class
     ensures { result ≡ class_of_shadow shadow }
 {

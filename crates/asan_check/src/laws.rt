@@ -1,7 +1,8 @@
-//! What the definitions of histories and verdicts come to, in the words of somebody who reads the reports. Each function
-//! does nothing: its contract is the law.
+//! What the definitions of histories and verdicts come to, in the words of somebody who reads the
+//! reports. Each function does nothing: its contract is the law.
 
-ghost use Rattle.std.specs.Prelude.{◌≡◌, ◌↔◌, ◌+◌, ◌∷◌, ◌++◌, ℕ, Bool, IsTrue, List, Some, None, Contains, option_to_list, reverse};
+ghost use Rattle.std.specs.Prelude.{◌≡◌, ◌↔◌, ◌+◌, ◌∷◌, ◌++◌, ℕ, Bool, IsTrue, List, Some, None};
+ghost use Rattle.std.specs.Prelude.{Contains, option_to_list, reverse};
 ghost use Rattle.std.specs.List.{IsDistinct};
 ghost use Rattle.trace_record.specs.declared.event.Event.{Event};
 ghost use Rattle.trace_record.specs.declared.event.Access.{Access};
@@ -12,12 +13,16 @@ ghost use Rattle.asan_check.specs.declared.report.Report.{Report};
 ghost use Rattle.asan_check.specs.History.{live, held};
 ghost use Rattle.asan_check.specs.Verdicts.{verdict, verdicts};
 ghost use Rattle.asan_check.specs.Laws.{SharesByte, IsReportedAmong};
-ghost use Rattle.asan_check.specs.Laws.{since_malloc, since_free, IsLiveSince, IsHeldSince, NoPoisonShares, NoUnpoisonShares};
-ghost use Rattle.asan_check.specs.Laws.{access_event, LiesInside, StartsAround, StartsWithin, first_byte_report, shadow_around};
+ghost use Rattle.asan_check.specs.Laws.{since_malloc, since_free, IsLiveSince, IsHeldSince};
+ghost use Rattle.asan_check.specs.Laws.{NoPoisonShares, NoUnpoisonShares};
+ghost use Rattle.asan_check.specs.Laws.{access_event, LiesInside, StartsAround, StartsWithin};
+ghost use Rattle.asan_check.specs.Laws.{first_byte_report, shadow_around};
 
-/// The spans of live and held blocks never meet, after any history and with any bound on the quarantine.
+/// The spans of live and held blocks never meet, after any history and with any bound on the
+/// quarantine.
 pub fn spans_never_meet()
-    ensures { (bound : ℕ) (past : List Event) → IsDistinct meets (live bound past ++ held bound past) }
+    ensures { (bound : ℕ) (past : List Event) →
+        IsDistinct meets (live bound past ++ held bound past) }
 {}
 
 /// Two blocks meet exactly where their spans share a byte.
@@ -25,26 +30,30 @@ pub fn blocks_meet_where_spans_share_a_byte()
     ensures { (one other : Extent) → IsTrue (meets one other) ↔ SharesByte one other }
 {}
 
-/// A block is live exactly where the history has a malloc that was admitted for it, and no free at its address since; the
-/// events since are those that the other laws name.
+/// A block is live exactly where the history has a malloc that was admitted for it, and no free at
+/// its address since; the events since are those that the other laws name.
 pub fn live_since_its_malloc()
-    ensures found { (bound : ℕ) (past : List Event) (block : Extent) → Contains (live bound past) block →
+    ensures found { (bound : ℕ) (past : List Event) (block : Extent) →
+        Contains (live bound past) block →
         IsLiveSince bound past block (since_malloc bound past block) }
-    ensures only { (bound : ℕ) (past : List Event) (block : Extent) (since : List Event) → IsLiveSince bound past block since →
+    ensures only { (bound : ℕ) (past : List Event) (block : Extent) (since : List Event) →
+        IsLiveSince bound past block since →
         Contains (live bound past) block × (since ≡ since_malloc bound past block) }
 {}
 
-/// A block is held exactly where the history has a free of it while it was live, and it was held ever since; the events
-/// since are those that the other laws name.
+/// A block is held exactly where the history has a free of it while it was live, and it was held
+/// ever since; the events since are those that the other laws name.
 pub fn held_since_its_free()
-    ensures found { (bound : ℕ) (past : List Event) (block : Extent) → Contains (held bound past) block →
+    ensures found { (bound : ℕ) (past : List Event) (block : Extent) →
+        Contains (held bound past) block →
         IsHeldSince bound past block (since_free bound past block) }
-    ensures only { (bound : ℕ) (past : List Event) (block : Extent) (since : List Event) → IsHeldSince bound past block since →
+    ensures only { (bound : ℕ) (past : List Event) (block : Extent) (since : List Event) →
+        IsHeldSince bound past block since →
         Contains (held bound past) block × (since ≡ since_free bound past block) }
 {}
 
-/// A load or a store that lies inside a live block is not reported, as long as no poison since the block's malloc shares a
-/// granule with the block.
+/// A load or a store that lies inside a live block is not reported, as long as no poison since the
+/// block's malloc shares a granule with the block.
 pub fn quiet_inside_live_block()
     ensures { (bound : ℕ) (past : List Event) (block : Extent) (is_store : Bool) (access : Access) →
         Contains (live bound past) block →
@@ -53,9 +62,9 @@ pub fn quiet_inside_live_block()
         verdict bound past (access_event is_store access) ≡ None }
 {}
 
-/// A load or a store that starts in the span of a live block, but before or past the block's bytes, is reported as a heap
-/// buffer overflow whose bad byte is the first one, as long as no poison and no unpoison since the block's malloc shares a
-/// granule with the span.
+/// A load or a store that starts in the span of a live block, but before or past the block's bytes,
+/// is reported as a heap buffer overflow whose bad byte is the first one, as long as no poison and
+/// no unpoison since the block's malloc shares a granule with the span.
 pub fn overflow_is_reported()
     ensures { (bound : ℕ) (past : List Event) (block : Extent) (is_store : Bool) (access : Access) →
         Contains (live bound past) block →
@@ -63,12 +72,13 @@ pub fn overflow_is_reported()
         NoPoisonShares (since_malloc bound past block) (span_from block) (span_to block) →
         NoUnpoisonShares (since_malloc bound past block) (span_from block) (span_to block) →
         verdict bound past (access_event is_store access)
-        ≡ Some (first_byte_report past is_store access class.HeapBufferOverflow (shadow_around block access.at)) }
+        ≡ Some (first_byte_report past is_store access class.HeapBufferOverflow
+        (shadow_around block access.at)) }
 {}
 
-/// A load or a store that starts at the bytes of a held block, or at those that round its size up, is reported as a use
-/// after free whose bad byte is the first one, as long as no poison and no unpoison since the block's free shares a granule
-/// with those bytes.
+/// A load or a store that starts at the bytes of a held block, or at those that round its size up,
+/// is reported as a use after free whose bad byte is the first one, as long as no poison and no
+/// unpoison since the block's free shares a granule with those bytes.
 pub fn use_after_free_is_reported()
     ensures { (bound : ℕ) (past : List Event) (block : Extent) (is_store : Bool) (access : Access) →
         Contains (held bound past) block →
@@ -79,12 +89,14 @@ pub fn use_after_free_is_reported()
         ≡ Some (first_byte_report past is_store access class.HeapUseAfterFree (code_of Freed)) }
 {}
 
-/// The reports on some events are the verdicts on each of them, in their order: first those on the events before it, then the
-/// verdict on it, if it is a report, and then those on the events after it.
+/// The reports on some events are the verdicts on each of them, in their order: first those on the
+/// events before it, then the verdict on it, if it is a report, and then those on the events after
+/// it.
 pub fn each_event_has_its_verdict()
     ensures { (bound : ℕ) (before after : List Event) (event : Event) → (later : List Report)
         × (verdicts bound (before ++ event ∷ after)
-        ≡ (verdicts bound before ++ option_to_list (verdict bound (reverse before) event)) ++ later) }
+        ≡ (verdicts bound before ++ option_to_list (verdict bound (reverse before) event))
+        ++ later) }
 {}
 
 /// A report is one of the reports on some events exactly where one of these events has it as its

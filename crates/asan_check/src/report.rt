@@ -1,5 +1,6 @@
-/// What kind of memory a bad access met, by the state of the first byte of its granule, or of the next granule where
-/// some byte of its own is addressable.
+//! What is reported of a bad event.
+/// What kind of memory a bad access met, by the state of the first byte of its granule, or of the
+/// next granule where some byte of its own is addressable.
 #[derive(Clone, Copy, Debug, PartialEq, Eq)]
 pub enum Class {
     HeapBufferOverflow,
@@ -30,8 +31,8 @@ pub enum Fault {
     BadFree {
         at: u64,
     },
-    /// A malloc that can't be: it isn't aligned, it has no room for its redzones, or its span meets that of another
-    /// block.
+    /// A malloc that can't be: it isn't aligned, it has no room for its redzones, or its span meets
+    /// that of another block.
     BadMalloc {
         at: u64,
         size: u64,

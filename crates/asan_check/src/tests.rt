@@ -1,3 +1,4 @@
+//! Events, and the calls of a checker that the tests share.
 mod beside_the_model;
 mod model;
 mod passing;

@@ -1,11 +1,14 @@
+//! The lines of text of reports and of ends.
 mod hex;
 mod pieces;
 #[cfg(test)]
 mod tests;
 
-ghost use Rattle.std.specs.Prelude.{◌≡◌, ◌+◌, ◌<◌, ◌≤◌, ◌++◌, length, OnErr, OnOk, string_bytes, string_capacity, string_len};
+ghost use Rattle.std.specs.Prelude.{◌≡◌, ◌+◌, ◌<◌, ◌≤◌, ◌++◌, length, OnErr, OnOk, string_bytes};
+ghost use Rattle.std.specs.Prelude.{string_capacity, string_len};
 ghost use Rattle.asan_check.specs.Appending.{AppendsPiece};
-ghost use Rattle.asan_check.specs.Lines.{end_line, ending_text, fate_text, fault_text, longest_line, report_line};
+ghost use Rattle.asan_check.specs.Lines.{end_line, ending_text, fate_text, fault_text};
+ghost use Rattle.asan_check.specs.Lines.{longest_line, report_line};
 
 use crate::{Ending, Fault, NoMemory, Report};
 use pieces::{
@@ -16,8 +19,8 @@ use trace_record::Fate;
 
 /// Appends the line of a report of a process, up to its line feed.
 ///
-/// The text grows where it lacks room for the line. Where a growth is refused, the answer is `NoMemory` and the text
-/// has the bytes that it had.
+/// The text grows where it lacks room for the line. Where a growth is refused, the answer is
+/// `NoMemory` and the text has the bytes that it had.
 pub fn report_text<A: Allocator>(
     process: u32,
     report: &Report,
@@ -43,8 +46,8 @@ pub fn report_text<A: Allocator>(
 
 /// Appends the line of the end of a process, up to its line feed.
 ///
-/// The text grows where it lacks room for the line. Where a growth is refused, the answer is `NoMemory` and the text
-/// has the bytes that it had.
+/// The text grows where it lacks room for the line. Where a growth is refused, the answer is
+/// `NoMemory` and the text has the bytes that it had.
 pub fn end_text<A: Allocator>(
     process: u32,
     ending: &Ending,
@@ -83,7 +86,7 @@ fn push_report<A: Allocator>(
     text.push_str("\n")
 }
 
-/// Appends what stands behind the event's number.
+/// Appends what stands after the event's number.
 fn push_fault<A: Allocator>(fault: &Fault, text: &mut String<A>) -> Result<(), NoMemory>
     ensures appends { AppendsPiece (fault_text fault.now) text.old text.new result }
     ensures short { OnOk result (length (fault_text fault.now) ≤ 150) }
@@ -134,7 +137,7 @@ fn push_end<A: Allocator>(
     text.push_str("\n")
 }
 
-/// Appends what stands behind `end`.
+/// Appends what stands after `end`.
 fn push_ending<A: Allocator>(ending: &Ending, text: &mut String<A>) -> Result<(), NoMemory>
     ensures appends { AppendsPiece (ending_text ending.now) text.old text.new result }
     ensures short { OnOk result (length (ending_text ending.now) ≤ 110) }

@@ -1,5 +1,6 @@
 -- The bytes of a group of pages.
-use Rattle.std.specs.Prelude.{ℕ, ◌/◌, ◌%◌, List, Option, Some, None, unwrap_or, slice_index, slice_index_or}
+use Rattle.std.specs.Prelude.{ℕ, ◌/◌, ◌%◌, List, Option, Some, None, unwrap_or, slice_index}
+use Rattle.std.specs.Prelude.{slice_index_or}
 use Rattle.std.specs.declared.boxed.Box.{Box}
 use Rattle.page_table.specs.declared.group.TheConstants.{PAGE, PAGES}
 use Rattle.page_table.specs.declared.group.Group.{Group}
@@ -9,8 +10,8 @@ abbrev pub boxed_byte : {A : Type 0} → Option (Box (List ℕ) A) → ℕ → �
 boxed_byte (Some bytes) index = slice_index bytes.value index
 boxed_byte None index = 0
 
--- the byte of a group at an index: the one byte of the page in which the index lies, and where that page has none, the one
--- in the box; behind the last page the first one comes again
+-- the byte of a group at an index: the one byte of the page in which the index lies, and where that
+-- page has none, the one in the box; past the last page the first one comes again
 abbrev pub group_byte : {A : Type 0} → Group A → ℕ → ℕ
 group_byte group index =
     unwrap_or (slice_index_or group.same (index / PAGE % PAGES) None) (boxed_byte group.each index)

@@ -7,7 +7,8 @@ use Rattle.page_table.specs.declared.run.Run.{Run}
 abbrev pub length_of : List Run → ℕ
 length_of runs = sum_by (λ run. run.length) runs
 
--- the byte at an offset from where the first run starts: that of the run in which it lies, and 0 past the last one
+-- the byte at an offset from where the first run starts: that of the run in which it lies, and 0
+-- past the last one
 abbrev pub byte_of_runs : List Run → ℕ → ℕ
 byte_of_runs [] offset = 0
 byte_of_runs (run ∷ runs) offset =

@@ -1,5 +1,6 @@
 -- What the bytes of a section come to.
-use Rattle.std.specs.Prelude.{◌≡◌, ◌≢◌, ℕ, ◌+◌, ◌-◌, ◌<◌, ◌≤◌, ◌^◌, ◌&&◌, nat_le, nat_lt, if◌then◌else◌, List}
+use Rattle.std.specs.Prelude.{◌≡◌, ◌≢◌, ℕ, ◌+◌, ◌-◌, ◌<◌, ◌≤◌, ◌^◌, ◌&&◌, nat_le, nat_lt}
+use Rattle.std.specs.Prelude.{if◌then◌else◌, List}
 use Rattle.page_table.specs.declared.run.Run.{Run}
 use Rattle.page_table.specs.Runs.{length_of, byte_of_runs}
 
@@ -7,22 +8,22 @@ use Rattle.page_table.specs.Runs.{length_of, byte_of_runs}
 abbrev pub IsWidth : ℕ → Type 0
 IsWidth width = (0 < width) × (width ≤ 2 ^ 47)
 
--- of the bytes at the indices below a width, those from one index up to another are this byte now, and the others what
--- they were
+-- of the bytes at the indices below a width, those from one index up to another are this byte now,
+-- and the others what they were
 abbrev pub IsFilled : ℕ → (ℕ → ℕ) → (ℕ → ℕ) → ℕ → ℕ → ℕ → Type 0
 IsFilled width old new from to byte =
     (index : ℕ) → index < width →
     new index ≡ (if nat_le from index && nat_lt index to then byte else old index)
 
--- the fill was broken off at an index whose byte had still to change: the bytes at the indices below it are set, and
--- nothing else has changed
+-- the fill was broken off at an index whose byte had still to change: the bytes at the indices
+-- below it are set, and nothing else has changed
 abbrev pub IsBrokenOff : ℕ → (ℕ → ℕ) → (ℕ → ℕ) → ℕ → ℕ → ℕ → Type 0
 IsBrokenOff width old new from to byte =
     (place : ℕ) × (from ≤ place) × (place < to) × IsFilled width old new from place byte
     × (old place ≢ byte)
 
--- the bytes from one index up to another have what the runs that start at the first of them say, and the others what they
--- had
+-- the bytes from one index up to another have what the runs that start at the first of them say,
+-- and the others what they had
 abbrev pub HasRunsUpTo : ℕ → (ℕ → ℕ) → (ℕ → ℕ) → ℕ → ℕ → List Run → Type 0
 HasRunsUpTo width old new from to runs =
     (index : ℕ) → index < width →

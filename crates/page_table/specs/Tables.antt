@@ -1,5 +1,6 @@
 -- The bytes of a table.
-use Rattle.std.specs.Prelude.{◌≡◌, ◌≢◌, ℕ, ◌+◌, ◌-◌, ◌*◌, ◌<◌, ◌≤◌, ◌^◌, ◌&&◌, nat_le, nat_lt, if◌then◌else◌, List}
+use Rattle.std.specs.Prelude.{◌≡◌, ◌≢◌, ℕ, ◌+◌, ◌-◌, ◌*◌, ◌<◌, ◌≤◌, ◌^◌, ◌&&◌, nat_le, nat_lt}
+use Rattle.std.specs.Prelude.{if◌then◌else◌, List}
 use Rattle.page_table.specs.declared.group.TheConstants.{GROUP}
 use Rattle.page_table.specs.declared.branch.TheConstants.{SECTIONS}
 use Rattle.page_table.specs.declared.table.PageTable.{PageTable}
@@ -8,7 +9,7 @@ use Rattle.page_table.specs.Runs.{length_of, byte_of_runs}
 use Rattle.page_table.specs.Groups.{group_byte}
 use Rattle.page_table.specs.Branches.{branch_byte}
 
--- how many granules a branch has that stands over so many levels of branches
+-- how many granules a branch has, by the number of levels of branches below it
 abbrev pub width_over : ℕ → ℕ
 width_over levels = SECTIONS ^ levels * GROUP
 
@@ -17,7 +18,8 @@ module _ {A : Type 0} where
   abbrev pub root_byte : PageTable A → ℕ → ℕ
   root_byte table granule =
       branch_byte (branch_byte (branch_byte (branch_byte (branch_byte group_byte
-      (width_over 0)) (width_over 1)) (width_over 2)) (width_over 3)) (width_over 4) table.root granule
+      (width_over 0)) (width_over 1)) (width_over 2)) (width_over 3))
+      (width_over 4) table.root granule
 
   -- the byte of a granule, and 0 past the last one
   unfoldable pub byte_of : PageTable A → ℕ → ℕ
@@ -29,15 +31,15 @@ module _ {A : Type 0} where
       (granule : ℕ) → byte_of new granule
       ≡ (if nat_le from granule && nat_lt granule to then byte else byte_of old granule)
 
-  -- the same, of the granules from one up to a place that comes before another and had still to change: its byte was not
-  -- this byte already
+  -- the same, of the granules from one up to a place that comes before another and had still to
+  -- change: its byte was not this byte already
   abbrev pub FillsBelow : PageTable A → PageTable A → ℕ → ℕ → ℕ → Type 0
   FillsBelow old new from to byte =
       (place : ℕ) × (from ≤ place) × (place < to) × Fills old new from place byte
       × (byte_of old place ≢ byte)
 
-  -- the granules from one up to another have the bytes that the runs from the first of them on say, and the others those
-  -- that they had
+  -- the granules from one up to another have the bytes that the runs from the first of them on say,
+  -- and the others those that they had
   abbrev pub FillsRunsUpTo : PageTable A → PageTable A → ℕ → ℕ → List Run → Type 0
   FillsRunsUpTo old new from to runs =
       (granule : ℕ) → byte_of new granule
@@ -48,9 +50,10 @@ module _ {A : Type 0} where
   abbrev pub FillsRuns : PageTable A → PageTable A → ℕ → List Run → Type 0
   FillsRuns old new from runs = FillsRunsUpTo old new from (from + length_of runs) runs
 
-  -- the same, of the granules from one up to a place that comes before the runs' end and had still to change: its byte
-  -- was not what the runs say already
+  -- the same, of the granules from one up to a place that comes before the runs' end and had still
+  -- to change: its byte was not what the runs say already
   abbrev pub FillsRunsBelow : PageTable A → PageTable A → ℕ → List Run → Type 0
   FillsRunsBelow old new from runs =
       (place : ℕ) × (from ≤ place) × (place < from + length_of runs)
-      × FillsRunsUpTo old new from place runs × (byte_of old place ≢ byte_of_runs runs (place - from))
+      × FillsRunsUpTo old new from place runs
+      × (byte_of old place ≢ byte_of_runs runs (place - from))

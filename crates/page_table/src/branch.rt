@@ -1,7 +1,7 @@
 //! A branch of a table.
 ghost use Rattle.std.specs.Prelude.{◌≡◌, ℕ, ◌+◌, ◌-◌, ◌*◌, ◌%◌, ◌<◌, ◌≤◌, OnOk, OnErr, vec_len};
 ghost use Rattle.page_table.specs.declared.branch.TheConstants.{SECTIONS};
-ghost use Rattle.page_table.specs.Sections.{IsWidth, IsFilled, IsBrokenOff};
+ghost use Rattle.page_table.specs.Sections.{IsWidth};
 
 use crate::run::Run;
 use crate::section::Section;
@@ -78,7 +78,7 @@ impl<S: Section<A>, A: Allocator + Copy> Section<A> for Branch<S, A> {
 }
 
 impl<S: Section<A>, A: Allocator + Copy> Branch<S, A> {
-    ghost use Rattle.page_table.specs.Branches.{branch_byte};
+    ghost use Rattle.page_table.specs.Branches.{branch_byte, FillsBranch, FillsBranchBelow};
 
     /// Sets the bytes at all indices. Gives back the memory of the sections.
     #[inline(never)]
@@ -101,10 +101,10 @@ impl<S: Section<A>, A: Allocator + Copy> Branch<S, A> {
         requires fits { S.fits }
         requires order { from < to }
         requires end { to ≤ SECTIONS * S.width }
-        ensures ok { OnOk result (IsFilled (SECTIONS * S.width)
-            (branch_byte S.byte_at S.width self.old) (branch_byte S.byte_at S.width self.new) from to byte) }
-        ensures err { OnErr result (IsBrokenOff (SECTIONS * S.width)
-            (branch_byte S.byte_at S.width self.old) (branch_byte S.byte_at S.width self.new) from to byte) }
+        ensures ok { OnOk result
+            (FillsBranch S.byte_at S.width self.old self.new from to byte) }
+        ensures err { OnErr result
+            (FillsBranchBelow S.byte_at S.width self.old self.new from to byte) }
     {
         let width = S::width();
         let mut at = from;
@@ -116,8 +116,8 @@ impl<S: Section<A>, A: Allocator + Copy> Branch<S, A> {
         Ok(())
     }
 
-    /// Sets the bytes at the indices from one up to another, which lie in one section. A section that is not kept and has
-    /// the byte already stays so.
+    /// Sets the bytes at the indices from one up to another, which lie in one section. A section
+    /// that is not kept and has the byte already stays so.
     #[inline]
     fn fill_within_section(
         &mut self,
@@ -130,10 +130,10 @@ impl<S: Section<A>, A: Allocator + Copy> Branch<S, A> {
         requires order { from < to }
         requires within { to ≤ from - from % S.width + S.width }
         requires end { to ≤ SECTIONS * S.width }
-        ensures ok { OnOk result (IsFilled (SECTIONS * S.width)
-            (branch_byte S.byte_at S.width self.old) (branch_byte S.byte_at S.width self.new) from to byte) }
-        ensures err { OnErr result (IsBrokenOff (SECTIONS * S.width)
-            (branch_byte S.byte_at S.width self.old) (branch_byte S.byte_at S.width self.new) from to byte) }
+        ensures ok { OnOk result
+            (FillsBranch S.byte_at S.width self.old self.new from to byte) }
+        ensures err { OnErr result
+            (FillsBranchBelow S.byte_at S.width self.old self.new from to byte) }
     {
         let width = S::width();
         let place = (from / width) as usize;
@@ -147,11 +147,13 @@ impl<S: Section<A>, A: Allocator + Copy> Branch<S, A> {
         self.kept[place].fill(alloc, first, first + (to - from), byte)
     }
 
-    /// Keeps at least so many sections. Takes memory once, for all sections of the branch.
+    /// Keeps at least this number of sections. Takes memory once, for all sections of the branch.
     #[inline(never)]
     fn keep(&mut self, alloc: A, count: usize) -> Result<(), AllocError>
         ensures ok { OnOk result (count ≤ vec_len self.new.kept) }
-        ensures same { (index : ℕ) → branch_byte S.byte_at S.width self.new index ≡ branch_byte S.byte_at S.width self.old index }
+        ensures same { (index : ℕ) →
+            branch_byte S.byte_at S.width self.new index
+            ≡ branch_byte S.byte_at S.width self.old index }
     {
         if self.kept.is_empty() {
             self.kept = Vec::with_capacity(alloc, SECTIONS)?;

@@ -1,5 +1,7 @@
 //! A group of pages.
-ghost use Rattle.std.specs.Prelude.{◌≡◌, ◌≢◌, ℕ, ◌+◌, ◌-◌, ◌%◌, ◌<◌, ◌≤◌, ◌&&◌, nat_le, nat_lt, if◌then◌else◌, OnOk, OnErr, IfOk, IsSome, None, slice_index, slice_index_or};
+ghost use Rattle.std.specs.Prelude.{◌≡◌, ◌≢◌, ℕ, ◌+◌, ◌-◌, ◌%◌, ◌<◌, ◌≤◌, ◌&&◌, nat_le, nat_lt};
+ghost use Rattle.std.specs.Prelude.{if◌then◌else◌, OnOk, OnErr, IfOk, IsSome, None, slice_index};
+ghost use Rattle.std.specs.Prelude.{slice_index_or};
 ghost use Rattle.page_table.specs.declared.group.TheConstants.{PAGE, PAGES, GROUP};
 ghost use Rattle.page_table.specs.Sections.{IsWidth, IsFilled, HasRuns};
 ghost use Rattle.page_table.specs.Runs.{length_of};
@@ -17,7 +19,8 @@ const PAGES: usize = 8;
 /// How many bytes a group has.
 const GROUP: usize = PAGES * PAGE;
 
-/// Pages side by side. One that was filled whole, at once, is kept as that one byte. The others have their bytes in one box.
+/// Pages side by side. One that was filled whole, at once, is kept as that one byte. The others
+/// have their bytes in one box.
 #[derive(Drop)]
 pub struct Group<A: Allocator = Global> {
     // The byte of each page that is kept as one byte.
@@ -99,13 +102,16 @@ impl<A: Allocator + Copy> Section<A> for Group<A> {
 impl<A: Allocator + Copy> Group<A> {
     ghost use Rattle.page_table.specs.Groups.{group_byte};
 
-    /// Sets the bytes from an index up to another, which lie in one page. Takes memory once, for all pages of the group.
+    /// Sets the bytes from an index up to another, which lie in one page. Takes memory once, for
+    /// all pages of the group.
     fn fill_page(&mut self, alloc: A, from: usize, to: usize, byte: u8) -> Result<(), AllocError>
         requires order { from < to }
         requires within { to ≤ from - from % PAGE + PAGE }
         requires end { to ≤ GROUP }
-        ensures ok { OnOk result (IsFilled GROUP (group_byte self.old) (group_byte self.new) from to byte) }
-        ensures err { OnErr result ((index : ℕ) → group_byte self.new index ≡ group_byte self.old index) }
+        ensures ok { OnOk result (IsFilled GROUP (group_byte self.old)
+            (group_byte self.new) from to byte) }
+        ensures err { OnErr result ((index : ℕ) →
+            group_byte self.new index ≡ group_byte self.old index) }
         ensures needed { OnErr result (group_byte self.old from ≢ byte) }
     {
         let page = from / PAGE;
@@ -153,7 +159,8 @@ fn fill_bytes(bytes: &mut [u8; GROUP], from: usize, to: usize, byte: u8)
 fn fill_runs(bytes: &mut [u8; GROUP], from: usize, runs: &[Run])
     requires end { from + length_of runs.now ≤ GROUP }
     ensures { HasRuns GROUP
-        (λ index. slice_index bytes.old index) (λ index. slice_index bytes.new index) from runs.now }
+        (λ index. slice_index bytes.old index)
+        (λ index. slice_index bytes.new index) from runs.now }
 {
     let mut at = from;
     for run in runs {

@@ -30,17 +30,19 @@ pub trait Section<A: Allocator + Copy>: Drop {
         requires within { index < width }
         ensures { result ≡ byte_at self.now index };
 
-    /// Sets the bytes at the indices from one up to another. Where memory is refused, those below some index are set, and
-    /// the others are as they were.
+    /// Sets the bytes at the indices from one up to another. Where memory is refused, those below
+    /// some index are set, and the others are as they were.
     fn fill(&mut self, alloc: A, from: u64, to: u64, byte: u8) -> Result<(), AllocError>
         requires fits { fits }
         requires order { from < to }
         requires end { to ≤ width }
-        ensures ok { OnOk result (IsFilled width (byte_at self.old) (byte_at self.new) from to byte) }
-        ensures err { OnErr result (IsBrokenOff width (byte_at self.old) (byte_at self.new) from to byte) };
+        ensures ok { OnOk result (IsFilled width (byte_at self.old)
+            (byte_at self.new) from to byte) }
+        ensures err { OnErr result (IsBrokenOff width (byte_at self.old)
+            (byte_at self.new) from to byte) };
 
-    /// Sets the bytes at the indices from one up to another, run after run, if these are a part of one page that has bytes
-    /// of its own, and says whether it did. Takes no memory.
+    /// Sets the bytes at the indices from one up to another, run after run, if these are a part of
+    /// one page that has bytes of its own, and says whether it did. Takes no memory.
     fn write_runs(&mut self, from: u64, to: u64, runs: &[Run]) -> bool
         requires fits { fits }
         requires length { to ≡ from + length_of runs.now }

@@ -9,7 +9,8 @@ use crate::run::{Run, total_length};
 use crate::section::{Section, fill_each_run};
 use std::alloc::{AllocError, Allocator, Global};
 
-/// The branches by how many levels of them there are: each has 128 times the granules of one of the level below.
+/// The branches by how many levels of them there are: each has 128 times the granules of one of the
+/// level below.
 type Level1<A> = Branch<Group<A>, A>;
 
 type Level2<A> = Branch<Level1<A>, A>;
@@ -29,8 +30,8 @@ const _: () = prove!(size_of::<Level5<Global>>() == 32);
 
 /// A byte for each granule below 2^44.
 ///
-/// The memory that one fill takes depends on its two ends alone: the 4,096 bytes of a group and a branch of each level
-/// for each of them, where these are not there yet.
+/// The memory that one fill takes depends on its two ends alone: the 4,096 bytes of a group and a
+/// branch of each level for each of them, where these are not there yet.
 #[derive(Drop)]
 pub struct PageTable<A: Allocator + Copy = Global> {
     root: Level5<A>,
@@ -59,8 +60,9 @@ impl<A: Allocator + Copy> PageTable<A> {
         self.root.byte(granule)
     }
 
-    /// Sets the bytes of the granules from one up to another. A fill that changes nothing where nothing is kept takes no
-    /// memory. Where memory is refused, the granules below some place are set, and the others are as they were.
+    /// Sets the bytes of the granules from one up to another. A fill that changes nothing where
+    /// nothing is kept takes no memory. Where memory is refused, the granules below some place are
+    /// set, and the others are as they were.
     #[tactic(auto, unfolding(crate::specs::Tables::byte_of))]
     pub fn fill(&mut self, from: u64, to: u64, byte: u8) -> Result<(), AllocError>
         requires order { from ≤ to }
@@ -78,9 +80,10 @@ impl<A: Allocator + Copy> PageTable<A> {
         Ok(())
     }
 
-    /// Sets the bytes of the granules from one on, run after run. It takes no more memory than a fill for each run does,
-    /// and is faster where all runs lie in one page that has bytes of its own. Where memory is refused, the granules
-    /// below some place are set, and the others are as they were.
+    /// Sets the bytes of the granules from one on, run after run. It takes no more memory than a
+    /// fill for each run does, and is faster where all runs lie in one page that has bytes of its
+    /// own. Where memory is refused, the granules below some place are set, and the others are as
+    /// they were.
     #[tactic(auto, unfolding(crate::specs::Tables::byte_of))]
     pub fn fill_runs(&mut self, from: u64, runs: &[Run]) -> Result<(), AllocError>
         requires end { from + length_of runs.now ≤ 2 ^ 44 }

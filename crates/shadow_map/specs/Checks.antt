@@ -9,8 +9,9 @@ is_width width = width == 1 || width == 2 || width == 4 || width == 8
 abbrev pub is_negative : ℕ → Bool
 is_negative shadow = nat_le 0x80 shadow
 
--- whether the check reports an access, by the shadow byte of the granule of its first byte: an access of 8 bytes where
--- the shadow byte is not 0, a narrower one where it is not 0 and the access reaches past the bytes that it counts
+-- whether the check reports an access, by the shadow byte of the granule of its first byte: an
+-- access of 8 bytes where the shadow byte is not 0, a narrower one where it is not 0 and the access
+-- reaches past the bytes that it counts
 abbrev pub check_reports : ℕ → ℕ → ℕ → Bool
 check_reports shadow at width =
     not (shadow == 0) && (width == 8 || is_negative shadow || nat_lt shadow (at % 8 + width))

@@ -1,5 +1,7 @@
--- What each call makes of one granule's shadow byte, in numbers. Two laws and the contracts of private functions cite this.
-use Rattle.std.specs.Prelude.{ℕ, ◌+◌, ◌-◌, ◌*◌, ◌/◌, ◌%◌, ◌==◌, ◌&&◌, nat_lt, nat_le, if◌then◌else◌, min}
+-- What each call makes of one granule's shadow byte, in numbers. Two laws and the contracts of
+-- private functions cite this.
+use Rattle.std.specs.Prelude.{ℕ, ◌+◌, ◌-◌, ◌*◌, ◌/◌, ◌%◌, ◌==◌, ◌&&◌, nat_lt, nat_le, if◌then◌else◌}
+use Rattle.std.specs.Prelude.{min}
 use Rattle.shadow_map.specs.declared.granule.Change.{Change}
 use Rattle.shadow_map.specs.declared.granule.Change.TheVariants.{Poisoned, Unpoisoned}
 
@@ -7,7 +9,8 @@ use Rattle.shadow_map.specs.declared.granule.Change.TheVariants.{Poisoned, Unpoi
 abbrev pub front_of : ℕ → ℕ
 front_of shadow = if shadow == 0 then 8 else (if nat_lt shadow 8 then shadow else 0)
 
--- how many of the first bytes, so many, stay addressable when those from one place up to another are poisoned
+-- how many of this number of first bytes stay addressable when those from one place up to another
+-- are poisoned
 abbrev pub poisoned_front : ℕ → ℕ → ℕ → ℕ
 poisoned_front front from to =
     if from == 0 && to == 8 then 0
@@ -40,10 +43,11 @@ abbrev pub inside_byte : Change → ℕ
 inside_byte Poisoned = 0xf7
 inside_byte Unpoisoned = 0
 
--- the shadow byte of a granule after a block of so many bytes is marked at an address
+-- the shadow byte of a granule after a block is marked, by its address and size
 abbrev pub block_byte : ℕ → ℕ → ℕ → ℕ → ℕ
 block_byte at size granule shadow =
     if nat_le (at / 8 - 4) granule && nat_lt granule (at / 8 + (size + 7) / 8 + 4)
     then (if nat_le (at / 8) granule && nat_lt granule (at / 8 + size / 8) then 0
-    else (if nat_le (at / 8 + size / 8) granule && nat_lt granule (at / 8 + (size + 7) / 8) then size % 8 else 0xfa))
+    else (if nat_le (at / 8 + size / 8) granule && nat_lt granule (at / 8 + (size + 7) / 8)
+    then size % 8 else 0xfa))
     else shadow

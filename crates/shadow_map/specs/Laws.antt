@@ -1,30 +1,40 @@
--- What the definitions of states, shadow bytes and bad bytes come to, for every list of marks that calls may make.
-use Rattle.std.specs.Prelude.{◌≡◌, ℕ, ◌+◌, ◌-◌, ◌*◌, ◌/◌, ◌^◌, ◌<◌, ◌≤◌, ◌↔◌, min, is_some, IsTrue, MatchOption, List, ◌∷◌}
-use Rattle.shadow_map.specs.States.{State, Addressable, code_of, Mark, Poison, Unpoison, AreMarks, state_of, lift, least_unaddressable, bad_byte_of}
+-- What the definitions of states, shadow bytes and bad bytes come to, for every list of marks that
+-- calls may make.
+use Rattle.std.specs.Prelude.{◌≡◌, ℕ, ◌+◌, ◌-◌, ◌*◌, ◌/◌, ◌^◌, ◌<◌, ◌≤◌, ◌↔◌, min, is_some, IsTrue}
+use Rattle.std.specs.Prelude.{MatchOption, List, ◌∷◌}
+use Rattle.shadow_map.specs.States.{State, Addressable, code_of, Mark, Poison, Unpoison, AreMarks}
+use Rattle.shadow_map.specs.States.{state_of, lift, least_unaddressable, bad_byte_of}
 use Rattle.shadow_map.specs.Granules.{poisoned_byte, unpoisoned_byte}
 use Rattle.shadow_map.specs.Checks.{is_width, is_negative, check_reports}
 
 -- an addressable byte has only addressable bytes before it in its granule
 abbrev pub AddressableBytesLead : Type 0
 AddressableBytesLead =
-    (marks : List Mark) → AreMarks marks → (byte earlier : ℕ) → earlier ≤ byte → earlier / 8 ≡ byte / 8 →
+    (marks : List Mark) → AreMarks marks → (byte earlier : ℕ) → earlier ≤ byte →
+    earlier / 8 ≡ byte / 8 →
     state_of marks byte ≡ Addressable → state_of marks earlier ≡ Addressable
 
 -- the byte at a place of a granule is addressable
 abbrev pub IsAddressableAt : (ℕ → State) → ℕ → ℕ → Type 0
 IsAddressableAt states granule place = states (8 * granule + place) ≡ Addressable
 
--- what the shadow byte of a granule tells: 0, that all its bytes are addressable; a number from 1 to 7, that so many first
--- ones are and no others; and a number that is negative as a signed one, that none is, and the state of the first
+-- what the shadow byte of a granule says: 0, that all its bytes are addressable; a number from 1 to
+-- 7, that this number of first ones are and no others; and a number that is negative as a signed
+-- one, that none is, and the state of the first
 pub record Tells (states : ℕ → State) (granule : ℕ) : Type 0 where
-  pub all : (lift states granule ≡ 0) ↔ ((place : ℕ) → place < 8 → IsAddressableAt states granule place)
+  pub all : (lift states granule ≡ 0)
+      ↔ ((place : ℕ) → place < 8 → IsAddressableAt states granule place)
   pub some : (count : ℕ) → 0 < count → count < 8 →
-      (lift states granule ≡ count) ↔ ((place : ℕ) → place < 8 → IsAddressableAt states granule place ↔ (place < count))
-  pub none : IsTrue (is_negative (lift states granule)) ↔ ((place : ℕ) → place < 8 → ¬ IsAddressableAt states granule place)
-  pub kind : IsTrue (is_negative (lift states granule)) → lift states granule ≡ code_of (states (8 * granule))
+      (lift states granule ≡ count)
+      ↔ ((place : ℕ) → place < 8 → IsAddressableAt states granule place ↔ (place < count))
+  pub none : IsTrue (is_negative (lift states granule))
+      ↔ ((place : ℕ) → place < 8 → ¬ IsAddressableAt states granule place)
+  pub kind : IsTrue (is_negative (lift states granule)) →
+      lift states granule ≡ code_of (states (8 * granule))
 
 abbrev pub ShadowByteTellsTheGranule : Type 0
-ShadowByteTellsTheGranule = (marks : List Mark) → AreMarks marks → (granule : ℕ) → Tells (state_of marks) granule
+ShadowByteTellsTheGranule =
+    (marks : List Mark) → AreMarks marks → (granule : ℕ) → Tells (state_of marks) granule
 
 -- a byte is the first one from an address on that is not addressable
 pub record IsFirstUnaddressable (states : ℕ → State) (at found : ℕ) : Type 0 where
@@ -32,8 +42,8 @@ pub record IsFirstUnaddressable (states : ℕ → State) (at found : ℕ) : Type
   pub unaddressable : ¬ (states found ≡ Addressable)
   pub addressable_before : (byte : ℕ) → at ≤ byte → byte < found → states byte ≡ Addressable
 
--- of a region, the first byte that is not addressable is the first one from its start on, if that is in the region; there
--- is none if all its bytes are addressable
+-- of a region, the first byte that is not addressable is the first one from its start on, if that
+-- is in the region; there is none if all its bytes are addressable
 abbrev pub FirstUnaddressableOfARegion : Type 0
 FirstUnaddressableOfARegion =
     (states : ℕ → State) (at size : ℕ) →
@@ -41,8 +51,9 @@ FirstUnaddressableOfARegion =
     ((byte : ℕ) → at ≤ byte → byte < at + size → states byte ≡ Addressable)
     (λ found. (found < at + size) × IsFirstUnaddressable states at found)
 
--- of an access, the bad byte is the first one from its start on that is not addressable, if that is a byte of the access
--- and in the granule of its first byte; there is none if all its bytes in that granule are addressable
+-- of an access, the bad byte is the first one from its start on that is not addressable, if that is
+-- a byte of the access and in the granule of its first byte; there is none if all its bytes in that
+-- granule are addressable
 abbrev pub BadByteOfAnAccess : Type 0
 BadByteOfAnAccess =
     (states : ℕ → State) (at width : ℕ) →
@@ -54,27 +65,32 @@ BadByteOfAnAccess =
 abbrev pub ShadowCheckFindsTheBadByte : Type 0
 ShadowCheckFindsTheBadByte =
     (marks : List Mark) → AreMarks marks → (at width : ℕ) → IsTrue (is_width width) →
-    check_reports (lift (state_of marks) (at / 8)) at width ≡ is_some (bad_byte_of (state_of marks) at width)
+    check_reports (lift (state_of marks) (at / 8)) at width
+    ≡ is_some (bad_byte_of (state_of marks) at width)
 
 -- no mark reaches the end of the memory
 abbrev pub AllPastTheEndIsAddressable : Type 0
 AllPastTheEndIsAddressable =
-    (marks : List Mark) → AreMarks marks → (byte : ℕ) → 2 ^ 47 ≤ byte → state_of marks byte ≡ Addressable
+    (marks : List Mark) → AreMarks marks → (byte : ℕ) → 2 ^ 47 ≤ byte →
+    state_of marks byte ≡ Addressable
 
 -- where in a granule an address lies: 0 before it, and 8 past it
 abbrev pub place_in : ℕ → ℕ → ℕ
 place_in granule address = min 8 (address - 8 * granule)
 
--- what a poison makes of a granule's shadow byte, by the byte before and by the part of the granule that it speaks of
+-- what a poison makes of a granule's shadow byte, by the byte before and by the part of the granule
+-- that it speaks of
 abbrev pub PoisonOfAGranule : Type 0
 PoisonOfAGranule =
     (marks : List Mark) → AreMarks marks → (at size granule : ℕ) → at + size ≤ 2 ^ 47 →
     lift (state_of (Poison at size ∷ marks)) granule
-    ≡ poisoned_byte (lift (state_of marks) granule) (place_in granule at) (place_in granule (at + size))
+    ≡ poisoned_byte (lift (state_of marks) granule)
+    (place_in granule at) (place_in granule (at + size))
 
 -- the same of an unpoison
 abbrev pub UnpoisonOfAGranule : Type 0
 UnpoisonOfAGranule =
     (marks : List Mark) → AreMarks marks → (at size granule : ℕ) → at + size ≤ 2 ^ 47 →
     lift (state_of (Unpoison at size ∷ marks)) granule
-    ≡ unpoisoned_byte (lift (state_of marks) granule) (place_in granule at) (place_in granule (at + size))
+    ≡ unpoisoned_byte (lift (state_of marks) granule)
+    (place_in granule at) (place_in granule (at + size))

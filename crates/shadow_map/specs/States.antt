@@ -1,8 +1,10 @@
 -- What each byte of memory is after a list of marks, the newest first, and what its shadow says.
 --
--- The shadow byte of a granule is that of the paper of 2012. The codes, the redzones' size and what poison and unpoison
--- do to a granule that they cover in part are this project's choice (profile).
-use Rattle.std.specs.Prelude.{ℕ, zero, suc, ◌+◌, ◌-◌, ◌*◌, ◌/◌, ◌%◌, ◌^◌, ◌≤◌, ◌≡◌, min, Bool, true, false, not, ◌&&◌, ◌||◌, ◌==◌, nat_lt, nat_le, if◌then◌else◌, List, [], ◌∷◌, Option, Some, None, unwrap_or}
+-- The shadow byte of a granule is that of the paper of 2012. The codes, the redzones' size and what
+-- poison and unpoison do to a granule that they cover in part are this project's choice (profile).
+use Rattle.std.specs.Prelude.{ℕ, zero, suc, ◌+◌, ◌-◌, ◌*◌, ◌/◌, ◌%◌, ◌^◌, ◌≤◌, ◌≡◌, min, Bool, true}
+use Rattle.std.specs.Prelude.{false, not, ◌&&◌, ◌||◌, ◌==◌, nat_lt, nat_le, if◌then◌else◌, List, []}
+use Rattle.std.specs.Prelude.{◌∷◌, Option, Some, None, unwrap_or}
 use Rattle.std.specs.List.{list_all}
 
 -- what a byte is
@@ -18,15 +20,16 @@ is_addressable HeapRedzone = false
 is_addressable Freed = false
 is_addressable UserPoison = false
 
--- the shadow byte that tells the state of a whole granule
+-- the shadow byte of a granule all of whose bytes have this state
 abbrev pub code_of : State → ℕ
 code_of Addressable = 0
 code_of HeapRedzone = 0xfa
 code_of Freed = 0xfd
 code_of UserPoison = 0xf7
 
--- what a call does to memory: it fills whole granules, from an address up to another, with a state; it lays a block of
--- so many bytes at an address, between its redzones; it poisons a region of so many bytes at an address, or unpoisons it
+-- what a call does to memory: it fills whole granules, from an address up to another, with a state;
+-- it lays a block, by its address and size, between its redzones; it poisons a region, by its
+-- address and size, or unpoisons it
 pub data Mark : Type 0 where
   Fill : ℕ → ℕ → State → Mark
   Block : ℕ → ℕ → Mark
@@ -56,12 +59,15 @@ granule_lies_in from to byte = nat_le from (8 * (byte / 8)) && nat_le (8 * (byte
 -- whether no byte of a granule, from an address on, is addressable
 abbrev pub none_addressable_from : (ℕ → State) → ℕ → ℕ → Bool
 none_addressable_from before from granule =
-    list_all (λ place. nat_lt (8 * granule + place) from || not (is_addressable (before (8 * granule + place)))) places
+    list_all (λ place. nat_lt (8 * granule + place) from
+    || not (is_addressable (before (8 * granule + place)))) places
 
--- the state that a mark gives to a byte, if it covers it, where the states before the mark were these.
--- A fill covers its range. A block covers its span: the block's bytes are addressable, the others a redzone.
--- Poison covers a byte whose granule lies wholly in its region; any other byte of the region only where it is
--- addressable and no byte of its granule at the region's end or past it is.
+-- the state that a mark gives to a byte, if it covers it, where the states before the mark were
+-- these.
+-- A fill covers its range. A block covers its span: the block's bytes are addressable, the others a
+-- redzone.
+-- Poison covers a byte whose granule lies wholly in its region; any other byte of the region only
+-- where it is addressable and no byte of its granule at the region's end or past it is.
 -- Unpoison covers a byte where it or a later byte of its granule lies in the region.
 abbrev pub given : (ℕ → State) → Mark → ℕ → Option State
 given before (Fill from to state) byte = if lies_in from to byte then Some state else None
@@ -71,39 +77,43 @@ given before (Block at size) byte =
     else None
 given before (Poison at size) byte =
     if granule_lies_in at (at + size) byte then Some UserPoison
-    else (if lies_in at (at + size) byte && is_addressable (before byte) && none_addressable_from before (at + size) (byte / 8)
+    else (if lies_in at (at + size) byte && is_addressable (before byte)
+    && none_addressable_from before (at + size) (byte / 8)
     then Some UserPoison
     else None)
 given before (Unpoison at size) byte =
-    if nat_lt 0 size && nat_lt byte (at + size) && nat_lt at (8 * (byte / 8) + 8) then Some Addressable else None
+    if nat_lt 0 size && nat_lt byte (at + size) && nat_lt at (8 * (byte / 8) + 8)
+    then Some Addressable else None
 
 -- the state of a byte: what the last mark that covers it gives to it, and addressable if none does
 abbrev pub state_of : List Mark → ℕ → State
 state_of [] byte = Addressable
 state_of (mark ∷ marks) byte = unwrap_or (given (state_of marks) mark byte) (state_of marks byte)
 
--- how many bytes from a byte on, of so many at most, are addressable before one is not
+-- of a number of bytes from a byte on, how many are addressable before one is not
 abbrev pub addressable_front : (ℕ → State) → ℕ → ℕ → ℕ
 addressable_front states byte zero = 0
 addressable_front states byte (suc count) =
     if is_addressable (states byte) then suc (addressable_front states (byte + 1) count) else 0
 
--- the shadow byte of a granule whose first bytes, so many, are addressable, and whose first byte has this state
+-- the shadow byte of a granule, by the number of its addressable first bytes and by the state of
+-- its first byte
 abbrev pub shadow_byte : ℕ → State → ℕ
 shadow_byte front first = if front == 8 then 0 else (if front == 0 then code_of first else front)
 
--- the shadow byte of a granule: 0 where all its bytes are addressable, the number of its addressable bytes where its
--- first ones are, and else the code of its first byte
+-- the shadow byte of a granule: 0 where all its bytes are addressable, the number of its
+-- addressable bytes where its first ones are, and else the code of its first byte
 abbrev pub lift : (ℕ → State) → ℕ → ℕ
 lift states granule = shadow_byte (addressable_front states (8 * granule) 8) (states (8 * granule))
 
--- the least of so many bytes from a byte on that is not addressable
+-- of a number of bytes from a byte on, the first that is not addressable
 abbrev pub least_unaddressable : (ℕ → State) → ℕ → ℕ → Option ℕ
 least_unaddressable states byte zero = None
 least_unaddressable states byte (suc count) =
     if is_addressable (states byte) then least_unaddressable states (byte + 1) count else Some byte
 
--- the bad byte of an access: the least of its bytes in the granule of its first byte that is not addressable
+-- the bad byte of an access: the least of its bytes in the granule of its first byte that is not
+-- addressable
 abbrev pub bad_byte_of : (ℕ → State) → ℕ → ℕ → Option ℕ
 bad_byte_of states at width = least_unaddressable states at (min width (8 - at % 8))
 

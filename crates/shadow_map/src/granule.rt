@@ -1,6 +1,7 @@
 //! One granule: its shadow byte, and what a call makes of it.
 ghost use Rattle.std.specs.Prelude.{◌≡◌, ◌-◌, ◌*◌, ◌^◌, ◌<◌, ◌≤◌, min};
-ghost use Rattle.shadow_map.specs.Granules.{front_of, poisoned_byte, unpoisoned_byte, changed_byte, inside_byte};
+ghost use Rattle.shadow_map.specs.Granules.{front_of, poisoned_byte, unpoisoned_byte, changed_byte};
+ghost use Rattle.shadow_map.specs.Granules.{inside_byte};
 
 /// How many bytes a granule has.
 pub const GRANULE: u64 = 8;
@@ -55,7 +56,8 @@ impl Change {
         }
     }
 
-    /// The shadow byte of a granule whose bytes from one place up to another lie in the region, by the one before.
+    /// The shadow byte of a granule whose bytes from one place up to another lie in the region, by
+    /// the one before.
     pub fn byte(self, shadow: u8, from: u8, to: u8) -> u8
         requires { to ≤ 8 }
         ensures { result ≡ changed_byte self shadow from to }
@@ -82,7 +84,8 @@ fn poisoned(shadow: u8, from: u8, to: u8) -> u8
     }
 }
 
-/// The shadow byte after the bytes from one place up to another, and those before them, are addressable.
+/// The shadow byte after the bytes from one place up to another, and those before them, are
+/// addressable.
 fn unpoisoned(shadow: u8, from: u8, to: u8) -> u8
     requires { to ≤ 8 }
     ensures { result ≡ unpoisoned_byte shadow from to }

@@ -1,24 +1,30 @@
-//! Laws of the definitions that the contracts of this crate cite. The functions do nothing: each is there for its contract.
-ghost use Rattle.shadow_map.specs.Laws.{AddressableBytesLead, AllPastTheEndIsAddressable, BadByteOfAnAccess, FirstUnaddressableOfARegion, PoisonOfAGranule, ShadowByteTellsTheGranule, ShadowCheckFindsTheBadByte, UnpoisonOfAGranule};
+//! Laws of the definitions that the contracts of this crate cite. The functions do nothing: each is
+//! there for its contract.
+ghost use Rattle.shadow_map.specs.Laws.{AddressableBytesLead, AllPastTheEndIsAddressable};
+ghost use Rattle.shadow_map.specs.Laws.{BadByteOfAnAccess, FirstUnaddressableOfARegion};
+ghost use Rattle.shadow_map.specs.Laws.{PoisonOfAGranule, ShadowByteTellsTheGranule};
+ghost use Rattle.shadow_map.specs.Laws.{ShadowCheckFindsTheBadByte, UnpoisonOfAGranule};
 
 /// In every granule the addressable bytes come first.
 pub fn addressable_bytes_lead()
     ensures { AddressableBytesLead }
 {}
 
-/// A shadow byte is 0 exactly where all bytes of its granule are addressable, k from 1 to 7 exactly where the first k are
-/// and no others, and negative as a signed number exactly where none is; then it is the code of the first byte's state.
+/// A shadow byte is 0 exactly where all bytes of its granule are addressable, k from 1 to 7 exactly
+/// where the first k are and no others, and negative as a signed number exactly where none is; then
+/// it is the code of the first byte's state.
 pub fn shadow_byte_tells_the_granule()
     ensures { ShadowByteTellsTheGranule }
 {}
 
-/// The first unaddressable byte of a region is what its name says: all bytes of the region before it are addressable, and it
-/// is not.
+/// The first unaddressable byte of a region is what its name says: all bytes of the region before
+/// it are addressable, and it is not.
 pub fn first_unaddressable_of_a_region()
     ensures { FirstUnaddressableOfARegion }
 {}
 
-/// The bad byte of an access is the first of its bytes in the granule of its first byte that is not addressable.
+/// The bad byte of an access is the first of its bytes in the granule of its first byte that is not
+/// addressable.
 pub fn bad_byte_of_an_access()
     ensures { BadByteOfAnAccess }
 {}
@@ -33,8 +39,9 @@ pub fn all_past_the_end_is_addressable()
     ensures { AllPastTheEndIsAddressable }
 {}
 
-/// What a poison makes of a granule. Of a part from its byte `from` up to its byte `to`: a whole granule becomes poisoned; else,
-/// where the part takes in the last addressable byte, the bytes before `from` stay addressable and no others; else nothing changes.
+/// What a poison makes of a granule. Of a part from its byte `from` up to its byte `to`: a whole
+/// granule becomes poisoned; else, where the part takes in the last addressable byte, the bytes
+/// before `from` stay addressable and no others; else nothing changes.
 pub fn poison_of_a_granule()
     ensures { PoisonOfAGranule }
 {}

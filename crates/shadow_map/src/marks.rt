@@ -1,6 +1,8 @@
 //! The calls that mark memory.
-ghost use Rattle.std.specs.Prelude.{◌≡◌, ◌≢◌, ℕ, ◌+◌, ◌-◌, ◌/◌, ◌%◌, ◌^◌, ◌<◌, ◌≤◌, ◌==◌, ◌&&◌, not, if◌then◌else◌, IsTrue, OnOk, OnErr};
-ghost use Rattle.shadow_map.specs.States.{State, Fill, Block, Poison, Unpoison, code_of, redzone, rounded};
+ghost use Rattle.std.specs.Prelude.{◌≡◌, ◌≢◌, ℕ, ◌+◌, ◌-◌, ◌/◌, ◌%◌, ◌^◌, ◌<◌, ◌≤◌, ◌==◌, ◌&&◌};
+ghost use Rattle.std.specs.Prelude.{not, if◌then◌else◌, IsTrue, OnOk, OnErr};
+ghost use Rattle.shadow_map.specs.States.{State, Fill, Block, Poison, Unpoison, code_of, redzone};
+ghost use Rattle.shadow_map.specs.States.{rounded};
 ghost use Rattle.shadow_map.specs.Shows.{value_at};
 ghost use Rattle.shadow_map.specs.Calls.{is_code, Adds, AddsInPart, IsBrokenOff};
 ghost use Rattle.shadow_map.specs.Granules.{block_byte, changed_in};
@@ -18,7 +20,8 @@ const REDZONE: u64 = 4;
 /// granule, so a granule that keeps its shadow byte takes no memory. A region of size 0 has no
 /// granule, and its call does nothing.
 impl<A: Allocator + Copy> Shadow<A> {
-    /// Marks the whole granules from one address up to another by a code: [`HEAP_REDZONE`], [`FREED`] or [`USER_POISON`].
+    /// Marks the whole granules from one address up to another by a code: [`HEAP_REDZONE`],
+    /// [`FREED`] or [`USER_POISON`].
     ///
     /// [`FREED`]: crate::FREED
     /// [`USER_POISON`]: crate::USER_POISON
@@ -35,8 +38,9 @@ impl<A: Allocator + Copy> Shadow<A> {
         self.fill(from / GRANULE, to / GRANULE, code)
     }
 
-    /// Marks a block of `size` bytes at `at`, a multiple of 8: its bytes are addressable, and what is left of its last
-    /// granule is a heap redzone, as are the 32 bytes before its first granule and the 32 after its last.
+    /// Marks a block of `size` bytes at `at`, a multiple of 8: its bytes are addressable, and what
+    /// is left of its last granule is a heap redzone, as are the 32 bytes before its first granule
+    /// and the 32 after its last.
     pub fn block(&mut self, at: u64, size: u64) -> Result<(), NoMemory>
         requires granules { at % 8 ≡ 0 }
         requires room { redzone ≤ at }
@@ -47,9 +51,10 @@ impl<A: Allocator + Copy> Shadow<A> {
         self.block_granules(at, size)
     }
 
-    /// Poisons `size` bytes from `at` on. A granule that lies wholly in this region becomes user poison, whatever it was.
-    /// Of one that lies there in part the addressable bytes in the region become user poison, if none of its bytes at the
-    /// region's end or past it is addressable; otherwise it stays as it is.
+    /// Poisons `size` bytes from `at` on. A granule that lies wholly in this region becomes user
+    /// poison, whatever it was. Of one that lies there in part the addressable bytes in the region
+    /// become user poison, if none of its bytes at the region's end or past it is addressable;
+    /// otherwise it stays as it is.
     pub fn poison(&mut self, at: u64, size: u64) -> Result<(), NoMemory>
         requires { at + size ≤ 2 ^ 47 }
         ensures ok { OnOk result (Adds self.old self.new (Poison at size)) }
@@ -58,7 +63,8 @@ impl<A: Allocator + Copy> Shadow<A> {
         self.change(Change::Poisoned, at, size)
     }
 
-    /// Makes `size` bytes from `at` on addressable, and with each of them all bytes before it in its granule.
+    /// Makes `size` bytes from `at` on addressable, and with each of them all bytes before it in
+    /// its granule.
     pub fn unpoison(&mut self, at: u64, size: u64) -> Result<(), NoMemory>
         requires { at + size ≤ 2 ^ 47 }
         ensures ok { OnOk result (Adds self.old self.new (Unpoison at size)) }
@@ -93,7 +99,8 @@ impl<A: Allocator + Copy> Shadow<A> {
         self.fill_runs(first - REDZONE, &[redzone, whole, part, redzone])
     }
 
-    /// Changes a region: its whole granules by one fill, and a granule that lies there in part by itself.
+    /// Changes a region: its whole granules by one fill, and a granule that lies there in part by
+    /// itself.
     fn change(&mut self, change: Change, at: u64, size: u64) -> Result<(), NoMemory>
         requires { at + size ≤ 2 ^ 47 }
         ensures ok { OnOk result ((granule : ℕ) → value_at self.new granule

@@ -1,7 +1,9 @@
 //! The shadow, and what is asked of it.
 ghost use Rattle.page_table.specs.Runs.{length_of, byte_of_runs};
-ghost use Rattle.std.specs.Prelude.{◌≡◌, ◌≢◌, ℕ, ◌+◌, ◌-◌, ◌^◌, ◌<◌, ◌≤◌, ◌&&◌, not, nat_le, nat_lt, if◌then◌else◌, List, [], IsTrue, OnOk, OnErr};
-ghost use Rattle.shadow_map.specs.States.{Mark, is_addressable, state_of, lift, least_unaddressable, bad_byte_of};
+ghost use Rattle.std.specs.Prelude.{◌≡◌, ◌≢◌, ℕ, ◌+◌, ◌-◌, ◌^◌, ◌<◌, ◌≤◌, ◌&&◌, not, nat_le};
+ghost use Rattle.std.specs.Prelude.{nat_lt, if◌then◌else◌, List, [], IsTrue, OnOk, OnErr};
+ghost use Rattle.shadow_map.specs.States.{Mark, is_addressable, state_of, lift};
+ghost use Rattle.shadow_map.specs.States.{least_unaddressable, bad_byte_of};
 ghost use Rattle.shadow_map.specs.Checks.{is_width};
 ghost use Rattle.shadow_map.specs.Shows.{Shows, value_at};
 
@@ -15,8 +17,8 @@ const GRANULES: u64 = 1 << 44;
 
 /// The shadow bytes of a process's memory.
 ///
-/// Addresses and sizes are in bytes, and granules are counted from address 0. A byte at 2^47 or past it is never marked,
-/// and counts as addressable.
+/// Addresses and sizes are in bytes, and granules are counted from address 0. A byte at 2^47 or
+/// past it is never marked, and counts as addressable.
 #[derive(Drop)]
 pub struct Shadow<A: Allocator + Copy = Global> {
     // The shadow byte of each granule.
@@ -40,7 +42,8 @@ impl<A: Allocator + Copy> Shadow<A> {
     pub fn value(&self, granule: u64) -> u8
         ensures kept { granule < 2 ^ 44 → result ≡ value_at self.now granule }
         ensures past_the_end { 2 ^ 44 ≤ granule → result ≡ 0 }
-        ensures shown { (marks : List Mark) → Shows self.now marks → result ≡ lift (state_of marks) granule }
+        ensures shown { (marks : List Mark) → Shows self.now marks →
+            result ≡ lift (state_of marks) granule }
     {
         if granule >= GRANULES {
             return 0;
@@ -48,13 +51,15 @@ impl<A: Allocator + Copy> Shadow<A> {
         self.value_before_end(granule)
     }
 
-    /// The bad byte of an access of `width` bytes at `at`: the least of its bytes that is not addressable. Only the granule
-    /// of its first byte is looked at, so an access that is bad in the next one alone has none.
+    /// The bad byte of an access of `width` bytes at `at`: the least of its bytes that is not
+    /// addressable. Only the granule of its first byte is looked at, so an access that is bad in
+    /// the next one alone has none.
     #[inline]
     pub fn bad_byte(&self, at: u64, width: u8) -> Option<u64>
         requires width { IsTrue (is_width width) }
         requires end { at + width ≤ 2 ^ 47 }
-        ensures { (marks : List Mark) → Shows self.now marks → result ≡ bad_byte_of (state_of marks) at width }
+        ensures { (marks : List Mark) → Shows self.now marks →
+            result ≡ bad_byte_of (state_of marks) at width }
     {
         self.bad_byte_in_granule(at, width as u64)
     }
@@ -62,15 +67,18 @@ impl<A: Allocator + Copy> Shadow<A> {
     /// Whether a byte is not addressable.
     #[inline]
     pub fn is_poisoned(&self, at: u64) -> bool
-        ensures { (marks : List Mark) → Shows self.now marks → result ≡ not (is_addressable (state_of marks at)) }
+        ensures { (marks : List Mark) → Shows self.now marks →
+            result ≡ not (is_addressable (state_of marks at)) }
     {
         (at % GRANULE) as u8 >= front(self.value(at / GRANULE))
     }
 
-    /// The least of `size` bytes from `at` on that is not addressable. Takes a look-up for each granule before that byte.
+    /// The least of `size` bytes from `at` on that is not addressable. Takes a look-up for each
+    /// granule before that byte.
     pub fn first_poisoned(&self, at: u64, size: u64) -> Option<u64>
         requires { at + size ≤ 2 ^ 47 }
-        ensures { (marks : List Mark) → Shows self.now marks → result ≡ least_unaddressable (state_of marks) at size }
+        ensures { (marks : List Mark) → Shows self.now marks →
+            result ≡ least_unaddressable (state_of marks) at size }
     {
         let end = at + size;
         let mut from = at;
@@ -87,7 +95,8 @@ impl<A: Allocator + Copy> Shadow<A> {
     #[inline]
     fn bad_byte_in_granule(&self, at: u64, size: u64) -> Option<u64>
         requires { at < 2 ^ 47 }
-        ensures { (marks : List Mark) → Shows self.now marks → result ≡ bad_byte_of (state_of marks) at size }
+        ensures { (marks : List Mark) → Shows self.now marks →
+            result ≡ bad_byte_of (state_of marks) at size }
     {
         let shadow = self.value_before_end(at / GRANULE);
         // Most granules are addressable as a whole.
@@ -109,36 +118,42 @@ impl<A: Allocator + Copy> Shadow<A> {
     fn value_before_end(&self, granule: u64) -> u8
         requires { granule < 2 ^ 44 }
         ensures kept { result ≡ value_at self.now granule }
-        ensures shown { (marks : List Mark) → Shows self.now marks → result ≡ lift (state_of marks) granule }
+        ensures shown { (marks : List Mark) → Shows self.now marks →
+            result ≡ lift (state_of marks) granule }
     {
         self.granules.byte(granule)
     }
 
     /// Sets the shadow bytes of the granules from one up to another. Where a growth is refused,
-    /// those below some granule are set, which had still to change, and the others are as they were.
+    /// those below some granule are set, which had still to change, and the others are as they
+    /// were.
     #[tactic(auto, unfolding(crate::specs::Shows::value_at))]
     pub(crate) fn fill(&mut self, from: u64, to: u64, value: u8) -> Result<(), NoMemory>
         requires order { from ≤ to }
         requires end { to ≤ 2 ^ 44 }
         ensures ok { OnOk result ((granule : ℕ) → value_at self.new granule
-            ≡ (if nat_le from granule && nat_lt granule to then value else value_at self.old granule)) }
+            ≡ (if nat_le from granule && nat_lt granule to then value
+            else value_at self.old granule)) }
         ensures err { OnErr result ((place : ℕ) × (from ≤ place) × (place < to)
             × ((granule : ℕ) → value_at self.new granule
-            ≡ (if nat_le from granule && nat_lt granule place then value else value_at self.old granule))
+            ≡ (if nat_le from granule && nat_lt granule place then value
+            else value_at self.old granule))
             × (value_at self.old place ≢ value)) }
     {
         self.granules.fill(from, to, value)
     }
 
     /// Sets the shadow bytes of the granules from one on, run after run. Where a growth is refused,
-    /// those below some granule are set, which had still to change, and the others are as they were.
+    /// those below some granule are set, which had still to change, and the others are as they
+    /// were.
     #[tactic(auto, unfolding(crate::specs::Shows::value_at))]
     pub(crate) fn fill_runs(&mut self, from: u64, runs: &[Run]) -> Result<(), NoMemory>
         requires end { from + length_of runs.now ≤ 2 ^ 44 }
         ensures ok { OnOk result ((granule : ℕ) → value_at self.new granule
             ≡ (if nat_le from granule && nat_lt granule (from + length_of runs.now)
             then byte_of_runs runs.now (granule - from) else value_at self.old granule)) }
-        ensures err { OnErr result ((place : ℕ) × (from ≤ place) × (place < from + length_of runs.now)
+        ensures err { OnErr result ((place : ℕ) × (from ≤ place)
+            × (place < from + length_of runs.now)
             × ((granule : ℕ) → value_at self.new granule
             ≡ (if nat_le from granule && nat_lt granule place
             then byte_of_runs runs.now (granule - from) else value_at self.old granule))

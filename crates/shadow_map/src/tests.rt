@@ -1,3 +1,4 @@
+//! The calls of a shadow, and the end of the memory.
 mod granules;
 mod memory;
 mod model;
@@ -8,7 +9,7 @@ use super::*;
 use std::alloc::Allocator;
 use std::test::Fail;
 
-/// The shadow bytes of the granules from one on, so many.
+/// The shadow bytes of `COUNT` granules from one on.
 fn values<const COUNT: usize, A: Allocator + Copy>(shadow: &Shadow<A>, first: u64) -> [u8; COUNT] {
     let mut values = [0; COUNT];
     for (granule, value) in (first..u64::MAX).zip(&mut values) {

@@ -19,7 +19,8 @@ const WINDOW: u64 = 0x200;
 /// The greatest size of most blocks and regions.
 const GREATEST_SIZE: u64 = 40;
 
-/// How far apart blocks start, most of them: by their sizes, spans of neighbours have room between them, touch or meet.
+/// How far apart blocks start, most of them: by their sizes, spans of neighbours have room between
+/// them, touch or meet.
 const STRIDE: u64 = 80;
 
 /// A fixed sequence of numbers.

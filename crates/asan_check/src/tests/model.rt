@@ -1,4 +1,5 @@
-//! The rules of the six events, plain and slow: the list of events is kept, and each answer is worked out anew from it.
+//! The rules of the six events, plain and slow: the list of events is kept, and each answer is
+//! worked out anew from it.
 use crate::{Class, Fault, NoMemory, Report};
 use std::alloc::Global;
 use trace_record::{Access, Event};
@@ -99,7 +100,7 @@ fn is_free_at(event: &Event, at: u64) -> bool {
     matches!(event, Event::Free(place) if place.at() == at)
 }
 
-/// The place of the first free of a block behind its malloc.
+/// The place of the first free of a block after its malloc.
 fn first_free(past: &[Event], block: &Block) -> Option<usize> {
     for (place, event) in past.iter().enumerate() {
         if place > block.place && is_free_at(event, block.at) {
@@ -121,7 +122,8 @@ impl Model {
         Ok(live)
     }
 
-    /// Of the admitted blocks, those that were freed in some events, in the order of their first frees.
+    /// Of the admitted blocks, those that were freed in some events, in the order of their first
+    /// frees.
     fn freed(&self, past: &[Event], admitted: &[Block]) -> Result<Vec<Block>, NoMemory> {
         let mut freed = Vec::new(self.alloc);
         for (place, event) in past.iter().enumerate() {
@@ -134,8 +136,8 @@ impl Model {
         Ok(freed)
     }
 
-    /// Of the admitted blocks, those that were held after some events: their spans, with those of all that were freed
-    /// later, are within the bound.
+    /// Of the admitted blocks, those that were held after some events: their spans, with those of
+    /// all that were freed later, are within the bound.
     fn held(&self, past: &[Event], admitted: &[Block]) -> Result<Vec<Block>, NoMemory> {
         let freed = self.freed(past, admitted)?;
         let mut held = Vec::new(self.alloc);
@@ -211,7 +213,8 @@ impl Model {
         Ok(marks)
     }
 
-    /// The marks of a free: the freed bytes, and then the span of each block that is no longer held.
+    /// The marks of a free: the freed bytes, and then the span of each block that is no longer
+    /// held.
     fn mark_free(
         &self,
         place: usize,
@@ -278,7 +281,8 @@ impl Model {
     }
 }
 
-/// The states of the eight bytes from an address on, after some marks: what the last mark that covers each gives to it.
+/// The states of the eight bytes from an address on, after some marks: what the last mark that
+/// covers each gives to it.
 fn granule_states(marks: &[Mark], first: u64) -> [State; 8] {
     let mut states = [State::Addressable; 8];
     for mark in marks {
@@ -290,8 +294,8 @@ fn granule_states(marks: &[Mark], first: u64) -> [State; 8] {
     states
 }
 
-/// What a mark gives to a byte, by its place in the granule whose first address and whose states before the mark are
-/// these, or `None` where it doesn't cover it.
+/// What a mark gives to a byte, by its place in the granule whose first address and whose states
+/// before the mark are these, or `None` where it doesn't cover it.
 fn given(mark: &Mark, before: &[State; 8], first: u64, place: usize) -> Option<State> {
     let address = |place: usize| first.saturating_add(place as u64);
     let byte = address(place);

@@ -13,7 +13,8 @@ fn each_growth_refused_in_turn(rt: HostRuntime) -> Result<(), Fail> {
         malloc(0x1000, 8)?,
         malloc(FAR, 8)?,
         poison(0x10_0000_0000, 8)?,
-        // Takes away what the shadow keeps of the first block: its free takes memory for it again, and its release too.
+        // Takes away what the shadow keeps of the first block: its free takes memory for it again,
+        // and its release too.
         unpoison(0, 1 << 28)?,
         free(0x1000)?,
         unpoison(0, 1 << 28)?,

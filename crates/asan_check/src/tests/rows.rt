@@ -216,7 +216,8 @@ p0 #4 load 1 at 000000000000 bad 000000000000 heap-buffer-overflow shadow fa
 
 #[test]
 fn rounded_size_counts(rt: HostRuntime) -> Result<(), Fail> {
-    // One byte is rounded up to a granule, so the span has 72 bytes, and all of the granule is freed.
+    // One byte is rounded up to a granule, so the span has 72 bytes, and all of the granule is
+    // freed.
     let events = [malloc(0x1000, 1)?, free(0x1000)?, load(1, 0x1007)?];
     let held = "\
 p0 #3 load 1 at 000000001007 bad 000000001007 heap-use-after-free shadow fd
@@ -337,8 +338,8 @@ fn queries(rt: HostRuntime) -> Result<(), Fail> {
     Ok(())
 }
 
-/// The events of the largest block: accesses to its first and last byte and to the one past it, while
-/// it is live and once it is freed.
+/// The events of the largest block: accesses to its first and last byte and to the one past it,
+/// while it is live and once it is freed.
 fn largest_block() -> Result<[Event; 8], Flaw> {
     let (at, end) = (0x4000_0000, 0x5000_0000);
     Ok([

@@ -1,4 +1,6 @@
-ghost use Rattle.std.specs.Prelude.{◌≡◌, ◌<◌, ◌≤◌, ◌++◌, false, drop, length, take, replicate, IsAscii};
+//! Numbers in hexadecimal digits.
+ghost use Rattle.std.specs.Prelude.{◌≡◌, ◌<◌, ◌≤◌, ◌++◌, false, drop, length, take, replicate};
+ghost use Rattle.std.specs.Prelude.{IsAscii};
 ghost use Rattle.std.specs.Fmt.{digit_glyph, digits};
 ghost use Rattle.asan_check.specs.Appending.{AppendsPiece};
 ghost use Rattle.asan_check.specs.Lines.{hex_text};
@@ -13,7 +15,8 @@ const BASE: u64 = 16;
 /// The most hexadecimal digits that a number of 64 bits has.
 const MOST_DIGITS: usize = 16;
 
-/// Appends a label, and then a number in lower-case hexadecimal digits with zeros before it up to a width.
+/// Appends a label, and then a number in lower-case hexadecimal digits with zeros before it up to a
+/// width.
 pub fn push_hex<A: Allocator>(
     label: &str,
     number: u64,

@@ -1,6 +1,8 @@
+//! The pieces that a line is made of.
 ghost use Rattle.std.specs.Prelude.{◌≡◌, ◌≤◌, ◌++◌, decimal, length};
 ghost use Rattle.asan_check.specs.Appending.{AppendsPiece};
-ghost use Rattle.asan_check.specs.Lines.{address_text, class_text, flaw_text, kind_text, shadow_text};
+ghost use Rattle.asan_check.specs.Lines.{address_text, class_text, flaw_text, kind_text};
+ghost use Rattle.asan_check.specs.Lines.{shadow_text};
 
 use super::hex::push_hex;
 use crate::{Class, NoMemory};

@@ -1,3 +1,4 @@
+//! Lines, and texts that have no room for one.
 use crate::{Class, Ending, Fault, NoMemory, Report, end_text, report_text};
 use refuser::Refuser;
 use std::test::Fail;

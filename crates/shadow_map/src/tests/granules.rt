@@ -1,4 +1,4 @@
-//! What poison and unpoison make of a granule, beside rules that tell it byte by byte.
+//! What poison and unpoison make of a granule, beside rules that say it byte by byte.
 ghost use Rattle.std.specs.Prelude.{◌≤◌};
 
 use super::values;
@@ -9,7 +9,8 @@ use std::test::Fail;
 /// The shadow bytes that a granule can have.
 const SHADOWS: [u8; 11] = [0, 1, 2, 3, 4, 5, 6, 7, 0xfa, 0xfd, 0xf7];
 
-/// A shadow whose granule at 0x1000 has one of these shadow bytes, between two that are addressable.
+/// A shadow whose granule at 0x1000 has one of these shadow bytes, between two that are
+/// addressable.
 fn shadow_of_granule(alloc: Global, byte: u8) -> Result<Shadow, NoMemory> {
     let mut shadow = Shadow::new(alloc);
     match byte {
@@ -54,8 +55,8 @@ fn unpoisoned(byte: u8, to: u8) -> u8 {
     }
 }
 
-/// Whether poison of the bytes from one place of such a granule up to another gives the right shadow bytes, and unpoison of
-/// them too, to the granule and to its neighbours.
+/// Whether poison of the bytes from one place of such a granule up to another gives the right
+/// shadow bytes, and unpoison of them too, to the granule and to its neighbours.
 fn is_right(alloc: Global, byte: u8, from: u8, to: u8) -> Result<bool, NoMemory>
     requires order { from ≤ to }
     requires end { to ≤ 8 }
@@ -97,7 +98,8 @@ fn one_granule(rt: HostRuntime) -> Result<(), Fail> {
     Ok(())
 }
 
-/// How many bytes, from 0x2000 on, are kept beside their shadow: the code of each, or 0 where it is addressable.
+/// How many bytes, from 0x2000 on, are kept beside their shadow: the code of each, or 0 where it is
+/// addressable.
 const BYTES: usize = 48;
 
 /// Poisons bytes by the rule, each by itself.

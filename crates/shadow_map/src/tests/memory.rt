@@ -9,24 +9,27 @@ use std::test::Fail;
 /// How many bytes one record can mark.
 const LARGEST: u64 = 1 << 28;
 
-/// An end of branches of each level, but for the one that has all memory. The dearest marks lie over it.
+/// An end of branches of each level, but for the one that has all memory. The dearest marks lie
+/// over it.
 const END: u64 = 1 << 43;
 
-/// What was asked for: the memory of so many branches, and of so many groups of pages.
+/// What was asked for: the memory of a number of branches, and of a number of groups of pages.
 type Asked = (u8, u8);
 
-/// How many bytes a branch asks for, 32 for each of its 128 sections, and a group, 512 for each of its 8 pages.
+/// How many bytes a branch asks for, 32 for each of its 128 sections, and a group, 512 for each of
+/// its 8 pages.
 const BYTES: u64 = 4096;
 
-/// How many bytes a branch asks for besides, in these tests: for each of its sections the 8 bytes of a handle on the test's
-/// allocator. The handle on the program's has none.
+/// How many bytes a branch asks for besides, in these tests: for each of its sections the 8 bytes
+/// of a handle on the test's allocator. The handle on the program's has none.
 const HANDLES: u64 = 128 * 8;
 
 /// The states and the records that `prepare` and `mark_record` know, and what the records ask for.
 const RECORDS: [Asked; 10] = [
     // A load, a store.
     (0, 0),
-    // A malloc: one redzone lies over `END`, the other one over an end of branches of the lowest level.
+    // A malloc: one redzone lies over `END`, the other one over an end of branches of the lowest
+    // level.
     (11, 4),
     // A free of a block that was just marked.
     (0, 0),
@@ -136,7 +139,8 @@ fn asked_after(alloc: Global, size: u64) -> Result<u64, NoMemory>
 
 #[test]
 fn memory_of_what_was_filled_whole_is_given_back(rt: HostRuntime) -> Result<(), Fail> {
-    // A page stays in its group's box; a group gives back its box; a branch gives back its sections too.
+    // A page stays in its group's box; a group gives back its box; a branch gives back its sections
+    // too.
     assert_eq!(rt;
         [
             asked_after(rt.alloc(), 0x1000)?,

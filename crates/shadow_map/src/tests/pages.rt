@@ -7,7 +7,8 @@ use crate::{FREED, HEAP_REDZONE, NoMemory, Shadow, USER_POISON};
 use std::alloc::Global;
 use std::test::Fail;
 
-/// How many granules a page has, a group of pages, a branch of each level over the groups, and the whole memory.
+/// How many granules a page has, a group of pages, a branch of each level over the groups, and the
+/// whole memory.
 const WIDTHS: [u64; 7] = [1 << 9, 1 << 12, 1 << 19, 1 << 26, 1 << 33, 1 << 40, 1 << 44];
 
 /// The shadow and the model, and how many fills were made in both.
@@ -63,8 +64,8 @@ impl Both {
 /// Places on, one before and one after the ends of three pages.
 const ENDS: [u64; 9] = [511, 512, 513, 1023, 1024, 1025, 1535, 1536, 1537];
 
-/// Fills from each of the ends up to each later one, counted from a granule, in turn. The first granule of which the shadow
-/// byte is wrong after one of the fills.
+/// Fills from each of the ends up to each later one, counted from a granule, in turn. The first
+/// granule of which the shadow byte is wrong after one of the fills.
 fn first_wrong(alloc: Global, low: u64) -> Result<Option<u64>, NoMemory> {
     let mut both = Both::new(alloc);
     for to in ENDS {
@@ -94,8 +95,8 @@ fn ends_of_pages_and_branches(rt: HostRuntime) -> Result<(), Fail> {
     Ok(())
 }
 
-/// Fills from a granule and each of the next two up to another and each of the next two, in turn. The first granule there
-/// of which the shadow byte is wrong after one of the fills.
+/// Fills from a granule and each of the next two up to another and each of the next two, in turn.
+/// The first granule there of which the shadow byte is wrong after one of the fills.
 fn first_wrong_of_whole(alloc: Global, low: u64, high: u64) -> Result<Option<u64>, NoMemory> {
     let mut both = Both::new(alloc);
     for more in 0..3 {
@@ -142,8 +143,8 @@ fn one_page_wide_poison(rt: HostRuntime) -> Result<(), Fail> {
     Ok(())
 }
 
-/// The largest block that a record can ask for: its first and last byte and the one past it, while it
-/// is live, when it is freed and when it is released.
+/// The largest block that a record can ask for: its first and last byte and the one past it, while
+/// it is live, when it is freed and when it is released.
 #[test]
 fn largest_block(rt: HostRuntime) -> Result<(), Fail> {
     let (at, end) = (0x4000_0000, 0x5000_0000);

@@ -5,7 +5,8 @@ use refuser::Refuser;
 use std::alloc::{Allocator, Global};
 use std::test::Fail;
 
-/// An end of branches of each level, but for the one that has all memory: what lies on both sides of it asks for memory twice.
+/// An end of branches of each level, but for the one that has all memory: what lies on both sides
+/// of it asks for memory twice.
 const END: u64 = 1 << 43;
 
 /// The first of the granules that are looked at.
@@ -45,8 +46,8 @@ struct Outcome {
     right: bool,
 }
 
-/// Makes a call in a shadow that may be refused memory, and in one that has ample. It is right where it is done whole, or in
-/// part and then whole when it is made again.
+/// Makes a call in a shadow that may be refused memory, and in one that has ample. It is right
+/// where it is done whole, or in part and then whole when it is made again.
 fn call_both<A: Allocator + Copy>(
     shadow: &mut Shadow<A>,
     ample: &mut Shadow,
@@ -90,7 +91,7 @@ fn each_growth_refused_in_turn(rt: HostRuntime) -> Result<(), Fail> {
         let outcome = calls_refused_at(rt.alloc(), turn)?;
         assert!(rt; outcome.right, "turn {turn}");
         if !outcome.refused {
-            // From turn 7 on, the left redzone is marked, and the block behind it isn't.
+            // From turn 7 on, the left redzone is marked, and the block after it isn't.
             assert_eq!(rt; turn, 12);
             return Ok(());
         }
