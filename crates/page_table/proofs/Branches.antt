@@ -4,7 +4,7 @@ use Rattle.std.specs.Prelude.{◌&&◌, map}
 use Rattle.std.proofs.lemmas.Bool.{cases_eq, cases_lt}
 use Rattle.std.proofs.lemmas.Bool.Decides.{nat_tests}
 use Rattle.std.proofs.lemmas.List.{get_or-map, get_or-set_same, get_or-set_other, map-set, length-set}
-use Rattle.std.proofs.lemmas.Nat.{div-mul-add, div-add-mod'}
+use Rattle.std.proofs.lemmas.Nat.{div-mul-add, div-add-mod', le-div}
 use Rattle.std.proofs.Math.Nat.{mod-lt}
 use Rattle.page_table.specs.declared.run.Run.{Run}
 use Rattle.page_table.specs.Runs.{byte_of_runs}
@@ -105,6 +105,27 @@ module _ {S : Type 0} (byte_at : S → ℕ → ℕ) (width : ℕ) where
   section_byte sections place rest index section lt is same =
       let there : S → ℕ = λ section. byte_at section (index % width) in
       rw same (get_or-map there sections place section rest lt ∙ ap there (sym is))
+
+  -- the byte at an index of the section in which another index lies
+  pub section_from : (sections : List S) (at rest index : ℕ) (section : S) → at / width < length sections →
+      section ≡ get_or sections (at / width) section → at - at % width ≤ index → index < at - at % width + width →
+      byte_from sections rest index ≡ byte_at section (index - (at - at % width))
+  section_from sections at rest index section lt is low high =
+      let split : at / width * width + at % width ≡ at = div-add-mod' at width in
+      let place : index ≡ at / width * width + (index - (at - at % width)) = omega arith in
+      let same : index / width ≡ at / width =
+      ap (λ n. n / width) place ∙ div-mul-add (at / width) width (index - (at - at % width)) (omega arith) in
+      let also : at / width * width + index % width ≡ index = rw same at (div-add-mod' index width) in
+      let offset : index % width ≡ index - (at - at % width) = omega arith in
+      section_byte sections (at / width) rest index section lt is same ∙ ap (byte_at section) offset
+
+  -- the byte at an index past the sections that are kept
+  pub rest_from : (sections : List S) (at rest index : ℕ) → 0 < width → length sections ≤ at / width → at ≤ index →
+      byte_from sections rest index ≡ rest
+  rest_from sections at rest index positive le order =
+      let split : at / width * width + at % width ≡ at = div-add-mod' at width in
+      let more : at / width ≤ index / width = le-div (at / width) index width positive (omega arith) in
+      past_the_kept (λ section. byte_at section (index % width)) sections (index / width) rest (omega arith)
 
   -- one of the sections has the bytes that it had
   pub section_same : (sections : List S) (place rest index : ℕ) (section new : S) → 0 < width → place < length sections → section ≡ get_or sections place section →

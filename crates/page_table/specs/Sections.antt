@@ -1,6 +1,6 @@
 -- What the bytes of a section come to.
 use Rattle.std.specs.Prelude.{◌≡◌, ◌≢◌, ℕ, ◌+◌, ◌-◌, ◌<◌, ◌≤◌, ◌^◌, ◌&&◌, nat_le, nat_lt}
-use Rattle.std.specs.Prelude.{if◌then◌else◌, List}
+use Rattle.std.specs.Prelude.{if◌then◌else◌, List, Option, Some, None}
 use Rattle.page_table.specs.declared.run.Run.{Run}
 use Rattle.page_table.specs.Runs.{length_of, byte_of_runs}
 
@@ -39,3 +39,10 @@ abbrev pub HasRunsBelow : ℕ → (ℕ → ℕ) → (ℕ → ℕ) → ℕ → Li
 HasRunsBelow width old new from runs =
     (place : ℕ) × (from ≤ place) × (place < from + length_of runs)
     × HasRunsUpTo width old new from place runs × (old place ≢ byte_of_runs runs (place - from))
+
+-- the answer is the first index from one on, below another, whose byte is not 0, if there is one
+abbrev pub IsFirstNonzero : (ℕ → ℕ) → ℕ → ℕ → Option ℕ → Type 0
+IsFirstNonzero bytes from to None = (index : ℕ) → from ≤ index → index < to → bytes index ≡ 0
+IsFirstNonzero bytes from to (Some found) =
+    (from ≤ found) × (found < to) × ((index : ℕ) → from ≤ index → index < found → bytes index ≡ 0)
+    × (bytes found ≢ 0)

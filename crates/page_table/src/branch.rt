@@ -53,6 +53,24 @@ impl<S: Section<A>, A: Allocator + Copy> Section<A> for Branch<S, A> {
         }
     }
 
+    fn first_nonzero(&self, from: u64, to: u64) -> Option<u64> {
+        let width = S::width();
+        let mut index = from;
+        while index < to {
+            let place = (index / width) as usize;
+            if place >= self.kept.len() {
+                return if self.rest == 0 { None } else { Some(index) };
+            }
+            let start = index - index % width;
+            let next = to.min(start + width);
+            if let Some(found) = self.kept[place].first_nonzero(index - start, next - start) {
+                return Some(start + found);
+            }
+            index = next;
+        }
+        None
+    }
+
     #[inline]
     fn fill(&mut self, alloc: A, from: u64, to: u64, byte: u8) -> Result<(), AllocError> {
         if to - from == Self::width() {

@@ -67,6 +67,21 @@ impl<A: Allocator + Copy> Section<A> for Group<A> {
         }
     }
 
+    fn first_nonzero(&self, from: u64, to: u64) -> Option<u64> {
+        let mut index = from;
+        while index < to {
+            if self.byte(index) != 0 {
+                return Some(index);
+            }
+            let page = PAGE as u64;
+            index = match self.same[(index / page) as usize] {
+                Some(_) => to.min(index - index % page + page),
+                None => index + 1,
+            };
+        }
+        None
+    }
+
     fn fill(&mut self, alloc: A, from: u64, to: u64, byte: u8) -> Result<(), AllocError> {
         let (from, to) = (from as usize, to as usize);
         if to - from == GROUP {

@@ -1,6 +1,6 @@
 //! What the groups and the branches of a table have in common.
 ghost use Rattle.std.specs.Prelude.{◌≡◌, ℕ, ◌+◌, ◌<◌, ◌≤◌, IsTrue, false, OnOk, OnErr};
-ghost use Rattle.page_table.specs.Sections.{IsWidth, IsFilled, IsBrokenOff, HasRuns, HasRunsBelow};
+ghost use Rattle.page_table.specs.Sections.{IsWidth, IsFilled, IsBrokenOff, HasRuns, HasRunsBelow, IsFirstNonzero};
 ghost use Rattle.page_table.specs.Runs.{length_of};
 
 use crate::run::Run;
@@ -29,6 +29,12 @@ pub trait Section<A: Allocator + Copy>: Drop {
         requires fits { fits }
         requires within { index < width }
         ensures { result ≡ byte_at self.now index };
+
+    /// The first index from one on, below another, whose byte is not 0.
+    fn first_nonzero(&self, from: u64, to: u64) -> Option<u64>
+        requires fits { fits }
+        requires end { to ≤ width }
+        ensures { IsFirstNonzero (byte_at self.now) from to result };
 
     /// Sets the bytes at the indices from one up to another. Where memory is refused, those below
     /// some index are set, and the others are as they were.

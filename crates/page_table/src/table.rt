@@ -1,6 +1,7 @@
 //! The table.
 ghost use Rattle.std.specs.Prelude.{◌≡◌, ℕ, ◌+◌, ◌^◌, ◌<◌, ◌≤◌, OnOk, OnErr};
 ghost use Rattle.page_table.specs.Runs.{length_of};
+ghost use Rattle.page_table.specs.Sections.{IsFirstNonzero};
 ghost use Rattle.page_table.specs.Tables.{byte_of, Fills, FillsBelow, FillsRuns, FillsRunsBelow};
 
 use crate::branch::Branch;
@@ -58,6 +59,16 @@ impl<A: Allocator + Copy> PageTable<A> {
         ensures { result ≡ byte_of self.now granule }
     {
         self.root.byte(granule)
+    }
+
+    /// The first granule from one on, below another, whose byte is not 0. What is kept as one byte
+    /// costs one step, however large it is.
+    #[tactic(auto, unfolding(crate::specs::Tables::byte_of))]
+    pub fn first_nonzero(&self, from: u64, to: u64) -> Option<u64>
+        requires { to ≤ 2 ^ 44 }
+        ensures { IsFirstNonzero (byte_of self.now) from to result }
+    {
+        self.root.first_nonzero(from, to)
     }
 
     /// Sets the bytes of the granules from one up to another. A fill that changes nothing where

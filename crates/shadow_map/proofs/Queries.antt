@@ -1,5 +1,5 @@
 -- What the shadow byte of a granule answers: the bad byte of an access, and the laws of shadow bytes.
-use Rattle.std.proofs.Common.{◌≡◌, ℕ, zero, suc, ◌+◌, ◌-◌, ◌*◌, ◌/◌, ◌%◌, ◌<◌, ◌≤◌, Bool, true, false, cond, leb, ltb, eqb, List, Option, Some, None, refl, sym, ap, subst, ◌∙◌, arith, inl, inr, add-zero}
+use Rattle.std.proofs.Common.{◌≡◌, ◌≢◌, ℕ, zero, suc, ◌+◌, ◌-◌, ◌*◌, ◌/◌, ◌%◌, ◌<◌, ◌≤◌, Bool, true, false, cond, leb, ltb, eqb, List, Option, Some, None, refl, sym, ap, subst, ◌∙◌, arith, inl, inr, add-zero}
 use Rattle.std.specs.Prelude.{min, max, not, ◌&&◌, ◌||◌, nat_lt, nat_le, ◌↔◌, is_some, IsTrue, MatchOption}
 use Rattle.std.proofs.lemmas.Bool.Decides.{nat_tests}
 use Rattle.std.proofs.lemmas.Bool.{cases_lt}
@@ -106,6 +106,84 @@ past_granule states byte end lt is =
           let also : end - (byte / 8 + 1) * 8 ≡ 0 = omega arith in
           rw (left, also) refl
     ]
+
+-- granules whose shadow bytes are 0 have no bad byte
+none_in_whole : (marks : List Mark) → AreMarks marks → (granule size : ℕ) → lift (state_of marks) granule ≡ 0 →
+    bad_byte_of (state_of marks) (8 * granule) size ≡ None
+none_in_whole marks ok granule size is =
+    let base : 8 * granule / 8 ≡ granule = omega arith in
+    let aligned : 8 * granule % 8 ≡ 0 = omega arith in
+    let past : ltb 8 (0 + min size 8) ≡ false = grind (arith, nat_tests) in
+    bad_byte_shown marks ok (8 * granule) size 0 (rw base (sym is)) ∙ rw (aligned, past) refl
+
+pub past_whole : (marks : List Mark) → AreMarks marks → (end count from : ℕ) → 8 * (from + count) < end + 8 →
+    ((granule : ℕ) → from ≤ granule → granule < from + count → lift (state_of marks) granule ≡ 0) →
+    least_unaddressable (state_of marks) (8 * from) (end - 8 * from)
+    ≡ least_unaddressable (state_of marks) (8 * (from + count)) (end - 8 * (from + count))
+past_whole marks ok end zero from room none = let same : from + 0 ≡ from = omega arith in rw same refl
+past_whole marks ok end (suc count) from room none =
+    let here = none_in_whole marks ok from (end - 8 * from) (none from (omega arith) (omega arith)) in
+    let next : (8 * from / 8 + 1) * 8 ≡ 8 * (from + 1) = omega arith in
+    let more : from + 1 + count ≡ from + suc count = omega arith in
+    rw next at (past_granule (state_of marks) (8 * from) end (omega arith) here)
+    ∙ rw more at (past_whole marks ok end count (from + 1) (omega arith) (λ granule low high. none granule (omega arith) (omega arith)))
+
+-- and where the bytes of one with another shadow byte have no bad byte, none of them lies in a later granule
+front_is_part : (shadow : ℕ) → shadow ≢ 0 → front_of shadow < 8
+front_is_part shadow some = grind (arith, nat_tests)
+
+pub none_in_part : (marks : List Mark) → AreMarks marks → (granule size : ℕ) → lift (state_of marks) granule ≢ 0 →
+    bad_byte_of (state_of marks) (8 * granule) size ≡ None → least_unaddressable (state_of marks) (8 * granule) size ≡ None
+none_in_part marks ok granule size some is =
+    let base : 8 * granule / 8 ≡ granule = omega arith in
+    let aligned : 8 * granule % 8 ≡ 0 = omega arith in
+    elim (cases_lt 8 size) [
+      | inl long ↦
+          let shadow = lift (state_of marks) granule in
+          let part = front_is_part shadow some in
+          let reached : ltb (max 0 (front_of shadow)) (0 + min size 8) ≡ true = grind (arith, nat_tests) in
+          let impossible : None ≡ Some (8 * granule - 8 * granule % 8 + max (8 * granule % 8) (front_of shadow)) =
+          sym is ∙ bad_byte_shown marks ok (8 * granule) size shadow (rw base refl) ∙ rw (aligned, reached) refl in
+          absurd cc
+      | inr short ↦
+          let whole : min size 8 ≡ size = omega arith in
+          rw (aligned, whole) at is
+    ]
+
+-- so the search goes from the first granule to the next one whose shadow byte is not 0
+past_first : (states : ℕ → State) (at size : ℕ) → 0 < size → bad_byte_of states at size ≡ None →
+    least_unaddressable states at size ≡ least_unaddressable states (8 * (at / 8 + 1)) (at + size - 8 * (at / 8 + 1))
+past_first states at size some is =
+    let whole : at + size - at ≡ size = omega arith in
+    let turn : (at / 8 + 1) * 8 ≡ 8 * (at / 8 + 1) = omega arith in
+    rw (whole, turn) at (past_granule states at (at + size) (omega arith) (rw whole is))
+
+module _ (marks : List Mark) (ok : AreMarks marks) (at size : ℕ) (some : 0 < size) (is : bad_byte_of (state_of marks) at size ≡ None) where
+  pub none_marked : ((granule : ℕ) → at / 8 + 1 ≤ granule → granule < (at + size + 7) / 8 → lift (state_of marks) granule ≡ 0) →
+      least_unaddressable (state_of marks) at size ≡ None
+  none_marked none =
+      let from = at / 8 + 1 in
+      let count = (at + size + 7) / 8 - from in
+      let left : at + size - 8 * (from + count) ≡ 0 = omega arith in
+      past_first (state_of marks) at size some is
+      ∙ past_whole marks ok (at + size) count from (omega arith) (λ granule low high. none granule low (omega arith))
+      ∙ rw left refl
+
+  pub first_marked : (granule : ℕ) → at / 8 + 1 ≤ granule → granule < (at + size + 7) / 8 →
+      ((other : ℕ) → at / 8 + 1 ≤ other → other < granule → lift (state_of marks) other ≡ 0) → lift (state_of marks) granule ≢ 0 →
+      least_unaddressable (state_of marks) at size ≡ bad_byte_of (state_of marks) (8 * granule) (at + size - 8 * granule)
+  first_marked granule low high none marked =
+      let from = at / 8 + 1 in
+      let whole : from + (granule - from) ≡ granule = omega arith in
+      past_first (state_of marks) at size some is
+      ∙ rw whole at (past_whole marks ok (at + size) (granule - from) from (omega arith) (λ other low high. none other low (omega arith)))
+      ∙ here (bad_byte_of (state_of marks) (8 * granule) (at + size - 8 * granule)) refl
+    where
+      here : (bad : Option ℕ) → bad_byte_of (state_of marks) (8 * granule) (at + size - 8 * granule) ≡ bad →
+          least_unaddressable (state_of marks) (8 * granule) (at + size - 8 * granule)
+          ≡ bad_byte_of (state_of marks) (8 * granule) (at + size - 8 * granule)
+      here None none = none_in_part marks ok granule (at + size - 8 * granule) marked none ∙ sym none
+      here (Some found) found_is = found_in_granule (state_of marks) (8 * granule) (at + size - 8 * granule) found found_is ∙ sym found_is
 
 -- the laws
 is_addressable_state : (state : State) → is_addressable state ≡ true → state ≡ Addressable

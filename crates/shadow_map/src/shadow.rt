@@ -1,4 +1,5 @@
 //! The shadow, and what is asked of it.
+ghost use Rattle.page_table.specs.Sections.{IsFirstNonzero};
 ghost use Rattle.page_table.specs.Runs.{length_of, byte_of_runs};
 ghost use Rattle.std.specs.Prelude.{◌≡◌, ◌≢◌, ℕ, ◌+◌, ◌-◌, ◌^◌, ◌<◌, ◌≤◌, ◌&&◌, not, nat_le};
 ghost use Rattle.std.specs.Prelude.{nat_lt, if◌then◌else◌, List, [], IsTrue, OnOk, OnErr};
@@ -73,22 +74,32 @@ impl<A: Allocator + Copy> Shadow<A> {
         (at % GRANULE) as u8 >= front(self.value(at / GRANULE))
     }
 
-    /// The least of `size` bytes from `at` on that is not addressable. Takes a look-up for each
-    /// granule before that byte.
+    /// The least of `size` bytes from `at` on that is not addressable. Memory that was never marked,
+    /// or was unpoisoned as a whole, costs a few steps, however large it is.
     pub fn first_poisoned(&self, at: u64, size: u64) -> Option<u64>
         requires { at + size ≤ 2 ^ 47 }
         ensures { (marks : List Mark) → Shows self.now marks →
             result ≡ least_unaddressable (state_of marks) at size }
     {
-        let end = at + size;
-        let mut from = at;
-        while from < end {
-            if let Some(byte) = self.bad_byte_in_granule(from, end - from) {
-                return Some(byte);
-            }
-            from = (from / GRANULE + 1) * GRANULE;
+        if size == 0 {
+            return None;
         }
-        None
+        if let Some(byte) = self.bad_byte_in_granule(at, size) {
+            return Some(byte);
+        }
+        let end = at + size;
+        let granule = self.first_marked(at / GRANULE + 1, end.div_ceil(GRANULE))?;
+        let first = granule * GRANULE;
+        self.bad_byte_in_granule(first, end - first)
+    }
+
+    /// The first granule from one on, below another, whose shadow byte is not 0.
+    #[tactic(auto, unfolding(crate::specs::Shows::value_at))]
+    fn first_marked(&self, from: u64, to: u64) -> Option<u64>
+        requires { to ≤ 2 ^ 44 }
+        ensures { IsFirstNonzero (λ granule. value_at self.now granule) from to result }
+    {
+        self.granules.first_nonzero(from, to)
     }
 
     /// The least of `size` bytes from `at` on, within the granule of `at`, that is not addressable.

@@ -173,3 +173,17 @@ fn largest_block(rt: HostRuntime) -> Result<(), Fail> {
     assert_eq!(rt; values(&shadow, end / 8 + 3), [HEAP_REDZONE, 0]);
     Ok(())
 }
+
+/// The search for the first poisoned byte goes over all memory at once.
+#[test]
+fn first_poisoned_of_all_memory(rt: HostRuntime) -> Result<(), Fail> {
+    let mut shadow = Shadow::new(rt.alloc());
+    assert_eq!(rt; shadow.first_poisoned(0, 1 << 47), None);
+    shadow.poison(0x7fff_ffff_fffc, 4)?;
+    assert_eq!(rt; shadow.first_poisoned(0, 1 << 47), Some(0x7fff_ffff_fffc));
+    assert_eq!(rt; shadow.first_poisoned(3, 0x7fff_ffff_fff9), None);
+    shadow.unpoison(0x1000_0000, 1 << 28)?;
+    shadow.poison(0x4000_1007, 1)?;
+    assert_eq!(rt; shadow.first_poisoned(1, (1 << 47) - 1), Some(0x4000_1007));
+    Ok(())
+}
