@@ -5,10 +5,12 @@ use Rattle.heap_book.specs.declared.answers.Admit.TheVariants.{Ignored, Admitted
 use Rattle.heap_book.specs.Spans.{Extent, may_be_admitted}
 use Rattle.heap_book.specs.Blocks.{Blocks, taken, AddsLive}
 
--- a malloc at address 0 is ignored; any other is admitted if it may be, beside the spans that are taken, and else refused
+-- a malloc at address 0 is ignored; any other is admitted if it may be, beside the spans that are
+-- taken, and else refused
 abbrev pub IsAdmitAnswer : Blocks → Extent → Admit → Type 0
 IsAdmitAnswer book block Ignored = block.at ≡ 0
-IsAdmitAnswer book block (Admitted admitted) = (admitted ≡ block) × (0 < block.at) × (may_be_admitted (taken book) block ≡ true)
+IsAdmitAnswer book block (Admitted admitted) =
+    (admitted ≡ block) × (0 < block.at) × (may_be_admitted (taken book) block ≡ true)
 IsAdmitAnswer book block Refused = (0 < block.at) × (may_be_admitted (taken book) block ≡ false)
 
 -- the book after the answer: only an admission changes it

@@ -2,7 +2,8 @@
 use Rattle.std.specs.Prelude.{◌≡◌, ℕ, not, List, [], ◌∷◌, ◌++◌, filter, sum_by, IsPermutation}
 use Rattle.heap_book.specs.Spans.{Extent, span_bytes, starts_at}
 
--- the live blocks, the freed blocks in quarantine with the oldest first, and the bound on the bytes of their spans
+-- the live blocks, the freed blocks in quarantine with the oldest first, and the bound on the bytes
+-- of their spans
 pub record Blocks : Type 0 where
   pub live : List Extent
   pub queue : List Extent

@@ -1,5 +1,6 @@
 -- What the fields of a book keep. No public contract cites this.
-use Rattle.std.specs.Prelude.{◌≡◌, ℕ, ◌<◌, ◌≤◌, Bool, if◌then◌else◌, List, [], ◌∷◌, Option, Some, None, IsSome, sum_by, IsPermutation, ⊤}
+use Rattle.std.specs.Prelude.{◌≡◌, ℕ, ◌<◌, ◌≤◌, Bool, if◌then◌else◌, List, [], ◌∷◌, ⊤}
+use Rattle.std.specs.Prelude.{Option, Some, None, IsSome, sum_by, IsPermutation}
 use Rattle.line_map.specs.Maps.{slot_at}
 use Rattle.line_map.specs.declared.mark.Slot.{Slot}
 use Rattle.heap_book.specs.Spans.{Extent, IsPlaced, span_from, span_to, span_bytes}
@@ -24,16 +25,20 @@ freed_of (e ∷ es) = if e.1.live then freed_of es else block_of e ∷ freed_of 
 -- the spans of a map's entries follow one another, from an address on
 abbrev pub FollowFrom : ℕ → List (ℕ × Slot) → Type 0
 FollowFrom start [] = ⊤
-FollowFrom start (e ∷ es) = IsPlaced (block_of e) × (start ≤ span_from (block_of e)) × FollowFrom (span_to (block_of e)) es
+FollowFrom start (e ∷ es) =
+    IsPlaced (block_of e) × (start ≤ span_from (block_of e))
+    × FollowFrom (span_to (block_of e)) es
 
 -- the last block of a map's entries that starts before an address
 abbrev pub IsLastBefore : List (ℕ × Slot) → ℕ → Option Extent → Type 0
 IsLastBefore entries end None = (p : ℕ) → p < end → slot_at entries p ≡ None
 IsLastBefore entries end (Some b) =
-    (b.at < end) × ((live : Bool) × (slot_at entries b.at ≡ Some (record { size = b.size; live = live })))
+    (b.at < end)
+    × ((live : Bool) × (slot_at entries b.at ≡ Some (record { size = b.size; live = live })))
     × ((p : ℕ) → p < end → IsSome (slot_at entries p) → p ≤ b.at)
 
--- the map's spans never meet; the queue has the blocks that were freed, and the running total is that of their spans
+-- the map's spans never meet; the queue has the blocks that were freed, and the running total is
+-- that of their spans
 pub record IsKept (entries : List (ℕ × Slot)) (queue : List Extent) (queued : ℕ) : Type 0 where
   pub apart : FollowFrom 0 entries
   pub freed : IsPermutation (freed_of entries) queue

@@ -1,8 +1,10 @@
 -- Blocks, the spans that they take with their redzones, and which freed blocks are held.
 --
--- Redzones, and a quarantine that is a queue with a bound, are those of the paper of 2012. The redzones' size, and that
--- the quarantine counts the bytes of spans, are this project's choice (profile).
-use Rattle.std.specs.Prelude.{◌≡◌, ℕ, ◌+◌, ◌-◌, ◌*◌, ◌/◌, ◌%◌, ◌^◌, ◌≤◌, Bool, not, ◌&&◌, ◌==◌, nat_lt, nat_le, if◌then◌else◌, List, [], ◌∷◌, sum_by}
+-- Redzones, and a quarantine that is a queue with a bound, are those of the paper of 2012. The
+-- redzones' size, and that the quarantine counts the bytes of spans, are this project's choice
+-- (profile).
+use Rattle.std.specs.Prelude.{◌≡◌, ℕ, ◌+◌, ◌-◌, ◌*◌, ◌/◌, ◌%◌, ◌^◌, ◌≤◌, List, [], ◌∷◌, sum_by}
+use Rattle.std.specs.Prelude.{Bool, not, ◌&&◌, ◌==◌, nat_lt, nat_le, if◌then◌else◌}
 use Rattle.std.specs.List.{list_any}
 
 -- what a contract sees of a block: its address and its size
@@ -18,8 +20,8 @@ redzone = 32
 abbrev pub rounded : ℕ → ℕ
 rounded size = (size + 7) / 8 * 8
 
--- the span of a block, from its first byte up to the first that is not in it: the block's bytes, rounded up, and a
--- redzone on each side
+-- the span of a block, from its first byte up to the first that is not in it: the block's bytes,
+-- rounded up, and a redzone on each side
 abbrev pub span_from : Extent → ℕ
 span_from b = b.at - redzone
 
@@ -38,17 +40,20 @@ span_bytes b = rounded b.size + 64
 abbrev pub meets : Extent → Extent → Bool
 meets b c = nat_lt (span_from b) (span_to c) && nat_lt (span_from c) (span_to b)
 
--- whether a block may be admitted beside the blocks whose spans are taken: it starts at a granule, has room for its
--- redzones below 2^47, and its span meets none of theirs
+-- whether a block may be admitted beside the blocks whose spans are taken: it starts at a granule,
+-- has room for its redzones below 2^47, and its span meets none of theirs
 abbrev pub may_be_admitted : List Extent → Extent → Bool
 may_be_admitted taken b =
-    b.at % 8 == 0 && nat_le redzone b.at && nat_le (span_to b) (2 ^ 47) && not (list_any (meets b) taken)
+    b.at % 8 == 0 && nat_le redzone b.at && nat_le (span_to b) (2 ^ 47)
+    && not (list_any (meets b) taken)
 
--- of blocks in the order in which they were freed, those that are held: a block whose span, with the spans of all blocks
--- freed after it, has at most as many bytes as the bound
+-- of blocks in the order in which they were freed, those that are held: a block whose span, with
+-- the spans of all blocks freed after it, has at most as many bytes as the bound
 abbrev pub held_of : ℕ → List Extent → List Extent
 held_of bound [] = []
-held_of bound (b ∷ later) = if nat_le (sum_by span_bytes (b ∷ later)) bound then b ∷ held_of bound later else held_of bound later
+held_of bound (b ∷ later) =
+    if nat_le (sum_by span_bytes (b ∷ later)) bound then b ∷ held_of bound later
+    else held_of bound later
 
 -- whether a block starts at an address
 abbrev pub starts_at : ℕ → Extent → Bool

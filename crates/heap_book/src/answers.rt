@@ -1,3 +1,4 @@
+//! What a book answers, and how it refuses a bound.
 use crate::block::Block;
 use thiserror::Error;
 
@@ -8,7 +9,8 @@ pub enum Admit {
     Ignored,
     /// The block is live from now on.
     Admitted(Block),
-    /// No block may start there: it isn't at a multiple of 8, has no room for its redzones, or its span meets another.
+    /// No block may start there: it isn't at a multiple of 8, has no room for its redzones, or its
+    /// span meets another.
     Refused,
 }
 

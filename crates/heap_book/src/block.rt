@@ -1,3 +1,4 @@
+//! A block and its span.
 ghost use Rattle.std.specs.Prelude.{◌≡◌, ◌+◌, ◌^◌, ◌≤◌, ◌↔◌, IsSome, IfSome};
 ghost use Rattle.heap_book.specs.Spans.{IsPlaced, span_from, span_to};
 
@@ -12,8 +13,9 @@ pub(crate) const REDZONE: u64 = 32;
 /// The first address past those of a process.
 const ADDRESS_END: u64 = 1 << 47;
 
-/// A block that was admitted. Its span is its bytes, rounded up to whole granules of 8, and a redzone of 32 bytes on each
-/// side. It starts at a granule, and its span has room from 0 up to 2^47.
+/// A block that was admitted. Its span is its bytes, rounded up to whole granules of 8, and a
+/// redzone of 32 bytes on each side. It starts at a granule, and its span has room from 0 up to
+/// 2^47.
 #[derive(Clone, Copy, Debug, PartialEq, Eq)]
 pub struct Block {
     at: u64,
@@ -33,7 +35,8 @@ impl Model for Block {
 }
 
 impl Block {
-    /// The block of that many bytes at an address, if it starts at a granule and its redzones have room.
+    /// The block of that many bytes at an address, if it starts at a granule and its redzones have
+    /// room.
     pub(crate) fn new(at: u64, size: u64) -> Option<Block>
         requires { at + size ≤ 2 ^ 47 }
         ensures some { IsSome result ↔ IsPlaced (record { at = at; size = size }) }

@@ -1,5 +1,6 @@
 //! The book of a process's blocks.
-ghost use Rattle.std.specs.Prelude.{◌≡◌, ◌+◌, ◌^◌, ◌<◌, ◌≤◌, ◌↔◌, [], true, IsErr, IfOk, OnErr, IfSome, IfNone};
+ghost use Rattle.std.specs.Prelude.{◌≡◌, ◌+◌, ◌^◌, ◌<◌, ◌≤◌, ◌↔◌, [], true};
+ghost use Rattle.std.specs.Prelude.{IsErr, IfOk, OnErr, IfSome, IfNone};
 ghost use Rattle.std.specs.List.{IsDistinct, list_any};
 ghost use Rattle.heap_book.specs.Spans.{Extent, held_of, may_be_admitted, meets, starts_at};
 ghost use Rattle.heap_book.specs.Blocks.{taken, queued_bytes, ReleasesOldest};
@@ -38,13 +39,15 @@ impl<A: Allocator + Copy> Model for Book<A> {
 
     ghost use Rattle.heap_book.specs.Slots.{live_of, IsKept};
 
-    ghost view = { λ b. record { live = live_of b.blocks; queue = b.queue.items; bound = b.bound } };
+    ghost view = { λ b.
+        record { live = live_of b.blocks; queue = b.queue.items; bound = b.bound } };
 
     ghost invariant = { λ b. IsKept b.blocks b.queue.items b.queued };
 }
 
 impl<A: Allocator + Copy> Book<A> {
-    /// A book with no blocks, whose quarantine holds at most that many bytes of spans. Takes no memory.
+    /// A book with no blocks, whose quarantine holds at most that many bytes of spans. Takes no
+    /// memory.
     ///
     /// # Errors
     ///
@@ -73,8 +76,8 @@ impl<A: Allocator + Copy> Book<A> {
         self.blocks.fetch(at);
     }
 
-    /// Does the same for a block in quarantine, by its place there: 0 is the one that was freed first.
-    /// There need not be one.
+    /// Does the same for a block in quarantine, by its place there: 0 is the one that was freed
+    /// first. There need not be one.
     #[inline]
     pub fn fetch_held(&mut self, place: usize)
         ensures { self.new ≡ self.old }
@@ -85,8 +88,8 @@ impl<A: Allocator + Copy> Book<A> {
         }
     }
 
-    /// Takes in what a malloc gave: a block of `size` bytes at the address `at`, which ends at most at 2^47. The book notes
-    /// its place, and never touches its bytes.
+    /// Takes in what a malloc gave: a block of `size` bytes at the address `at`, which ends at most
+    /// at 2^47. The book notes its place, and never touches its bytes.
     ///
     /// # Errors
     ///
@@ -113,8 +116,8 @@ impl<A: Allocator + Copy> Book<A> {
         Ok(Admit::Admitted(block))
     }
 
-    /// Takes in a free of an address. After `Held` the quarantine may have more than its bound: the caller then calls
-    /// [`evict`](Book::evict) until it answers `None`.
+    /// Takes in a free of an address. After `Held` the quarantine may have more than its bound: the
+    /// caller then calls [`evict`](Book::evict) until it answers `None`.
     ///
     /// # Errors
     ///
@@ -122,7 +125,8 @@ impl<A: Allocator + Copy> Book<A> {
     pub fn free(&mut self, at: u64) -> Result<Freed, NoMemory>
         ensures answer { IfOk result (IsFreeAnswer self.old at) }
         ensures after { IfOk result (λ freed. AfterFree self.old freed self.new) }
-        ensures no_memory { OnErr result ((0 < at) × (list_any (starts_at at) self.old.live ≡ true)) }
+        ensures no_memory { OnErr result
+            ((0 < at) × (list_any (starts_at at) self.old.live ≡ true)) }
         ensures unchanged { OnErr result (self.new ≡ self.old) }
     {
         if at == 0 {
@@ -147,15 +151,16 @@ impl<A: Allocator + Copy> Book<A> {
         Ok(Freed::Held(block))
     }
 
-    /// Lets go of the block that was freed first and gives it, if the spans in quarantine have more bytes than the bound.
-    /// Takes no memory.
+    /// Lets go of the block that was freed first and gives it, if the spans in quarantine have more
+    /// bytes than the bound. Takes no memory.
     pub fn evict(&mut self) -> Option<Block>
         ensures within { IfNone result (queued_bytes self.old ≤ self.old.bound) }
         ensures past { IfSome result (λ _. self.old.bound < queued_bytes self.old) }
         ensures unchanged { IfNone result (self.new ≡ self.old) }
         ensures released { IfSome result (λ block. ReleasesOldest self.old block self.new) }
         ensures all_held { IfNone result (held_of self.old.bound self.old.queue ≡ self.old.queue) }
-        ensures held_stay { held_of self.new.bound self.new.queue ≡ held_of self.old.bound self.old.queue }
+        ensures held_stay { held_of self.new.bound self.new.queue
+            ≡ held_of self.old.bound self.old.queue }
 
         // True of every book: no two of its spans share a byte.
         ensures apart { IsDistinct meets (taken self.old) }

@@ -19,8 +19,8 @@ fn last_before<A: Allocator + Copy>(blocks: &LineMap<A>, end: u64) -> Option<Blo
 
 /// Whether a block's span meets none of those of a map's blocks.
 ///
-/// Spans that never meet are in the order of their addresses. So of those that begin before this span's end, the last one
-/// reaches furthest, and it alone is looked at.
+/// Spans that never meet are in the order of their addresses. So of those that begin before this
+/// span's end, the last one reaches furthest, and it alone is looked at.
 pub(crate) fn is_free<A: Allocator + Copy>(blocks: &LineMap<A>, block: &Block) -> bool
     requires { FollowFrom 0 blocks.now }
     ensures { result ≡ not (list_any (meets block.now) (blocks_of blocks.now)) }

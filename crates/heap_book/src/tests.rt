@@ -1,3 +1,4 @@
+//! Calls of a book on worked examples, and a book whose memory is refused.
 ghost use Rattle.std.specs.Prelude.{◌+◌, ◌-◌, ◌^◌, ◌≤◌};
 
 use crate::{Admit, Block, Book, Bound, Freed, NoMemory};
@@ -154,8 +155,8 @@ fn ask<A: Allocator + Copy>(book: &mut Book<A>, call: Call) -> Result<Answer, No
     }
 }
 
-/// Refuses each growth of a book in turn. A call that is refused is made again, and it and all later ones answer as if
-/// there had been memory. Gives the number of refusals.
+/// Refuses each growth of a book in turn. A call that is refused is made again, and it and all
+/// later ones answer as if there had been memory. Gives the number of refusals.
 fn refuse_each(rt: &impl Abort, alloc: Global, calls: &[Call]) -> Result<u64, Fail> {
     for turn in 1..100u64 {
         let heap = Refuser::new(alloc, turn);

@@ -1,5 +1,6 @@
 -- The marks of a branch.
-use Rattle.std.specs.Prelude.{ℕ, ◌/◌, ◌%◌, ◌-◌, List, map, Option, None, nat_lt, if◌then◌else◌, slice_index_or}
+use Rattle.std.specs.Prelude.{ℕ, ◌/◌, ◌%◌, ◌-◌, nat_lt, if◌then◌else◌}
+use Rattle.std.specs.Prelude.{List, map, Option, None, slice_index_or}
 use Rattle.line_map.specs.declared.mark.Mark.{Mark}
 use Rattle.line_map.specs.declared.branch.Branch.{Branch}
 

@@ -1,5 +1,6 @@
 -- What a map is as a list: the entries of its lines, in order. No public contract cites this.
-use Rattle.std.specs.Prelude.{◌≡◌, ℕ, zero, suc, ◌+◌, ◌*◌, ◌^◌, ◌<◌, List, [], ◌∷◌, Option, Some, None}
+use Rattle.std.specs.Prelude.{◌≡◌, ℕ, zero, suc, ◌+◌, ◌*◌, ◌^◌, ◌<◌}
+use Rattle.std.specs.Prelude.{List, [], ◌∷◌, Option, Some, None}
 use Rattle.line_map.specs.declared.mark.Slot.{Slot}
 use Rattle.line_map.specs.declared.mark.Mark.{Mark}
 

@@ -1,5 +1,6 @@
 //! A branch of a map: sections side by side.
-ghost use Rattle.std.specs.Prelude.{◌≡◌, ℕ, ◌+◌, ◌*◌, ◌/◌, ◌<◌, ◌≤◌, true, None, IfOk, IfSome, IfNone, vec_len};
+ghost use Rattle.std.specs.Prelude.{◌≡◌, ℕ, ◌+◌, ◌*◌, ◌/◌, ◌<◌, ◌≤◌, true};
+ghost use Rattle.std.specs.Prelude.{None, IfOk, IfSome, IfNone, vec_len};
 ghost use Rattle.line_map.specs.declared.branch.TheConstants.{SECTIONS};
 ghost use Rattle.line_map.specs.Sections.{IsWidth, IsLastBelow};
 

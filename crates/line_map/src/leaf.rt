@@ -1,5 +1,6 @@
 //! A leaf of a map: lines side by side, some of which have a mark.
-ghost use Rattle.std.specs.Prelude.{◌≡◌, ℕ, ◌<◌, ◌≤◌, ◌==◌, take, slice_index_or, vec_len, true, Option, None, Some, IfSome, IfNone};
+ghost use Rattle.std.specs.Prelude.{◌≡◌, ℕ, ◌<◌, ◌≤◌, ◌==◌, true, Option, None, Some};
+ghost use Rattle.std.specs.Prelude.{take, slice_index_or, vec_len, IfSome, IfNone};
 ghost use Rattle.std.specs.List.{position};
 ghost use Rattle.line_map.specs.declared.leaf.TheConstants.{LINES};
 ghost use Rattle.line_map.specs.declared.leaf.Entry.{Entry as AnEntry};

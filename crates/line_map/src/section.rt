@@ -1,5 +1,6 @@
 //! What the leaves and the branches of a map have in common.
-ghost use Rattle.std.specs.Prelude.{◌≡◌, ℕ, ◌<◌, ◌≤◌, true, Option, None, Some, IsSome, OnOk, OnErr};
+ghost use Rattle.std.specs.Prelude.{◌≡◌, ℕ, ◌<◌, ◌≤◌, true};
+ghost use Rattle.std.specs.Prelude.{Option, None, Some, IsSome, OnOk, OnErr};
 ghost use Rattle.line_map.specs.declared.mark.Mark.{Mark};
 ghost use Rattle.line_map.specs.Sections.{IsWidth, IsPut, IsLastBelow};
 
