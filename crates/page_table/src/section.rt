@@ -1,6 +1,7 @@
 //! What the groups and the branches of a table have in common.
 ghost use Rattle.std.specs.Prelude.{◌≡◌, ℕ, ◌+◌, ◌<◌, ◌≤◌, IsTrue, false, OnOk, OnErr};
-ghost use Rattle.page_table.specs.Sections.{IsWidth, IsFilled, IsBrokenOff, HasRuns, HasRunsBelow, IsFirstNonzero};
+ghost use Rattle.page_table.specs.Sections.{IsWidth, IsFilled, IsBrokenOff, HasRuns, HasRunsBelow};
+ghost use Rattle.page_table.specs.Sections.{IsFirstNonzero};
 ghost use Rattle.page_table.specs.Runs.{length_of};
 
 use crate::run::Run;

@@ -5,7 +5,7 @@ use Rattle.std.proofs.lemmas.Bool.{cases_lt}
 use Rattle.std.proofs.lemmas.Bool.Decides.{nat_tests}
 use Rattle.shadow_map.specs.declared.granule.Change.{Change}
 use Rattle.shadow_map.specs.declared.granule.Change.TheVariants.{Poisoned, Unpoisoned}
-use Rattle.shadow_map.specs.States.{State, Addressable, HeapRedzone, Freed, UserPoison, code_of, Mark, Fill, Block, Poison, Unpoison, rounded, IsMark, AreMarks, state_of, lift}
+use Rattle.shadow_map.specs.States.{State, Addressable, HeapRedzone, Freed, UserPoison, code_of, Mark, Fill, Block, Poison, Unpoison, IsMark, AreMarks, state_of, lift}
 use Rattle.shadow_map.specs.Granules.{unpoisoned_byte, block_byte, changed_in}
 use Rattle.shadow_map.specs.Calls.{range_from, range_to}
 use Rattle.shadow_map.proofs.Bytes.{fill_makes, poison_makes, unpoison_makes}

@@ -74,8 +74,8 @@ impl<A: Allocator + Copy> Shadow<A> {
         (at % GRANULE) as u8 >= front(self.value(at / GRANULE))
     }
 
-    /// The least of `size` bytes from `at` on that is not addressable. Memory that was never marked,
-    /// or was unpoisoned as a whole, costs a few steps, however large it is.
+    /// The least of `size` bytes from `at` on that is not addressable. Memory that was never
+    /// marked, or was unpoisoned as a whole, costs a few steps, however large it is.
     pub fn first_poisoned(&self, at: u64, size: u64) -> Option<u64>
         requires { at + size ≤ 2 ^ 47 }
         ensures { (marks : List Mark) → Shows self.now marks →
