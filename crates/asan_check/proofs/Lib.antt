@@ -1,4 +1,5 @@
 pub mod Rows
+pub mod Refuted
 pub mod Steps
 pub mod Members
 pub mod Blocks

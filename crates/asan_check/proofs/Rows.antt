@@ -21,10 +21,10 @@ access at width ok =
     let parts = and_parts (is_width width) (nat_le (at + width) address_end) ok in
     record { at = at; width = width; known_width = parts.0; in_range = leb-true (at + width) address_end parts.1 }
 
-abbrev load : (at width : ℕ) → IsTrue (is_width width && nat_le (at + width) address_end) → Event
+abbrev pub load : (at width : ℕ) → IsTrue (is_width width && nat_le (at + width) address_end) → Event
 load at width ok = event.Load (access at width ok)
 
-abbrev store : (at width : ℕ) → IsTrue (is_width width && nat_le (at + width) address_end) → Event
+abbrev pub store : (at width : ℕ) → IsTrue (is_width width && nat_le (at + width) address_end) → Event
 store at width ok = event.Store (access at width ok)
 
 abbrev region : (at size : ℕ) → IsTrue (nat_le size largest_region && nat_le (at + size) address_end) → Region
@@ -32,23 +32,23 @@ region at size ok =
     let parts = and_parts (nat_le size largest_region) (nat_le (at + size) address_end) ok in
     record { at = at; size = size; small = leb-true size largest_region parts.0; in_range = leb-true (at + size) address_end parts.1 }
 
-abbrev malloc : (at size : ℕ) → IsTrue (nat_le size largest_region && nat_le (at + size) address_end) → Event
+abbrev pub malloc : (at size : ℕ) → IsTrue (nat_le size largest_region && nat_le (at + size) address_end) → Event
 malloc at size ok = event.Malloc (region at size ok)
 
-abbrev poison : (at size : ℕ) → IsTrue (nat_le size largest_region && nat_le (at + size) address_end) → Event
+abbrev pub poison : (at size : ℕ) → IsTrue (nat_le size largest_region && nat_le (at + size) address_end) → Event
 poison at size ok = event.Poison (region at size ok)
 
-abbrev unpoison : (at size : ℕ) → IsTrue (nat_le size largest_region && nat_le (at + size) address_end) → Event
+abbrev pub unpoison : (at size : ℕ) → IsTrue (nat_le size largest_region && nat_le (at + size) address_end) → Event
 unpoison at size ok = event.Unpoison (region at size ok)
 
-abbrev free : (at : ℕ) → IsTrue (nat_lt at address_end) → Event
+abbrev pub free : (at : ℕ) → IsTrue (nat_lt at address_end) → Event
 free at ok = event.Free record { at = at; in_range = ltb-true at address_end ok }
 
-abbrev report : ℕ → Fault → Report
+abbrev pub report : ℕ → Fault → Report
 report n f = record { number = n; fault = f }
 
 -- the usual bound on the quarantine
-abbrev usual : ℕ
+abbrev pub usual : ℕ
 usual = 0x1000_0000
 
 -- ---- accesses

@@ -16,3 +16,4 @@ mod Told
 mod Prints
 mod Agreeing
 mod Answering
+pub mod Refuted

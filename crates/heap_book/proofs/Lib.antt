@@ -3,3 +3,4 @@ pub mod NeverMeet
 pub mod Permutations
 pub mod Following
 pub mod Entries
+pub mod Refuted

@@ -6,3 +6,4 @@ pub mod Ends
 pub mod Fills
 pub mod Cuts
 pub mod Adds
+pub mod Refuted

@@ -1,0 +1,153 @@
+-- Outcomes, lists, texts and statuses that the contracts refuse.
+-- Each lemma is named for what would have gone wrong.
+use Rattle.std.proofs.Common.{◌≡◌, ℕ, true, false, List, [], ◌∷◌, Some, None, Option, refl, sym, ap, ◌∙◌, arith}
+use Rattle.std.specs.Prelude.{◌≢◌, IsTrue, length, take, Vec}
+use Rattle.std.specs.Io.KnownBytes.{Appends}
+use Rattle.trace_record.specs.declared.event.Event.{Event}
+use Rattle.trace_record.specs.declared.end.End.{End}
+use Rattle.trace_record.specs.declared.end.Fate.{Fate}
+use Rattle.trace_record.specs.declared.end.Fate.TheVariants as fate
+use Rattle.trace_feed.specs.declared.door.Arrival.TheVariants as arrival
+use Rattle.asan_check.specs.declared.report.Fault.TheVariants as fault
+use Rattle.asan_check.specs.declared.report.Report.{Report}
+use Rattle.asan_check.proofs.Rows.{malloc, store, free, report, usual}
+use Rattle.asan_check.proofs.Refuted.{differ, bad_access_is_passed_over}
+use Rattle.asan_collect.specs.declared.item.Item.{Item}
+use Rattle.asan_collect.specs.declared.item.Item.TheVariants as item
+use Rattle.asan_collect.specs.declared.bench.Turn.TheVariants as turn
+use Rattle.asan_collect.specs.declared.outcome.Outcome.{Outcome}
+use Rattle.asan_collect.specs.declared.outcome.Outcome.TheVariants as outcome
+use Rattle.asan_collect.specs.Arrivals.{IsAnswerTo}
+use Rattle.asan_collect.specs.Benches.{Takes}
+use Rattle.asan_collect.specs.Items.{items_of}
+use Rattle.asan_collect.specs.Outcomes.{IsSpelled, Tells, faults_of, is_read}
+use Rattle.asan_collect.specs.Statuses.{clean, reported, status_of}
+
+abbrev end_as : Fate → ℕ → ℕ → End
+end_as fate events offset = record { fate = fate; events = events; offset = offset }
+
+-- ---- ends
+
+-- the stream is said to end without its close, and bytes of the feed are left
+says_no_close_unread :
+    (limit n offset byte : ℕ) (left : List ℕ) (before : Option (List ℕ)) (events : List Event) →
+    ¬ IsSpelled limit before (Some (byte ∷ left)) 0 events (end_as fate.NoClose n offset)
+says_no_close_unread limit n offset byte left before events spelled =
+    let none_left : byte ∷ left ≡ [] = spelled.no_more tt in absurd cc
+
+-- the end is a failed read, and no read of the feed failed
+says_read_failed_unread :
+    (limit n offset : ℕ) (before after : Option (List ℕ)) (events : List Event) →
+    ¬ IsSpelled limit before after 0 events (end_as fate.ReadFailed n offset)
+says_read_failed_unread limit n offset before after events spelled =
+    let none_is_one : ◌≡◌ {A = ℕ} 0 1 = spelled.faults_are in absurd (omega arith)
+
+module _
+    {F A : Type 0} (to_come : F → Option (List ℕ)) (fault_count : F → ℕ) (limit bound : ℕ)
+  where
+    -- another sender's failed read ends this one, of whose feed no read failed
+    one_fault_ends_the_others :
+        (feed after : F) (n offset : ℕ) (reports : Vec Report A) → fault_count after ≡ 0 →
+        ¬ IsAnswerTo to_come fault_count limit bound (arrival.Came feed)
+        (outcome.Settled after (end_as fate.ReadFailed n offset) reports)
+    one_fault_ends_the_others feed after n offset reports none told =
+        let none_is_one : ◌≡◌ {A = ℕ} 0 1 =
+        sym none ∙ ap fault_count told.4.0 ∙ told.3.faults_are
+        ∙ ap (λ e. faults_of e.fate) (sym told.4.1)
+        in absurd (omega arith)
+
+-- the outcome of a feed that came is that of one that was refused
+not_opened_for_a_feed_that_came :
+    (F A : Type 0) (to_come : F → Option (List ℕ)) (fault_count : F → ℕ) (limit bound : ℕ)
+    (feed : F) →
+    ¬ IsAnswerTo {F = F} {A = A} to_come fault_count limit bound (arrival.Came feed)
+    outcome.NotOpened
+not_opened_for_a_feed_that_came F A to_come fault_count limit bound feed told = told
+
+module _ {F A : Type 0} (feed : F) (end : End) (reports : Vec Report A) where
+  -- the last of the decoded events is not checked
+  decoded_event_is_dropped :
+      reports.items ≡ [] →
+      ¬ Tells usual (malloc 0x1000 5 refl ∷ store 0x1004 4 refl ∷ []) feed end
+      (outcome.Settled feed end reports)
+  decoded_event_is_dropped none tells = bad_access_is_passed_over (sym tells.2 ∙ none)
+
+  -- an event is checked twice
+  event_is_stepped_again :
+      reports.items ≡ report 1 (fault.BadFree 0x1000) ∷ report 2 (fault.BadFree 0x1000) ∷ [] →
+      ¬ Tells usual (free 0x1000 refl ∷ []) feed end (outcome.Settled feed end reports)
+  event_is_stepped_again twice tells = differ _ _ refl refl (sym tells.2 ∙ twice)
+
+  -- an event is checked that no byte of the stream spells
+  event_after_the_end_is_stepped :
+      reports.items ≡ report 1 (fault.BadFree 0x1000) ∷ [] →
+      ¬ Tells usual [] feed end (outcome.Settled feed end reports)
+  event_after_the_end_is_stepped one tells = differ _ _ refl refl (sym tells.2 ∙ one)
+
+  -- memory was refused to the malloc, and the free after it is checked in its place
+  skips_event_after_refusal :
+      reports.items ≡ report 1 (fault.BadFree 0x1000) ∷ [] →
+      ¬ Tells usual (malloc 0x1000 8 refl ∷ free 0x1000 refl ∷ []) feed end
+      (outcome.NoMemory feed end 1 reports)
+  skips_event_after_refusal one tells = differ _ _ refl refl (sym tells.3 ∙ one)
+
+-- an end came, and the outcome says that none did
+unsettled_where_an_end_came : (F A : Type 0) → ¬ IsTrue (is_read {F = F} {A = A} outcome.Unsettled)
+unsettled_where_an_end_came F A read = absurd cc
+
+-- ---- lists
+
+-- an item is put once more after it was put
+item_put_twice_after_retry :
+    (e : Event) (end : End) → item.Event e ∷ item.Event e ∷ item.End end ∷ []
+    ≢ items_of (e ∷ []) end
+item_put_twice_after_retry e end same =
+    let three_is_two : ◌≡◌ {A = ℕ} 3 2 = ap length same in absurd (omega arith)
+
+-- an event is not put
+event_is_not_put : (e : Event) (end : End) → item.End end ∷ [] ≢ items_of (e ∷ []) end
+event_is_not_put e end same =
+    let one_is_two : ◌≡◌ {A = ℕ} 1 2 = ap length same in absurd (omega arith)
+
+-- an event is put after the end
+puts_record_after_close :
+    (e : Event) (end other : End) (events : List Event) → item.End end ∷ item.Event e ∷ []
+    ≢ items_of events other
+puts_record_after_close e end other [] same =
+    let two_is_one : ◌≡◌ {A = ℕ} 2 1 = ap length same in absurd (omega arith)
+puts_record_after_close e end other (first ∷ events) same = absurd cc
+
+-- a turn takes two items
+turn_takes_two : (x y : Item) → ¬ Takes turn.Took [] (x ∷ y ∷ [])
+turn_takes_two x y took =
+    let two_is_one : ◌≡◌ {A = ℕ} 2 1 = ap length took.1 in absurd (omega arith)
+
+-- ---- texts
+
+-- the writer took one byte and failed, and a line feed is written after that
+writes_on_after_fault : ¬ Appends (Some []) (Some (97 ∷ 10 ∷ [])) (take 1 (97 ∷ 98 ∷ []))
+writes_on_after_fault appended =
+    let two_is_one : ◌≡◌ {A = ℕ} 2 1 = ap length appended in absurd (omega arith)
+
+-- what was held back does not go out
+held_back_text_is_dropped : ¬ Appends (Some []) (Some []) (97 ∷ [])
+held_back_text_is_dropped appended = absurd cc
+
+-- ---- statuses
+
+module _ {F A : Type 0} (feed : F) (n offset : ℕ) (reports : Vec Report A) where
+  -- a stream without its close counts as checked to its close
+  no_close_counts_as_closed :
+      status_of {F = F} {A = A}
+      (outcome.Settled feed (end_as fate.NoClose n offset) reports ∷ []) true ≢ clean
+  no_close_counts_as_closed same = absurd (omega arith)
+
+  -- a sender that came to nothing counts as checked
+  not_started_counts_as_closed : status_of {F = F} {A = A} (outcome.NotStarted ∷ []) true ≢ clean
+  not_started_counts_as_closed same = absurd (omega arith)
+
+  -- a report hides that not everything was written
+  report_hides_a_failed_write :
+      status_of {F = F} {A = A}
+      (outcome.Settled feed (end_as fate.Closed n offset) reports ∷ []) false ≢ reported
+  report_hides_a_failed_write same = absurd (omega arith)
