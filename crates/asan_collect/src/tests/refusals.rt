@@ -6,7 +6,8 @@ use refuser::Refuser;
 use std::test::Fail;
 use trace_record::Fate;
 
-/// Mallocs of 8 bytes at 0x1000 and at 0x2000, frees of both, a load of a byte of each, and the close.
+/// Mallocs of 8 bytes at 0x1000 and at 0x2000, frees of both, a load of a byte of each, and the
+/// close.
 const FREES: [u8; 81] = [
     0x41, 0x53, 0x54, 0x52, 1, 0, 0, 0, 3, 0, 0x10, 0, 0, 0, 0, 0, 0, 8, 0, 0, 0, 0, 0, 0, 0, 3, 0,
     0x20, 0, 0, 0, 0, 0, 0, 8, 0, 0, 0, 0, 0, 0, 0, 4, 0, 0x10, 0, 0, 0, 0, 0, 0, 4, 0, 0x20, 0, 0,
@@ -18,6 +19,7 @@ fn each_growth_of_the_checker_refused_in_turn(rt: HostRuntime) -> Result<(), Fai
     let options = Options::new(72, 1024, 2, 1 << 24)?;
     let ample = check_feed(rt.alloc(), feed_of(rt.alloc(), &FREES, &[], None)?, options);
     assert_eq!(rt; ample.reports().len(), 2);
+    let mut last = 0;
     for turn in 1..100u64 {
         let heap = Refuser::new(rt.alloc(), turn);
         let feed = feed_of(rt.alloc(), &FREES, &[], None)?;
@@ -25,6 +27,8 @@ fn each_growth_of_the_checker_refused_in_turn(rt: HostRuntime) -> Result<(), Fai
             Outcome::Settled { end, reports, .. } => {
                 assert!(rt; !heap.has_refused());
                 assert!(rt; turn > 4, "only {turn} turns");
+                // The last growth is that of the reports, at the fifth event.
+                assert_eq!(rt; last, 4);
                 assert_eq!(rt; (end.events, end.offset), (6, 81));
                 assert!(rt; reports.as_slice() == ample.reports());
                 return Ok(());
@@ -37,7 +41,8 @@ fn each_growth_of_the_checker_refused_in_turn(rt: HostRuntime) -> Result<(), Fai
             } => {
                 assert!(rt; heap.has_refused());
                 assert_eq!(rt; (end.fate, end.events, end.offset), (Fate::Closed, 6, 81));
-                assert!(rt; checked < 6, "turn {turn}");
+                assert!(rt; last <= checked && checked < 6, "turn {turn}");
+                last = checked;
                 let mut first = Vec::new(rt.alloc());
                 for report in ample.reports() {
                     if report.number <= checked {
@@ -54,6 +59,7 @@ fn each_growth_of_the_checker_refused_in_turn(rt: HostRuntime) -> Result<(), Fai
 
 #[test]
 fn each_growth_of_the_text_refused_in_turn(rt: HostRuntime) -> Result<(), Fail> {
+    let mut before = 0;
     for turn in 1..100u64 {
         let calm = Refuser::new(rt.alloc(), 0);
         let heap = Refuser::new(rt.alloc(), turn);
@@ -63,6 +69,7 @@ fn each_growth_of_the_text_refused_in_turn(rt: HostRuntime) -> Result<(), Fail> 
             Ok(()) => {
                 assert!(rt; !heap.has_refused());
                 assert!(rt; turn > 2, "only {turn} turns");
+                assert!(rt; before > 0);
                 assert!(rt; text.as_slice() == THREE_TEXTS.as_bytes());
                 return Ok(());
             }
@@ -71,6 +78,10 @@ fn each_growth_of_the_text_refused_in_turn(rt: HostRuntime) -> Result<(), Fail> 
                 assert_eq!(rt; fault.why, Why::NoMemory);
                 assert_eq!(rt; fault.written, text.len() as u64);
                 assert!(rt; THREE_TEXTS.as_bytes().starts_with(&text));
+                // What was held back went out first: whole lines, and no fewer than a turn before.
+                assert!(rt; matches!(text.last(), None | Some(b'\n')), "turn {turn}");
+                assert!(rt; before <= text.len(), "turn {turn}");
+                before = text.len();
             }
         }
     }
