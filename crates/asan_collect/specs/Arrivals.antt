@@ -7,7 +7,8 @@ use Rattle.asan_collect.specs.declared.outcome.Outcome.TheVariants as outcome
 use Rattle.asan_collect.specs.Outcomes.{IsOutcomeOf}
 
 -- these arrived, in order, from a door that says what is still to arrive
-abbrev pub Arrived : {F : Type 0} → Option (List (Arrival F)) → Option (List (Arrival F)) → List (Arrival F) → Type 0
+abbrev pub Arrived :
+    {F : Type 0} → Option (List (Arrival F)) → Option (List (Arrival F)) → List (Arrival F) → Type 0
 Arrived None after arrivals = Unit {0}
 Arrived (Some xs) None arrivals = ⊥
 Arrived (Some xs) (Some ys) arrivals = xs ≡ arrivals ++ ys
@@ -21,11 +22,12 @@ IsArrived fault_count arrival.Over = ⊥
 -- two lists, element by element
 pub record Pairwise {X Y : Type 0} (R : X → Y → Type 0) (xs : List X) (ys : List Y) : Type 0 where
   pub same_length : length ys ≡ length xs
-  pub each : (i : ℕ) (d : X) (e : Y) → i < length xs → R (slice_index_or xs i d) (slice_index_or ys i e)
+  pub each :
+      (i : ℕ) (d : X) (e : Y) → i < length xs → R (slice_index_or xs i d) (slice_index_or ys i e)
 
 module _ {F A : Type 0} (to_come : F → Option (List ℕ)) (fault_count : F → ℕ) where
-  -- the outcome of a sender whose feed came: what its feed's bytes spell was checked; or a worker, a lane or the end of its
-  -- lane was missing
+  -- the outcome of a sender whose feed came: what its feed's bytes spell was checked; or a worker,
+  -- a lane or the end of its lane was missing
   abbrev pub IsAnswerToFeed : ℕ → ℕ → F → Outcome F A → Type 0
   IsAnswerToFeed limit bound feed (outcome.Settled f end reports) =
       IsOutcomeOf to_come fault_count limit bound feed (outcome.Settled f end reports)

@@ -21,8 +21,8 @@ Takes turn.Empty before after = after ≡ before
 Takes turn.Over before after = after ≡ before
 
 module _ {A : Type 0} where
-  -- what a contract sees of a bench: its process, its lane, the items that it has taken, its checker, and the bound of that
-  -- checker's quarantine
+  -- what a contract sees of a bench: its process, its lane, the items that it has taken, its
+  -- checker, and the bound of that checker's quarantine
   abbrev pub process_of : Bench A → ℕ
   process_of b = b.process
 
@@ -56,4 +56,6 @@ module _ {A : Type 0} where
   -- the same of each bench, in order
   pub record EachLater (before after : List (Bench A)) : Type 0 where
     pub same_length : length after ≡ length before
-    pub each : (i : ℕ) (d : Bench A) → i < length before → Later (slice_index_or before i d) (slice_index_or after i d)
+    pub each :
+        (i : ℕ) (d : Bench A) → i < length before →
+        Later (slice_index_or before i d) (slice_index_or after i d)

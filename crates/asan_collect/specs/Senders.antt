@@ -20,7 +20,9 @@ use Rattle.asan_collect.specs.Readers.{IsPut, IsReaderOf}
 pub record Each {X : Type 0} (Becomes : X → X → Type 0) (from : ℕ) (xs ys : List X) : Type 0 where
   pub same_length : length ys ≡ length xs
   pub before : (i : ℕ) (d : X) → i < from → slice_index_or ys i d ≡ slice_index_or xs i d
-  pub each : (i : ℕ) (d : X) → from ≤ i → i < length xs → Becomes (slice_index_or xs i d) (slice_index_or ys i d)
+  pub each :
+      (i : ℕ) (d : X) → from ≤ i → i < length xs →
+      Becomes (slice_index_or xs i d) (slice_index_or ys i d)
 
 module _ {F A : Type 0} (to_come : F → Option (List ℕ)) (fault_count : F → ℕ) where
   -- how far the sender that arrived so may have come
@@ -49,7 +51,8 @@ module _ {F A : Type 0} (to_come : F → Option (List ℕ)) (fault_count : F →
 
   -- what a reader may make of a sender
   abbrev pub Becomes : ℕ → Sender F A → Sender F A → Type 0
-  Becomes limit (sender.Ready feed lane) (sender.Read d) = IsReaderOf to_come fault_count limit feed lane d
+  Becomes limit (sender.Ready feed lane) (sender.Read d) =
+      IsReaderOf to_come fault_count limit feed lane d
   Becomes limit (sender.Ready feed lane) sender.NotStarted = Unit {0}
   Becomes limit (sender.Ready feed lane) sender.NotOpened = ⊥
   Becomes limit (sender.Ready feed lane) (sender.Ready f l) = ⊥
@@ -63,7 +66,8 @@ module _ {F A : Type 0} (to_come : F → Option (List ℕ)) (fault_count : F →
   abbrev pub WillBe : ℕ → Sender F A → ReaderThread F A → Type 0
   WillBe limit s (running.Kept t) = Becomes limit s t
   WillBe limit s (running.Running h) =
-      (d : ReaderDone F A) → IsReaderOf to_come fault_count h.promise.limit h.promise.feed.value h.promise.lane.value d
+      (d : ReaderDone F A) →
+      IsReaderOf to_come fault_count h.promise.limit h.promise.feed.value h.promise.lane.value d
       → Becomes limit s (sender.Read d)
 
 -- Whose lane a bench has.
@@ -85,8 +89,10 @@ module _ {F A : Type 0} where
     pub bound_is : bench_bound b ≡ bound
     pub lane : (d : Sender F A) → HasLane (slice_index_or senders (process_of b) d) (lane_of b)
 
-  pub record AreAt (bound : ℕ) (senders : List (Sender F A)) (benches : List (Bench A)) : Type 0 where
-    pub each : (i : ℕ) (d : Bench A) → i < length benches → IsAt bound senders (slice_index_or benches i d)
+  pub record AreAt
+      (bound : ℕ) (senders : List (Sender F A)) (benches : List (Bench A)) : Type 0 where
+    pub each :
+        (i : ℕ) (d : Bench A) → i < length benches → IsAt bound senders (slice_index_or benches i d)
 
 module _ {F A : Type 0} where
   -- a bench that is back has the lane that its reader ended
@@ -101,11 +107,16 @@ module _ {F A : Type 0} where
     pub each : (i : ℕ) (d : Sender F A) → i < length senders → IsJoined (slice_index_or senders i d)
 
 module _ {F A : Type 0} (to_come : F → Option (List ℕ)) (fault_count : F → ℕ) where
-  -- a bench of this bound may have come to the sender, which keeps what was right of it, and its lane
+  -- a bench of this bound may have come to the sender, which keeps what was right of it, and its
+  -- lane
   pub record Rejoins (bound : ℕ) (s t : Sender F A) : Type 0 where
-    pub came : (limit : ℕ) (a : Arrival F) → Came to_come fault_count limit bound a s → Came to_come fault_count limit bound a t
+    pub came :
+        (limit : ℕ) (a : Arrival F) →
+        Came to_come fault_count limit bound a s → Came to_come fault_count limit bound a t
     pub lane : Keeps s t
 
   -- the outcome is right where the sender was
   abbrev pub Gets : Sender F A → Outcome F A → Type 0
-  Gets s told = (limit bound : ℕ) (a : Arrival F) → limit ≤ most_events → Came to_come fault_count limit bound a s → IsAnswerTo to_come fault_count limit bound a told
+  Gets s told =
+      (limit bound : ℕ) (a : Arrival F) → limit ≤ most_events →
+      Came to_come fault_count limit bound a s → IsAnswerTo to_come fault_count limit bound a told

@@ -21,20 +21,29 @@ module _ {A : Type 0} where
   -- what became of the benches that a checker was to be started with
   abbrev pub WillComeBack : Share A → CheckerThread A → Type 0
   WillComeBack share (running.Idle benches) = ComesBack share benches
-  WillComeBack share (running.Running h) = (benches : Share A) → EachLater h.promise.benches.value.items benches.items → ComesBack share benches
+  WillComeBack share (running.Running h) =
+      (benches : Share A) → EachLater h.promise.benches.value.items benches.items →
+      ComesBack share benches
   WillComeBack share running.Lost = Unit {0}
 
   -- each checker has no bench yet, and together they have room for one for each sender
   pub record AreEmpty (workers : ℕ) (shares : List (Share A)) : Type 0 where
     pub none : (k : ℕ) (d : Share A) → k < length shares → (slice_index_or shares k d).items ≡ []
-    pub room : (k : ℕ) (d : Share A) → k < length shares → most_senders ≤ workers * vec_capacity (slice_index_or shares k d)
+    pub room :
+        (k : ℕ) (d : Share A) → k < length shares →
+        most_senders ≤ workers * vec_capacity (slice_index_or shares k d)
 
-  -- the benches of the first `dealt` senders were dealt out in turn, and each checker has room for the rest of its own
+  -- the benches of the first `dealt` senders were dealt out in turn, and each checker has room for
+  -- the rest of its own
   pub record HasRoom (workers dealt : ℕ) (shares : List (Share A)) : Type 0 where
     pub some : 0 < workers
     pub all : length shares ≡ workers
-    pub few : (k : ℕ) (d : Share A) → k < length shares → workers * length (slice_index_or shares k d).items + k < dealt + workers
-    pub room : (k : ℕ) (d : Share A) → k < length shares → most_senders ≤ workers * vec_capacity (slice_index_or shares k d)
+    pub few :
+        (k : ℕ) (d : Share A) → k < length shares →
+        workers * length (slice_index_or shares k d).items + k < dealt + workers
+    pub room :
+        (k : ℕ) (d : Share A) → k < length shares →
+        most_senders ≤ workers * vec_capacity (slice_index_or shares k d)
 
   -- the checker at this place got one bench more
   pub record Deals (at : ℕ) (b : Bench A) (before after : List (Share A)) : Type 0 where
@@ -53,5 +62,8 @@ module _ {F A : Type 0} where
   GivesUp (sender.Joined d b) s = s ≡ sender.Joined d b
 
   -- each bench of each checker has the lane of its sender, and this bound
-  pub record SharesAt (bound : ℕ) (senders : List (Sender F A)) (shares : List (Share A)) : Type 0 where
-    pub each : (k : ℕ) (d : Share A) → k < length shares → AreAt bound senders (slice_index_or shares k d).items
+  pub record SharesAt
+      (bound : ℕ) (senders : List (Sender F A)) (shares : List (Share A)) : Type 0 where
+    pub each :
+        (k : ℕ) (d : Share A) → k < length shares →
+        AreAt bound senders (slice_index_or shares k d).items

@@ -9,46 +9,51 @@ use Rattle.asan_collect.specs.declared.source.Source.{Source}
 use Rattle.asan_collect.specs.Pieces.{rest_of}
 use Rattle.asan_collect.specs.Outcomes.{IsSpelled, IsDecidedSoon}
 
--- The functions say what a feed has to come and how many of its reads have failed. The feed was `first` before it was read.
-module _ {F : Type 0} (to_come : F → Option (List ℕ)) (fault_count : F → ℕ) (limit : ℕ) (first : F) where
-  -- this text was read and decoded, it is open, and these are its events
-  pub record HasRead (s : Source F) (text : List ℕ) (events : List Event) : Type 0 where
-    pub taken : Consumes (to_come first) (to_come s.feed) (text ++ rest_of s.piece)
-    pub decoder : StandsAt s.decoder text events
-    pub limit_is : s.decoder.limit ≡ limit
-    pub fresh : fault_count s.feed ≡ 0
+-- The functions say what a feed has to come and how many of its reads have failed. The feed was
+-- `first` before it was read.
+module _
+    {F : Type 0} (to_come : F → Option (List ℕ)) (fault_count : F → ℕ) (limit : ℕ) (first : F)
+  where
+    -- this text was read and decoded, it is open, and these are its events
+    pub record HasRead (s : Source F) (text : List ℕ) (events : List Event) : Type 0 where
+      pub taken : Consumes (to_come first) (to_come s.feed) (text ++ rest_of s.piece)
+      pub decoder : StandsAt s.decoder text events
+      pub limit_is : s.decoder.limit ≡ limit
+      pub fresh : fault_count s.feed ≡ 0
 
-  -- what was read spells these events, and the end that a byte of it decided
-  pub record IsDecided (s : Source F) (events : List Event) : Type 0 where
-    pub end : End
-    pub stop : s.decoder.stop ≡ Some end
-    pub decided : IsDecidedFate end.fate
-    pub spelled : IsSpelled limit (to_come first) (to_come s.feed) (fault_count s.feed) events end
-    pub soon : IsDecidedSoon limit (to_come first) (to_come s.feed) end
+    -- what was read spells these events, and the end that a byte of it decided
+    pub record IsDecided (s : Source F) (events : List Event) : Type 0 where
+      pub end : End
+      pub stop : s.decoder.stop ≡ Some end
+      pub decided : IsDecidedFate end.fate
+      pub spelled : IsSpelled limit (to_come first) (to_come s.feed) (fault_count s.feed) events end
+      pub soon : IsDecidedSoon limit (to_come first) (to_come s.feed) end
 
-  -- what was read is an open text with these events, and then a read failed, or nothing more was to come
-  pub record IsBroken (s : Source F) (events : List Event) : Type 0 where
-    pub text : List ℕ
-    pub taken : Consumes (to_come first) (to_come s.feed) text
-    pub decoder : StandsAt s.decoder text events
-    pub limit_is : s.decoder.limit ≡ limit
-    pub why : (fault_count s.feed ≡ 1) ⊎ ((fault_count s.feed ≡ 0) × IsAtEnd (to_come s.feed))
+    -- what was read is an open text with these events, and then a read failed, or nothing more was
+    -- to come
+    pub record IsBroken (s : Source F) (events : List Event) : Type 0 where
+      pub text : List ℕ
+      pub taken : Consumes (to_come first) (to_come s.feed) text
+      pub decoder : StandsAt s.decoder text events
+      pub limit_is : s.decoder.limit ≡ limit
+      pub why : (fault_count s.feed ≡ 1) ⊎ ((fault_count s.feed ≡ 0) × IsAtEnd (to_come s.feed))
 
-  -- the feed was read to the end of its stream, and gave these events
-  abbrev pub HasEnded : Source F → List Event → Type 0
-  HasEnded s events = IsDecided s events ⊎ IsBroken s events
+    -- the feed was read to the end of its stream, and gave these events
+    abbrev pub HasEnded : Source F → List Event → Type 0
+    HasEnded s events = IsDecided s events ⊎ IsBroken s events
 
-  -- after a read that gave bytes the text is as it was; after any other the stream has ended
-  abbrev pub AfterRefill : Bool → Source F → List ℕ → List Event → Type 0
-  AfterRefill true s text events = HasRead s text events
-  AfterRefill false s text events = HasEnded s events
+    -- after a read that gave bytes the text is as it was; after any other the stream has ended
+    abbrev pub AfterRefill : Bool → Source F → List ℕ → List Event → Type 0
+    AfterRefill true s text events = HasRead s text events
+    AfterRefill false s text events = HasEnded s events
 
-  -- after the last batch the stream has ended; after any other more of it was read and decoded
-  abbrev pub AfterBatch : Bool → Source F → List ℕ → List Event → Type 0
-  AfterBatch true s text events = HasEnded s events
-  AfterBatch false s text events = (more : List ℕ) × (0 < length more) × HasRead s (text ++ more) events
+    -- after the last batch the stream has ended; after any other more of it was read and decoded
+    abbrev pub AfterBatch : Bool → Source F → List ℕ → List Event → Type 0
+    AfterBatch true s text events = HasEnded s events
+    AfterBatch false s text events =
+        (more : List ℕ) × (0 < length more) × HasRead s (text ++ more) events
 
-  -- an end of the feed's stream, which these events came before
-  pub record IsEndOf (feed : F) (events : List Event) (end : End) : Type 0 where
-    pub spelled : IsSpelled limit (to_come first) (to_come feed) (fault_count feed) events end
-    pub soon : IsDecidedFate end.fate → IsDecidedSoon limit (to_come first) (to_come feed) end
+    -- an end of the feed's stream, which these events came before
+    pub record IsEndOf (feed : F) (events : List Event) (end : End) : Type 0 where
+      pub spelled : IsSpelled limit (to_come first) (to_come feed) (fault_count feed) events end
+      pub soon : IsDecidedFate end.fate → IsDecidedSoon limit (to_come first) (to_come feed) end

@@ -11,7 +11,8 @@ use trace_feed::{Arrival, Door};
 /// The most senders that one call takes.
 pub const MOST_SENDERS: usize = 256;
 
-/// Asks the door until it is over or has given 256 other answers, which are these. There is room for all of them.
+/// Asks the door until it is over or has given 256 other answers, which are these. There is room
+/// for all of them.
 pub(crate) fn ask<D: Door, A: Allocator + Copy>(
     door: &mut D,
     room: Vec<Arrival<D::Feed>, A>,
@@ -21,7 +22,8 @@ pub(crate) fn ask<D: Door, A: Allocator + Copy>(
     requires few_refused { D.refusal_count door.old ≤ 2 ^ 32 }
     ensures arrived { Arrived (D.to_arrive door.old) (D.to_arrive door.new) result.items }
     ensures fresh { All (IsArrived D.Feed.fault_count) result.items }
-    ensures refused { D.refusal_count door.new ≡ refused_among result.items + D.refusal_count door.old }
+    ensures refused { D.refusal_count door.new
+        ≡ refused_among result.items + D.refusal_count door.old }
     ensures all { IsTrue (D.is_shut door.new) ⊎ (length result.items ≡ most_senders) }
     ensures few { length result.items ≤ most_senders }
 {

@@ -62,7 +62,8 @@ impl<A: Allocator + Copy> Bench<A> {
     ghost use Rattle.asan_collect.specs.Benches.{Later};
     ghost use Rattle.asan_collect.specs.Benches.{lane_of, process_of, taken_of, bench_bound, is_over, Turns, checker_of};
 
-    /// A bench of this process. Nothing was taken from its lane, and its checker has checked nothing. Takes no memory.
+    /// A bench of this process. Nothing was taken from its lane, and its checker has checked
+    /// nothing. Takes no memory.
     pub fn new(process: u32, lane: LaneOut<Item, A>, checker: Checker<A>) -> Bench<A>
         requires fresh { taken_list lane ≡ [] }
         requires stands { Stands (bound_of checker) checker [] }
@@ -80,8 +81,9 @@ impl<A: Allocator + Copy> Bench<A> {
         }
     }
 
-    /// Takes one item, if there is one, and checks it if it is an event. Then it calls the gate, unless the checker has failed: a
-    /// checker that has failed stays so, and its events are taken and dropped.
+    /// Takes one item, if there is one, and checks it if it is an event. Then it calls the gate,
+    /// unless the checker has failed: a checker that has failed stays so, and its events are taken
+    /// and dropped.
     ///
     /// `Over`, exactly where the end or 2^24 events were taken before: then it takes nothing.
     pub fn turn<G: Gate>(&mut self, gate: &G) -> Turn
@@ -105,7 +107,8 @@ impl<A: Allocator + Copy> Bench<A> {
         Turn::Took
     }
 
-    /// A turn, and whether there may be another: not once it is over, or once its lane was left and is empty.
+    /// A turn, and whether there may be another: not once it is over, or once its lane was left and
+    /// is empty.
     pub(crate) fn work<G: Gate>(&mut self, gate: &G) -> Found
         ensures { Later self.old self.new }
     {
@@ -128,7 +131,8 @@ impl<A: Allocator + Copy> Bench<A> {
         self.process
     }
 
-    /// Takes all that is left of its lane, which was finished with this end, and checks the events of it, in all at most 2^24.
+    /// Takes all that is left of its lane, which was finished with this end, and checks the events
+    /// of it, in all at most 2^24.
     pub(crate) fn drain(self, end: LaneEnd<Item, A>) -> Drained<A>
         requires { end_lane end ≡ lane_of self }
         ensures { HasChecked (checker_of self) result.events result.checker (end_list end) }

@@ -15,19 +15,21 @@ use std::alloc::Allocator;
 use trace_feed::Feed;
 use trace_record::{End, Event};
 
-/// Reads `feed` until something ends its stream, and checks the events that its bytes spell, on the calling thread and
-/// through a buffer of 4,096 bytes. The checker takes its memory from `alloc`. No read of the feed may have failed before.
+/// Reads `feed` until something ends its stream, and checks the events that its bytes spell, on the
+/// calling thread and through a buffer of 4,096 bytes. The checker takes its memory from `alloc`.
+/// No read of the feed may have failed before.
 ///
-/// The outcome is `Settled`, or `NoMemory` where a growth of the checker was refused; the stream is read to its end then
-/// too. It owns the feed again. No read follows one that failed, one that gave no byte, or one that gave the byte that
-/// decides the stream.
+/// The outcome is `Settled`, or `NoMemory` where a growth of the checker was refused; the stream is
+/// read to its end then too. It owns the feed again. No read follows one that failed, one that gave
+/// no byte, or one that gave the byte that decides the stream.
 pub fn check_feed<F: Feed, A: Allocator + Copy>(
     alloc: A,
     feed: F,
     options: Options,
 ) -> Outcome<F, A>
     requires fresh { F.fault_count feed ≡ 0 }
-    ensures outcome { IsOutcomeOf F.to_come F.fault_count options.limit options.quarantine feed result }
+    ensures outcome { IsOutcomeOf F.to_come F.fault_count options.limit options.quarantine
+        feed result }
     ensures soon { StopsSoon F.to_come options.limit feed result }
     ensures few { length (reports_of result) ≤ most_reports }
 {
@@ -48,7 +50,8 @@ pub fn check_feed<F: Feed, A: Allocator + Copy>(
 /// How many events the checker is to fetch at once.
 const AHEAD: usize = 8;
 
-/// Hands the events to the checker, in order. A checker that has failed stays so, and says it in the end.
+/// Hands the events to the checker, in order. A checker that has failed stays so, and says it in
+/// the end.
 pub(crate) fn check_each<A: Allocator + Copy>(checker: &mut Checker<A>, events: &[Event])
     requires room { checked_of checker.old + length events.now < 2 ^ 64 }
     ensures { (bound : ℕ) (past : List AnEvent) → StandsOrFailed bound checker.old past →
@@ -93,7 +96,8 @@ pub(crate) fn outcome_of<F, A: Allocator + Copy>(
     checker: Checker<A>,
     events: u64,
 ) -> Outcome<F, A>
-    ensures tells { (bound : ℕ) (handed : List AnEvent) → ∥ StandsOrFailed bound checker (reverse handed) ∥₁ →
+    ensures tells { (bound : ℕ) (handed : List AnEvent) →
+        ∥ StandsOrFailed bound checker (reverse handed) ∥₁ →
         events ≡ length handed → Tells bound handed feed end result }
     ensures reports { reports_of result ≡ checker_reports checker }
     ensures read { IsTrue (is_read result) }

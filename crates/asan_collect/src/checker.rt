@@ -19,8 +19,8 @@ struct Round {
     ended: bool,
 }
 
-/// Goes round the benches, a turn each, until each is over, or its lane was left and is empty. Where it finds nothing to take it
-/// waits. The benches come back in order.
+/// Goes round the benches, a turn each, until each is over, or its lane was left and is empty.
+/// Where it finds nothing to take it waits. The benches come back in order.
 pub fn run_checker<A: Allocator + Copy, G: Gate, R: Wait + Clock>(
     rt: &R,
     benches: Vec<Bench<A>, A>,

@@ -110,8 +110,9 @@ fn give_up_senders<F: Drop, A: Allocator + Copy>(
     }
 }
 
-/// Checks the shares from `at` on, each on a thread of its own, and reads the senders, each on a thread of its own, while this
-/// thread does its own work. The checkers are started before the readers, and joined after them.
+/// Checks the shares from `at` on, each on a thread of its own, and reads the senders, each on a
+/// thread of its own, while this thread does its own work. The checkers are started before the
+/// readers, and joined after them.
 pub(crate) fn check_from<
     's,
     'e: 's,
@@ -133,7 +134,8 @@ pub(crate) fn check_from<
 )
     requires at { at ≤ vec_len shares.old }
     requires fresh { AllFresh F.to_come F.fault_count senders.old.items }
-    ensures senders { Each (Becomes F.to_come F.fault_count options.limit) 0 senders.old.items senders.new.items }
+    ensures senders { Each (Becomes F.to_come F.fault_count options.limit) 0
+        senders.old.items senders.new.items }
     ensures shares { Each ComesBack at shares.old.items shares.new.items }
     ensures does { M.does foreground.old foreground.new }
 {

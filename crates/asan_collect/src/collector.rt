@@ -21,16 +21,20 @@ use std::thread::Threads;
 use std::time::Clock;
 use trace_feed::Door;
 
-/// Asks the door until it is over or has given 256 other answers, and then reads and checks the feeds that came, all at the same
-/// time: each feed is read on a thread of its own, and there are `workers` checkers. Sender i is checked by the checker i mod
-/// `workers`; the first one works on the calling thread, and each other that has a sender on a thread of its own. What a reader
-/// puts reaches its checker through a lane of `ring` items. The lists, the lanes and the checkers take their memory from `alloc`.
+/// Asks the door until it is over or has given 256 other answers, and then reads and checks the
+/// feeds that came, all at the same time: each feed is read on a thread of its own, and there are
+/// `workers` checkers. Sender i is checked by the checker i mod `workers`; the first one works on
+/// the calling thread, and each other that has a sender on a thread of its own. What a reader puts
+/// reaches its checker through a lane of `ring` items. The lists, the lanes and the checkers take
+/// their memory from `alloc`.
 ///
-/// The outcomes stand in the order of the answers: `NotOpened` for each sender that the door refused, `NotStarted` where a
-/// thread or a lane was missing, `Unsettled` where the lane came without its end, and else `Settled` or `NoMemory`. What becomes
-/// of one sender changes nothing of the others.
+/// The outcomes stand in the order of the answers: `NotOpened` for each sender that the door
+/// refused, `NotStarted` where a thread or a lane was missing, `Unsettled` where the lane came
+/// without its end, and else `Settled` or `NoMemory`. What becomes of one sender changes nothing of
+/// the others.
 ///
-/// The gate is called after each event that was checked. The door must have refused at most 2^32 senders before.
+/// The gate is called after each event that was checked. The door must have refused at most 2^32
+/// senders before.
 ///
 /// # Errors
 ///
@@ -53,11 +57,14 @@ where
     ensures each { IfOk result (λ outcomes. (arrivals : List (AnArrival D.Feed))
         × Arrived (D.to_arrive door.old) (D.to_arrive door.new) arrivals
         × (IsTrue (D.is_shut door.new) ⊎ (length arrivals ≡ most_senders))
-        × Pairwise (IsAnswerTo D.Feed.to_come D.Feed.fault_count options.limit options.quarantine) arrivals outcomes.items) }
+        × Pairwise
+        (IsAnswerTo D.Feed.to_come D.Feed.fault_count options.limit options.quarantine)
+        arrivals outcomes.items) }
     ensures refused { IfOk result (λ outcomes.
         D.refusal_count door.new ≡ not_opened_among outcomes.items + D.refusal_count door.old) }
     ensures few { IfOk result (λ outcomes. length outcomes.items ≤ most_senders) }
-    ensures few_reports { IfOk result (λ outcomes. All (λ o. length (reports_of o) ≤ most_reports) outcomes.items) }
+    ensures few_reports { IfOk result (λ outcomes.
+        All (λ o. length (reports_of o) ≤ most_reports) outcomes.items) }
     ensures unasked { OnErr result (door.new ≡ door.old) }
 {
     let arrival_room = Vec::with_capacity(alloc, MOST_SENDERS)?;

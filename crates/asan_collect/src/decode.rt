@@ -18,7 +18,8 @@ pub(crate) struct Decoded {
     pub end: Option<End>,
 }
 
-/// Decodes a piece until it is used up, the stream has ended, or `events` is full. The events stand at the front of `events`.
+/// Decodes a piece until it is used up, the stream has ended, or `events` is full. The events stand
+/// at the front of `events`.
 pub(crate) fn decode(decoder: &mut Decoder, piece: &[u8], events: &mut [Event]) -> Decoded
     requires running { decoder.old.stop ≡ None }
     ensures used { result.used ≤ length piece.now }
@@ -27,7 +28,8 @@ pub(crate) fn decode(decoder: &mut Decoder, piece: &[u8], events: &mut [Event]) 
     ensures moved { 0 < length piece.now → 0 < length events.old → 0 < result.used }
     ensures limit { decoder.new.limit ≡ decoder.old.limit }
     ensures decoded { (text : List ℕ) (before : List AnEvent) → StandsAt decoder.old text before →
-        HasDecoded decoder.new (text ++ take result.used piece.now) (before ++ take result.count events.new) result.end }
+        HasDecoded decoder.new (text ++ take result.used piece.now)
+        (before ++ take result.count events.new) result.end }
 {
     let (mut used, mut count) = (0, 0);
     while count < events.len() {

@@ -12,7 +12,8 @@ use asan_check::Checker;
 use std::alloc::Allocator;
 use trace_lane::{LaneEnd, LaneOut};
 
-/// A checker that was handed the events of a lane, or the first 2^24 of them, and how many these were.
+/// A checker that was handed the events of a lane, or the first 2^24 of them, and how many these
+/// were.
 #[derive(Drop)]
 pub(crate) struct Drained<A: Allocator + Copy> {
     pub checker: Checker<A>,
@@ -21,8 +22,10 @@ pub(crate) struct Drained<A: Allocator + Copy> {
 
 /// Hands the checker an item, unless it has had 2^24 events.
 fn check_item<A: Allocator + Copy>(checker: &mut Checker<A>, events: &mut u32, item: Item)
-    requires { (first : AChecker A) × (items : List AnItem) × HasChecked first events.old checker.old items }
-    ensures { (first : AChecker A) (items : List AnItem) → HasChecked first events.old checker.old items →
+    requires { (first : AChecker A) × (items : List AnItem)
+        × HasChecked first events.old checker.old items }
+    ensures { (first : AChecker A) (items : List AnItem) →
+        HasChecked first events.old checker.old items →
         HasChecked first events.new checker.new (items ++ item ∷ []) }
 {
     let Item::Event(event) = item else {

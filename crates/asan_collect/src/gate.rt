@@ -2,10 +2,12 @@
 
 /// Hears of each event that was checked.
 pub trait Gate {
-    /// The event of this number, counted from 1, of this process was checked. A checker that ran out of memory calls no more.
+    /// The event of this number, counted from 1, of this process was checked. A checker that ran
+    /// out of memory calls no more.
     ///
-    /// It is called on the thread that checked the event, which goes on when the call returns: a gate that waits holds up all
-    /// processes of that checker. The events that `settle` still checks are not announced.
+    /// It is called on the thread that checked the event, which goes on when the call returns: a
+    /// gate that waits holds up all processes of that checker. The events that `settle` still
+    /// checks are not announced.
     fn checked(&self, process: u32, event: u64);
 }
 

@@ -46,7 +46,8 @@ fn open<F: Feed + Drop, A: Allocator + Copy>(
     requires { IsArrived F.fault_count arrival }
     ensures came { (limit bound : ℕ) → Came F.to_come F.fault_count limit bound arrival result.0 }
     ensures fresh { IsFresh F.to_come F.fault_count result.0 }
-    ensures bench { IfSome result.1 (λ b. (process_of b ≡ process) × (bench_bound b ≡ options.quarantine)
+    ensures bench { IfSome result.1 (λ b. (process_of b ≡ process)
+        × (bench_bound b ≡ options.quarantine)
         × HasLane result.0 (lane_of b)) }
 {
     let feed = match arrival {
@@ -76,7 +77,8 @@ fn deal<A: Allocator + Copy>(shares: &mut Vec<Vec<Bench<A>, A>, A>, process: usi
     shares[at].push(bench).unwrap();
 }
 
-/// Each arrival becomes a sender, and the benches of those that came are dealt out to the checkers in turn.
+/// Each arrival becomes a sender, and the benches of those that came are dealt out to the checkers
+/// in turn.
 pub(crate) fn open_all<F: Feed + Drop, A: Allocator + Copy>(
     alloc: A,
     arrivals: Vec<Arrival<F>, A>,
@@ -89,7 +91,8 @@ pub(crate) fn open_all<F: Feed + Drop, A: Allocator + Copy>(
     requires senders { (sender_room.items ≡ []) × (most_senders ≤ vec_capacity sender_room) }
     requires some { 0 < vec_len shares }
     requires shares { AreEmpty (vec_len shares) shares.items }
-    ensures came { (limit bound : ℕ) → Pairwise (Came F.to_come F.fault_count limit bound) arrivals.items result.0.items }
+    ensures came { (limit bound : ℕ) →
+        Pairwise (Came F.to_come F.fault_count limit bound) arrivals.items result.0.items }
     ensures fresh { AllFresh F.to_come F.fault_count result.0.items }
     ensures shares { SharesAt options.quarantine result.0.items result.1.items }
     ensures some { 0 < vec_len result.1 }

@@ -1,4 +1,5 @@
-//! What becomes of each sender's stream: its outcome, the text that is printed of it, and the status of all together.
+//! What becomes of each sender's stream: its outcome, the text that is printed of it, and the
+//! status of all together.
 #![tactic(auto)]
 
 mod arrivals;

@@ -5,14 +5,15 @@ use std::sync::Wait;
 use std::thread;
 use std::time::{Clock, Duration};
 
-/// How often a thread yields its processor before it sleeps, which is about a millisecond in all. A thread that slept at once
-/// would sleep for each ringful of items.
+/// How often a thread yields its processor before it sleeps, which is about a millisecond in all. A
+/// thread that slept at once would sleep for each ringful of items.
 const YIELDS: u32 = 1000;
 
 /// How long a thread sleeps at a time, in milliseconds.
 const SLEEP: u64 = 1;
 
-/// How a thread waits for others: it spins, then it yields its processor, and at last it sleeps, a millisecond at a time.
+/// How a thread waits for others: it spins, then it yields its processor, and at last it sleeps, a
+/// millisecond at a time.
 #[derive(Drop)]
 pub(crate) struct Pause {
     backoff: Backoff,

@@ -49,12 +49,13 @@ impl Piece {
         self.used += count;
     }
 
-    /// Reads the next piece of a feed in place of this one, and answers its length, which is 0 at the end of the feed only. Where
-    /// the read fails the piece has no bytes.
+    /// Reads the next piece of a feed in place of this one, and answers its length, which is 0 at
+    /// the end of the feed only. Where the read fails the piece has no bytes.
     pub(crate) fn refill<F: Feed>(&mut self, feed: &mut F) -> Result<usize, FeedFault>
         requires { F.fault_count feed.old < 2 ^ 64 - 1 }
         ensures length { IfOk result (λ n. n ≡ length (rest_of self.new)) }
-        ensures bytes { IfOk result (λ _. Consumes (F.to_come feed.old) (F.to_come feed.new) (rest_of self.new)) }
+        ensures bytes { IfOk result (λ _.
+            Consumes (F.to_come feed.old) (F.to_come feed.new) (rest_of self.new)) }
         ensures at_end { IfOk result (λ n. n ≡ 0 → IsAtEnd (F.to_come feed.new)) }
         ensures kept { OnErr result (Keeps (F.to_come feed.old) (F.to_come feed.new)) }
         ensures none { OnErr result (rest_of self.new ≡ []) }

@@ -1,4 +1,5 @@
-//! The reading end of a lane: one feed's events are put into it as they are read, and then their end.
+//! The reading end of a lane: one feed's events are put into it as they are read, and then their
+//! end.
 
 ghost use Rattle.std.specs.Prelude.{◌≡◌, ◌<◌, ◌≤◌, ◌∷◌, ◌++◌, [], IfSome, IsTrue, length};
 ghost use Rattle.trace_lane.specs.Lanes.{in_lane, end_lane, put_list, end_list};
@@ -28,11 +29,12 @@ pub struct ReaderDone<F, A: Allocator + Copy = Global> {
     pub lane_end: Option<LaneEnd<Item, A>>,
 }
 
-/// Reads `feed` until something ends its stream. Puts the events that its bytes spell into the lane, then the end, and then
-/// finishes the lane. It owns the feed again.
+/// Reads `feed` until something ends its stream. Puts the events that its bytes spell into the
+/// lane, then the end, and then finishes the lane. It owns the feed again.
 ///
-/// The events of a piece are put before the feed is asked again. Where the lane is full it waits until there is room, or until
-/// the lane was left: then it gives up, and `lane_end` is `None`. It takes no memory.
+/// The events of a piece are put before the feed is asked again. Where the lane is full it waits
+/// until there is room, or until the lane was left: then it gives up, and `lane_end` is `None`. It
+/// takes no memory.
 ///
 /// No read of the feed may have failed before, and the limit on its events is 1 to 2^24.
 pub fn run_reader<F: Feed, A: Allocator + Copy, R: Wait + Clock>(
@@ -77,7 +79,8 @@ fn close<A: Allocator + Copy, R: Wait + Clock>(
     lane: LaneIn<Item, A>,
     end: End,
 ) -> Option<LaneEnd<Item, A>>
-    ensures { IfSome result (λ e. (end_lane e ≡ in_lane lane) × (end_list e ≡ put_list lane ++ item.End end ∷ [])) }
+    ensures { IfSome result (λ e. (end_lane e ≡ in_lane lane)
+        × (end_list e ≡ put_list lane ++ item.End end ∷ [])) }
 {
     let mut lane = lane;
     if !put_all(rt, &mut lane, &[Item::End(end)]) {
@@ -86,7 +89,8 @@ fn close<A: Allocator + Copy, R: Wait + Clock>(
     lane.finish()
 }
 
-/// Puts a batch of events, and answers whether it could: it gives up where the lane was left. The items are its own to use.
+/// Puts a batch of events, and answers whether it could: it gives up where the lane was left. The
+/// items are its own to use.
 fn put_events<A: Allocator + Copy, R: Wait + Clock>(
     rt: &R,
     lane: &mut LaneIn<Item, A>,

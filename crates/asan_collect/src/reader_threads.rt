@@ -29,7 +29,8 @@ pub(crate) struct Reading<F, A: Allocator + Copy> {
 }
 
 impl<F: Feed, A: Allocator + Copy> Promise<ReaderDone<F, A>> for Reading<F, A> {
-    ghost kept_by = { λ p r. IsReaderOf F.to_come F.fault_count p.limit p.feed.value p.lane.value r };
+    ghost kept_by = { λ p r.
+        IsReaderOf F.to_come F.fault_count p.limit p.feed.value p.lane.value r };
 }
 
 /// What was begun with a sender.
@@ -92,7 +93,8 @@ fn finish<F: Feed, A: Allocator + Copy, R: Threads>(
     }
 }
 
-/// Reads the senders from `at` on, each on a thread of its own, while this thread does its own work.
+/// Reads the senders from `at` on, each on a thread of its own, while this thread does its own
+/// work.
 pub(crate) fn read_from<
     's,
     'e: 's,
@@ -110,7 +112,8 @@ pub(crate) fn read_from<
 )
     requires at { at ≤ vec_len senders.old }
     requires fresh { AllFresh F.to_come F.fault_count senders.old.items }
-    ensures read { Each (Becomes F.to_come F.fault_count options.limit) at senders.old.items senders.new.items }
+    ensures read { Each (Becomes F.to_come F.fault_count options.limit) at
+        senders.old.items senders.new.items }
     ensures does { M.does foreground.old foreground.new }
 {
     if at >= senders.len() {

@@ -41,7 +41,8 @@ pub(crate) struct Source<F> {
 }
 
 impl<F: Feed> Source<F> {
-    /// Starts to read a feed whose stream may have at most `limit` events, 1 to 2^24. No read of it may have failed.
+    /// Starts to read a feed whose stream may have at most `limit` events, 1 to 2^24. No read of it
+    /// may have failed.
     pub(crate) fn new(feed: F, limit: u32) -> Source<F>
         requires fresh { F.fault_count feed ≡ 0 }
         requires limit { (0 < limit) × (limit ≤ most_events) }
@@ -54,8 +55,9 @@ impl<F: Feed> Source<F> {
         }
     }
 
-    /// Reads the next events into the front of `events`, which has room for one at least. The feed is asked once at most, and only
-    /// when all that it gave before was decoded. After the last batch this is not to be called again.
+    /// Reads the next events into the front of `events`, which has room for one at least. The feed
+    /// is asked once at most, and only when all that it gave before was decoded. After the last
+    /// batch this is not to be called again.
     pub(crate) fn next_batch(&mut self, events: &mut [Event]) -> Batch
         requires fresh { F.fault_count self.old.feed ≡ 0 }
         requires running { self.old.decoder.stop ≡ None }
@@ -64,7 +66,8 @@ impl<F: Feed> Source<F> {
         ensures count { result.count ≤ length events.old }
         ensures read { (limit : ℕ) (first : F) (text : List ℕ) (before : List AnEvent) →
             HasRead F.to_come F.fault_count limit first self.old text before →
-            AfterBatch F.to_come F.fault_count limit first result.is_last self.new text (before ++ take result.count events.new) }
+            AfterBatch F.to_come F.fault_count limit first result.is_last self.new text
+            (before ++ take result.count events.new) }
     {
         if self.piece.rest().is_empty() && !self.refill() {
             return Batch {

@@ -15,7 +15,8 @@ use crate::{Options, Outcome, check_feed};
 use std::alloc::{AllocError, Allocator, Global};
 use trace_feed::MemFeed;
 
-/// A malloc of 5 bytes at 0x1000, a store of 4 bytes at 0x1004, the close, and 20 bytes that nobody reads.
+/// A malloc of 5 bytes at 0x1000, a store of 4 bytes at 0x1004, the close, and 20 bytes that nobody
+/// reads.
 const STREAM: [u8; 56] = [
     0x41, 0x53, 0x54, 0x52, 1, 0, 0, 0, 3, 0, 0x10, 0, 0, 0, 0, 0, 0, 5, 0, 0, 0, 0, 0, 0, 0, 2, 4,
     4, 0x10, 0, 0, 0, 0, 0, 0, 7, 1, 2, 3, 4, 5, 6, 7, 8, 9, 10, 11, 12, 13, 14, 15, 16, 17, 18,
@@ -55,12 +56,14 @@ fn feed_of(
     Ok(MemFeed::new(bytes.to_vec(alloc)?, cuts.to_vec(alloc)?, fail_at))
 }
 
-/// What becomes of the stream, of its first 30 bytes with a failing read behind them, and of no bytes.
+/// What becomes of the stream, of its first 30 bytes with a failing read after them, and of no
+/// bytes.
 fn three_outcomes<A: Allocator + Copy>(
     bytes: Global,
     alloc: A,
 ) -> Result<[Outcome<MemFeed, A>; 3], AllocError>
-    ensures few { IfOk result (λ outcomes. All (λ o. length (reports_of o) ≤ most_reports) outcomes) }
+    ensures few { IfOk result (λ outcomes.
+        All (λ o. length (reports_of o) ≤ most_reports) outcomes) }
     ensures three { IfOk result (λ outcomes. length outcomes ≡ 3) }
 {
     let options = Options::usual();

@@ -1,4 +1,5 @@
-//! All threads of one call of `collect`: the checkers, the readers, and the first checker on the calling thread.
+//! All threads of one call of `collect`: the checkers, the readers, and the first checker on the
+//! calling thread.
 
 ghost use Rattle.std.specs.Prelude.{◌<◌, vec_len};
 ghost use Rattle.asan_collect.specs.Senders.{AllFresh, Becomes, Each};
@@ -23,7 +24,8 @@ pub(crate) struct Returned<F, A: Allocator + Copy> {
     pub shares: Vec<Vec<Bench<A>, A>, A>,
 }
 
-/// Runs the readers and all checkers but the first on threads of their own, and the first checker on this one.
+/// Runs the readers and all checkers but the first on threads of their own, and the first checker
+/// on this one.
 fn run_in<
     's,
     'e: 's,
@@ -42,7 +44,8 @@ fn run_in<
 )
     requires some { 0 < vec_len shares.old }
     requires fresh { AllFresh F.to_come F.fault_count senders.old.items }
-    ensures senders { Each (Becomes F.to_come F.fault_count options.limit) 0 senders.old.items senders.new.items }
+    ensures senders { Each (Becomes F.to_come F.fault_count options.limit) 0
+        senders.old.items senders.new.items }
     ensures shares { Each ComesBack 0 shares.old.items shares.new.items }
 {
     let benches = mem::replace(&mut shares[0], Vec::new(alloc));
@@ -69,7 +72,8 @@ pub(crate) fn run_all<
     options: Options,
 ) -> Returned<F, A>
     requires { (0 < vec_len shares) × AllFresh F.to_come F.fault_count senders.items }
-    ensures senders { Each (Becomes F.to_come F.fault_count options.limit) 0 senders.items result.senders.items }
+    ensures senders { Each (Becomes F.to_come F.fault_count options.limit) 0
+        senders.items result.senders.items }
     ensures shares { Each ComesBack 0 shares.items result.shares.items }
 {
     thread::scope(
@@ -77,7 +81,8 @@ pub(crate) fn run_all<
         rt,
         move |scope| -> Returned<F, A>
             requires { (0 < vec_len shares) × AllFresh F.to_come F.fault_count senders.items }
-            ensures senders { Each (Becomes F.to_come F.fault_count options.limit) 0 senders.items result.senders.items }
+            ensures senders { Each (Becomes F.to_come F.fault_count options.limit) 0
+                senders.items result.senders.items }
             ensures shares { Each ComesBack 0 shares.items result.shares.items }
         {
             let (mut senders, mut shares) = (senders, shares);

@@ -1,7 +1,8 @@
 //! Tests that work overlaps: senders, a reader and its checker, and two checkers.
 //!
-//! A feed or a gate here waits for another thread, at most 10,000,000 turns, in each of which it yields its processor, and
-//! counts a miss where it waited in vain. What waits would miss if the work were done in turn.
+//! A feed or a gate here waits for another thread, at most 10,000,000 turns, in each of which it
+//! yields its processor, and counts a miss where it waited in vain. What waits would miss if the
+//! work were done in turn.
 
 use super::collect::printed_of;
 use super::{MISS, STREAM, feed_of};
@@ -29,8 +30,8 @@ fn wait_for(flag: &AtomicU64) -> bool {
     false
 }
 
-/// A feed whose second read waits for a flag, and its first one too if `waits_first`. Where it waits in vain, the read fails. It
-/// sets a flag of its own when its second read begins.
+/// A feed whose second read waits for a flag, and its first one too if `waits_first`. Where it
+/// waits in vain, the read fails. It sets a flag of its own when its second read begins.
 #[derive(Drop)]
 struct Waiting<'a> {
     bytes: &'static [u8],
@@ -97,8 +98,8 @@ impl<'a> Gate for Marking<'a> {
     }
 }
 
-/// What is printed of two senders: one gives nothing until the first event of the other was checked, and that one gives only
-/// its first event until the first event of the one was.
+/// What is printed of two senders: one gives nothing until the first event of the other was
+/// checked, and that one gives only its first event until the first event of the one was.
 fn printed_of_two<R: Threads + Wait + Clock + Sync>(
     rt: &R,
     alloc: Global,

@@ -79,7 +79,8 @@ impl Write for Counter {
 #[test]
 fn many_lines_go_out_at_one_write(rt: HostRuntime) -> Result<(), Fail> {
     let alloc = rt.alloc();
-    // A block of no bytes, and a thousand loads at its address: a thousand lines, about 80,000 bytes.
+    // A block of no bytes, and a thousand loads at its address: a thousand lines, about 80,000
+    // bytes.
     let mut bytes = STREAM[..25].to_vec(alloc)?;
     bytes[17] = 0;
     for _ in 0..1000 {
@@ -101,7 +102,7 @@ fn report() -> Report {
     }
 }
 
-/// A settled outcome with this fate and so many reports.
+/// A settled outcome with this fate and this number of reports.
 fn settled(alloc: Global, fate: Fate, reports: usize) -> Result<Outcome<()>, AllocError>
     requires { reports ≤ most_reports }
     ensures { IfOk result (λ o. length (reports_of o) ≤ most_reports) }
@@ -118,7 +119,7 @@ fn settled(alloc: Global, fate: Fate, reports: usize) -> Result<Outcome<()>, All
     })
 }
 
-/// The outcome of a stream that memory ran out for behind its seventh event, with one report.
+/// The outcome of a stream that memory ran out for after its seventh event, with one report.
 fn refused(alloc: Global) -> Result<Outcome<()>, AllocError>
     ensures { IfOk result (λ o. length (reports_of o) ≤ most_reports) }
 {
