@@ -1,6 +1,6 @@
 -- Outcomes, lists, texts and statuses that the contracts refuse.
 -- Each lemma is named for what would have gone wrong.
-use Rattle.std.proofs.Common.{◌≡◌, ℕ, true, false, List, [], ◌∷◌, Some, None, Option, refl, sym, ap, ◌∙◌, arith}
+use Rattle.std.proofs.Common.{◌≡◌, ◌⊎◌, inl, inr, ℕ, true, false, List, [], ◌∷◌, Some, Option, refl, sym, ap, ◌∙◌, arith}
 use Rattle.std.specs.Prelude.{◌≢◌, IsTrue, length, take, Vec}
 use Rattle.std.specs.Io.KnownBytes.{Appends}
 use Rattle.trace_record.specs.declared.event.Event.{Event}
@@ -15,12 +15,12 @@ use Rattle.asan_check.proofs.Refuted.{differ, bad_access_is_passed_over}
 use Rattle.asan_collect.specs.declared.item.Item.{Item}
 use Rattle.asan_collect.specs.declared.item.Item.TheVariants as item
 use Rattle.asan_collect.specs.declared.bench.Turn.TheVariants as turn
-use Rattle.asan_collect.specs.declared.outcome.Outcome.{Outcome}
 use Rattle.asan_collect.specs.declared.outcome.Outcome.TheVariants as outcome
 use Rattle.asan_collect.specs.Arrivals.{IsAnswerTo}
 use Rattle.asan_collect.specs.Benches.{Takes}
 use Rattle.asan_collect.specs.Items.{items_of}
 use Rattle.asan_collect.specs.Outcomes.{IsSpelled, Tells, faults_of, is_read}
+use Rattle.asan_collect.specs.Ranges.{most_senders}
 use Rattle.asan_collect.specs.Statuses.{clean, reported, status_of}
 
 abbrev end_as : Fate → ℕ → ℕ → End
@@ -94,6 +94,13 @@ module _ {F A : Type 0} (feed : F) (end : End) (reports : Vec Report A) where
 -- an end came, and the outcome says that none did
 unsettled_where_an_end_came : (F A : Type 0) → ¬ IsTrue (is_read {F = F} {A = A} outcome.Unsettled)
 unsettled_where_an_end_came F A read = absurd cc
+
+-- ---- arrivals
+
+-- no more are asked for after 255, and the door is not over
+stops_asking_at_255 : ¬ (IsTrue false ⊎ ◌≡◌ {A = ℕ} 255 most_senders)
+stops_asking_at_255 (inl over) = absurd cc
+stops_asking_at_255 (inr all) = absurd (omega arith)
 
 -- ---- lists
 

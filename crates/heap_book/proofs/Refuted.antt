@@ -1,6 +1,6 @@
 -- Wrong answers and wrong books that the definitions refuse, computed at blocks with their numbers
 -- written out.
-use Rattle.std.proofs.Common.{◌≡◌, ℕ, ◌<◌, ◌≤◌, ◌∙◌, ap, sym, true, false, List, [], ◌∷◌, refl, arith}
+use Rattle.std.proofs.Common.{◌≡◌, ℕ, ◌<◌, ◌≤◌, ap, sym, true, List, [], ◌∷◌, arith}
 use Rattle.std.specs.Prelude.{◌≢◌}
 use Rattle.std.specs.List.{list_any}
 use Rattle.std.proofs.lemmas.Bool.{false≢true}
@@ -8,7 +8,7 @@ use Rattle.std.proofs.lemmas.List.Sorted.{length_permutation}
 use Rattle.heap_book.specs.declared.answers.Admit.TheVariants as admit
 use Rattle.heap_book.specs.declared.answers.Freed.TheVariants as freed
 use Rattle.heap_book.specs.Spans.{Extent, held_of, starts_at}
-use Rattle.heap_book.specs.Blocks.{Blocks, taken, queued_bytes, AddsLive, MovesToQueue, ReleasesOldest}
+use Rattle.heap_book.specs.Blocks.{Blocks, queued_bytes, ReleasesOldest}
 use Rattle.heap_book.specs.Admit.{IsAdmitAnswer, AfterAdmit}
 use Rattle.heap_book.specs.Freed.{IsFreeAnswer, AfterFree}
 

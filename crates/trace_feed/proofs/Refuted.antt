@@ -1,6 +1,6 @@
 -- What the contracts of writes and of doors refuse.
 -- Each lemma is named for what would have gone wrong.
-use Rattle.std.proofs.Common.{◌≡◌, ℕ, List, [], ◌∷◌, Some, ap, arith}
+use Rattle.std.proofs.Common.{◌≡◌, ℕ, [], ◌∷◌, Some, ap, arith}
 use Rattle.std.specs.Prelude.{length, take}
 use Rattle.std.specs.Io.KnownBytes.{Appends}
 use Rattle.trace_feed.specs.declared.door.Arrival.TheVariants.{Refused, Over}

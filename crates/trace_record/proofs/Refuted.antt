@@ -1,14 +1,13 @@
 -- Answers and ends that the contracts refuse. Each lemma is named for what would have gone wrong.
-use Rattle.std.proofs.Common.{◌≡◌, ℕ, ◌+◌, ◌<◌, ◌⊎◌, inl, inr, List, [], ◌∷◌, ◌++◌, Some, None, refl, ap, arith}
+use Rattle.std.proofs.Common.{◌≡◌, ℕ, ◌+◌, ◌<◌, ◌⊎◌, inl, inr, List, [], ◌∷◌, ◌++◌, Some, None, ap, arith}
 use Rattle.std.specs.Prelude.{◌≢◌, length}
 use Rattle.trace_record.specs.declared.event.Event.{Event}
-use Rattle.trace_record.specs.declared.end.End.{End}
 use Rattle.trace_record.specs.declared.end.Fate.{Fate}
 use Rattle.trace_record.specs.declared.end.Fate.TheVariants as fate
 use Rattle.trace_record.specs.declared.end.Flaw.TheVariants as flaw
 use Rattle.trace_record.specs.Flaws.{access_flaw, region_flaw}
 use Rattle.trace_record.specs.Spelling.{header}
-use Rattle.trace_record.specs.Standing.{Standing, StandsAt}
+use Rattle.trace_record.specs.Standing.{StandsAt}
 use Rattle.trace_record.specs.Stream.{IsDecided, IsInHeader, IsInRecords, Spells, offset_of}
 
 -- ---- where a decoder stands
