@@ -20,9 +20,9 @@ demo: asancol
 	@echo './asancol < $(EXAMPLE)'
 	@./asancol < $(EXAMPLE); status=$$?; echo "status $$status"; test $$status -eq 1
 
-# Proves everything from nothing, and runs the wrong bodies, the tests and the program.
+# Proves everything from nothing, tries the wrong bodies, and runs the tests and the program.
 check:
-	rt ci
+	tests/check.py
 
 install: asancol
 	install -D asancol $(DESTDIR)$(PREFIX)/bin/asancol

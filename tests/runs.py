@@ -1,0 +1,625 @@
+#!/usr/bin/env python3
+"""Runs built programs with words, and compares what they write and the status they end with.
+
+usage: tests/runs.py PROGRAM..
+
+Each case runs in a folder of its own. The last line is 'N passed, M failed', and the status is 1
+where a case failed. Where root runs it, the programs run as nobody, so that a file can be
+unreadable.
+"""
+
+import os
+import resource
+import shutil
+import signal
+import socket
+import subprocess
+import sys
+import tempfile
+import threading
+import time
+
+NOBODY = 65534
+
+# No run may take longer, in seconds.
+PATIENCE = 60
+
+# Traces, which are put together here by hand and not by the program's own encoder.
+HEADER = b"ASTR\x01\0\0\0"
+CLOSE = b"\x07"
+
+
+def number(value):
+    return value.to_bytes(8, "little")
+
+
+def load(width, at):
+    return bytes([1, width]) + number(at)
+
+
+def store(width, at):
+    return bytes([2, width]) + number(at)
+
+
+def malloc(at, size):
+    return b"\x03" + number(at) + number(size)
+
+
+def free(at):
+    return b"\x04" + number(at)
+
+
+def closed(*records):
+    return HEADER + b"".join(records) + CLOSE
+
+
+# A malloc of 5 bytes and a store of 4 that ends one byte past them.
+PAST_THE_END = closed(malloc(0x1000, 5), store(4, 0x1004))
+
+# A store that ends past a block of 8 bytes, in a granule that is not looked at.
+SOUND = closed(malloc(0x1000, 8), store(4, 0x1006))
+
+# The first 30 bytes of PAST_THE_END: half a store.
+CUT = PAST_THE_END[:30]
+
+TWICE_FREED = closed(malloc(0x1000, 8), free(0x1000), free(0x1000))
+
+
+def past_the_end(process=0):
+    """What is printed of PAST_THE_END."""
+    return (
+        f"p{process} #2 store 4 at 000000001004 bad 000000001005"
+        " heap-buffer-overflow shadow 05\n"
+        f"p{process} end closed events 2 offset 36 reports 1\n"
+    )
+
+
+def sound(process=0):
+    """What is printed of SOUND."""
+    return f"p{process} end closed events 2 offset 36 reports 0\n"
+
+
+def cut(process=0):
+    """What is printed of CUT."""
+    return f"p{process} end truncated events 1 offset 25 reports 0\n"
+
+
+class Program:
+    """A program that was built, and the folder that it runs in."""
+
+    def __init__(self, path):
+        self.path = path
+
+    def run(self, words, given=b"", before=None, **streams):
+        """Runs it. `given` is what standard input holds, and `before` is called just before."""
+        streams = {"stdout": subprocess.PIPE, "stderr": subprocess.PIPE, **streams}
+        if "stdin" not in streams:
+            streams["input"] = given
+        ran = subprocess.run(
+            [self.path, *words], preexec_fn=before, timeout=PATIENCE, check=False, **streams
+        )
+        return ran.returncode, ran.stdout, ran.stderr
+
+    def expect(self, words, status, output="", faults="", **how):
+        """Expects this status and exactly these texts."""
+        same(words, self.run(words, **how), (status, output.encode(), faults.encode()))
+
+    def expect_refused(self, words, *parts):
+        """Expects that the words are refused, by a text on standard error with these parts."""
+        status, output, faults = self.run(words)
+        same(words, (status, output), (2, b""))
+        told(words, faults.startswith(b"error: ") and faults.endswith(b"\n"), faults)
+        for part in parts:
+            told(words, part.encode() in faults, faults)
+
+    def expect_unwritten(self, words, **how):
+        """Expects status 4, and nothing on standard error, where the output takes nothing."""
+        with open("/dev/full", "wb") as full:
+            same(words, self.run(words, stdout=full, **how), (4, None, b""))
+        same(words, self.run(words, before=lambda: os.close(1), **how), (4, b"", b""))
+
+
+def same(what, got, wanted):
+    told(what, got == wanted, f"got    {got}\nwanted {wanted}")
+
+
+def told(what, holds, text):
+    if not holds:
+        raise AssertionError(f"{what}\n{text}")
+
+
+def put(name, data):
+    with open(name, "wb") as file:
+        file.write(data)
+    return name
+
+
+# ---- one trace
+
+
+def one_file(program):
+    missing = "p0 end not-opened\n"
+    for data, status, text in [
+        (SOUND, 0, sound()),
+        (PAST_THE_END, 1, past_the_end()),
+        (CUT, 3, cut()),
+    ]:
+        path = put("trace", data)
+        program.expect(["check", path], status, text)
+        program.expect([], status, text, given=data)
+        with open(path, "rb") as file:
+            program.expect([], status, text, stdin=file)
+        program.expect_unwritten(["check", path])
+        program.expect_unwritten([], given=data)
+    program.expect(["check", "missing"], 3, missing)
+    program.expect_unwritten(["check", "missing"])
+
+
+def worked_traces(program):
+    bad_mallocs = [malloc(0x1000, 0), load(1, 0x1000), malloc(0, 16), malloc(0x18, 8)]
+    for data, status, text in [
+        (b"", 3, "p0 end truncated events 0 offset 0 reports 0\n"),
+        (HEADER, 3, "p0 end no-close events 0 offset 8 reports 0\n"),
+        (b"ASTX\x01\0\0\0", 3, "p0 end malformed header events 0 offset 0 reports 0\n"),
+        (b"ASTX\x01\0\0", 3, "p0 end truncated events 0 offset 0 reports 0\n"),
+        (
+            HEADER + malloc(0x1000, 5) + b"\x09\x07 and more",
+            3,
+            "p0 end malformed code events 1 offset 25 reports 0\n",
+        ),
+        (
+            closed(*bad_mallocs, malloc(0x3004, 8)),
+            1,
+            "p0 #2 load 1 at 000000001000 bad 000000001000 heap-buffer-overflow shadow fa\n"
+            "p0 #4 malloc 8 at 000000000018 bad-malloc\n"
+            "p0 #5 malloc 8 at 000000003004 bad-malloc\n"
+            "p0 end closed events 5 offset 87 reports 3\n",
+        ),
+        (
+            TWICE_FREED,
+            1,
+            "p0 #3 free at 000000001000 double-free\n"
+            "p0 end closed events 3 offset 44 reports 1\n",
+        ),
+        (
+            closed(malloc(0x1000, 8), free(0x1004), free(0)),
+            1,
+            "p0 #2 free at 000000001004 bad-free\n"
+            "p0 end closed events 3 offset 44 reports 1\n",
+        ),
+        (
+            closed(load(8, 0x7FFF_FFFF_FFF8)),
+            0,
+            "p0 end closed events 1 offset 19 reports 0\n",
+        ),
+        (
+            closed(load(8, 0x7FFF_FFFF_FFF9)),
+            3,
+            "p0 end malformed range events 0 offset 8 reports 0\n",
+        ),
+        (closed(load(3, 0x1000)), 3, "p0 end malformed width events 0 offset 8 reports 0\n"),
+        (
+            closed(malloc(0x1004, 1 << 28)),
+            1,
+            "p0 #1 malloc 268435456 at 000000001004 bad-malloc\n"
+            "p0 end closed events 1 offset 26 reports 1\n",
+        ),
+        (
+            closed(malloc(0x1004, (1 << 28) + 1)),
+            3,
+            "p0 end malformed size events 0 offset 8 reports 0\n",
+        ),
+        (
+            closed(malloc(0x7FFF_FFFF_FFD8, 8)),
+            0,
+            "p0 end closed events 1 offset 26 reports 0\n",
+        ),
+        (
+            closed(malloc(0x7FFF_FFFF_FFE0, 8)),
+            1,
+            "p0 #1 malloc 8 at 7fffffffffe0 bad-malloc\n"
+            "p0 end closed events 1 offset 26 reports 1\n",
+        ),
+    ]:
+        program.expect([], status, text, given=data)
+
+
+def input_that_cannot_be_read(program):
+    text = "p0 end read-failed events 0 offset 0 reports 0\n"
+    folder = os.open(".", os.O_RDONLY)
+    try:
+        program.expect([], 3, text, stdin=folder)
+    finally:
+        os.close(folder)
+    program.expect([], 3, text, before=lambda: os.close(0))
+
+
+# ---- files
+
+
+def as_many_processes_as_files(program):
+    names = [put(f"trace {i}", [SOUND, PAST_THE_END][i % 2]) for i in range(256)]
+    texts = "".join([sound, past_the_end][i % 2](i) for i in range(256))
+    program.expect(["check", *names], 1, texts)
+    program.expect(["check", "--workers", "64", "--ring", "1", *names], 1, texts)
+    program.expect(["check", *names, "trace 0"], 2, "", "too many files\n")
+    program.expect(["check", *["missing"] * 257], 2, "", "too many files\n")
+
+
+def one_file_twice(program):
+    path = put("trace", PAST_THE_END)
+    program.expect(["check", path, path], 1, past_the_end(0) + past_the_end(1))
+
+
+def files_of_all_kinds(program):
+    put("past", PAST_THE_END)
+    put("sound", SOUND)
+    put(" past ", SOUND)
+    put("--limit", SOUND)
+    os.mkdir("folder")
+    os.symlink("missing", "link")
+    os.chmod(put("unreadable", SOUND), 0)
+    words = ["past", "missing", "sound", "folder", "", " past ", "link"]
+    text = (
+        past_the_end(0)
+        + "p1 end not-opened\n"
+        + sound(2)
+        + "p3 end read-failed events 0 offset 0 reports 0\n"
+        + "p4 end not-opened\n"
+        + sound(5)
+        + "p6 end not-opened\n"
+    )
+    program.expect(["check", *words], 3, text)
+    program.expect_unwritten(["check", *words])
+    for ring in ["1", "2", "65536"]:
+        for workers in ["1", "3", "64"]:
+            program.expect(["check", "--ring", ring, "--workers", workers, *words], 3, text)
+    program.expect(["check", "past", "--", "--limit"], 1, past_the_end(0) + sound(1))
+    if os.geteuid() != 0:
+        program.expect(["check", "unreadable", "sound"], 3, "p0 end not-opened\n" + sound(1))
+
+
+def named_pipe(program):
+    os.mkfifo("pipe")
+    sending = threading.Thread(target=put, args=("pipe", PAST_THE_END))
+    sending.start()
+    program.expect(["check", "pipe"], 1, past_the_end())
+    sending.join()
+
+
+# ---- options
+
+
+def limit_of_events(program):
+    two = load(1, 0x1000) * 2
+    put("closed", closed(two))
+    put("third", closed(two, load(1, 0x1000)))
+    put("stray", HEADER + two + b"\x09")
+    put("cut", HEADER + two)
+    program.expect(
+        ["check", "--limit", "2", "closed", "third", "stray", "cut"],
+        3,
+        "p0 end closed events 2 offset 29 reports 0\n"
+        "p1 end too-many events 2 offset 28 reports 0\n"
+        "p2 end too-many events 2 offset 28 reports 0\n"
+        "p3 end no-close events 2 offset 28 reports 0\n",
+    )
+    program.expect(
+        ["check", "closed", "--limit=1"], 3, "p0 end too-many events 1 offset 18 reports 0\n"
+    )
+
+
+def greatest_limits(program):
+    """The default is 2^24, and less can be set: here one more than 2^20."""
+    for words, limit in [([], 1 << 24), (["--limit", "1048577"], (1 << 20) + 1)]:
+        put("most", closed(free(0) * limit))
+        put("more", closed(free(0) * (limit + 1)))
+        program.expect(
+            ["check", *words, "most", "more"],
+            3,
+            f"p0 end closed events {limit} offset {9 + 9 * limit} reports 0\n"
+            f"p1 end too-many events {limit} offset {8 + 9 * limit} reports 0\n",
+        )
+    with open("more", "rb") as file:
+        text = "p0 end closed events 1048578 offset 9437211 reports 0\n"
+        program.expect([], 0, text, stdin=file)
+
+
+def quarantine(program):
+    """A block stays in quarantine where its span is no larger than the quarantine."""
+    for bound, words in [
+        (1 << 28, []),
+        (72, ["--quarantine", "72"]),
+        (1 << 21, ["--quarantine", "2097152"]),
+        ((1 << 28) + 8, ["--quarantine=268435464"]),
+    ]:
+        for span, fault in [(bound, "double-free"), (bound + 8, "bad-free")]:
+            size = span - 64
+            if size > 1 << 28:
+                continue
+            put("trace", closed(malloc(0x10000, size), free(0x10000), free(0x10000)))
+            program.expect(
+                ["check", *words, "trace"],
+                1,
+                f"p0 #3 free at 000000010000 {fault}\n"
+                "p0 end closed events 3 offset 44 reports 1\n",
+            )
+    put("trace", TWICE_FREED)
+    for bound in ["0", "71"]:
+        program.expect(
+            ["check", "--quarantine", bound, "trace"],
+            1,
+            "p0 #3 free at 000000001000 bad-free\np0 end closed events 3 offset 44 reports 1\n",
+        )
+
+
+def ends_of_ranges(program):
+    """The least and the greatest value of each option, and those next to them."""
+    ranges = {
+        "--quarantine": (0, 1 << 40),
+        "--ring": (1, 1 << 16),
+        "--workers": (1, 64),
+        "--limit": (1, 1 << 24),
+    }
+    for option, (least, most) in ranges.items():
+        for value in [least, most]:
+            program.expect(["check", option, str(value), "missing"], 3, "p0 end not-opened\n")
+            words = ["serve", "--count", "1", option, str(value), ""]
+            program.expect(words, 3, "", "cannot serve\n")
+        for value in [least - 1, most + 1]:
+            if value >= 0:
+                said = [option, f"{least}..={most}"]
+                program.expect_refused(["check", option, str(value), "missing"], *said)
+                words = ["serve", "--count", "1", option, str(value), "socket"]
+                program.expect_refused(words, *said)
+    for count in ["1", "256"]:
+        program.expect(["serve", "--count", count, ""], 3, "", "cannot serve\n")
+    for count in ["0", "257", "4294967297"]:
+        program.expect_refused(["serve", "--count", count, "socket"], "--count", "1..=256")
+
+
+def refused_words(program):
+    put("trace", SOUND)
+    for words in [
+        ["check"],
+        ["check", "--rings", "1", "trace"],
+        ["check", "--ring", "one", "trace"],
+        ["check", "--ring", "1", "--ring", "2", "trace"],
+        ["check", "--count", "1", "trace"],
+        ["check", "trace", "--limit"],
+        ["serve"],
+        ["serve", "--count", "1"],
+        ["serve", "socket"],
+        ["serve", "--count", "1", "--ready", "ready"],
+        ["serve", "--count", "1", "socket", "another"],
+        ["trace"],
+        ["replay", "trace"],
+        ["--quarantine", "0"],
+        ["--"],
+        [""],
+    ]:
+        program.expect_refused(words)
+        with open("/dev/full", "wb") as full:
+            same(words, program.run(words, stderr=full), (2, b"", None))
+    told("socket", not os.path.exists("socket"), "it is there")
+
+
+def word_that_is_no_text(program):
+    put(b"caf\xe9", SOUND)
+    for words in [[b"check", b"caf\xe9"], [b"\xff"], [b"check", b"trace", b"\xc3"]]:
+        program.expect_refused(words, "a word of the command line is not valid UTF-8")
+    with open(b"caf\xe9", "rb") as file:
+        program.expect([], 0, sound(), stdin=file)
+
+
+def help_texts(program):
+    serve = "asancol serve [OPTIONS] --count <SENDERS> <SOCKET>\n"
+    for words, part in [
+        (["--help"], "Usage: asancol < TRACE\n"),
+        (["-h"], "       asancol check [OPTIONS] <FILE>...\n       " + serve),
+        (["help"], "The status is 0 if there is nothing to report"),
+        (["check", "--help"], "Usage: asancol check [OPTIONS] <FILE>...\n"),
+        (["check", "--help"], "0 to 1099511627776 [default: 268435456]\n"),
+        (["check", "--help"], "1 to 65536 [default: 1024]\n"),
+        (["check", "--help"], "1 to 64 [default: 2]\n"),
+        (["check", "--help"], "1 to 16777216 [default: 16777216]\n"),
+        (["serve", "--help"], "Usage: " + serve),
+    ]:
+        status, output, faults = program.run(words)
+        same(words, (status, faults), (0, b""))
+        told(words, part.encode() in output, output.decode())
+        program.expect_unwritten(words)
+
+
+# ---- what runs out
+
+
+def output_that_ends_early(program):
+    """The first bytes go out, as many as there is room for."""
+    text = past_the_end().encode()
+    for room in range(len(text) + 1):
+
+        def bound():
+            resource.setrlimit(resource.RLIMIT_FSIZE, (room, room))
+            signal.signal(signal.SIGXFSZ, signal.SIG_IGN)
+
+        with open("output", "wb") as output:
+            ran = program.run(
+                [], given=PAST_THE_END, stdout=output, before=bound, restore_signals=False
+            )
+        with open("output", "rb") as output:
+            went_out = output.read()
+        same(room, (ran, went_out), ((1 if room == len(text) else 4, None, b""), text[:room]))
+
+
+def no_memory_to_begin(program):
+    """There is a bound on memory under which the program starts, and has none to begin."""
+    put("trace", PAST_THE_END)
+    for words in [[], ["check", "trace"], ["check", *["trace"] * 100], ["--help"]]:
+        ended = set()
+        for kibibytes in range(0, 2048, 16):
+            bound = (kibibytes << 10, kibibytes << 10)
+            ended.add(
+                program.run(
+                    words,
+                    given=PAST_THE_END,
+                    before=lambda: resource.setrlimit(resource.RLIMIT_DATA, bound),
+                )
+            )
+        told(words, (3, b"", b"no memory\n") in ended, ended)
+
+
+# ---- a socket
+
+
+class Served:
+    """The program, serving a socket in this folder."""
+
+    def __init__(self, program, *words):
+        self.words = ["serve", *words, "socket"]
+        self.program = subprocess.Popen(
+            [program.path, *self.words],
+            stdin=subprocess.DEVNULL,
+            stdout=subprocess.PIPE,
+            stderr=subprocess.PIPE,
+        )
+
+    def connect(self):
+        """Connects a peer, once the socket listens."""
+        for _ in range(PATIENCE * 100):
+            peer = socket.socket(socket.AF_UNIX)
+            try:
+                peer.connect("socket")
+                return peer
+            except OSError:
+                peer.close()
+                time.sleep(0.01)
+        raise AssertionError(f"{self.words}\nno socket listens")
+
+    def send(self, *traces):
+        """Connects a peer for each trace, in order, which sends it and closes."""
+        peers = [self.connect() for _ in traces]
+        for peer, data in zip(peers, traces):
+            peer.sendall(data)
+            peer.close()
+        return self
+
+    def expect(self, status, output):
+        said = self.program.communicate(timeout=PATIENCE)
+        same(self.words, (self.program.returncode, *said), (status, output.encode(), b""))
+        os.remove("socket")
+
+
+def peers_on_a_socket(program):
+    both = past_the_end(0) + past_the_end(1)
+    for ring, workers in [("1", "1"), ("1024", "2"), ("2", "64")]:
+        words = ["--count", "2", "--ring", ring, "--workers", workers]
+        Served(program, *words).send(PAST_THE_END, PAST_THE_END).expect(1, both)
+    Served(program, "--count", "1").send(SOUND).expect(0, sound())
+    Served(program, "--count", "1").send(CUT).expect(3, cut())
+    Served(program, "--count", "3").send(b"GET / HTTP/1.1\r\n\r\n", b"", PAST_THE_END).expect(
+        3,
+        "p0 end malformed header events 0 offset 0 reports 0\n"
+        "p1 end truncated events 0 offset 0 reports 0\n" + past_the_end(2),
+    )
+
+
+def options_of_serve(program):
+    Served(program, "--count", "1", "--quarantine", "71").send(TWICE_FREED).expect(
+        1, "p0 #3 free at 000000001000 bad-free\np0 end closed events 3 offset 44 reports 1\n"
+    )
+    Served(program, "--limit", "2", "--count", "1").send(TWICE_FREED).expect(
+        3, "p0 end too-many events 2 offset 34 reports 0\n"
+    )
+
+
+def paths_that_cannot_be_served(program):
+    put("there", SOUND)
+    os.mkdir("folder")
+    words = ["serve", "--count", "1", "--ready", "ready"]
+    for path in ["there", "folder", "", "missing/socket"]:
+        program.expect([*words, path], 3, "", "cannot serve\n")
+    told(words, not os.path.exists("ready"), "the file of --ready is there")
+    program.expect(["check", "there"], 0, sound())
+    for ready in ["missing/ready", "folder"]:
+        words = ["serve", "--count", "1", "--ready", ready, "socket"]
+        program.expect(words, 3, "", "cannot serve\n")
+        os.remove("socket")
+
+
+def file_that_says_ready(program):
+    for earlier in [False, True]:
+        if earlier:
+            put("ready", b"an earlier run")
+        served = Served(program, "--count", "1", "--ready", "ready")
+        for _ in range(PATIENCE * 100):
+            if os.path.exists("ready") and os.path.getsize("ready") == 0:
+                break
+            time.sleep(0.01)
+        peer = socket.socket(socket.AF_UNIX)
+        peer.connect("socket")
+        peer.sendall(PAST_THE_END)
+        peer.close()
+        served.expect(1, past_the_end())
+        os.remove("ready")
+
+
+CASES = [
+    one_file,
+    worked_traces,
+    input_that_cannot_be_read,
+    as_many_processes_as_files,
+    one_file_twice,
+    files_of_all_kinds,
+    named_pipe,
+    limit_of_events,
+    greatest_limits,
+    quarantine,
+    ends_of_ranges,
+    refused_words,
+    word_that_is_no_text,
+    help_texts,
+    output_that_ends_early,
+    no_memory_to_begin,
+    peers_on_a_socket,
+    options_of_serve,
+    paths_that_cannot_be_served,
+    file_that_says_ready,
+]
+
+
+def passes(case, program, room):
+    """Whether the case passes, in a folder of its own."""
+    folder = f"{room}/{case.__name__}"
+    os.mkdir(folder)
+    os.chdir(folder)
+    try:
+        case(program)
+    except (AssertionError, OSError, subprocess.TimeoutExpired) as error:
+        print(f"FAILED {case.__name__} of {os.path.basename(program.path)}: {error}")
+        return False
+    finally:
+        os.chdir(room)
+        shutil.rmtree(folder)
+    return True
+
+
+def main(paths):
+    here = os.getcwd()
+    with tempfile.TemporaryDirectory(prefix="asancol-") as room:
+        programs = [Program(shutil.copy(path, room)) for path in paths]
+        for program in programs:
+            os.chmod(program.path, 0o755)
+        if os.geteuid() == 0:
+            os.chown(room, NOBODY, NOBODY)
+            os.setegid(NOBODY)
+            os.seteuid(NOBODY)
+        results = [passes(case, program, room) for program in programs for case in CASES]
+        os.chdir(here)
+        os.seteuid(os.getuid())
+    print(f"{sum(results)} passed, {len(results) - sum(results)} failed")
+    return 0 if results and all(results) else 1
+
+
+if __name__ == "__main__":
+    sys.exit(main(sys.argv[1:]))
