@@ -1,4 +1,4 @@
-//! A writer for tests: it takes so many bytes and no more.
+//! A writer for tests, which takes a set number of bytes.
 #![tactic(auto)]
 
 mod short_writer;

@@ -1,4 +1,7 @@
-ghost use Rattle.std.specs.Prelude.{◌≡◌, ◌+◌, ◌-◌, ◌↔◌, IfOk, IsErr, IsOk, IsTrue, OnErr, Ok, Some, length, min};
+//! A writer that has room for a set number of bytes.
+
+ghost use Rattle.std.specs.Prelude.{◌≡◌, ◌+◌, ◌-◌, ◌↔◌, IfOk, IsErr, IsOk, IsTrue, OnErr, Ok};
+ghost use Rattle.std.specs.Prelude.{Some, length, min};
 ghost use Rattle.std.specs.Io.{WritesAtMost};
 ghost use Rattle.std.specs.Io.KnownBytes.{Keeps, WriteAppends};
 
@@ -33,8 +36,8 @@ pub struct ShortWriter<A: Allocator + Copy = Global> {
 impl<A: Allocator + Copy> Write for ShortWriter<A> {
     ghost contents = { λ w. Some w.held.items };
 
-    /// Takes as much of `buf` as there is room for and a step allows. Where memory is wanting it answers an error,
-    /// and takes nothing.
+    /// Takes as much of `buf` as there is room for and a step allows. If memory runs out, it answers
+    /// an error and takes nothing.
     fn write(&mut self, buf: &[u8]) -> io::Result<usize>
         ensures bound { WritesAtMost result buf.now }
         ensures bytes { WriteAppends
@@ -44,7 +47,8 @@ impl<A: Allocator + Copy> Write for ShortWriter<A> {
         ensures room { IfOk result (λ n. self.new.room + n ≡ self.old.room) }
         ensures kept_room { OnErr result (self.new.room ≡ self.old.room) }
         ensures fails { self.old.room ≡ 0 → self.old.ending ≡ Ending.Fails → IsErr result }
-        ensures takes_none { self.old.room ≡ 0 → self.old.ending ≡ Ending.TakesNone → result ≡ Ok 0 }
+        ensures takes_none {
+            self.old.room ≡ 0 → self.old.ending ≡ Ending.TakesNone → result ≡ Ok 0 }
         ensures step { self.new.step ≡ self.old.step }
         ensures ending { self.new.ending ≡ self.old.ending }
         ensures flushes { self.new.flushes ≡ self.old.flushes }

@@ -1,5 +1,6 @@
 -- What a door's answers say of the arrivals.
-use Rattle.std.specs.Prelude.{◌≡◌, ℕ, ◌+◌, ◌∷◌, ◌&&◌, [], Bool, true, false, List, nat_eq, None, Option, Some}
+use Rattle.std.specs.Prelude.{◌≡◌, ℕ, ◌+◌, ◌∷◌, ◌&&◌, [], Bool, true, false, List, nat_eq}
+use Rattle.std.specs.Prelude.{None, Option, Some}
 use Rattle.trace_feed.specs.declared.door.Arrival.{Arrival}
 use Rattle.trace_feed.specs.declared.door.Arrival.TheVariants.{Came, Refused, Over}
 
@@ -10,13 +11,23 @@ before_over (Came f ∷ xs) = Came f ∷ before_over xs
 before_over (Refused ∷ xs) = Refused ∷ before_over xs
 before_over (Over ∷ xs) = []
 
--- of the known arrivals this one came first and the others are left, and Over came where none was left
-abbrev pub Arrives : {F : Type 0} → Option (List (Arrival F)) → Option (List (Arrival F)) → Arrival F → Type 0
+-- of the known arrivals this one came first and the others are left, and Over came where none was
+-- left
+abbrev pub Arrives : {F : Type 0}
+    → Option (List (Arrival F)) → Option (List (Arrival F)) → Arrival F → Type 0
 Arrives None new arrival = Unit {0}
 Arrives (Some xs) None arrival = ⊥
 Arrives (Some xs) (Some ys) (Came f) = xs ≡ Came f ∷ ys
 Arrives (Some xs) (Some ys) Refused = xs ≡ Refused ∷ ys
 Arrives (Some xs) (Some ys) Over = (xs ≡ []) × (ys ≡ [])
+
+-- of a known number of arrivals that are left this is one, and Over comes where none is left
+abbrev pub CountsDown : {F : Type 0} → Option ℕ → Option ℕ → Arrival F → Type 0
+CountsDown None new arrival = Unit {0}
+CountsDown (Some n) None arrival = ⊥
+CountsDown (Some n) (Some m) (Came f) = n ≡ m + 1
+CountsDown (Some n) (Some m) Refused = n ≡ m + 1
+CountsDown (Some n) (Some m) Over = (n ≡ 0) × (m ≡ 0)
 
 -- the count of refusals after an answer, where it was n before
 abbrev pub refusals_after : {F : Type 0} → Arrival F → ℕ → ℕ
@@ -36,7 +47,8 @@ IfCame P (Came f) = P f
 IfCame P Refused = Unit {0}
 IfCame P Over = Unit {0}
 
--- whether no read has failed of the feed that came, where one did, by the count of a feed's failed reads
+-- whether no read has failed of the feed that came, where one did, by the count of a feed's failed
+-- reads
 abbrev pub is_fresh : {F : Type 0} → (F → ℕ) → Arrival F → Bool
 is_fresh count (Came f) = nat_eq (count f) 0
 is_fresh count Refused = true

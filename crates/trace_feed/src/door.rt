@@ -1,6 +1,8 @@
+//! The trait of doors: senders that arrive one after the other.
+
 ghost use Rattle.std.specs.Prelude.{◌≡◌, ◌-◌, ◌<◌, ◌^◌, Bool, IsTrue, List, Option, ℕ};
 ghost use Rattle.trace_feed.specs.declared.door.Arrival.{Arrival};
-ghost use Rattle.trace_feed.specs.Doors.{Arrives, IfCame, is_over, refusals_after};
+ghost use Rattle.trace_feed.specs.Doors.{Arrives, CountsDown, IfCame, is_over, refusals_after};
 
 use crate::feed::Feed;
 
@@ -19,8 +21,11 @@ pub enum Arrival<F> {
 pub trait Door {
     type Feed: Feed;
 
-    // The arrivals still to come, without the end, where the door tells them.
+    // The arrivals still to come, without the end, where they are known.
     ghost to_arrive: { Self → Option (List (Arrival Self.Feed)) };
+
+    // How many arrivals are left, where that is known.
+    ghost arrivals_left: { Self → Option ℕ };
 
     // How many senders were refused.
     ghost refusal_count: { Self → ℕ };
@@ -30,11 +35,13 @@ pub trait Door {
 
     /// Waits for the next arrival.
     ///
-    /// `Refused` raises the count by one, and the other answers leave it. No read has failed of a feed that came. After
-    /// an `Over` each call answers `Over`. The count has to be below `u64::MAX` before the call.
+    /// `Refused` raises the count by one, and the other answers leave it. No read has failed of a
+    /// feed that came. After an `Over` each call answers `Over`. The count has to be below
+    /// `u64::MAX` before the call.
     fn next(&mut self) -> Arrival<Self::Feed>
         requires { refusal_count self.old < 2 ^ 64 - 1 }
         ensures order { Arrives (to_arrive self.old) (to_arrive self.new) result }
+        ensures turn { CountsDown (arrivals_left self.old) (arrivals_left self.new) result }
         ensures count { refusal_count self.new ≡ refusals_after result (refusal_count self.old) }
         ensures fresh { IfCame (λ f. Self.Feed.fault_count f ≡ 0) result }
         ensures over { IsTrue (is_over result) → IsTrue (is_shut self.new) }

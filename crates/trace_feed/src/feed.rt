@@ -1,4 +1,7 @@
-ghost use Rattle.std.specs.Prelude.{◌≡◌, ◌+◌, ◌-◌, ◌<◌, ◌≤◌, ◌^◌, ℕ, IfOk, List, Option, if◌then◌else◌, is_ok, length};
+//! The trait of feeds: the bytes of one sender, in pieces.
+
+ghost use Rattle.std.specs.Prelude.{◌≡◌, ◌+◌, ◌-◌, ◌<◌, ◌≤◌, ◌^◌, ℕ, IfOk, List, Option};
+ghost use Rattle.std.specs.Prelude.{if◌then◌else◌, is_ok, length};
 ghost use Rattle.std.specs.Io.KnownBytes.{ReadConsumes};
 
 use thiserror::Error;
@@ -10,7 +13,7 @@ pub struct FeedFault;
 
 /// Bytes that come in pieces, and a count of the reads that failed.
 pub trait Feed {
-    // The bytes still to come, where the feed tells them.
+    // The bytes still to come, where they are known.
     ghost to_come: { Self → Option (List ℕ) };
 
     // How many reads have failed.
@@ -18,9 +21,9 @@ pub trait Feed {
 
     /// Reads the next piece into the front of `buf`.
     ///
-    /// `Ok(n)` with n > 0 moves the next n bytes into the front of `buf` and leaves the count. `Ok(0)` for a `buf` with
-    /// room comes only at the end. `Err` raises the count by one and leaves the bytes still to come as they were. The
-    /// count has to be below `u64::MAX` before the call.
+    /// `Ok(n)` with n > 0 moves the next n bytes into the front of `buf` and leaves the count.
+    /// `Ok(0)` for a `buf` with room comes only at the end. `Err` raises the count by one and leaves
+    /// the bytes still to come as they were. The count has to be below `u64::MAX` before the call.
     fn next(&mut self, buf: &mut [u8]) -> Result<usize, FeedFault>
         requires { fault_count self.old < 2 ^ 64 - 1 }
         ensures bound { IfOk result (λ n. n ≤ length buf.new) }

@@ -1,3 +1,5 @@
+//! A door over arrivals in memory.
+
 ghost use Rattle.std.specs.Prelude.{◌≡◌, ◌==◌, IsTrue, Some, length};
 ghost use Rattle.trace_feed.specs.Doors.{all_fresh, before_over};
 
@@ -7,7 +9,7 @@ use std::alloc::{Allocator, Global};
 use std::collections::VecDeque;
 use std::marker::Model;
 
-/// A door over arrivals in memory, which it tells. It takes no memory.
+/// A door over arrivals in memory, which its contract knows. It takes no memory.
 #[derive(Drop)]
 pub struct ListDoor<F: Feed, A: Allocator + Copy = Global> {
     rest: VecDeque<Arrival<F>, A>,
@@ -45,6 +47,8 @@ impl<F: Feed + Drop, A: Allocator + Copy> Door for ListDoor<F, A> {
     type Feed = F;
 
     ghost to_arrive = { λ d. Some d.to_arrive };
+
+    ghost arrivals_left = { λ d. Some (length d.to_arrive) };
 
     ghost refusal_count = { λ d. d.refusals };
 

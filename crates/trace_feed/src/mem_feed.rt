@@ -1,4 +1,8 @@
-ghost use Rattle.std.specs.Prelude.{◌≡◌, ◌+◌, ◌-◌, ◌<◌, ◌≤◌, ◌^◌, ◌↔◌, ◌⊎◌, All, Contains, IfOk, IfSome, IsErr, IsNone, OnErr, Some, drop, if◌then◌else◌, is_ok, length};
+//! A feed over bytes in memory.
+
+ghost use Rattle.std.specs.Prelude.{◌≡◌, ◌+◌, ◌-◌, ◌<◌, ◌≤◌, ◌^◌, ◌↔◌, ◌⊎◌, All, Contains};
+ghost use Rattle.std.specs.Prelude.{IfOk, IfSome, IsErr, IsNone, OnErr, Some, drop};
+ghost use Rattle.std.specs.Prelude.{if◌then◌else◌, is_ok, length};
 ghost use Rattle.std.specs.Io.KnownBytes.{ReadConsumes};
 ghost use Rattle.trace_feed.specs.Feeds.{IsFirstStop, bytes_left};
 
@@ -6,7 +10,8 @@ use crate::feed::{Feed, FeedFault};
 use std::alloc::{Allocator, Global};
 use std::marker::Model;
 
-/// A feed over bytes in memory. Its reads are cut at given places and fail at one. It takes no memory.
+/// A feed over bytes in memory. Its reads are cut at given places and fail at one. It takes no
+/// memory.
 #[derive(Drop)]
 pub struct MemFeed<A: Allocator + Copy = Global> {
     bytes: Vec<u8, A>,
@@ -34,10 +39,11 @@ impl<A: Allocator + Copy> Model for MemFeed<A> {
 }
 
 impl<A: Allocator + Copy> MemFeed<A> {
-    /// A feed of `bytes`. No read goes past a place of `cuts`, and each read that starts at `fail_at` fails.
+    /// A feed of `bytes`. No read goes past a place of `cuts`, and each read that starts at `fail_at`
+    /// fails.
     ///
-    /// A place is the number of bytes before it. The cuts may stand in any order, and places past the end of the bytes
-    /// change nothing.
+    /// A place is the number of bytes before it. The cuts may come in any order, and places past the
+    /// end of the bytes change nothing.
     pub fn new(bytes: Vec<u8, A>, cuts: Vec<u64, A>, fail_at: Option<u64>) -> MemFeed<A>
         ensures bytes { result.bytes ≡ bytes.items }
         ensures cuts { result.cuts ≡ cuts.items }
@@ -78,9 +84,9 @@ impl<A: Allocator + Copy> Feed for MemFeed<A> {
 
     ghost fault_count = { λ f. f.faults };
 
-    /// Gives the bytes up to the next greater cut, the failing place, the end of the bytes or the end of `buf`,
-    /// whichever is first, and leaves the rest of `buf`. It fails where it starts at the failing place, and nowhere
-    /// else.
+    /// Gives the bytes up to the next greater cut, the failing place, the end of the bytes or the end
+    /// of `buf`, whichever is first, and leaves the rest of `buf`. It fails where it starts at the
+    /// failing place, and nowhere else.
     fn next(&mut self, buf: &mut [u8]) -> Result<usize, FeedFault>
         requires { self.old.faults < 2 ^ 64 - 1 }
         ensures bound { IfOk result (λ n. n ≤ length buf.new) }

@@ -1,5 +1,8 @@
-ghost use Rattle.std.specs.Prelude.{◌≡◌, ◌==◌, ◌-◌, ◌<◌, ◌^◌, ◌↔◌, [], IsTrue, None, drop, length, map, string_bytes};
-ghost use Rattle.trace_feed.specs.Doors.{Arrives, IfCame, is_over, refusals_after};
+//! A door over files.
+
+ghost use Rattle.std.specs.Prelude.{◌≡◌, ◌==◌, ◌-◌, ◌<◌, ◌^◌, ◌↔◌, [], IsTrue, None, Some};
+ghost use Rattle.std.specs.Prelude.{drop, length, map, string_bytes};
+ghost use Rattle.trace_feed.specs.Doors.{Arrives, CountsDown, IfCame, is_over, refusals_after};
 
 use crate::door::{Arrival, Door};
 use crate::read_feed::ReadFeed;
@@ -9,7 +12,8 @@ use std::fs;
 use std::marker::Model;
 use std::rt::Files;
 
-/// A door over files, which it opens one after the other, each when it is asked for the next arrival.
+/// A door over files, which it opens one after the other, each when it is asked for the next
+/// arrival.
 #[derive(Drop)]
 pub struct PathDoor<'a, R: Files, A: Allocator + Copy = Global> {
     rt: &'a R,
@@ -27,7 +31,8 @@ impl<'a, R: Files, A: Allocator + Copy> Model for PathDoor<'a, R, A> {
 }
 
 impl<'a, R: Files, A: Allocator + Copy> PathDoor<'a, R, A> {
-    /// A door over the files of these paths, in order. It opens none of them yet, and keeps `rt` to do so.
+    /// A door over the files of these paths, in order. It opens none of them yet, and keeps `rt` to
+    /// do so.
     pub fn new(rt: &'a R, paths: Vec<String<A>, A>) -> PathDoor<'a, R, A>
         ensures paths { result.paths ≡ map string_bytes paths.items }
         ensures none_refused { result.refusals ≡ 0 }
@@ -45,13 +50,18 @@ impl<'a, R: Files, A: Allocator + Copy> Door for PathDoor<'a, R, A> {
 
     ghost to_arrive = { λ _. None };
 
+    ghost arrivals_left = { λ d. Some (length d.paths) };
+
     ghost refusal_count = { λ d. d.refusals };
 
     ghost is_shut = { λ d. length d.paths == 0 };
 
-    /// Opens the next file. One that can't be opened is `Refused`. Each call uses up one path, until none is left.
+    /// Opens the next file. One that can't be opened is `Refused`. Each call uses up one path, until
+    /// none is left.
     fn next(&mut self) -> Arrival<ReadFeed<R::File>>
         requires { self.old.refusals < 2 ^ 64 - 1 }
+        ensures turn { CountsDown
+            (Some (length self.old.paths)) (Some (length self.new.paths)) result }
         ensures count { self.new.refusals ≡ refusals_after result self.old.refusals }
         ensures fresh { IfCame (λ f. f.faults ≡ 0) result }
         ensures over { IsTrue (is_over result) → IsTrue (length self.new.paths == 0) }

@@ -1,3 +1,5 @@
+//! Writing that knows how far it got.
+
 ghost use Rattle.std.specs.Prelude.{◌<◌, IfErr, OnOk, length, take};
 ghost use Rattle.std.specs.Io.KnownBytes.{Appends};
 
@@ -14,8 +16,8 @@ pub struct PutFault {
 
 /// Writes all of `bytes`, by as many writes as the writer needs.
 ///
-/// It stops at the first write that fails, an interrupted one too, or that takes no byte. What went out is then exactly
-/// the first `written` bytes, and some byte did not go out.
+/// It stops at the first write that fails, an interrupted one too, or that takes no byte. What went
+/// out is then exactly the first `written` bytes, and some byte did not go out.
 pub fn put_all<W: Write>(w: &mut W, bytes: &[u8]) -> Result<(), PutFault>
     ensures ok { OnOk result (Appends (W.contents w.old) (W.contents w.new) bytes.now) }
     ensures fault { IfErr result (λ e.

@@ -1,10 +1,13 @@
+//! A feed over a reader.
+
 ghost use Rattle.std.specs.Prelude.{◌≡◌};
 
 use crate::feed::{Feed, FeedFault};
 use std::io::Read;
 use std::marker::Model;
 
-/// A feed over a reader, such as a file, standard input or a socket. It tells its bytes where the reader does.
+/// A feed over a reader, such as a file, standard input or a socket. Its contract knows its bytes
+/// where that of the reader does.
 #[derive(Drop)]
 pub struct ReadFeed<R: Read> {
     reader: R,

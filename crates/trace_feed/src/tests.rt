@@ -1,9 +1,10 @@
 //! Tests of feeds, doors and writing.
-ghost use Rattle.std.specs.Prelude.{◌≡◌};
+
+ghost use Rattle.std.specs.Prelude.{◌≡◌, ◌≤◌, IfOk};
 ghost use Rattle.trace_feed.specs.Doors.{IfCame};
 
 use super::*;
-use std::io::{Error, ErrorKind, Read};
+use std::io::{Error, ErrorKind, Read, Write};
 use std::test::Fail;
 use std::{env, fs, io, process};
 use test_writers::{Ending, ShortWriter};
@@ -64,32 +65,78 @@ fn a_reader_gives_its_bytes_and_then_none(rt: HostRuntime) {
     assert_eq!(rt; feed.faults(), 0);
 }
 
-/// A reader whose first read is interrupted and whose second gives one byte, the last.
+/// The kinds of error that a read or a write may fail with.
+const KINDS: [ErrorKind; 10] = [
+    ErrorKind::Interrupted,
+    ErrorKind::WouldBlock,
+    ErrorKind::TimedOut,
+    ErrorKind::ConnectionReset,
+    ErrorKind::BrokenPipe,
+    ErrorKind::UnexpectedEof,
+    ErrorKind::WriteZero,
+    ErrorKind::InvalidInput,
+    ErrorKind::OutOfMemory,
+    ErrorKind::Other,
+];
+
+/// A reader and a writer of which every second call fails, and each other one moves one byte.
 #[derive(Drop)]
-struct Interrupted {
-    reads: u8,
+struct EverySecond {
+    kind: ErrorKind,
+    calls: u64,
 }
 
-impl Read for Interrupted {
-    fn read(&mut self, buf: &mut [u8]) -> io::Result<usize> {
-        self.reads = self.reads.saturating_add(1);
-        match self.reads {
-            1 => Err(Error::from(ErrorKind::Interrupted)),
-            2 if !buf.is_empty() => Ok(1),
-            _ => Ok(0),
+impl EverySecond {
+    fn turn(&mut self, room: usize) -> io::Result<usize>
+        ensures { IfOk result (λ n. n ≤ room) }
+    {
+        self.calls = self.calls.saturating_add(1);
+        if self.calls.is_multiple_of(2) {
+            return Err(Error::from(self.kind));
         }
+        Ok(room.min(1))
+    }
+}
+
+impl Read for EverySecond {
+    fn read(&mut self, buf: &mut [u8]) -> io::Result<usize> {
+        self.turn(buf.len())
+    }
+}
+
+impl Write for EverySecond {
+    fn write(&mut self, buf: &[u8]) -> io::Result<usize> {
+        self.turn(buf.len())
+    }
+
+    fn flush(&mut self) -> io::Result<()> {
+        Ok(())
     }
 }
 
 #[test]
-fn an_interrupted_read_is_a_failed_one(rt: HostRuntime) {
-    let mut feed = ReadFeed::new(Interrupted { reads: 0 });
-    let mut buf = [0u8; 8];
-    assert_eq!(rt; feed.next(&mut buf), Err(FeedFault));
-    assert_eq!(rt; feed.faults(), 1);
-    assert_eq!(rt; feed.next(&mut buf), Ok(1));
-    assert_eq!(rt; feed.next(&mut buf), Ok(0));
-    assert_eq!(rt; feed.faults(), 1);
+fn each_read_that_fails_is_one_fault(rt: HostRuntime) {
+    for kind in KINDS {
+        let mut feed = ReadFeed::new(EverySecond { kind, calls: 0 });
+        let mut buf = [0u8; 8];
+        assert_eq!(rt; feed.next(&mut buf), Ok(1));
+        assert_eq!(rt; feed.faults(), 0);
+        assert_eq!(rt; feed.next(&mut buf), Err(FeedFault));
+        assert_eq!(rt; feed.faults(), 1);
+        assert_eq!(rt; feed.next(&mut buf), Ok(1));
+        assert_eq!(rt; feed.faults(), 1);
+        assert_eq!(rt; feed.next(&mut buf), Err(FeedFault));
+        assert_eq!(rt; feed.faults(), 2);
+    }
+}
+
+#[test]
+fn no_write_follows_one_that_fails(rt: HostRuntime) {
+    for kind in KINDS {
+        let mut writer = EverySecond { kind, calls: 0 };
+        assert_eq!(rt; put_all(&mut writer, TEXT), Err(PutFault { written: 1 }));
+        assert_eq!(rt; writer.calls, 2);
+    }
 }
 
 /// How many bytes the first read gives of the feed that came, if one came.
@@ -135,7 +182,8 @@ fn over_in_a_list_ends_it(rt: HostRuntime) -> Result<(), Fail> {
 #[test]
 fn files_come_where_they_open(rt: HostRuntime) -> Result<(), Fail> {
     let folder = format!(in rt.alloc(); "{}", env::temp_dir(&rt)?.display())?;
-    let path = format!(in rt.alloc(); "{folder}/trace_feed_{}", process::id(rt.process()))?;
+    // its name ends with a space, without which there is no file
+    let path = format!(in rt.alloc(); "{folder}/trace_feed_{} ", process::id(rt.process()))?;
     let missing = format!(in rt.alloc(); "{path}_missing")?;
     fs::write(&rt, path.as_str(), TRACE.as_slice())?;
     let mut paths = Vec::new(rt.alloc());

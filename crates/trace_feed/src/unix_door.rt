@@ -1,6 +1,7 @@
 //! A door over the peers that connect to a Unix socket.
-ghost use Rattle.std.specs.Prelude.{◌≡◌, ◌==◌, ◌-◌, ◌<◌, ◌^◌, ◌↔◌, IsTrue, None};
-ghost use Rattle.trace_feed.specs.Doors.{IfCame, is_over, refusals_after};
+
+ghost use Rattle.std.specs.Prelude.{◌≡◌, ◌==◌, ◌-◌, ◌<◌, ◌^◌, ◌↔◌, IsTrue, None, Some};
+ghost use Rattle.trace_feed.specs.Doors.{CountsDown, IfCame, is_over, refusals_after};
 
 use crate::door::{Arrival, Door};
 use crate::read_feed::ReadFeed;
@@ -45,6 +46,8 @@ impl Door for UnixDoor {
 
     ghost to_arrive = { λ _. None };
 
+    ghost arrivals_left = { λ d. Some d.left };
+
     ghost refusal_count = { λ d. d.refusals };
 
     ghost is_shut = { λ d. d.left == 0 };
@@ -56,6 +59,7 @@ impl Door for UnixDoor {
     /// call that finds no peer fails.
     fn next(&mut self) -> Arrival<ReadFeed<UnixStream>>
         requires { self.old.refusals < 2 ^ 64 - 1 }
+        ensures turn { CountsDown (Some self.old.left) (Some self.new.left) result }
         ensures count { self.new.refusals ≡ refusals_after result self.old.refusals }
         ensures fresh { IfCame (λ f. f.faults ≡ 0) result }
         ensures over { IsTrue (is_over result) → IsTrue (self.new.left == 0) }
