@@ -1,10 +1,12 @@
 -- Who arrived at a door.
-use Rattle.std.specs.Prelude.{◌≡◌, ℕ, ◌<◌, List, ◌++◌, Option, None, Some, length, slice_index_or}
+use Rattle.std.specs.Prelude.{◌≡◌, ℕ, ◌<◌, List, ◌++◌, Option, None, Some, length, min}
+use Rattle.std.specs.Prelude.{slice_index_or}
 use Rattle.trace_feed.specs.declared.door.Arrival.{Arrival}
 use Rattle.trace_feed.specs.declared.door.Arrival.TheVariants as arrival
 use Rattle.asan_collect.specs.declared.outcome.Outcome.{Outcome}
 use Rattle.asan_collect.specs.declared.outcome.Outcome.TheVariants as outcome
 use Rattle.asan_collect.specs.Outcomes.{IsOutcomeOf}
+use Rattle.asan_collect.specs.Ranges.{most_senders}
 
 -- these arrived, in order, from a door that says what is still to arrive
 abbrev pub Arrived :
@@ -12,6 +14,11 @@ abbrev pub Arrived :
 Arrived None after arrivals = Unit {0}
 Arrived (Some xs) None arrivals = ⊥
 Arrived (Some xs) (Some ys) arrivals = xs ≡ arrivals ++ ys
+
+-- of a known number of arrivals that were left all came, or as many as one call takes
+abbrev pub IsAllThatCame : Option ℕ → ℕ → Type 0
+IsAllThatCame None came = Unit {0}
+IsAllThatCame (Some left) came = came ≡ min left most_senders
 
 -- a sender arrived, and no read of its feed has failed
 abbrev pub IsArrived : {F : Type 0} → (F → ℕ) → Arrival F → Type 0

@@ -1,7 +1,7 @@
 //! Asking a door for the senders of one call.
 
 ghost use Rattle.std.specs.Prelude.{◌≡◌, ◌+◌, ◌≤◌, ◌⊎◌, ◌^◌, [], All, IsTrue, length, vec_capacity};
-ghost use Rattle.asan_collect.specs.Arrivals.{Arrived, IsArrived};
+ghost use Rattle.asan_collect.specs.Arrivals.{Arrived, IsAllThatCame, IsArrived};
 ghost use Rattle.asan_collect.specs.Counts.{refused_among};
 ghost use Rattle.asan_collect.specs.Ranges.{most_senders};
 
@@ -25,6 +25,7 @@ pub(crate) fn ask<D: Door, A: Allocator + Copy>(
     ensures refused { D.refusal_count door.new
         ≡ refused_among result.items + D.refusal_count door.old }
     ensures all { IsTrue (D.is_shut door.new) ⊎ (length result.items ≡ most_senders) }
+    ensures count { IsAllThatCame (D.arrivals_left door.old) (length result.items) }
     ensures few { length result.items ≤ most_senders }
 {
     let mut arrivals = room;

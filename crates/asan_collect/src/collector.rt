@@ -2,7 +2,7 @@
 
 ghost use Rattle.std.specs.Prelude.{◌≡◌, ◌+◌, ◌≤◌, ◌⊎◌, ◌^◌, All, List, IfOk, IsTrue, OnErr, length};
 ghost use Rattle.trace_feed.specs.declared.door.Arrival.{Arrival as AnArrival};
-ghost use Rattle.asan_collect.specs.Arrivals.{Arrived, IsAnswerTo, Pairwise};
+ghost use Rattle.asan_collect.specs.Arrivals.{Arrived, IsAllThatCame, IsAnswerTo, Pairwise};
 ghost use Rattle.asan_collect.specs.Counts.{not_opened_among};
 ghost use Rattle.asan_collect.specs.Ranges.{most_senders, most_reports};
 ghost use Rattle.asan_collect.specs.Texts.{reports_of};
@@ -60,6 +60,8 @@ where
         × Pairwise
         (IsAnswerTo D.Feed.to_come D.Feed.fault_count options.limit options.quarantine)
         arrivals outcomes.items) }
+    ensures count { IfOk result (λ outcomes.
+        IsAllThatCame (D.arrivals_left door.old) (length outcomes.items)) }
     ensures refused { IfOk result (λ outcomes.
         D.refusal_count door.new ≡ not_opened_among outcomes.items + D.refusal_count door.old) }
     ensures few { IfOk result (λ outcomes. length outcomes.items ≤ most_senders) }

@@ -121,9 +121,11 @@ fn feed_of_sender(alloc: Global, number: usize) -> Result<MemFeed, AllocError>
 impl Door for Crowd {
     type Feed = MemFeed;
 
-    ghost use Rattle.std.specs.Prelude.{None, nat_le};
+    ghost use Rattle.std.specs.Prelude.{None, Some, ◌-◌, nat_le};
 
     ghost to_arrive = { λ _. None };
+
+    ghost arrivals_left = { λ d. Some (d.last - d.arrived) };
 
     ghost refusal_count = { λ d. d.refusals };
 
@@ -243,9 +245,11 @@ struct Repeated {
 impl Door for Repeated {
     type Feed = MemFeed;
 
-    ghost use Rattle.std.specs.Prelude.{None, ◌==◌};
+    ghost use Rattle.std.specs.Prelude.{None, Some, ◌==◌};
 
     ghost to_arrive = { λ _. None };
+
+    ghost arrivals_left = { λ d. Some d.left };
 
     ghost refusal_count = { λ d. d.refusals };
 

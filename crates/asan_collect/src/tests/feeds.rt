@@ -6,7 +6,7 @@ use super::{LENGTH, LOADS, STREAM, TEXT, feed_of};
 use crate::{BadOption, Options, Outcome, check_feed, exit_status, write_outcomes};
 use std::alloc::Global;
 use std::test::Fail;
-use trace_feed::{Feed, MemFeed};
+use trace_feed::{Feed, FeedFault, MemFeed};
 use trace_record::{End, Fate};
 
 /// What is printed of the first process whose feed is this one, and the status.
@@ -151,4 +151,46 @@ fn refused_arguments(rt: HostRuntime) {
     ] {
         assert_eq!(rt; Options::new(quarantine, ring, workers, limit).err(), bad);
     }
+}
+
+/// A feed that counts its reads.
+#[derive(Drop)]
+struct Counted {
+    feed: MemFeed,
+    reads: u64,
+}
+
+impl Feed for Counted {
+    ghost use Rattle.std.specs.Prelude.{None};
+
+    ghost to_come = { λ _. None };
+
+    ghost fault_count = { λ c. c.feed.faults };
+
+    fn next(&mut self, buf: &mut [u8]) -> Result<usize, FeedFault> {
+        self.reads = self.reads.saturating_add(1);
+        self.feed.next(buf)
+    }
+
+    fn faults(&self) -> u64 {
+        self.feed.faults()
+    }
+}
+
+/// 1,000 frees at 0 and the close, of 9,009 bytes in all, come by three reads.
+#[test]
+fn few_reads_take_many_records(rt: HostRuntime) -> Result<(), Fail> {
+    let mut bytes = STREAM[..8].to_vec(rt.alloc())?;
+    for _ in 0..1000 {
+        bytes.extend_from_slice(&[4, 0, 0, 0, 0, 0, 0, 0, 0])?;
+    }
+    bytes.push(7)?;
+    let feed = feed_of(rt.alloc(), &bytes, &[], None)?;
+    let outcome = check_feed(rt.alloc(), Counted { feed, reads: 0 }, Options::usual());
+    let Outcome::Settled { feed, end, .. } = outcome else {
+        panic!(rt; "it was read");
+    };
+    assert_eq!(rt; (end.fate, end.events), (Fate::Closed, 1000));
+    assert_eq!(rt; feed.reads, 3);
+    Ok(())
 }

@@ -1,9 +1,10 @@
-use Rattle.std.proofs.Common.{rules, ◌∙◌, ◌≡◌, ◌≤◌, ◌^◌, [], ◌∷◌, ◌++◌, length, arith, inl, inr, refl}
+use Rattle.std.proofs.Common.{rules, ◌∙◌, ◌≡◌, ◌≤◌, ◌+◌, ◌^◌, [], ◌∷◌, ◌++◌, length, arith, inl, inr, refl}
 use Rattle.std.proofs.lemmas.List.Elements.{All-push}
 use Rattle.asan_collect.specs.Counts.{refused}
 use Rattle.asan_collect.proofs.Counting.{refused-after, refused-push}
 use Rattle.asan_collect.specs.Arrivals.{Arrived, IsArrived}
 use Rattle.asan_collect.proofs.Arriving.{arrived_none, arrived_over, arrived_came, arrived_refused, refusals_rise}
+use Rattle.asan_collect.proofs.Arriving.{IsLeft, left_at_first, left_came, left_refused, left_over, left_full}
 use Rattle.asan_collect.proofs.arrivals.ask.Goals.{in-Came, in-Refused}
 use Rattle.asan_collect.proofs.arrivals.ask.Goals as goal
 
@@ -14,6 +15,7 @@ loop-init g c = record {
   refusals = search rules;
   refused = (let none = c.requires.empty in rw none (omega arith));
   arrived = (let none = c.requires.empty in rw none (arrived_none _));
+  left = (let none = c.requires.empty in rw none (left_at_first _));
   fresh = (let none = c.requires.empty in λ k d within. absurd (let no = rw none at within in omega arith));
 }
 
@@ -48,6 +50,11 @@ loop-preserved g c =
       | in-Came w ↦ rw (w.arrival-is, w.in-Came.is) refl
       | in-Refused w ↦ rw (w.arrival-is, w.in-Refused.is) refl
     ] in
+    let left : IsLeft (g.D.Door.arrivals_left c.args.door.now) (g.D.Door.arrivals_left c.next.new.self) (length xs + 1) =
+    elim c.match-next.branch [
+      | in-Came w ↦ left_came _ _ _ _ _ c.loop.invariant.left (rw w.in-Came.is at c.next.ensures.turn)
+      | in-Refused w ↦ left_refused _ _ _ _ _ c.loop.invariant.left (rw w.in-Refused.is at c.next.ensures.turn)
+    ] in
     let pushed : c.push.new.self.items ≡ xs ++ a ∷ [] = search rules in
     record {
       count = search rules;
@@ -64,6 +71,7 @@ loop-preserved g c =
           let more = refused-push xs a in
           omega arith);
       arrived = rw pushed arrived;
+      left = (let more : length (xs ++ a ∷ []) ≡ length xs + 1 = search rules in rw (pushed, more) left);
       fresh = rw pushed (All-push (IsArrived g.D.Feed.Feed.fault_count) xs a c.loop.invariant.fresh fresh);
     }
 
@@ -75,6 +83,14 @@ returns-in-Over-clause-refused g c = (rw c.in-Over.is at c.next.ensures.count) �
 
 pub returns-in-Over-clause-all : goal.returns-in-Over-clause-all
 returns-in-Over-clause-all g c = inl (c.next.ensures.over (rw c.in-Over.is refl))
+
+pub returns-in-Over-clause-count : goal.returns-in-Over-clause-count
+returns-in-Over-clause-count g c =
+    let few : length c.loop.arrivals.items ≤ 256 = (let count = c.loop.invariant.count in let turns = c.loop-test.true in omega arith) in
+    left_over _ _ _ _ _ few c.loop.invariant.left (rw c.in-Over.is at c.next.ensures.turn)
+
+pub returns-after-loop-clause-count : goal.returns-after-loop-clause-count
+returns-after-loop-clause-count g c = left_full _ _ _ (search rules) c.loop.invariant.left
 
 pub returns-after-loop-clause-all : goal.returns-after-loop-clause-all
 returns-after-loop-clause-all g c = inr (search rules)

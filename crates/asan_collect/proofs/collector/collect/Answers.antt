@@ -67,6 +67,10 @@ returns-clause-few g c =
     let e = c.settle_all.ensures.same_length in
     search rules
 
+pub returns-clause-count : goal.returns-clause-count
+unfolding returns-clause-each
+returns-clause-count g c = rw (returns-clause-each g c).3.same_length c.ask-arrivals.ensures.count
+
 pub returns-clause-few_reports : goal.returns-clause-few_reports
 unfolding returns-clause-each
 returns-clause-few_reports g c =
