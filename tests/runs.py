@@ -9,6 +9,7 @@ unreadable.
 """
 
 import os
+import re
 import resource
 import shutil
 import signal
@@ -394,6 +395,11 @@ def refused_words(program):
         ["serve", "--count", "1", "socket", "another"],
         ["trace"],
         ["replay", "trace"],
+        ["-V"],
+        ["--verbose"],
+        ["serve", "--count", "1", "--verbose", "socket"],
+        ["check", "--version", "trace"],
+        ["check", "-1"],
         ["--quarantine", "0"],
         ["--"],
         [""],
@@ -406,8 +412,14 @@ def refused_words(program):
 
 def word_that_is_no_text(program):
     put(b"caf\xe9", SOUND)
-    for words in [[b"check", b"caf\xe9"], [b"\xff"], [b"check", b"trace", b"\xc3"]]:
-        program.expect_refused(words, "a word of the command line is not valid UTF-8")
+    said = "error: a word of the command line is not valid UTF-8: '{}'\n"
+    for words, named in [
+        ([b"check", b"caf\xe9"], r"caf\xe9"),
+        ([b"\xff"], r"\xff"),
+        ([b"check", b"trace", b"\xc3", b"\xc4"], r"\xc3"),
+        ([b"check", b"\xff" * 5000], ""),
+    ]:
+        program.expect(words, 2, "", said.format(named))
     with open(b"caf\xe9", "rb") as file:
         program.expect([], 0, sound(), stdin=file)
 
@@ -418,6 +430,9 @@ def help_texts(program):
         (["--help"], "Usage: asancol < TRACE\n"),
         (["-h"], "       asancol check [OPTIONS] <FILE>...\n       " + serve),
         (["help"], "The status is 0 if there is nothing to report"),
+        (["help"], "With no words it checks one trace from standard input, as process 0.\n\nThe "),
+        (["check", "--help"], "\n\nThe status is 0 if there is nothing to report"),
+        (["serve", "--help"], "\n\nThe status is 0 if there is nothing to report"),
         (["check", "--help"], "Usage: asancol check [OPTIONS] <FILE>...\n"),
         (["check", "--help"], "0 to 1099511627776 [default: 268435456]\n"),
         (["check", "--help"], "1 to 65536 [default: 1024]\n"),
@@ -429,6 +444,93 @@ def help_texts(program):
         same(words, (status, faults), (0, b""))
         told(words, part.encode() in output, output.decode())
         program.expect_unwritten(words)
+
+
+def release(program):
+    status, output, faults = program.run(["--version"])
+    same("--version", (status, faults), (0, b""))
+    told("--version", re.fullmatch(rb"asancol \d+\.\d+\.\d+\n", output), output)
+    program.expect_unwritten(["--version"])
+
+
+def file_without_a_command(program):
+    put("run.trace", SOUND)
+    hint = "\nTo check a trace in a file: asancol check FILE\n"
+    program.expect_refused(["run.trace"], "unrecognized subcommand 'run.trace'\n", hint)
+
+
+def numbers_below_zero(program):
+    for option, name in [
+        ("--quarantine", "BYTES"),
+        ("--ring", "EVENTS"),
+        ("--workers", "CHECKERS"),
+        ("--limit", "EVENTS"),
+    ]:
+        for value in ["-1", "-0"]:
+            said = f"invalid value '{value}' for '{option} <{name}>': "
+            program.expect_refused(["check", option, value, "missing"], said)
+    program.expect_refused(
+        ["serve", "--count", "-1", "socket"],
+        "invalid value '-1' for '--count <SENDERS>': -1 is not in 1..=256",
+    )
+
+
+def standard_input_among_files(program):
+    put("sound", SOUND)
+    put("-", CUT)
+    for words, text in [
+        (["-"], past_the_end(0)),
+        (["sound", "-", "sound"], sound(0) + past_the_end(1) + sound(2)),
+        (["-", "sound"], past_the_end(0) + sound(1)),
+        (["sound", "--", "-"], sound(0) + past_the_end(1)),
+    ]:
+        program.expect(["check", *words], 1, text, given=PAST_THE_END)
+    program.expect(["check", "-", "./-"], 3, past_the_end(0) + cut(1), given=PAST_THE_END)
+    text = "p0 end too-many events 1 offset 25 reports 0\n"
+    program.expect(["check", "--limit", "1", "-"], 3, text, given=PAST_THE_END)
+    names = ["sound"] * 255
+    texts = "".join(sound(i) for i in range(255)) + past_the_end(255)
+    program.expect(["check", *names, "-"], 1, texts, given=PAST_THE_END)
+    twice = "error: '-' is given more than once\n"
+    program.expect(["check", "-", "sound", "-"], 2, "", twice, given=PAST_THE_END)
+    program.expect(["check", *names, "-", "-"], 2, "", "too many files\n", given=PAST_THE_END)
+
+
+def what_became_of_each_file(program):
+    put("sound", SOUND)
+    put("past", PAST_THE_END)
+    put("two\nlines", CUT)
+    os.mkdir("folder")
+    words = ["check", "--verbose", "sound", "-", "missing", "two\nlines", "folder"]
+    text = (
+        sound(0)
+        + past_the_end(1)
+        + "p2 end not-opened\n"
+        + cut(3)
+        + "p4 end read-failed events 0 offset 0 reports 0\n"
+    )
+    lines = (
+        "p0 sound: closed events 2 offset 36 reports 0\n"
+        "p1 -: closed events 2 offset 36 reports 1\n"
+        "p2 missing: not-opened\n"
+        "p3 two\\nlines: truncated events 1 offset 25 reports 0\n"
+        "p4 folder: read-failed events 0 offset 0 reports 0\n"
+    )
+    program.expect(words, 3, text, lines, given=PAST_THE_END)
+    with open("/dev/full", "wb") as full:
+        ran = program.run(words, given=PAST_THE_END, stdout=full)
+        same(words, ran, (4, None, lines.encode()))
+        ran = program.run(words, given=PAST_THE_END, stderr=full)
+        same(words, ran, (3, text.encode(), None))
+    program.expect(
+        ["check", "past", "--verbose"],
+        1,
+        past_the_end(),
+        "p0 past: closed events 2 offset 36 reports 1\n",
+    )
+    program.expect(["check", "--", "--verbose"], 3, "p0 end not-opened\n")
+    status, both, _ = program.run(["check", "--verbose", "past"], stderr=subprocess.STDOUT)
+    told("check --verbose", both.startswith(past_the_end().encode()), both)
 
 
 # ---- what runs out
@@ -457,16 +559,17 @@ def no_memory_to_begin(program):
     put("trace", PAST_THE_END)
     for words in [[], ["check", "trace"], ["check", *["trace"] * 100], ["--help"]]:
         ended = set()
-        for kibibytes in range(0, 2048, 16):
-            bound = (kibibytes << 10, kibibytes << 10)
-            ended.add(
-                program.run(
-                    words,
-                    given=PAST_THE_END,
-                    before=lambda: resource.setrlimit(resource.RLIMIT_DATA, bound),
-                )
-            )
-        told(words, (3, b"", b"no memory\n") in ended, ended)
+        for kibibytes in range(0, 2048, 4):
+
+            def bound():
+                resource.setrlimit(resource.RLIMIT_DATA, (kibibytes << 10, kibibytes << 10))
+
+            ran = program.run(words, given=PAST_THE_END, before=bound)
+            ended.add(ran)
+            if ran == (3, b"", b"no memory\n"):
+                break
+        else:
+            told(words, False, ended)
 
 
 # ---- a socket
@@ -579,6 +682,11 @@ CASES = [
     refused_words,
     word_that_is_no_text,
     help_texts,
+    release,
+    file_without_a_command,
+    numbers_below_zero,
+    standard_input_among_files,
+    what_became_of_each_file,
     output_that_ends_early,
     no_memory_to_begin,
     peers_on_a_socket,

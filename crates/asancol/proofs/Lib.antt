@@ -1,2 +1,4 @@
+mod Names
 mod Printing
+mod Reading
 mod Refusing

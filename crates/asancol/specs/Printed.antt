@@ -1,23 +1,17 @@
 -- What the program prints, and the status that it ends with.
-use Rattle.std.specs.Prelude.{◌≡◌, ◌≢◌, ℕ, ◌+◌, ◌^◌, ◌⊎◌, Bool, true, IsTrue, Option}
+use Rattle.std.specs.Prelude.{◌≡◌, ◌≢◌, ℕ, ◌+◌, ◌⊎◌, Bool, true, IsTrue, Option}
 use Rattle.std.specs.Prelude.{List, [], ◌∷◌, length, take}
 use Rattle.std.specs.Io.KnownBytes.{Appends}
 use Rattle.std.specs.declared.alloc.Global.{Global}
 use Rattle.trace_feed.specs.declared.door.Arrival.{Arrival}
 use Rattle.asan_collect.specs.declared.outcome.Outcome.{Outcome}
-use Rattle.asan_collect.specs.Arrivals.{Arrived, Pairwise, IsAnswerTo}
+use Rattle.asan_collect.specs.Arrivals.{Arrived, IsAllThatCame, Pairwise, IsAnswerTo}
 use Rattle.asan_collect.specs.Counts.{not_opened_among}
 use Rattle.asan_collect.specs.Outcomes.{IsOutcomeOf}
 use Rattle.asan_collect.specs.Ranges.{most_senders}
 use Rattle.asan_collect.specs.Statuses.{status_of, unwritten}
 use Rattle.asan_collect.specs.Texts.{texts_from}
-
--- how many events a trace may have, and how many bytes a quarantine holds, where no option says so
-abbrev pub usual_limit : ℕ
-usual_limit = 2 ^ 24
-
-abbrev pub usual_bound : ℕ
-usual_bound = 2 ^ 28
+use Rattle.asancol.specs.Settings.{usual_bound, usual_limit}
 
 -- A writer holds some bytes before and after.
 module _ {F A : Type 0} where
@@ -36,8 +30,9 @@ module _ {F : Type 0} (to_come : F → Option (List ℕ)) (fault_count : F → �
   -- process 0
   abbrev pub IsFeedPrinted : F → Option (List ℕ) → Option (List ℕ) → ℕ → Type 0
   IsFeedPrinted feed before after status =
-      (told : Outcome F Global) × IsOutcomeOf to_come fault_count usual_limit usual_bound feed told
-      × IsPrinted before after (told ∷ []) status
+      (outcome : Outcome F Global)
+      × IsOutcomeOf to_come fault_count usual_limit usual_bound feed outcome
+      × IsPrinted before after (outcome ∷ []) status
 
   -- the same of a feed that had these bytes to come
   abbrev pub IsInputPrinted : Option (List ℕ) → Option (List ℕ) → Option (List ℕ) → ℕ → Type 0
@@ -45,16 +40,19 @@ module _ {F : Type 0} (to_come : F → Option (List ℕ)) (fault_count : F → �
       (feed : F) × (to_come feed ≡ bytes) × IsFeedPrinted feed before after status
 
   -- The senders that arrived have an outcome each, in order; they are all that came until the door
-  -- was shut, or as many as one call takes. The door counts one refusal more for each outcome of a
-  -- sender that was not opened. The outcomes were printed.
+  -- was shut, or as many as one call takes. Of a known number of arrivals that were left all came,
+  -- or as many as one call takes. The door counts one refusal more for each outcome of a sender
+  -- that was not opened. The outcomes were printed.
   abbrev pub AreSendersPrinted : (limit bound : ℕ) (to_arrive left : Option (List (Arrival F)))
+      (arrivals_left : Option ℕ)
       (is_shut : Bool) (refused_before refused_after : ℕ)
       (before after : Option (List ℕ)) (status : ℕ) → Type 0
-  AreSendersPrinted limit bound to_arrive left is_shut refused_before refused_after
+  AreSendersPrinted limit bound to_arrive left arrivals_left is_shut refused_before refused_after
       before after status =
       (arrivals : List (Arrival F)) × (outcomes : List (Outcome F Global))
       × Arrived to_arrive left arrivals
       × (IsTrue is_shut ⊎ (length arrivals ≡ most_senders))
+      × IsAllThatCame arrivals_left (length outcomes)
       × Pairwise (IsAnswerTo to_come fault_count limit bound) arrivals outcomes
       × (refused_after ≡ not_opened_among outcomes + refused_before)
       × IsPrinted before after outcomes status

@@ -1,17 +1,21 @@
 //! What the words of the command line ask for.
 
-ghost use Rattle.std.specs.Prelude.{◌≡◌, ◌<◌, ◌≤◌, ◌↔◌, [], Ok, Err, IfOk};
-ghost use Rattle.std.specs.Prelude.{length, map, string_bytes};
+ghost use Rattle.std.specs.Prelude.{◌≡◌, ◌<◌, ◌≤◌, ◌↔◌, [], Ok, Err, IfOk, IfSome, Some, false};
+ghost use Rattle.std.specs.Prelude.{codes, length, map, option_map, string_bytes};
 ghost use Rattle.asan_collect.specs.Ranges.{most_senders};
 ghost use Rattle.asancol.specs.declared.command_line.Refusal.TheVariants.{NoMemory};
 ghost use Rattle.asancol.specs.declared.command_line.Refusal.TheVariants.{OptionOutOfRange};
 ghost use Rattle.clap.specs.Values.{kind_of};
+ghost use Rattle.clap.specs.Words.{first_value, found_of, one_text};
 ghost use Rattle.asancol.specs.Refusals.{refusal_of};
-ghost use Rattle.asancol.specs.Requests.{HasFewFiles};
+ghost use Rattle.asancol.specs.Requests.{HasFewFiles, IsQuiet, is_verbose as is_verbose_of};
+ghost use Rattle.asancol.specs.Settings.{AreFilesOf, AreOptionsOf, IsGiven};
 
 use crate::arguments::{
-    CHECK, COUNT, FILES, LIMIT, QUARANTINE, READY, RING, SERVE, SOCKET, WORKERS, command,
+    CHECK, COUNT, FILES, HelpTexts, LIMIT, QUARANTINE, READY, RING, SERVE, SOCKET, VERBOSE,
+    WORKERS, command,
 };
+use crate::input_door::INPUT;
 use crate::serve::Serving;
 use asan_collect::{BadOption, MOST_SENDERS, Options};
 use clap::error::ErrorKind;
@@ -23,10 +27,13 @@ use std::alloc::{AllocError, AllocFailed, Global};
 pub enum Request {
     /// Check the trace on standard input with the usual options.
     Input,
-    /// Check the traces in these files, in order, with these options.
+    /// Check the traces in the files of these names, in order, with these options. `-` is standard
+    /// input, and is there at most once.
     Files {
-        paths: Vec<String>,
+        names: Vec<String>,
         options: Options,
+        /// Whether to say at the end what became of each file.
+        verbose: bool,
     },
     /// Check the traces that come through a socket.
     Serve(Serving),
@@ -35,7 +42,7 @@ pub enum Request {
 /// Why the words are not carried out.
 #[derive(Drop)]
 pub enum Refusal {
-    /// They ask for help, which is this text.
+    /// They ask for help, or for the release, which is this text.
     Help(Error),
     /// There is a mistake in them, which this text is about.
     Mistake(Error),
@@ -43,6 +50,8 @@ pub enum Refusal {
     OptionOutOfRange(BadOption),
     /// There are more than 256 files.
     TooManyFiles,
+    /// Standard input is named more than once.
+    InputTwice,
     /// There was no memory to read them.
     NoMemory,
 }
@@ -87,17 +96,16 @@ impl<T: Drop> From<AllocFailed<T>> for Refusal {
 pub fn read_words(alloc: Global, words: &[String]) -> Result<Request, Refusal>
     ensures input { (result ≡ Ok Request.Input) ↔ (words.now ≡ []) }
     ensures few_files { IfOk result HasFewFiles }
+    ensures quiet { is_verbose_of words.now ≡ false → IfOk result IsQuiet }
 {
     if words.is_empty() {
         return Ok(Request::Input);
     }
-    let mut command = command(alloc)?;
+    let texts = HelpTexts::new(alloc)?;
+    let mut command = command(alloc, &texts)?;
     let matches = command.try_get_matches_from_mut(words)?;
     let request = match matches.subcommand() {
-        Some((CHECK, of_check)) => Some(Request::Files {
-            paths: paths_of(alloc, of_check.get_strs(FILES).unwrap_or(&[]))?,
-            options: options_of(of_check)?,
-        }),
+        Some((CHECK, of_check)) => Some(files_of(alloc, of_check, words)?),
         Some((SERVE, of_serve)) => serving_of(alloc, of_serve)?.map(Request::Serve),
         _ => None,
     };
@@ -110,26 +118,63 @@ pub fn read_words(alloc: Global, words: &[String]) -> Result<Request, Refusal>
     }
 }
 
-/// The paths of these files, in order, unless they are more than one call takes.
-fn paths_of(alloc: Global, files: &[&str]) -> Result<Vec<String>, Refusal>
-    ensures same { IfOk result (λ paths.
-        map string_bytes paths.items ≡ map (λ file. file.now) files.now) }
-    ensures few { IfOk result (λ paths. length paths.items ≤ most_senders) }
+/// The files that were found, and how they are checked.
+fn files_of(alloc: Global, matches: &ArgMatches<'_>, words: &[String]) -> Result<Request, Refusal>
+    ensures found { IfOk result (AreFilesOf (found_of matches.now)) }
+    ensures few_files { IfOk result HasFewFiles }
+    ensures quiet { is_verbose_of words.now ≡ false → IfOk result IsQuiet }
+{
+    Ok(Request::Files {
+        names: names_of(alloc, matches.get_strs(FILES).unwrap_or(&[]))?,
+        options: options_of(matches)?,
+        // Where the flag is set, it is also among the words.
+        verbose: matches.get_flag(VERBOSE) && is_verbose(words),
+    })
+}
+
+/// The names of these files, in order, unless they are more than one call takes, or standard input
+/// is among them more than once.
+fn names_of(alloc: Global, files: &[&str]) -> Result<Vec<String>, Refusal>
+    ensures same { IfOk result (λ names.
+        map string_bytes names.items ≡ map (λ file. file.now) files.now) }
+    ensures few { IfOk result (λ names. length names.items ≤ most_senders) }
     ensures too_many { (result ≡ Err Refusal.TooManyFiles) ↔ (most_senders < length files.now) }
 {
     if files.len() > MOST_SENDERS {
         return Err(Refusal::TooManyFiles);
     }
-    let mut paths = Vec::new(alloc);
+    let mut names = Vec::new(alloc);
+    let mut has_input = false;
     for file in files {
-        paths.push(String::from_str(alloc, file)?)?;
+        let is_input = *file == INPUT;
+        if is_input && has_input {
+            return Err(Refusal::InputTwice);
+        }
+        has_input = has_input || is_input;
+        names.push(String::from_str(alloc, file)?)?;
     }
-    Ok(paths)
+    Ok(names)
 }
 
-/// The socket that was named and how it is served, unless its path or a number of senders in range
+/// Whether `--verbose` is one of the words.
+fn is_verbose(words: &[String]) -> bool
+    ensures { result ≡ is_verbose_of words.now }
+{
+    words.iter().any(|word| word.as_str() == "--verbose")
+}
+
+/// The socket that was found and how it is served, unless its path or a number of senders in range
 /// is missing.
-fn serving_of(alloc: Global, matches: &ArgMatches<'_>) -> Result<Option<Serving>, Refusal> {
+fn serving_of(alloc: Global, matches: &ArgMatches<'_>) -> Result<Option<Serving>, Refusal>
+    ensures socket { IfOk result (λ serving. IfSome serving (λ s.
+        first_value (found_of matches.now) (codes "socket") ≡ Some (string_bytes s.socket))) }
+    ensures count { IfOk result (λ serving. IfSome serving (λ s.
+        IsGiven 32 (one_text (found_of matches.now) (codes "count")) s.count)) }
+    ensures ready { IfOk result (λ serving. IfSome serving (λ s.
+        first_value (found_of matches.now) (codes "ready") ≡ option_map string_bytes s.ready)) }
+    ensures options { IfOk result (λ serving. IfSome serving (λ s.
+        AreOptionsOf (found_of matches.now) s.options)) }
+{
     let (Some(socket), Some(count)) = (matches.get_str(SOCKET), matches.get_one(COUNT)) else {
         return Ok(None);
     };
@@ -148,8 +193,10 @@ fn serving_of(alloc: Global, matches: &ArgMatches<'_>) -> Result<Option<Serving>
     }))
 }
 
-/// The options that were set, and the usual ones in place of those that were not.
-fn options_of(matches: &ArgMatches<'_>) -> Result<Options, BadOption> {
+/// The options that were found, and the usual ones in place of those that were not.
+fn options_of(matches: &ArgMatches<'_>) -> Result<Options, BadOption>
+    ensures found { IfOk result (AreOptionsOf (found_of matches.now)) }
+{
     let usual = Options::usual();
     Options::new(
         matches.get_one(QUARANTINE).unwrap_or(usual.quarantine),

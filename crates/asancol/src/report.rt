@@ -1,11 +1,12 @@
 //! What is printed of the traces, and the status that follows from it.
 
-ghost use Rattle.std.specs.Prelude.{◌≡◌, ◌<◌, ◌≤◌, ◌⊎◌, ◌^◌, All, IfOk, OnErr, length};
+ghost use Rattle.std.specs.Prelude.{◌≡◌, ◌<◌, ◌≤◌, ◌⊎◌, ◌^◌, All, IfOk, None, OnErr, length};
 ghost use Rattle.asan_collect.specs.Ranges.{most_senders, most_reports};
 ghost use Rattle.asan_collect.specs.Statuses.{unchecked, unwritten};
 ghost use Rattle.asan_collect.specs.Texts.{reports_of};
 ghost use Rattle.asancol.specs.Printed.{IsPrinted, IsFeedPrinted, AreSendersPrinted};
 
+use asan_check::end_text;
 use asan_collect::{OpenGate, Options, Outcome, check_feed, collect, exit_status, write_outcomes};
 use std::alloc::{AllocError, Global};
 use std::io::Write;
@@ -39,29 +40,55 @@ pub fn report_feed<F: Feed + Drop, W: Write>(
 /// what became of all of them, and gives the status to end with. Reading starts once the door is
 /// over or has given 256 other answers.
 ///
+/// Where the senders have names, what became of each of them is then said on `faults` too.
+///
 /// Where there is no memory for the lists of senders, the door is not asked.
-pub fn report_each<D: Door, W: Write, R: Threads + Wait + Clock + Sync>(
+pub fn report_each<D: Door, W: Write, E: Write, R: Threads + Wait + Clock + Sync>(
     rt: &R,
     alloc: Global,
     door: &mut D,
     options: Options,
     output: &mut W,
+    names: Option<&[String]>,
+    faults: &mut E,
 ) -> Result<u8, AllocError>
 where
     D::Feed: Send + Drop,
     requires { D.refusal_count door.old ≤ 2 ^ 32 }
     ensures ok { IfOk result (λ status.
         AreSendersPrinted D.Feed.to_come D.Feed.fault_count options.limit options.quarantine
-        (D.to_arrive door.old) (D.to_arrive door.new) (D.is_shut door.new)
+        (D.to_arrive door.old) (D.to_arrive door.new) (D.arrivals_left door.old)
+        (D.is_shut door.new)
         (D.refusal_count door.old) (D.refusal_count door.new)
         (W.contents output.old) (W.contents output.new) status) }
     ensures refused { IfOk result (λ status. D.refusal_count door.old < D.refusal_count door.new
         → (status ≡ unchecked) ⊎ (status ≡ unwritten)) }
     ensures unasked { OnErr result (door.new ≡ door.old) }
     ensures err { OnErr result (output.new ≡ output.old) }
+    ensures quiet { names.entry ≡ None → faults.new ≡ faults.old }
 {
     let outcomes = collect(rt, alloc, door, &OpenGate, options)?;
-    Ok(print(alloc, output, &outcomes))
+    let status = print(alloc, output, &outcomes);
+    if let Some(names) = names {
+        name_each(alloc, names, &outcomes, faults);
+    }
+    Ok(status)
+}
+
+/// Writes a line for each sender that has a name: its number, its name and what became of it. A
+/// line that can't be written is left out.
+fn name_each<F, E: Write>(alloc: Global, names: &[String], outcomes: &[Outcome<F>], faults: &mut E)
+    requires few { length outcomes.now ≤ most_senders }
+{
+    for (process, outcome) in outcomes.iter().enumerate() {
+        let mut line = String::new(alloc);
+        if let Some(name) = names.get(process)
+            && end_text(process as u32, &outcome.ending(), &mut line).is_ok()
+            && let Some((process, end)) = line.split_once(" end ")
+        {
+            let _ = write!(faults, "{process} {}: {end}", name.escape_debug());
+        }
+    }
 }
 
 /// Prints the texts of outcomes, and gives the status to end with.

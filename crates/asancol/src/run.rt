@@ -1,12 +1,15 @@
 //! The program, over the words of its command line, a reader and two writers.
 
-ghost use Rattle.std.specs.Prelude.{◌≡◌, ◌≢◌, ◌≤◌, ◌⊎◌, []};
+ghost use Rattle.std.specs.Prelude.{◌≡◌, ◌≢◌, ◌≤◌, ◌⊎◌, [], false};
 ghost use Rattle.asancol.specs.Printed.{IsInputPrinted};
 ghost use Rattle.asancol.specs.Refusals.{IsStatusFor};
+ghost use Rattle.asancol.specs.Requests.{is_verbose};
 
 use crate::command_line::{Refusal, Request, read_words};
+use crate::input_door::door_of;
 use crate::report::{report_each, report_feed};
 use crate::serve::listen;
+use clap::error::ErrorKind;
 use std::alloc::AllocError;
 use std::fmt::Display;
 use std::fs::File;
@@ -16,9 +19,9 @@ use std::rt::Files;
 use std::sync::Wait;
 use std::thread::Threads;
 use std::time::Clock;
-use trace_feed::{Feed, PathDoor, ReadFeed};
+use trace_feed::{Feed, ReadFeed};
 
-/// The status where help was asked for and printed.
+/// The status where help or the release was asked for and printed.
 const HELPED: u8 = 0;
 
 /// The status of a command line that is refused.
@@ -32,13 +35,14 @@ const UNWRITTEN: u8 = 4;
 
 /// Runs the program on the words after its name, and gives the status that it ends with.
 ///
-/// With no words it checks one trace from `input`. The texts of all processes go to `output`, and
-/// only what is wrong with the command line, that there is no memory to start, or that the socket
-/// can't be served goes to `faults`. A write to `faults` that fails changes nothing.
+/// With no words it checks one trace from `input`. The texts of all processes go to `output`. Only
+/// what is wrong with the command line, that there is no memory to start, or that the socket can't
+/// be served goes to `faults`, and with `--verbose` what became of each file. A write to `faults`
+/// that fails changes nothing.
 pub fn run<R, I, O, E>(rt: &R, words: &[String], input: I, output: &mut O, faults: &mut E) -> u8
 where
     R: Files<File = File> + Net + Threads + Wait + Clock + Sync + AllocGlobal,
-    I: Read + Drop,
+    I: Read + Send + Drop,
     O: Write,
     E: Write,
     ensures no_words { words.now ≡ [] →
@@ -46,8 +50,10 @@ where
         (I.remaining input) (O.contents output.old) (O.contents output.new) result
         ⊎ ((result ≡ UNCHECKED) × (output.new ≡ output.old)) }
     ensures refused { result ≡ REFUSED → output.new ≡ output.old }
-    ensures quiet { result ≢ REFUSED → result ≢ UNCHECKED → faults.new ≡ faults.old }
-    ensures apart { (output.new ≡ output.old) ⊎ (faults.new ≡ faults.old) }
+    ensures quiet { is_verbose words.now ≡ false →
+        result ≢ REFUSED → result ≢ UNCHECKED → faults.new ≡ faults.old }
+    ensures apart { is_verbose words.now ≡ false →
+        (output.new ≡ output.old) ⊎ (faults.new ≡ faults.old) }
     ensures known { result ≤ UNWRITTEN }
 {
     let alloc = rt.alloc();
@@ -57,11 +63,21 @@ where
     };
     let reported = match request {
         Request::Input => report_feed(alloc, ReadFeed::new(input), output),
-        Request::Files { paths, options } => {
-            report_each(rt, alloc, &mut PathDoor::new(rt, paths), options, output)
-        }
+        Request::Files {
+            names,
+            options,
+            verbose,
+        } => match door_of(rt, alloc, &names, input) {
+            Ok(mut door) => {
+                let names = verbose.then_some(names.as_slice());
+                report_each(rt, alloc, &mut door, options, output, names, faults)
+            }
+            Err(error) => Err(error),
+        },
         Request::Serve(serving) => match listen(rt, &serving) {
-            Ok(mut door) => report_each(rt, alloc, &mut door, serving.options, output),
+            Ok(mut door) => {
+                report_each(rt, alloc, &mut door, serving.options, output, None, faults)
+            }
             Err(error) => return say(faults, &error, UNCHECKED),
         },
     };
@@ -86,10 +102,14 @@ fn refuse<O: Write, E: Write>(refusal: Refusal, output: &mut O, faults: &mut E) 
         Refusal::Mistake(mistake) => {
             // The text ends with a line feed of its own.
             let _ = write!(faults, "{mistake}");
+            if mistake.kind() == ErrorKind::InvalidSubcommand {
+                let _ = writeln!(faults, "\nTo check a trace in a file: asancol check FILE");
+            }
             REFUSED
         }
         Refusal::OptionOutOfRange(bad) => say(faults, &bad, REFUSED),
         Refusal::TooManyFiles => say(faults, &"too many files", REFUSED),
+        Refusal::InputTwice => say(faults, &"error: '-' is given more than once", REFUSED),
         Refusal::NoMemory => no_memory(faults),
     }
 }
@@ -102,15 +122,16 @@ pub fn no_memory<E: Write>(faults: &mut E) -> u8
     say(faults, &"no memory", UNCHECKED)
 }
 
-/// Says that a word of the command line is no text, and gives the status to end with.
-pub fn no_text<E: Write>(faults: &mut E) -> u8
+/// Says that this word of the command line is no text, and gives the status to end with.
+pub fn no_text<E: Write>(faults: &mut E, word: &[u8]) -> u8
     ensures { result ≡ REFUSED }
 {
-    say(
+    let _ = writeln!(
         faults,
-        &"error: a word of the command line is not valid UTF-8",
-        REFUSED,
-    )
+        "error: a word of the command line is not valid UTF-8: '{}'",
+        word.escape_ascii()
+    );
+    REFUSED
 }
 
 /// Says what is wrong in a line of its own, and gives the status to end with, whether or not the

@@ -40,8 +40,8 @@ impl From<io::Error> for CannotServe {
 /// Makes the socket, and then the file that says that it listens, where one is asked for. The door
 /// that it answers has accepted no connection yet.
 ///
-/// A path that exists can't be bound, nor can an empty one. A file that is there already is emptied.
-/// Neither the socket nor the file is removed again, not even after an error.
+/// A path that exists can't be bound, nor can an empty one. A file that is there already is
+/// emptied. Neither the socket nor the file is removed again, not even after an error.
 pub fn listen<R: Files + Net>(rt: &R, serving: &Serving) -> Result<UnixDoor, CannotServe>
     ensures named { string_bytes serving.now.socket ≡ [] → IsErr result }
     ensures count { IfOk result (λ door. door.left ≡ serving.now.count) }

@@ -36,8 +36,8 @@ pub struct ShortWriter<A: Allocator + Copy = Global> {
 impl<A: Allocator + Copy> Write for ShortWriter<A> {
     ghost contents = { λ w. Some w.held.items };
 
-    /// Takes as much of `buf` as there is room for and a step allows. If memory runs out, it answers
-    /// an error and takes nothing.
+    /// Takes as much of `buf` as there is room for and a step allows. If memory runs out, it
+    /// answers an error and takes nothing.
     fn write(&mut self, buf: &[u8]) -> io::Result<usize>
         ensures bound { WritesAtMost result buf.now }
         ensures bytes { WriteAppends

@@ -8,8 +8,8 @@ pub record FeedState : Type 0 where
   pub to_come : Option (List ℕ)
   pub faults : ℕ
 
--- a feed over bytes in memory: all of its bytes, where its reads are cut, where they fail, the place
--- in the bytes at which the next read starts, and how many reads have failed
+-- a feed over bytes in memory: all of its bytes, where its reads are cut, where they fail, the
+-- place in the bytes at which the next read starts, and how many reads have failed
 pub record Tape : Type 0 where
   pub bytes : List ℕ
   pub cuts : List ℕ

@@ -22,8 +22,9 @@ pub trait Feed {
     /// Reads the next piece into the front of `buf`.
     ///
     /// `Ok(n)` with n > 0 moves the next n bytes into the front of `buf` and leaves the count.
-    /// `Ok(0)` for a `buf` with room comes only at the end. `Err` raises the count by one and leaves
-    /// the bytes still to come as they were. The count has to be below `u64::MAX` before the call.
+    /// `Ok(0)` for a `buf` with room comes only at the end. `Err` raises the count by one and
+    /// leaves the bytes still to come as they were. The count has to be below `u64::MAX` before
+    /// the call.
     fn next(&mut self, buf: &mut [u8]) -> Result<usize, FeedFault>
         requires { fault_count self.old < 2 ^ 64 - 1 }
         ensures bound { IfOk result (λ n. n ≤ length buf.new) }

@@ -1,5 +1,5 @@
-//! Where the bytes of traces come from and where texts go: feeds, the doors that feeds come through,
-//! and writing that knows how far it got.
+//! Where the bytes of traces come from and where texts go: feeds, the doors that feeds come
+//! through, and writing that knows how far it got.
 #![tactic(auto)]
 
 mod door;

@@ -39,11 +39,11 @@ impl<A: Allocator + Copy> Model for MemFeed<A> {
 }
 
 impl<A: Allocator + Copy> MemFeed<A> {
-    /// A feed of `bytes`. No read goes past a place of `cuts`, and each read that starts at `fail_at`
-    /// fails.
+    /// A feed of `bytes`. No read goes past a place of `cuts`, and each read that starts at
+    /// `fail_at` fails.
     ///
-    /// A place is the number of bytes before it. The cuts may come in any order, and places past the
-    /// end of the bytes change nothing.
+    /// A place is the number of bytes before it. The cuts may come in any order, and places past
+    /// the end of the bytes change nothing.
     pub fn new(bytes: Vec<u8, A>, cuts: Vec<u64, A>, fail_at: Option<u64>) -> MemFeed<A>
         ensures bytes { result.bytes ≡ bytes.items }
         ensures cuts { result.cuts ≡ cuts.items }
@@ -84,9 +84,9 @@ impl<A: Allocator + Copy> Feed for MemFeed<A> {
 
     ghost fault_count = { λ f. f.faults };
 
-    /// Gives the bytes up to the next greater cut, the failing place, the end of the bytes or the end
-    /// of `buf`, whichever is first, and leaves the rest of `buf`. It fails where it starts at the
-    /// failing place, and nowhere else.
+    /// Gives the bytes up to the next greater cut, the failing place, the end of the bytes or the
+    /// end of `buf`, whichever is first, and leaves the rest of `buf`. It fails where it starts at
+    /// the failing place, and nowhere else.
     fn next(&mut self, buf: &mut [u8]) -> Result<usize, FeedFault>
         requires { self.old.faults < 2 ^ 64 - 1 }
         ensures bound { IfOk result (λ n. n ≤ length buf.new) }

@@ -31,8 +31,8 @@ impl<'a, R: Files, A: Allocator + Copy> Model for PathDoor<'a, R, A> {
 }
 
 impl<'a, R: Files, A: Allocator + Copy> PathDoor<'a, R, A> {
-    /// A door over the files of these paths, in order. It opens none of them yet, and keeps `rt` to
-    /// do so.
+    /// A door over the files of these paths, in order. It opens none of them yet, and keeps `rt`
+    /// to do so.
     pub fn new(rt: &'a R, paths: Vec<String<A>, A>) -> PathDoor<'a, R, A>
         ensures paths { result.paths ≡ map string_bytes paths.items }
         ensures none_refused { result.refusals ≡ 0 }
@@ -56,8 +56,8 @@ impl<'a, R: Files, A: Allocator + Copy> Door for PathDoor<'a, R, A> {
 
     ghost is_shut = { λ d. length d.paths == 0 };
 
-    /// Opens the next file. One that can't be opened is `Refused`. Each call uses up one path, until
-    /// none is left.
+    /// Opens the next file. One that can't be opened is `Refused`. Each call uses up one path,
+    /// until none is left.
     fn next(&mut self) -> Arrival<ReadFeed<R::File>>
         requires { self.old.refusals < 2 ^ 64 - 1 }
         ensures turn { CountsDown

@@ -1,5 +1,5 @@
 use Rattle.std.proofs.Common.{◌≡◌, take, map, string_bytes}
-use Rattle.asancol.proofs.command_line.paths_of.Given as goal
+use Rattle.asancol.proofs.command_line.names_of.Given as goal
 
 abbrev pub invariant-loop-file : goal.invariant-loop-file
-invariant-loop-file l = map string_bytes l.paths.items ≡ map (λ file. file.now) (take l.file-index l.files)
+invariant-loop-file l = map string_bytes l.names.items ≡ map (λ file. file.now) (take l.file-index l.files)

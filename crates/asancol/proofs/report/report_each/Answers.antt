@@ -8,4 +8,4 @@ returns-clause-refused g c more =
     let outcomes = c.in_ok-outcomes.outcomes.items in
     let rise = c.in_ok-outcomes.ensures.refused in
     let some : 0 < not_opened_among outcomes = omega arith in
-    status_of_refused c.deref.result.now c.print.result (rw c.deref.ensures.value some) c.print.ensures.status_is
+    status_of_refused c.deref.result.now c.print-status.result (rw c.deref.ensures.value some) c.print-status.ensures.status_is

@@ -1,0 +1,44 @@
+-- What is read of the values that were found.
+use Rattle.std.proofs.Common.{◌≡◌, ℕ, List, Option, None, Some, refl}
+use Rattle.std.specs.Prelude.{Result, Ok, Err, IfOk, MatchResult, codes, unwrap_or}
+use Rattle.std.specs.Str.Parse.{ParsesUnsigned}
+use Rattle.clap.specs.Matches.{ReadsOne, one_text}
+use Rattle.asan_collect.specs.declared.options.Options.{Options}
+use Rattle.clap.specs.declared.parser.matches.Found.{Found}
+use Rattle.asancol.specs.Settings.{AreOptionsOf, IsGiven, IsSet, IsSpelled, usual_bound, usual_limit, usual_ring, usual_workers}
+
+module _ {E : Type 0} (gives : List ℕ → Result ℕ E → Type 0) (bits : ℕ)
+    (parses : (text : List ℕ) (r : Result ℕ E) → gives text r → ParsesUnsigned bits 10 text r) where
+  pub spelled : (text : List ℕ) (got : Option ℕ) (default : ℕ) → ReadsOne gives text got → IsSpelled bits text (unwrap_or got default)
+  spelled text (Some v) default so numeral fits = (parses text (Ok v) so).1
+  spelled text None default so numeral fits = absurd ((parses text (Err so.0) so.1) (numeral, fits))
+
+  pub set_by : (text : Option (List ℕ)) (got : Option ℕ) (default : ℕ)
+      → (text ≡ None → got ≡ None) → ((t : List ℕ) → text ≡ Some t → ReadsOne gives t got) → IsSet bits text default (unwrap_or got default)
+  set_by None got default none some = rw (none refl) refl
+  set_by (Some t) got default none some = spelled t got default (some t refl)
+
+  pub set_of : (text : Option (List ℕ)) (got : Option ℕ) (own default value : ℕ) → value ≡ unwrap_or got own → own ≡ default
+      → (text ≡ None → got ≡ None) → ((t : List ℕ) → text ≡ Some t → ReadsOne gives t got) → IsSet bits text default value
+  set_of text got own default value is own_is none some =
+      let by : IsSet bits text default (unwrap_or got default) = set_by text got default none some in
+      rw (is, own_is) by
+
+  pub given_by : (text : Option (List ℕ)) (got : Option ℕ) (number : ℕ) → got ≡ Some number
+      → (text ≡ None → got ≡ None) → ((t : List ℕ) → text ≡ Some t → ReadsOne gives t got) → IsGiven bits text number
+  given_by None None number is none some = absurd (let e : None ≡ Some number = is in cc)
+  given_by None (Some n) number is none some = absurd (let e : Some n ≡ None = none refl in cc)
+  given_by (Some t) got number is none some =
+      let value : IsSpelled bits t (unwrap_or got number) = spelled t got number (some t refl) in
+      rw is at value
+
+-- options that were made of these values are those that were found
+pub made_of : {E : Type 0} (P : E → Type 0) (r : Result Options E) (found : Found) (quarantine ring workers limit : ℕ)
+    → MatchResult r (λ o. (o.quarantine ≡ quarantine) × (o.ring ≡ ring) × (o.workers ≡ workers) × (o.limit ≡ limit)) P
+    → IsSet 64 (one_text found (codes "quarantine")) usual_bound quarantine
+    → IsSet 32 (one_text found (codes "ring")) usual_ring ring
+    → IsSet 32 (one_text found (codes "workers")) usual_workers workers
+    → IsSet 32 (one_text found (codes "limit")) usual_limit limit
+    → IfOk r (AreOptionsOf found)
+made_of P (Ok o) found quarantine ring workers limit so a b c d = (rw so.0 a, rw so.1 b, rw so.2 c, rw so.3 d)
+made_of P (Err e) found quarantine ring workers limit so a b c d = tt
