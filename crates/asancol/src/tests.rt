@@ -7,8 +7,9 @@ use test_writers::{Ending, ShortWriter};
 
 #[test]
 fn output_that_is_not_flushed(rt: HostRuntime) -> Result<(), Fail> {
-    let help = [String::from_str(rt.alloc(), "--help")?];
-    for words in [[].as_slice(), help.as_slice()] {
+    let mut help = Vec::new(rt.alloc());
+    help.push(String::from_str(rt.alloc(), "--help")?)?;
+    for words in [&[], help.as_slice()] {
         let mut output = writer(rt.alloc());
         output.flushes = false;
         let mut faults = writer(rt.alloc());
