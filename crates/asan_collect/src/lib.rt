@@ -44,6 +44,6 @@ pub use options::{BadOption, Options};
 pub use outcome::Outcome;
 pub use reader::{ReaderDone, run_reader};
 pub use settlement::settle;
-pub use status::exit_status;
+pub use status::{UNCHECKED, UNWRITTEN, exit_status};
 pub use std::alloc::AllocError as NoMemory;
 pub use write::{Why, WriteFault, write_outcomes};

@@ -3,6 +3,7 @@ use Rattle.std.specs.Prelude.{◌≡◌, ℕ, ◌⊎◌}
 use Rattle.clap.specs.declared.error.Error.{Error}
 use Rattle.clap.specs.declared.error.kind.ErrorKind.{ErrorKind}
 use Rattle.clap.specs.declared.error.kind.ErrorKind.TheVariants as kind
+use Rattle.asan_collect.specs.Statuses.{unchecked, unwritten}
 use Rattle.asancol.specs.declared.command_line.Refusal.{Refusal}
 use Rattle.asancol.specs.declared.command_line.Refusal.TheVariants as refusal
 
@@ -14,12 +15,21 @@ refusal_of kind.DisplayHelp error = refusal.Help error
 refusal_of kind.DisplayVersion error = refusal.Help error
 refusal_of _ error = refusal.Mistake error
 
--- the status: 2 for a mistake in the words, and 3 where there was no memory to read them; where
--- they ask for help or the release it is 0, or 4 if that could not be printed
+-- the status of a command line that is refused (profile)
+abbrev pub refused : ℕ
+refused = 2
+
+-- the status of a program that printed the help or the release, as asked (profile)
+abbrev pub helped : ℕ
+helped = 0
+
+-- the status: that of a refused command line for a mistake in the words, and that of a program that
+-- could not begin where there was no memory to read them; where they ask for help or the release it
+-- depends on whether that could be printed
 abbrev pub IsStatusFor : Refusal → ℕ → Type 0
-IsStatusFor (refusal.Help text) status = (status ≡ 0) ⊎ (status ≡ 4)
-IsStatusFor (refusal.Mistake text) status = status ≡ 2
-IsStatusFor (refusal.OptionOutOfRange bad) status = status ≡ 2
-IsStatusFor refusal.TooManyFiles status = status ≡ 2
-IsStatusFor refusal.InputTwice status = status ≡ 2
-IsStatusFor refusal.NoMemory status = status ≡ 3
+IsStatusFor (refusal.Help text) status = (status ≡ helped) ⊎ (status ≡ unwritten)
+IsStatusFor (refusal.Mistake text) status = status ≡ refused
+IsStatusFor (refusal.OptionOutOfRange bad) status = status ≡ refused
+IsStatusFor refusal.TooManyFiles status = status ≡ refused
+IsStatusFor refusal.InputTwice status = status ≡ refused
+IsStatusFor refusal.NoMemory status = status ≡ unchecked

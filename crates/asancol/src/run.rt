@@ -1,14 +1,16 @@
 //! The program, over the words of its command line, a reader and two writers.
 
 ghost use Rattle.std.specs.Prelude.{◌≡◌, ◌≢◌, ◌≤◌, ◌⊎◌, [], false};
+ghost use Rattle.asan_collect.specs.Statuses.{unchecked, unwritten};
 ghost use Rattle.asancol.specs.Printed.{IsInputPrinted};
-ghost use Rattle.asancol.specs.Refusals.{IsStatusFor};
+ghost use Rattle.asancol.specs.Refusals.{IsStatusFor, refused};
 ghost use Rattle.asancol.specs.Requests.{is_verbose};
 
 use crate::command_line::{Refusal, Request, read_words};
 use crate::input_door::door_of;
 use crate::report::{report_each, report_feed};
 use crate::serve::listen;
+use asan_collect::{UNCHECKED, UNWRITTEN};
 use clap::error::ErrorKind;
 use std::alloc::AllocError;
 use std::fmt::Display;
@@ -27,12 +29,6 @@ const HELPED: u8 = 0;
 /// The status of a command line that is refused.
 const REFUSED: u8 = 2;
 
-/// The status where a trace is not checked to its close, or no trace is checked at all.
-const UNCHECKED: u8 = 3;
-
-/// The status where the output can't be written.
-const UNWRITTEN: u8 = 4;
-
 /// Runs the program on the words after its name, and gives the status that it ends with.
 ///
 /// With no words it checks one trace from `input`. The texts of all processes go to `output`. Only
@@ -48,13 +44,13 @@ where
     ensures no_words { words.now ≡ [] →
         IsInputPrinted ⟦<ReadFeed<I> as Feed>⟧.to_come ⟦<ReadFeed<I> as Feed>⟧.fault_count
         (I.remaining input) (O.contents output.old) (O.contents output.new) result
-        ⊎ ((result ≡ UNCHECKED) × (output.new ≡ output.old)) }
-    ensures refused { result ≡ REFUSED → output.new ≡ output.old }
+        ⊎ ((result ≡ unchecked) × (output.new ≡ output.old)) }
+    ensures refused { result ≡ refused → output.new ≡ output.old }
     ensures quiet { is_verbose words.now ≡ false →
-        result ≢ REFUSED → result ≢ UNCHECKED → faults.new ≡ faults.old }
+        result ≢ refused → result ≢ unchecked → faults.new ≡ faults.old }
     ensures apart { is_verbose words.now ≡ false →
         (output.new ≡ output.old) ⊎ (faults.new ≡ faults.old) }
-    ensures known { result ≤ UNWRITTEN }
+    ensures known { result ≤ unwritten }
 {
     let alloc = rt.alloc();
     let request = match read_words(alloc, words) {
@@ -90,8 +86,8 @@ where
 /// Says why the words are not carried out, and gives the status to end with.
 fn refuse<O: Write, E: Write>(refusal: Refusal, output: &mut O, faults: &mut E) -> u8
     ensures status { IsStatusFor refusal result }
-    ensures refused { result ≡ REFUSED → output.new ≡ output.old }
-    ensures quiet { result ≢ REFUSED → result ≢ UNCHECKED → faults.new ≡ faults.old }
+    ensures refused { result ≡ refused → output.new ≡ output.old }
+    ensures quiet { result ≢ refused → result ≢ unchecked → faults.new ≡ faults.old }
     ensures apart { (output.new ≡ output.old) ⊎ (faults.new ≡ faults.old) }
 {
     match refusal {
@@ -117,14 +113,14 @@ fn refuse<O: Write, E: Write>(refusal: Refusal, output: &mut O, faults: &mut E) 
 /// Says that there is no memory to read the command line or to start, and gives the status to end
 /// with.
 pub fn no_memory<E: Write>(faults: &mut E) -> u8
-    ensures { result ≡ UNCHECKED }
+    ensures { result ≡ unchecked }
 {
     say(faults, &"no memory", UNCHECKED)
 }
 
 /// Says that this word of the command line is no text, and gives the status to end with.
 pub fn no_text<E: Write>(faults: &mut E, word: &[u8]) -> u8
-    ensures { result ≡ REFUSED }
+    ensures { result ≡ refused }
 {
     let _ = writeln!(
         faults,
