@@ -1,13 +1,9 @@
 -- The marks of a leaf.
-use Rattle.std.specs.Prelude.{ℕ, ◌+◌, ◌*◌, ◌^◌, ◌==◌, Bool, Option, option_map}
-use Rattle.std.specs.List.{find}
+use Rattle.std.specs.Prelude.{ℕ, ◌+◌, ◌*◌, ◌%◌, ◌^◌, ◌==◌, Bool, Option, None, option_map, slice_get, count_ones, if◌then◌else◌}
+use Rattle.std.specs.Int.{bit_at}
 use Rattle.line_map.specs.declared.mark.Mark.{Mark}
 use Rattle.line_map.specs.declared.leaf.Entry.{Entry}
 use Rattle.line_map.specs.declared.leaf.Leaf.{Leaf}
-
--- whether an entry is of a line
-abbrev pub is_of : ℕ → Entry → Bool
-is_of line entry = entry.line == line
 
 -- the mark of an entry
 abbrev pub mark_of : Entry → Mark
@@ -16,6 +12,17 @@ mark_of entry = record {
   slot = record { size = entry.size_high * 2 ^ 32 + entry.size_low; live = entry.live };
 }
 
--- the mark of a line of a leaf: that of the first entry of this line
+-- whether a line has an entry: whether its bit is set
+abbrev pub has_entry : ℕ → ℕ → Bool
+has_entry lines line = bit_at lines line == 1
+
+-- how many of the lines below one have an entry
+abbrev pub entries_below : ℕ → ℕ → ℕ
+entries_below lines line = count_ones (lines % 2 ^ line)
+
+-- the mark of a line of a leaf: that of its entry, which stands after the entries of the lines below
 abbrev pub leaf_mark : {A : Type 0} → Leaf A → ℕ → Option Mark
-leaf_mark leaf line = option_map mark_of (find (is_of line) leaf.entries.items)
+leaf_mark leaf line =
+    if has_entry leaf.lines line
+    then option_map mark_of (slice_get leaf.entries.items (entries_below leaf.lines line))
+    else None

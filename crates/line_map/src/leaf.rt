@@ -1,11 +1,7 @@
 //! A leaf of a map: lines side by side, some of which have a mark.
-ghost use Rattle.std.specs.Prelude.{◌≡◌, ℕ, ◌<◌, ◌≤◌, ◌==◌, true, Option, None, Some};
-ghost use Rattle.std.specs.Prelude.{take, slice_index_or, vec_len, IfSome, IfNone};
-ghost use Rattle.std.specs.List.{position};
+ghost use Rattle.std.specs.Prelude.{◌≡◌, ℕ, ◌^◌, ◌<◌, ◌≤◌, count_ones, length};
 ghost use Rattle.line_map.specs.declared.leaf.TheConstants.{LINES};
-ghost use Rattle.line_map.specs.declared.leaf.Entry.{Entry as AnEntry};
-ghost use Rattle.line_map.specs.Sections.{IsWidth, IsPut, IsLastBelow};
-ghost use Rattle.line_map.specs.Leaves.{is_of, mark_of, leaf_mark};
+ghost use Rattle.line_map.specs.Sections.{IsWidth};
 
 use crate::mark::{Mark, Slot};
 use crate::section::Section;
@@ -17,12 +13,11 @@ const LINES: usize = 32;
 /// How many values a half of a size has.
 const HALF: u64 = 1 << 32;
 
-/// A line of a leaf, and its mark. The size is in two halves, so that an entry takes 12 bytes.
+/// The mark of a line. The size is in two halves, so that an entry takes 12 bytes.
 #[derive(Clone, Copy)]
 struct Entry {
     size_low: u32,
     size_high: u32,
-    line: u8,
     offset: u8,
     live: bool,
 }
@@ -30,15 +25,15 @@ struct Entry {
 const _: () = prove!(size_of::<Entry>() == 12);
 
 impl Entry {
+    ghost use Rattle.line_map.specs.Leaves.{mark_of};
+
     #[inline]
-    fn new(line: u8, mark: Mark) -> Entry
-        ensures line { result.line ≡ line }
-        ensures mark { mark_of result ≡ mark }
+    fn new(mark: Mark) -> Entry
+        ensures { mark_of result ≡ mark }
     {
         Entry {
             size_low: (mark.slot.size % HALF) as u32,
             size_high: (mark.slot.size / HALF) as u32,
-            line,
             offset: mark.offset,
             live: mark.slot.live,
         }
@@ -58,24 +53,50 @@ impl Entry {
     }
 }
 
-/// Lines side by side. Those that have a mark have an entry, in no order, and nothing else takes
-/// memory.
+/// Lines side by side. Those that have a mark have an entry, and nothing else takes memory.
 #[derive(Drop)]
 pub struct Leaf<A: Allocator = Global> {
+    /// Which lines have an entry: a bit for each line, the lowest for the first.
+    lines: u64,
+    /// The entries, in the order of their lines.
     entries: Vec<Entry, A>,
+    ghost counted: { count_ones lines ≡ length entries.items },
+}
+
+/// The bit of a line.
+#[inline]
+fn bit(line: u64) -> u64
+    requires { line ≤ LINES }
+    ensures { result ≡ 2 ^ line }
+{
+    1 << line
 }
 
 impl<A: Allocator + Copy> Leaf<A> {
-    /// Where the first entry of a line is.
+    ghost use Rattle.line_map.specs.Leaves.{has_entry, entries_below};
+
+    /// Whether a line has an entry.
     #[inline]
-    fn place_of(&self, line: u8) -> Option<usize>
-        ensures { result ≡ position (is_of line) self.now.entries.items }
+    fn has(&self, line: u64) -> bool
+        requires { line < LINES }
+        ensures { result ≡ has_entry self.now.lines line }
     {
-        self.entries.iter().position(|entry| entry.line == line)
+        self.lines & bit(line) != 0
+    }
+
+    /// The place of a line's entry: how many entries the lines below it have.
+    #[inline]
+    fn place_of(&self, line: u64) -> usize
+        requires { line < LINES }
+        ensures { result ≡ entries_below self.now.lines line }
+    {
+        (self.lines & (bit(line) - 1)).count_ones() as usize
     }
 }
 
 impl<A: Allocator + Copy> Section<A> for Leaf<A> {
+    ghost use Rattle.line_map.specs.Leaves.{leaf_mark};
+
     ghost width = { LINES };
 
     ghost fits = { IsWidth LINES };
@@ -90,73 +111,72 @@ impl<A: Allocator + Copy> Section<A> for Leaf<A> {
     #[inline]
     fn empty(alloc: A) -> Self {
         Leaf {
+            lines: 0,
             entries: Vec::new(alloc),
         }
     }
 
     #[inline]
     fn is_empty(&self) -> bool {
-        self.entries.is_empty()
+        self.lines == 0
     }
 
     #[inline]
     fn get(&self, line: u64) -> Option<Mark> {
-        match self.place_of(line as u8) {
-            Some(place) => Some(self.entries[place].mark()),
-            None => None,
+        if self.has(line) {
+            Some(self.entries[self.place_of(line)].mark())
+        } else {
+            None
         }
     }
 
     #[inline]
-    fn fetch(&self, _line: u64) -> u64 {
-        match (self.entries.first(), self.entries.last()) {
-            (Some(first), Some(last)) => u64::from(first.line ^ last.line),
-            _ => 0,
+    fn fetch(&self, line: u64) -> u64 {
+        match self.entries.get(self.place_of(line)) {
+            Some(entry) => u64::from(entry.size_low),
+            None => self.lines,
         }
     }
 
     #[inline]
     fn last(&self, end: u64) -> Option<(u64, Mark)> {
-        let mut last: Option<Entry> = None;
-        for entry in &self.entries {
-            if u64::from(entry.line) < end {
-                last = match last {
-                    Some(found) if found.line >= entry.line => last,
-                    _ => Some(*entry),
-                };
+        let below = self.lines & (bit(end) - 1);
+        match below.checked_ilog2() {
+            Some(line) => {
+                let line = u64::from(line);
+                Some((line, self.entries[self.place_of(line)].mark()))
             }
-        }
-        match last {
-            Some(entry) => Some((u64::from(entry.line), entry.mark())),
             None => None,
         }
     }
 
     #[inline]
     fn put(&mut self, _alloc: A, line: u64, mark: Mark) -> Result<(), AllocError> {
-        let entry = Entry::new(line as u8, mark);
-        match self.place_of(line as u8) {
-            Some(place) => self.entries[place] = entry,
-            None => self.entries.push(entry)?,
+        let place = self.place_of(line);
+        if self.has(line) {
+            self.entries[place] = Entry::new(mark);
+        } else {
+            self.entries.insert(place, Entry::new(mark))?;
+            self.lines |= bit(line);
         }
         Ok(())
     }
 
     #[inline]
     fn set(&mut self, line: u64, mark: Mark) {
-        match self.place_of(line as u8) {
-            Some(place) => self.entries[place] = Entry::new(line as u8, mark),
-            None => {}
-        }
+        let place = self.place_of(line);
+        self.entries[place] = Entry::new(mark);
     }
 
     #[inline]
     fn remove(&mut self, alloc: A, line: u64) {
-        while let Some(place) = self.place_of(line as u8) {
+        if self.has(line) {
+            let place = self.place_of(line);
             let _ = self.entries.remove(place);
-        }
-        if self.entries.is_empty() {
-            *self = Leaf::empty(alloc);
+            self.lines ^= bit(line);
+            if self.lines == 0 {
+                *self = Leaf::empty(alloc);
+            }
         }
     }
 

@@ -24,7 +24,7 @@ type Level5<A> = Branch<Level4<A>, A>;
 type Level6<A> = Branch<Level5<A>, A>;
 
 // What a section takes where it stands, without what it holds.
-const _: () = prove!(size_of::<Leaf>() == 24);
+const _: () = prove!(size_of::<Leaf>() == 32);
 
 const _: () = prove!(size_of::<Level1<Global>>() == 32);
 

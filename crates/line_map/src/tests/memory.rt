@@ -24,7 +24,7 @@ const ENTRIES: u64 = 4 * ENTRY;
 const HANDLE: u64 = 8;
 
 /// How many bytes a leaf takes in the branch over it.
-const LEAF: u64 = 24 + HANDLE;
+const LEAF: u64 = 32 + HANDLE;
 
 /// How many bytes a branch takes in the branch over it.
 const BRANCH: u64 = 32 + HANDLE;
@@ -67,7 +67,7 @@ fn memory_of_a_lone_slot(rt: HostRuntime) -> Result<(), Fail> {
             assert_eq!(rt; asked(&heap, &mut map, at)?, (LEVELS + 1, chain(LEVELS)));
         }
     }
-    assert_eq!(rt; chain(LEVELS), 232 + LEVELS * HANDLE);
+    assert_eq!(rt; chain(LEVELS), 240 + LEVELS * HANDLE);
     Ok(())
 }
 
@@ -125,7 +125,7 @@ fn memory_of_a_slot_that_makes_a_branch_grow(rt: HostRuntime) -> Result<(), Fail
     }
     assert_eq!(rt;
         SECTIONS * BRANCH + chain(LEVELS - 1),
-        2_248 + (SECTIONS + LEVELS - 1) * HANDLE
+        2_256 + (SECTIONS + LEVELS - 1) * HANDLE
     );
     Ok(())
 }

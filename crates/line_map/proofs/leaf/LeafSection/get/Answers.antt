@@ -1,15 +1,22 @@
-use Rattle.std.proofs.Common.{◌≡◌, Some, ap, sym, ◌∙◌}
-use Rattle.std.specs.Prelude.{option_map}
-use Rattle.line_map.specs.Leaves.{is_of, mark_of}
-use Rattle.line_map.proofs.Leaves.{found, not_found}
+use Rattle.std.proofs.Common.{◌≡◌, ◌<◌, true, Some, length, ap, sym, ◌∙◌, arith}
+use Rattle.line_map.specs.Leaves.{has_entry, mark_of}
+use Rattle.line_map.proofs.Leaves.{has_one, place_lt, marked, without, has_none}
 use Rattle.line_map.proofs.leaf.LeafSection.get.Goals as goal
 
-pub returns-in-Some : goal.returns-in-Some
-returns-in-Some g c =
-    let es = c.args.self.now.entries.items in
-    let first = found (is_of c.args.line) es c.in-Some.place c.index.result.now (sym c.place_of.ensures ∙ c.in-Some.is) in
-    ap Some (c.mark.ensures ∙ ap mark_of c.index.ensures) ∙ sym (ap (option_map mark_of) first)
+pub index-requires : goal.index-requires
+index-requires g c =
+    let leaf = c.args.self.now in
+    let has : has_entry leaf.lines c.args.line ≡ true = sym c.has.ensures ∙ c.if-has.true in
+    let lt = place_lt leaf.lines c.args.line (has_one leaf.lines c.args.line has) in
+    let counted = leaf.counted in
+    let is = leaf.entries.ok.0 in
+    let place = c.place_of.ensures in
+    omega arith
 
-pub returns-in-None : goal.returns-in-None
-returns-in-None g c =
-    sym (ap (option_map mark_of) (not_found (is_of c.args.line) c.args.self.now.entries.items (sym c.place_of.ensures ∙ c.in-None.is)))
+pub returns-then-has : goal.returns-then-has
+returns-then-has g c =
+    let leaf = c.args.self.now in
+    let has : has_entry leaf.lines c.args.line ≡ true = sym c.has.ensures ∙ c.if-has.true in
+    let read = rw c.place_of.ensures at c.index.ensures in
+    ap Some (c.mark.ensures ∙ ap mark_of read)
+    ∙ sym (marked leaf.lines leaf.entries.items c.args.line c.index.result.now leaf.counted (has_one leaf.lines c.args.line has))
