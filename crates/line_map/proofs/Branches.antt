@@ -1,6 +1,6 @@
 -- The marks of a branch by those of its sections.
 use Rattle.std.proofs.Common.{◌≡◌, ◌≢◌, ℕ, zero, suc, ◌+◌, ◌-◌, ◌*◌, ◌/◌, ◌%◌, ◌<◌, ◌≤◌, cond, eqb, true, false, List, [], ◌∷◌, ◌++◌, Option, Some, None, length, get_or, set, length-append, refl, sym, ap, ◌∙◌, arith, inl, inr}
-use Rattle.std.specs.Prelude.{map, nat_lt}
+use Rattle.std.specs.Prelude.{map, nat_lt, IsSome}
 use Rattle.std.proofs.lemmas.Bool.{cases_eq, cases_lt}
 use Rattle.std.proofs.lemmas.Bool.Decides.{nat_tests}
 use Rattle.std.proofs.lemmas.List.{get_or-map, get_or-set_same, get_or-set_other, get_or_past, get_or_append_left, get_or_default, map-set, length-set, length-map}
@@ -8,7 +8,7 @@ use Rattle.std.proofs.Math.Seq.{get_or-append_seam}
 use Rattle.std.proofs.lemmas.Nat.{div-mul-add, mod-mul-add, div-add-mod'}
 use Rattle.std.proofs.Math.Nat.{mod-lt, mul-le-mul_right}
 use Rattle.line_map.specs.declared.mark.Mark.{Mark}
-use Rattle.line_map.specs.Sections.{IsPut, IsLastBelow}
+use Rattle.line_map.specs.Sections.{IsPut, IsLastLine}
 use Rattle.line_map.specs.Branches.{sections_mark}
 
 -- ---- a line of the branch, and the same line within its section
@@ -59,9 +59,9 @@ whole count width line positive le =
       | inr ge ↦ ge
     ]
 
--- ---- the last mark, where the lines above an end have none
-pub raised : (marks : ℕ → Option Mark) (low end : ℕ) (result : Option (ℕ × Mark)) → low ≤ end →
-    ((line : ℕ) → low ≤ line → line < end → marks line ≡ None) → IsLastBelow marks low result → IsLastBelow marks end result
+-- ---- the last line with a mark, where the lines above an end have none
+pub raised : (marks : ℕ → Option Mark) (low end : ℕ) (result : Option ℕ) → low ≤ end →
+    ((line : ℕ) → low ≤ line → line < end → marks line ≡ None) → IsLastLine marks low result → IsLastLine marks end result
 raised marks low end None le none last = λ line lt.
     elim (cases_lt line low) [
       | inl below ↦ last line below
@@ -76,6 +76,9 @@ raised marks low end (Some found) le none last = (
         | inr above ↦ none line above lt
       ],
 )
+
+some_of : {new old : Option Mark} → new ≡ old → IsSome old → IsSome new
+some_of same some = rw same some
 
 -- ---- the mark of a line, by the section in which it lies
 module _ {S : Type 0} (mark_at : S → ℕ → Option Mark) (width first : ℕ) (sections : List S) where
@@ -105,9 +108,9 @@ module _ {S : Type 0} (mark_at : S → ℕ → Option Mark) (width first : ℕ) 
       let len : length (map there sections) ≡ length sections = length-map sections there in
       rw no (get_or_past (map there sections) (line / width - first) None (omega arith))
 
-  -- ---- the last mark of a section, as one of the branch
+  -- ---- the last line of a section that has a mark, as one of the branch
   module _ (place : ℕ) (section : S) (positive : 0 < width) (kept : place < length sections) (is : section ≡ get_or sections place section) where
-    pub none_below : (end : ℕ) → end ≤ width → IsLastBelow (mark_at section) end None →
+    pub none_below : (end : ℕ) → end ≤ width → IsLastLine (mark_at section) end None →
         (line : ℕ) → (first + place) * width ≤ line → line < (first + place) * width + end → marks line ≡ None
     none_below end most none line low high =
         let here : line / width ≡ first + place = within (first + place) width line low (omega arith) in
@@ -115,14 +118,14 @@ module _ {S : Type 0} (mark_at : S → ℕ → Option Mark) (width first : ℕ) 
         let same : line / width * width ≡ (first + place) * width = ap (λ i. i * width) here in
         kept_mark place line section kept is here ∙ none (line % width) (omega arith)
 
-    pub last_below : (end : ℕ) (found : ℕ × Mark) → end ≤ width → IsLastBelow (mark_at section) end (Some found) →
-        IsLastBelow marks ((first + place) * width + end) (Some ((first + place) * width + found.0, found.1))
+    pub last_below : (end : ℕ) (found : ℕ) → end ≤ width → IsLastLine (mark_at section) end (Some found) →
+        IsLastLine marks ((first + place) * width + end) (Some ((first + place) * width + found))
     last_below end found most last =
-        let below : found.0 < end = last.0 in
-        let here : ((first + place) * width + found.0) / width ≡ first + place = div-mul-add (first + place) width found.0 (omega arith) in
-        let rest : ((first + place) * width + found.0) % width ≡ found.0 = mod-mul-add (first + place) width found.0 (omega arith) in (
+        let below : found < end = last.0 in
+        let here : ((first + place) * width + found) / width ≡ first + place = div-mul-add (first + place) width found (omega arith) in
+        let rest : ((first + place) * width + found) % width ≡ found = mod-mul-add (first + place) width found (omega arith) in (
           omega arith,
-          kept_mark place ((first + place) * width + found.0) section kept is here ∙ rw rest last.1,
+          some_of (kept_mark place ((first + place) * width + found) section kept is here ∙ ap (mark_at section) rest) last.1,
           λ line past lt.
               let there : line / width ≡ first + place = within (first + place) width line (omega arith) (omega arith) in
               let split : line / width * width + line % width ≡ line = div-add-mod' line width in

@@ -12,7 +12,6 @@ use Rattle.std.proofs.lemmas.Nat.Bits.{bit_at-lt, bit_at_or, bit_at_xor, bit_at-
 use Rattle.line_map.specs.declared.mark.Mark.{Mark}
 use Rattle.line_map.specs.declared.leaf.Entry.{Entry}
 use Rattle.line_map.specs.Leaves.{has_entry, entries_below, mark_of}
-use Rattle.line_map.specs.Sections.{IsLastBelow}
 
 -- ---- how many of the lines below one have an entry
 
@@ -178,6 +177,15 @@ pub marked : (lines : ℕ) (es : List Entry) (line : ℕ) (d : Entry) → count_
 marked lines es line d counted one =
     let lt = place_lt lines line one in
     with_one lines es line one ∙ ap (option_map mark_of) (some_at es (entries_below lines line) d (omega arith))
+
+-- a line with an entry has a mark
+pub mark_there : (lines : ℕ) (es : List Entry) (line : ℕ) → count_ones lines ≡ length es → bit_at lines line ≡ 1 → IsSome (mark_at lines es line)
+mark_there lines es line counted one = let lt = place_lt lines line one in rw (with_one lines es line one) (some_in es (entries_below lines line) (omega arith))
+  where
+    some_in : (es : List Entry) (place : ℕ) → place < length es → IsSome (option_map mark_of (slice_get es place))
+    some_in [] place lt = absurd (omega arith)
+    some_in (e ∷ es) zero lt = refl
+    some_in (e ∷ es) (suc place) lt = some_in es place (omega arith)
 
 -- another entry in the place of a line's
 pub replaced : (lines : ℕ) (es : List Entry) (line : ℕ) (e : Entry) (mark : Mark) → mark_of e ≡ mark → count_ones lines ≡ length es → bit_at lines line ≡ 1 → (index : ℕ) →

@@ -1,5 +1,5 @@
 -- What the marks of a section come to.
-use Rattle.std.specs.Prelude.{◌≡◌, ℕ, ◌<◌, ◌≤◌, ◌^◌, ◌==◌, if◌then◌else◌, Option, Some, None}
+use Rattle.std.specs.Prelude.{◌≡◌, ℕ, ◌<◌, ◌≤◌, ◌^◌, ◌==◌, if◌then◌else◌, Option, Some, None, IsSome}
 use Rattle.line_map.specs.declared.mark.Mark.{Mark}
 
 -- a width that a section may have
@@ -11,7 +11,14 @@ abbrev pub IsPut : ℕ → (ℕ → Option Mark) → (ℕ → Option Mark) → �
 IsPut width old new line mark =
     (index : ℕ) → index < width → new index ≡ (if index == line then mark else old index)
 
--- the last of the lines below one that has a mark, with that mark
+-- the last of the lines below one that has a mark
+abbrev pub IsLastLine : (ℕ → Option Mark) → ℕ → Option ℕ → Type 0
+IsLastLine marks end None = (line : ℕ) → line < end → marks line ≡ None
+IsLastLine marks end (Some found) =
+    (found < end) × IsSome (marks found)
+    × ((line : ℕ) → found < line → line < end → marks line ≡ None)
+
+-- the same line, with its mark
 abbrev pub IsLastBelow : (ℕ → Option Mark) → ℕ → Option (ℕ × Mark) → Type 0
 IsLastBelow marks end None = (line : ℕ) → line < end → marks line ≡ None
 IsLastBelow marks end (Some found) =

@@ -2,7 +2,7 @@
 ghost use Rattle.std.specs.Prelude.{◌≡◌, ℕ, ◌+◌, ◌*◌, ◌/◌, ◌<◌, ◌≤◌, true};
 ghost use Rattle.std.specs.Prelude.{None, IfOk, IfSome, IfNone, vec_len};
 ghost use Rattle.line_map.specs.declared.branch.TheConstants.{SECTIONS};
-ghost use Rattle.line_map.specs.Sections.{IsWidth, IsLastBelow};
+ghost use Rattle.line_map.specs.Sections.{IsWidth, IsLastLine};
 
 use crate::mark::Mark;
 use crate::section::Section;
@@ -66,12 +66,12 @@ impl<S: Section<A>, A: Allocator + Copy> Section<A> for Branch<S, A> {
     }
 
     #[inline]
-    fn last(&self, end: u64) -> Option<(u64, Mark)> {
+    fn last(&self, end: u64) -> Option<u64> {
         let width = S::width();
         let section = (end / width) as usize;
         match self.place_of(section) {
             Some(place) => match self.kept[place].last(end % width) {
-                Some((line, mark)) => return Some((section as u64 * width + line, mark)),
+                Some(line) => return Some(section as u64 * width + line),
                 None => {}
             },
             None => {}
@@ -141,13 +141,13 @@ impl<S: Section<A>, A: Allocator + Copy> Branch<S, A> {
         }
     }
 
-    /// The last mark of the sections below one, with its line.
+    /// The last line that has a mark, of the sections below one.
     #[inline(never)]
-    fn last_of(&self, end: usize) -> Option<(u64, Mark)>
+    fn last_of(&self, end: usize) -> Option<u64>
         requires fits { S.fits }
         requires width { IsWidth (SECTIONS * S.width) }
         requires end { end ≤ SECTIONS }
-        ensures { IsLastBelow (branch_mark S.mark_at S.width self.now) (end * S.width) result }
+        ensures { IsLastLine (branch_mark S.mark_at S.width self.now) (end * S.width) result }
     {
         let width = S::width();
         let mut place = end.saturating_sub(self.first).min(self.kept.len());
@@ -156,9 +156,7 @@ impl<S: Section<A>, A: Allocator + Copy> Branch<S, A> {
             let section = &self.kept[place];
             if !section.is_empty() {
                 match section.last(width) {
-                    Some((line, mark)) => {
-                        return Some(((self.first + place) as u64 * width + line, mark));
-                    }
+                    Some(line) => return Some((self.first + place) as u64 * width + line),
                     None => {}
                 }
             }

@@ -139,15 +139,9 @@ impl<A: Allocator + Copy> Section<A> for Leaf<A> {
     }
 
     #[inline]
-    fn last(&self, end: u64) -> Option<(u64, Mark)> {
+    fn last(&self, end: u64) -> Option<u64> {
         let below = self.lines & (bit(end) - 1);
-        match below.checked_ilog2() {
-            Some(line) => {
-                let line = u64::from(line);
-                Some((line, self.entries[self.place_of(line)].mark()))
-            }
-            None => None,
-        }
+        Some(u64::from(below.checked_ilog2()?))
     }
 
     #[inline]

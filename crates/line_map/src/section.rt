@@ -2,7 +2,7 @@
 ghost use Rattle.std.specs.Prelude.{◌≡◌, ℕ, ◌<◌, ◌≤◌, true};
 ghost use Rattle.std.specs.Prelude.{Option, None, Some, IsSome, OnOk, OnErr};
 ghost use Rattle.line_map.specs.declared.mark.Mark.{Mark};
-ghost use Rattle.line_map.specs.Sections.{IsWidth, IsPut, IsLastBelow};
+ghost use Rattle.line_map.specs.Sections.{IsWidth, IsPut, IsLastLine};
 
 use crate::mark::Mark;
 use std::alloc::{AllocError, Allocator};
@@ -41,11 +41,11 @@ pub trait Section<A: Allocator + Copy>: Drop {
         requires fits { fits }
         requires within { line < width };
 
-    /// The last mark of the lines below one, with its line.
-    fn last(&self, end: u64) -> Option<(u64, Mark)>
+    /// The last line that has a mark, of those below one.
+    fn last(&self, end: u64) -> Option<u64>
         requires fits { fits }
         requires end { end ≤ width }
-        ensures { IsLastBelow (mark_at self.now) end result };
+        ensures { IsLastLine (mark_at self.now) end result };
 
     /// Gives a line a mark.
     ///

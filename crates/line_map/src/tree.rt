@@ -73,7 +73,9 @@ impl<A: Allocator + Copy> Tree<A> {
         requires { end ≤ 2 ^ 41 }
         ensures { IsLastBelow (tree_mark self.now) end result }
     {
-        self.root.last(end)
+        let line = self.root.last(end)?;
+        let mark = self.root.get(line)?;
+        Some((line, mark))
     }
 
     /// Gives a line a mark.

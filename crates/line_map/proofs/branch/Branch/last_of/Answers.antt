@@ -18,9 +18,9 @@ returns-in-Some g c =
     let last = rw c.width-width.ensures at c.in-Some.ensures in
     rw c.width-width.ensures (
     raised (branch_mark mark_at width branch) ((branch.first + (place - 1)) * width + width) (c.args.end * width)
-    (Some ((branch.first + (place - 1)) * width + c.in-Some.line, c.in-Some.mark)) (let more = mul-le-mul_right width below in omega arith)
+    (Some ((branch.first + (place - 1)) * width + c.in-Some.line)) (let more = mul-le-mul_right width below in omega arith)
     (λ line low high. c.loop-place.invariant.none line (omega arith) high)
-    (last_below mark_at width branch.first branch.kept.items (place - 1) c.index-section.result.now positive kept c.index-section.ensures width (c.in-Some.line, c.in-Some.mark) (omega arith) last)
+    (last_below mark_at width branch.first branch.kept.items (place - 1) c.index-section.result.now positive kept c.index-section.ensures width c.in-Some.line (omega arith) last)
     )
 
 pub loop-place-preserved-in-None : goal.loop-place-preserved-in-None

@@ -17,7 +17,7 @@ returns-in-Some-last g c =
     let split : end / width * width + end % width ≡ end = div-add-mod' end width in
     let rest : end % width < width = mod-lt end positive in
     let last = rw c.width-width.ensures at c.in-Some-last.ensures in
-    let lower = last_below g.S.Section.mark_at width branch.first branch.kept.items c.in-Some.place c.index.result.now positive lt c.index.ensures (end % width) (c.in-Some-last.line, c.in-Some-last.mark) (omega arith) last in
+    let lower = last_below g.S.Section.mark_at width branch.first branch.kept.items c.in-Some.place c.index.result.now positive lt c.index.ensures (end % width) c.in-Some-last.line (omega arith) last in
     rw c.width-width.ensures (rw split at (rw (← found.0) at lower))
 
 pub returns : goal.returns
