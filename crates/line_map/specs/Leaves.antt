@@ -1,5 +1,6 @@
 -- The marks of a leaf.
-use Rattle.std.specs.Prelude.{ℕ, ◌+◌, ◌*◌, ◌%◌, ◌^◌, ◌==◌, Bool, Option, None, option_map, slice_get, count_ones, if◌then◌else◌}
+use Rattle.std.specs.Prelude.{ℕ, ◌+◌, ◌*◌, ◌%◌, ◌^◌, ◌==◌, if◌then◌else◌, count_ones}
+use Rattle.std.specs.Prelude.{Bool, Option, None, option_map, slice_get}
 use Rattle.std.specs.Int.{bit_at}
 use Rattle.line_map.specs.declared.mark.Mark.{Mark}
 use Rattle.line_map.specs.declared.leaf.Entry.{Entry}
@@ -20,7 +21,7 @@ has_entry lines line = bit_at lines line == 1
 abbrev pub entries_below : ℕ → ℕ → ℕ
 entries_below lines line = count_ones (lines % 2 ^ line)
 
--- the mark of a line of a leaf: that of its entry, which stands after the entries of the lines below
+-- the mark of a line of a leaf: that of its entry, which comes after the entries of the lines below
 abbrev pub leaf_mark : {A : Type 0} → Leaf A → ℕ → Option Mark
 leaf_mark leaf line =
     if has_entry leaf.lines line
