@@ -10,8 +10,9 @@ use Rattle.std.proofs.lemmas.Bool.Decides.{nat_tests}
 use Rattle.std.proofs.lemmas.Nat.{mod-pow-add, ones_cat, ones-le, shr_split, shr-shr, pow_pos, and_mask, zero_from_ones}
 use Rattle.std.proofs.lemmas.Nat.Bits.{bit_at-lt, bit_at_or, bit_at_xor, bit_at-pow_same, bit_at-pow_other, bit_at-zero, bit_at_cat_low, bit_at_cat_high, bit_at_above, same_from_bits, and_pow}
 use Rattle.line_map.specs.declared.mark.Mark.{Mark}
-use Rattle.line_map.specs.declared.leaf.Entry.{Entry}
-use Rattle.line_map.specs.Leaves.{has_entry, entries_below, mark_of}
+use Rattle.line_map.specs.declared.entry.Entry.{Entry}
+use Rattle.line_map.specs.Marks.{mark_of}
+use Rattle.line_map.specs.Leaves.{has_entry, entries_below}
 
 -- ---- how many of the lines below one have an entry
 

@@ -3,15 +3,8 @@ use Rattle.std.specs.Prelude.{ℕ, ◌+◌, ◌*◌, ◌%◌, ◌^◌, ◌==◌,
 use Rattle.std.specs.Prelude.{Bool, Option, None, option_map, slice_get}
 use Rattle.std.specs.Int.{bit_at}
 use Rattle.line_map.specs.declared.mark.Mark.{Mark}
-use Rattle.line_map.specs.declared.leaf.Entry.{Entry}
+use Rattle.line_map.specs.Marks.{mark_of}
 use Rattle.line_map.specs.declared.leaf.Leaf.{Leaf}
-
--- the mark of an entry
-abbrev pub mark_of : Entry → Mark
-mark_of entry = record {
-  offset = entry.offset;
-  slot = record { size = entry.size_high * 2 ^ 32 + entry.size_low; live = entry.live };
-}
 
 -- whether a line has an entry: whether its bit is set
 abbrev pub has_entry : ℕ → ℕ → Bool

@@ -1,3 +1,4 @@
+pub mod Marks
 pub mod Sections
 pub mod Leaves
 pub mod Branches

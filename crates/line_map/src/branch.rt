@@ -4,6 +4,7 @@ ghost use Rattle.std.specs.Prelude.{None, IfOk, IfSome, IfNone, vec_len};
 ghost use Rattle.line_map.specs.declared.branch.TheConstants.{SECTIONS};
 ghost use Rattle.line_map.specs.Sections.{IsWidth, IsLastLine};
 
+use crate::entry::Entry;
 use crate::mark::Mark;
 use crate::section::Section;
 use std::alloc::{AllocError, Allocator, Global};
@@ -48,7 +49,7 @@ impl<S: Section<A>, A: Allocator + Copy> Section<A> for Branch<S, A> {
     }
 
     #[inline]
-    fn get(&self, line: u64) -> Option<Mark> {
+    fn get(&self, line: u64) -> Option<&Entry> {
         let width = S::width();
         match self.place_of((line / width) as usize) {
             Some(place) => self.kept[place].get(line % width),

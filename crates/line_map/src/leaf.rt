@@ -3,55 +3,13 @@ ghost use Rattle.std.specs.Prelude.{◌≡◌, ℕ, ◌^◌, ◌<◌, ◌≤◌,
 ghost use Rattle.line_map.specs.declared.leaf.TheConstants.{LINES};
 ghost use Rattle.line_map.specs.Sections.{IsWidth};
 
-use crate::mark::{Mark, Slot};
+use crate::entry::Entry;
+use crate::mark::Mark;
 use crate::section::Section;
 use std::alloc::{AllocError, Allocator, Global};
 
 /// How many lines a leaf has.
 const LINES: usize = 32;
-
-/// How many values a half of a size has.
-const HALF: u64 = 1 << 32;
-
-/// The mark of a line. The size is in two halves, so that an entry takes 12 bytes.
-#[derive(Clone, Copy)]
-struct Entry {
-    size_low: u32,
-    size_high: u32,
-    offset: u8,
-    live: bool,
-}
-
-const _: () = prove!(size_of::<Entry>() == 12);
-
-impl Entry {
-    ghost use Rattle.line_map.specs.Leaves.{mark_of};
-
-    #[inline]
-    fn new(mark: Mark) -> Entry
-        ensures { mark_of result ≡ mark }
-    {
-        Entry {
-            size_low: (mark.slot.size % HALF) as u32,
-            size_high: (mark.slot.size / HALF) as u32,
-            offset: mark.offset,
-            live: mark.slot.live,
-        }
-    }
-
-    #[inline]
-    fn mark(&self) -> Mark
-        ensures { result ≡ mark_of self.now }
-    {
-        Mark {
-            offset: self.offset,
-            slot: Slot {
-                size: u64::from(self.size_high) * HALF + u64::from(self.size_low),
-                live: self.live,
-            },
-        }
-    }
-}
 
 /// Lines side by side. Those that have a mark have an entry, and nothing else takes memory.
 #[derive(Drop)]
@@ -122,9 +80,9 @@ impl<A: Allocator + Copy> Section<A> for Leaf<A> {
     }
 
     #[inline]
-    fn get(&self, line: u64) -> Option<Mark> {
+    fn get(&self, line: u64) -> Option<&Entry> {
         if self.has(line) {
-            Some(self.entries[self.place_of(line)].mark())
+            Some(&self.entries[self.place_of(line)])
         } else {
             None
         }
@@ -133,7 +91,7 @@ impl<A: Allocator + Copy> Section<A> for Leaf<A> {
     #[inline]
     fn fetch(&self, line: u64) -> u64 {
         match self.entries.get(self.place_of(line)) {
-            Some(entry) => u64::from(entry.size_low),
+            Some(entry) => entry.mark().slot.size,
             None => self.lines,
         }
     }

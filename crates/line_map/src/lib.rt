@@ -8,6 +8,7 @@
 #![tactic(auto)]
 
 mod branch;
+mod entry;
 mod leaf;
 mod map;
 mod mark;

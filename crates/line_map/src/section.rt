@@ -1,9 +1,11 @@
 //! What the leaves and the branches of a map have in common.
 ghost use Rattle.std.specs.Prelude.{◌≡◌, ℕ, ◌<◌, ◌≤◌, true};
-ghost use Rattle.std.specs.Prelude.{Option, None, Some, IsSome, OnOk, OnErr};
+ghost use Rattle.std.specs.Prelude.{Option, None, Some, IsSome, OnOk, OnErr, option_map};
 ghost use Rattle.line_map.specs.declared.mark.Mark.{Mark};
+ghost use Rattle.line_map.specs.Marks.{mark_of};
 ghost use Rattle.line_map.specs.Sections.{IsWidth, IsPut, IsLastLine};
 
+use crate::entry::Entry;
 use crate::mark::Mark;
 use std::alloc::{AllocError, Allocator};
 
@@ -29,11 +31,11 @@ pub trait Section<A: Allocator + Copy>: Drop {
     fn is_empty(&self) -> bool
         ensures { result ≡ true → (line : ℕ) → mark_at self.now line ≡ None };
 
-    /// The mark of a line.
-    fn get(&self, line: u64) -> Option<Mark>
+    /// The entry of a line, which stands for its mark.
+    fn get(&self, line: u64) -> Option<&Entry>
         requires fits { fits }
         requires within { line < width }
-        ensures { result ≡ mark_at self.now line };
+        ensures { option_map (λ entry. mark_of entry.now) result ≡ mark_at self.now line };
 
     /// Reads what it keeps of a line, so that the processor has it at hand, and answers some
     /// number that depends on it.

@@ -87,9 +87,6 @@ fn map_calls(rt: HostRuntime) -> Result<(), Fail> {
     assert_eq!(rt; map.last_before(0x1039), Some((0x1038, live(8))));
     map.set(0x1038, freed);
     assert_eq!(rt; map.get(0x1038), Some(freed));
-    for at in [0x1038, 0x5000, 1 << 47, u64::MAX] {
-        map.fetch(at);
-    }
     map.set(0x1038, live(u64::MAX));
     assert_eq!(rt; map.get(0x1038), Some(live(u64::MAX)));
     map.set(0x1038, freed);
@@ -97,6 +94,19 @@ fn map_calls(rt: HostRuntime) -> Result<(), Fail> {
     map.remove(0x1038);
     assert_eq!(rt; map.get(0x1038), None);
     assert_eq!(rt; map.last_before(u64::MAX), None);
+    Ok(())
+}
+
+#[test]
+fn fetching_changes_nothing(rt: HostRuntime) -> Result<(), Fail> {
+    let mut map = LineMap::new(rt.alloc());
+    map.fetch(0x1038);
+    map.insert(0x1038, live(8))?;
+    for at in [0x1038, 0x1000, 0x5000, 1 << 47, u64::MAX] {
+        map.fetch(at);
+    }
+    assert_eq!(rt; map.get(0x1038), Some(live(8)));
+    assert_eq!(rt; map.last_before(u64::MAX), Some((0x1038, live(8))));
     Ok(())
 }
 

@@ -54,7 +54,7 @@ impl<A: Allocator + Copy> Tree<A> {
         requires { line < 2 ^ 41 }
         ensures { result ≡ tree_mark self.now line }
     {
-        self.root.get(line)
+        Some(self.root.get(line)?.mark())
     }
 
     /// Reads what it keeps of a line, so that the processor has it at hand, and answers some
@@ -74,7 +74,7 @@ impl<A: Allocator + Copy> Tree<A> {
         ensures { IsLastBelow (tree_mark self.now) end result }
     {
         let line = self.root.last(end)?;
-        let mark = self.root.get(line)?;
+        let mark = self.get(line)?;
         Some((line, mark))
     }
 
