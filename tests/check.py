@@ -20,8 +20,9 @@ COUNTS = re.compile(r"(\d+) passed, (\d+) failed")
 
 
 def counted(words):
-    """Runs a command and passes on what it prints, but for the counts in its last line: these and
-    the status are the answer."""
+    """Runs a command and passes on what it prints, but for the counts in its last line: these are
+    the answer. A command that says nothing passed, or ends with another status than its counts
+    say, counts as failed."""
     last = ""
     with subprocess.Popen(words, cwd=TOP, stdout=subprocess.PIPE, text=True) as ran:
         for line in ran.stdout:
@@ -30,17 +31,19 @@ def counted(words):
     counts = COUNTS.fullmatch(last.strip())
     if not counts:
         print(last, end="")
-        return 0, 1, ran.returncode
-    return int(counts[1]), int(counts[2]), ran.returncode
+    passed, failed = map(int, counts.groups()) if counts else (0, 0)
+    if failed == 0 and (passed == 0 or ran.returncode != 0):
+        failed = 1
+    return passed, failed
 
 
 def main():
-    passed, failed, status = counted(["rt", "ci"])
-    if status == 0:
-        ran, bad, status = counted([sys.executable, f"{TOP}/tests/runs.py", *PROGRAMS])
-        passed, failed = passed + ran, failed + bad
+    passed, failed = counted(["rt", "ci"])
+    if failed == 0:
+        ran, failed = counted([sys.executable, f"{TOP}/tests/runs.py", *PROGRAMS])
+        passed += ran
     print(f"{passed} passed, {failed} failed")
-    return status
+    return 1 if failed else 0
 
 
 if __name__ == "__main__":

@@ -50,6 +50,10 @@ def free(at):
     return b"\x04" + number(at)
 
 
+# What is said where a word is no command.
+HINT = "\nTo check a trace in a file: asancol check FILE\n"
+
+
 def closed(*records):
     return HEADER + b"".join(records) + CLOSE
 
@@ -106,9 +110,12 @@ class Program:
         same(words, self.run(words, **how), (status, output.encode(), faults.encode()))
 
     def expect_refused(self, words, *parts):
-        """Expects that the words are refused, by a text on standard error with these parts."""
+        """Expects that the words are refused, by a text on standard error with these parts, and
+        with the hint only where it is one of them."""
         status, output, faults = self.run(words)
         same(words, (status, output), (2, b""))
+        told(words, faults.endswith(HINT.encode()) == (HINT in parts), faults)
+        told(words, faults.count(b"error: ") == 1, faults)
         told(words, faults.startswith(b"error: ") and faults.endswith(b"\n"), faults)
         for part in parts:
             told(words, part.encode() in faults, faults)
@@ -243,6 +250,10 @@ def as_many_processes_as_files(program):
     texts = "".join([sound, past_the_end][i % 2](i) for i in range(256))
     program.expect(["check", *names], 1, texts)
     program.expect(["check", "--workers", "64", "--ring", "1", *names], 1, texts)
+    lines = "".join(
+        f"p{i} trace {i}: closed events 2 offset 36 reports {i % 2}\n" for i in range(256)
+    )
+    program.expect(["check", "--verbose", *names], 1, texts, lines)
     program.expect(["check", *names, "trace 0"], 2, "", "too many files\n")
     program.expect(["check", *["missing"] * 257], 2, "", "too many files\n")
 
@@ -282,7 +293,7 @@ def files_of_all_kinds(program):
 
 def named_pipe(program):
     os.mkfifo("pipe")
-    sending = threading.Thread(target=put, args=("pipe", PAST_THE_END))
+    sending = threading.Thread(target=put, args=("pipe", PAST_THE_END), daemon=True)
     sending.start()
     program.expect(["check", "pipe"], 1, past_the_end())
     sending.join()
@@ -393,8 +404,6 @@ def refused_words(program):
         ["serve", "socket"],
         ["serve", "--count", "1", "--ready", "ready"],
         ["serve", "--count", "1", "socket", "another"],
-        ["trace"],
-        ["replay", "trace"],
         ["-V"],
         ["--verbose"],
         ["serve", "--count", "1", "--verbose", "socket"],
@@ -404,7 +413,7 @@ def refused_words(program):
         ["--"],
         [""],
     ]:
-        program.expect_refused(words)
+        program.expect_refused(words, *([HINT] if words == [""] else []))
         with open("/dev/full", "wb") as full:
             same(words, program.run(words, stderr=full), (2, b"", None))
     told("socket", not os.path.exists("socket"), "it is there")
@@ -417,6 +426,7 @@ def word_that_is_no_text(program):
         ([b"check", b"caf\xe9"], r"caf\xe9"),
         ([b"\xff"], r"\xff"),
         ([b"check", b"trace", b"\xc3", b"\xc4"], r"\xc3"),
+        ([b"check", b"caf\xe9" * 1000], r"caf\xe9" * 1000),
         ([b"check", b"\xff" * 5000], ""),
     ]:
         program.expect(words, 2, "", said.format(named))
@@ -455,8 +465,7 @@ def release(program):
 
 def file_without_a_command(program):
     put("run.trace", SOUND)
-    hint = "\nTo check a trace in a file: asancol check FILE\n"
-    program.expect_refused(["run.trace"], "unrecognized subcommand 'run.trace'\n", hint)
+    program.expect_refused(["run.trace"], "unrecognized subcommand 'run.trace'\n", HINT)
 
 
 def numbers_below_zero(program):
@@ -568,6 +577,8 @@ def no_memory_to_begin(program):
             ended.add(ran)
             if ran == (3, b"", b"no memory\n"):
                 break
+            # With less than that it does not even start.
+            told(words, ran[0] == 127 or ran[0] < 0, ran)
         else:
             told(words, False, ended)
 
@@ -578,6 +589,9 @@ def no_memory_to_begin(program):
 class Served:
     """The program, serving a socket in this folder."""
 
+    # Those that were started and not seen to end.
+    running = []
+
     def __init__(self, program, *words):
         self.words = ["serve", *words, "socket"]
         self.program = subprocess.Popen(
@@ -586,6 +600,7 @@ class Served:
             stdout=subprocess.PIPE,
             stderr=subprocess.PIPE,
         )
+        Served.running.append(self.program)
 
     def connect(self):
         """Connects a peer, once the socket listens."""
@@ -609,6 +624,7 @@ class Served:
 
     def expect(self, status, output):
         said = self.program.communicate(timeout=PATIENCE)
+        Served.running.remove(self.program)
         same(self.words, (self.program.returncode, *said), (status, output.encode(), b""))
         os.remove("socket")
 
@@ -636,6 +652,24 @@ def options_of_serve(program):
     )
 
 
+def checkers_that_work(program):
+    """Each checker but the first has a thread of its own, and each peer a reader."""
+    for workers in [1, 2, 3]:
+        served = Served(program, "--count", "3", "--workers", str(workers))
+        peers = [served.connect() for _ in range(3)]
+        tasks = f"/proc/{served.program.pid}/task"
+        for _ in range(PATIENCE * 100):
+            if len(os.listdir(tasks)) >= workers + 3:
+                break
+            time.sleep(0.01)
+        time.sleep(0.2)
+        same(served.words, len(os.listdir(tasks)), workers + 3)
+        for peer in peers:
+            peer.sendall(SOUND)
+            peer.close()
+        served.expect(0, sound(0) + sound(1) + sound(2))
+
+
 def paths_that_cannot_be_served(program):
     put("there", SOUND)
     os.mkdir("folder")
@@ -659,6 +693,8 @@ def file_that_says_ready(program):
             if os.path.exists("ready") and os.path.getsize("ready") == 0:
                 break
             time.sleep(0.01)
+        else:
+            told("--ready", False, "there is no empty file")
         peer = socket.socket(socket.AF_UNIX)
         peer.connect("socket")
         peer.sendall(PAST_THE_END)
@@ -691,6 +727,7 @@ CASES = [
     no_memory_to_begin,
     peers_on_a_socket,
     options_of_serve,
+    checkers_that_work,
     paths_that_cannot_be_served,
     file_that_says_ready,
 ]
@@ -703,10 +740,14 @@ def passes(case, program, room):
     os.chdir(folder)
     try:
         case(program)
-    except (AssertionError, OSError, subprocess.TimeoutExpired) as error:
-        print(f"FAILED {case.__name__} of {os.path.basename(program.path)}: {error}")
+    except Exception as error:
+        print(f"FAILED {case.__name__} of {os.path.basename(program.path)}: {error!r}", flush=True)
         return False
     finally:
+        for served in Served.running:
+            served.kill()
+            served.wait()
+        Served.running.clear()
         os.chdir(room)
         shutil.rmtree(folder)
     return True
@@ -715,7 +756,10 @@ def passes(case, program, room):
 def main(paths):
     here = os.getcwd()
     with tempfile.TemporaryDirectory(prefix="asancol-") as room:
-        programs = [Program(shutil.copy(path, room)) for path in paths]
+        programs = []
+        for number, path in enumerate(paths):
+            os.mkdir(f"{room}/{number}", 0o755)
+            programs.append(Program(shutil.copy(path, f"{room}/{number}")))
         for program in programs:
             os.chmod(program.path, 0o755)
         if os.geteuid() == 0:

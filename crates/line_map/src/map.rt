@@ -19,9 +19,9 @@ const ALL: u64 = 1 << 41;
 /// Slots by address, at most one in each line of 64 bytes. Contracts see a map as the list of its
 /// addresses and their slots, in the order of the addresses.
 ///
-/// A map without slots takes no memory. The first slot that is put into one takes 848 bytes: its
-/// leaf, and room for one section in each branch over the leaf. Any other takes at most 1,840
-/// bytes: room for 32 sections in one branch, and the branches below it and a leaf, which are new.
+/// A map without slots takes no memory. The first slot that is put into one takes 240 bytes: room
+/// for four entries of its leaf, and for one section in each branch over the leaf. Any other takes
+/// at most 2,256 bytes: room for 64 sections in one branch, and what lies below it, which is new.
 #[derive(Drop)]
 pub struct LineMap<A: Allocator + Copy = Global> {
     tree: Tree<A>,
