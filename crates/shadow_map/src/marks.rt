@@ -17,8 +17,8 @@ const REDZONE: u64 = 4;
 
 /// After `NoMemory` a call is done in part: there is a granule of its range below which all are as
 /// after the call, and from which on all are as before it. The call had still to change that
-/// granule, so a granule that keeps its shadow byte is never refused memory. A region of size 0 has no
-/// granule, and its call does nothing.
+/// granule, so a granule that keeps its shadow byte is never refused memory. A region of size 0 has
+/// no granule, and its call does nothing.
 impl<A: Allocator + Copy> Shadow<A> {
     /// Marks the whole granules from one address up to another by a code: [`HEAP_REDZONE`],
     /// [`FREED`] or [`USER_POISON`].
