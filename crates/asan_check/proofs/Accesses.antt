@@ -6,7 +6,8 @@ use Rattle.std.proofs.lemmas.Bool.Decides.{nat_tests}
 use Rattle.trace_record.specs.declared.event.Event.{Event}
 use Rattle.trace_record.specs.declared.event.Access.{Access}
 use Rattle.shadow_map.specs.States.{State, Addressable, HeapRedzone, Freed, is_addressable, code_of, lies_in, state_of, addressable_front, shadow_byte, lift, least_unaddressable, bad_byte_of}
-use Rattle.heap_book.specs.Spans.{Extent, rounded, span_from, span_to}
+use Rattle.heap_book.specs.Spans.{Extent, span_from, span_to}
+use Rattle.asan_units.specs.Units.{rounded}
 use Rattle.asan_check.specs.declared.report.Class.{Class}
 use Rattle.asan_check.specs.declared.report.Class.TheVariants as class
 use Rattle.asan_check.specs.declared.report.Fault.{Fault}

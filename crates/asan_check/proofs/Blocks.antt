@@ -10,7 +10,8 @@ use Rattle.std.proofs.lemmas.List.Sorted.{list_any-IsPermutation, IsPermutation-
 use Rattle.trace_record.specs.declared.event.Event.{Event}
 use Rattle.trace_record.specs.declared.event.Event.TheVariants as event
 use Rattle.trace_record.specs.declared.event.Region.{Region}
-use Rattle.heap_book.specs.Spans.{Extent, span_bytes, span_to, redzone, meets, may_be_admitted, held_of, starts_at}
+use Rattle.heap_book.specs.Spans.{Extent, span_bytes, span_to, meets, may_be_admitted, held_of, starts_at}
+use Rattle.asan_units.specs.Units.{redzone}
 use Rattle.asan_check.specs.History.{block_of, live, freed, held, admits}
 use Rattle.asan_check.proofs.Steps.{live_free, live_malloc, freed_free, freed_malloc}
 use Rattle.asan_check.proofs.Members.{in_none, cons_cases, from_filtered, none_from, in_tail, in_head}

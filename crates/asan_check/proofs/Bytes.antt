@@ -10,7 +10,8 @@ use Rattle.trace_record.specs.declared.event.Event.TheVariants as event
 use Rattle.trace_record.specs.declared.event.Place.{Place}
 use Rattle.trace_record.specs.declared.event.Region.{Region}
 use Rattle.shadow_map.specs.States.{Addressable, HeapRedzone, Freed, Mark, Block, lies_in, state_of}
-use Rattle.heap_book.specs.Spans.{Extent, rounded, span_from, span_to, meets, starts_at}
+use Rattle.heap_book.specs.Spans.{Extent, span_from, span_to, meets, starts_at}
+use Rattle.asan_units.specs.Units.{rounded}
 use Rattle.heap_book.proofs.NeverMeet.{meets-flip}
 use Rattle.asan_check.specs.History.{block_of, live, held, admits, marks, marked, freed_mark, released_mark, gone}
 use Rattle.asan_check.specs.Laws.{since_malloc, since_free, NoPoisonShares, NoUnpoisonShares}

@@ -5,7 +5,8 @@ use Rattle.std.proofs.lemmas.Bool.{and_parts, ltb-true, leb-true, cases_lt, fals
 use Rattle.std.proofs.lemmas.Bool.Decides.{nat_tests}
 use Rattle.trace_record.specs.declared.event.Region.{Region}
 use Rattle.shadow_map.specs.States.{State, Addressable, Mark, Block, Poison, Unpoison, lies_in, granule_lies_in, state_of}
-use Rattle.heap_book.specs.Spans.{Extent, rounded, span_from, span_to, meets}
+use Rattle.heap_book.specs.Spans.{Extent, span_from, span_to, meets}
+use Rattle.asan_units.specs.Units.{rounded}
 use Rattle.asan_check.specs.History.{marked, freed_mark, released_mark}
 use Rattle.asan_check.specs.Laws.{SharesGranule}
 use Rattle.asan_check.proofs.Members.{in_head, in_tail}

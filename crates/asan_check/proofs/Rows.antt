@@ -2,7 +2,8 @@
 use Rattle.std.proofs.Common.{◌≡◌, ℕ, ◌+◌, true, false, [], ◌∷◌, refl}
 use Rattle.std.specs.Prelude.{◌&&◌, nat_le, nat_lt, IsTrue, reverse}
 use Rattle.std.proofs.lemmas.Bool.{and_parts, leb-true, ltb-true}
-use Rattle.trace_record.specs.Ranges.{is_width, largest_region, address_end}
+use Rattle.trace_record.specs.Ranges.{largest_region}
+use Rattle.asan_units.specs.Units.{is_width, address_end}
 use Rattle.trace_record.specs.declared.event.Event.{Event}
 use Rattle.trace_record.specs.declared.event.Event.TheVariants as event
 use Rattle.trace_record.specs.declared.event.Access.{Access}

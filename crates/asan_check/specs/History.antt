@@ -11,7 +11,8 @@ use Rattle.trace_record.specs.declared.event.Event.{Event}
 use Rattle.trace_record.specs.declared.event.Event.TheVariants as event
 use Rattle.trace_record.specs.declared.event.Region.{Region}
 use Rattle.shadow_map.specs.States.{Freed, HeapRedzone, Mark, Fill, Block, Poison, Unpoison}
-use Rattle.heap_book.specs.Spans.{Extent, rounded, span_from, span_to, may_be_admitted, held_of}
+use Rattle.heap_book.specs.Spans.{Extent, span_from, span_to, may_be_admitted, held_of}
+use Rattle.asan_units.specs.Units.{rounded}
 use Rattle.heap_book.specs.Spans.{starts_at}
 
 -- the block that a malloc asks for

@@ -10,7 +10,8 @@ use Rattle.trace_record.specs.declared.event.Access.{Access}
 use Rattle.trace_record.specs.declared.event.Place.{Place}
 use Rattle.trace_record.specs.declared.event.Region.{Region}
 use Rattle.shadow_map.specs.States.{HeapRedzone, Freed, UserPoison, code_of, lies_in}
-use Rattle.heap_book.specs.Spans.{Extent, rounded, span_from, span_to, starts_at}
+use Rattle.heap_book.specs.Spans.{Extent, span_from, span_to, starts_at}
+use Rattle.asan_units.specs.Units.{granule_size, granule_of, rounded}
 use Rattle.asan_check.specs.declared.report.Class.{Class}
 use Rattle.asan_check.specs.declared.report.Class.TheVariants as class
 use Rattle.asan_check.specs.declared.report.Fault.TheVariants as fault
@@ -74,7 +75,7 @@ pub record SharesGranule (r : Region) (from to : ℕ) : Type 0 where
   pub other : ℕ
   pub in_region : (r.at ≤ own) × (own < r.at + r.size)
   pub in_range : (from ≤ other) × (other < to)
-  pub one_granule : own / 8 ≡ other / 8
+  pub one_granule : granule_of own ≡ granule_of other
 
 -- no poison among these events shares a granule with the bytes from an address up to another
 abbrev pub NoPoisonShares : List Event → ℕ → ℕ → Type 0
@@ -118,7 +119,7 @@ first_byte_report past is_store a class shadow =
 -- granule, or a redzone's code where it has none
 abbrev pub shadow_around : Extent → ℕ → ℕ
 shadow_around b at =
-    if lies_in b.at (b.at + rounded b.size) at then b.size % 8 else code_of HeapRedzone
+    if lies_in b.at (b.at + rounded b.size) at then b.size % granule_size else code_of HeapRedzone
 
 -- ---- spans, and the reports on events
 

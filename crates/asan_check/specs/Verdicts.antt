@@ -7,6 +7,7 @@ use Rattle.std.specs.Prelude.{List, [], ◌∷◌, ◌++◌, length, Option, Som
 use Rattle.std.specs.Prelude.{reverse}
 use Rattle.std.specs.List.{list_all, list_any}
 use Rattle.std.specs.Option.{option_map}
+use Rattle.asan_units.specs.Units.{granule_of, first_byte}
 use Rattle.trace_record.specs.declared.event.Event.{Event}
 use Rattle.trace_record.specs.declared.event.Event.TheVariants as event
 use Rattle.trace_record.specs.declared.event.Access.{Access}
@@ -30,21 +31,21 @@ class_of_state UserPoison = class.UseAfterPoison
 -- whether a granule has no addressable byte
 abbrev pub has_none_addressable : (ℕ → State) → ℕ → Bool
 has_none_addressable states granule =
-    list_all (λ place. not (is_addressable (states (8 * granule + place)))) places
+    list_all (λ place. not (is_addressable (states (first_byte granule + place)))) places
 
 -- the class of a bad access: that of the first byte of its granule if none of the granule's bytes
 -- is addressable, else that of the first byte of the next granule
 abbrev pub class_of : (ℕ → State) → ℕ → Class
 class_of states at =
-    let granule = at / 8
-    in class_of_state (states (8 * (if has_none_addressable states granule then granule
-    else granule + 1)))
+    let granule = granule_of at
+    in class_of_state (states (first_byte
+    (if has_none_addressable states granule then granule else granule + 1)))
 
 -- what is wrong with a load or a store of memory in these states
 abbrev pub access_fault : (ℕ → State) → Bool → Access → Option Fault
 access_fault states is_store a =
     option_map (λ bad. fault.Access is_store a.width a.at bad (class_of states a.at) (lift states
-    (a.at / 8)))
+    (granule_of a.at)))
     (bad_byte_of states a.at a.width)
 
 -- what is wrong with a malloc after a history: nothing at address 0, which says that the allocator

@@ -2,6 +2,7 @@
 ghost use Rattle.std.specs.Prelude.{◌≡◌, ℕ, ◌+◌, ◌<◌, ◌≤◌, ◌^◌, ◌↔◌, List, [], ◌∷◌, ◌++◌, IfOk};
 ghost use Rattle.std.specs.Prelude.{IsErr, IsTrue, IsSome, IsSomeAnd, OnOk, OnErr, true, false};
 ghost use Rattle.std.specs.Prelude.{not, length, take, reverse, None, Some, option_to_list};
+ghost use Rattle.asan_units.specs.Units.{address_end, largest_quarantine};
 ghost use Rattle.trace_record.specs.declared.event.Event.{Event as AnEvent};
 ghost use Rattle.trace_record.specs.declared.event.Event.TheVariants as event;
 ghost use Rattle.trace_record.specs.declared.event.Place.{Place as APlace};
@@ -13,17 +14,12 @@ ghost use Rattle.asan_check.specs.Laws.{class_of_shadow};
 
 use crate::NoMemory;
 use crate::report::{Class, Fault, Report};
+use asan_units::{GRANULE, REDZONE};
 use heap_book::{Admit, Block, Book, Bound, Freed};
 use shadow_map::{FREED, HEAP_REDZONE, Shadow, USER_POISON};
 use std::alloc::{Allocator, Global};
 use thiserror::Error;
 use trace_record::{Access, Event, Place, Region};
-
-/// How many bytes a granule has.
-const GRANULE: u64 = 8;
-
-/// How many bytes a redzone has.
-const REDZONE: u64 = 32;
 
 /// The least shadow byte that is a code. A granule with one has no addressable byte, and the code
 /// says what it is.
@@ -66,7 +62,7 @@ impl<A: Allocator + Copy> Checker<A> {
     /// `Bound` exactly if the bound is over 2^40.
     pub fn new(alloc: A, bound: u64) -> Result<Checker<A>, Bound>
         ensures stands { IfOk result (λ checker. Stands bound checker []) }
-        ensures refused { IsErr result ↔ (2 ^ 40 < bound) }
+        ensures refused { IsErr result ↔ (largest_quarantine < bound) }
     {
         let book = Book::new(alloc, bound)?;
         Ok(Checker {
@@ -208,7 +204,7 @@ impl<A: Allocator + Copy> Checker<A> {
     /// The address of the first of `size` bytes from `at` on that is not addressable, if there is
     /// one, or `None` once a step has failed. The bytes end at most at 2^47. Takes no memory.
     pub fn first_poisoned(&self, at: u64, size: u64) -> Option<Option<u64>>
-        requires { at + size ≤ 2 ^ 47 }
+        requires { at + size ≤ address_end }
         ensures stands { (bound : ℕ) (past : List AnEvent) → Stands bound self.now past →
             result ≡ Some (least_unaddressable (state_of (marks bound past)) at size) }
         ensures failed { has_failed self.now ≡ true → result ≡ None }
@@ -306,7 +302,7 @@ impl<A: Allocator + Copy> Checker<A> {
     /// The class of a bad access at `at`. The first byte of its granule decides if none of the
     /// granule's bytes is addressable, else the first byte of the next granule.
     fn class_at(&self, at: u64) -> Class
-        requires { at < 2 ^ 47 }
+        requires { at < address_end }
         ensures { (bound : ℕ) (past : List AnEvent) → ShowsHistory bound self.now past →
             result ≡ class_of (state_of (marks bound past)) at }
     {

@@ -1,5 +1,6 @@
 -- Where a bench and its checker stand.
-use Rattle.std.specs.Prelude.{◌≡◌, ℕ, ◌<◌, Bool, ◌||◌, nat_le, List, [], ◌∷◌, ◌++◌, length, slice_index_or}
+use Rattle.std.specs.Prelude.{◌≡◌, ℕ, ◌<◌, Bool, ◌||◌, nat_le, List, [], ◌∷◌, ◌++◌, length}
+use Rattle.std.specs.Prelude.{slice_index_or}
 use Rattle.trace_lane.specs.Lanes.{Lane, out_lane, taken_list}
 use Rattle.asan_check.specs.declared.checker.Checker.{Checker}
 use Rattle.asan_check.specs.Standing.{bound_of}

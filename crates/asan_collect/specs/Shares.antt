@@ -1,5 +1,6 @@
 -- The benches of each checker.
-use Rattle.std.specs.Prelude.{◌≡◌, ℕ, ◌<◌, ◌≤◌, ◌+◌, ◌*◌, ◌⊎◌, ◌++◌, ◌∷◌, List, [], Vec, length, slice_index_or, slice_set, vec_capacity}
+use Rattle.std.specs.Prelude.{◌≡◌, ℕ, ◌<◌, ◌≤◌, ◌+◌, ◌*◌, ◌⊎◌, ◌++◌, ◌∷◌, List, [], Vec, length}
+use Rattle.std.specs.Prelude.{slice_index_or, slice_set, vec_capacity}
 use Rattle.asan_collect.specs.declared.bench.Bench.{Bench}
 use Rattle.asan_collect.specs.declared.checker_threads.CheckerThread.{CheckerThread}
 use Rattle.asan_collect.specs.declared.checker_threads.CheckerThread.TheVariants as running

@@ -60,7 +60,8 @@ impl<A: Allocator + Copy> Bench<A> {
     ghost use Rattle.asan_check.specs.Standing.{Stands, bound_of};
     ghost use Rattle.asan_collect.specs.Checking.{HasChecked};
     ghost use Rattle.asan_collect.specs.Benches.{Later};
-    ghost use Rattle.asan_collect.specs.Benches.{lane_of, process_of, taken_of, bench_bound, is_over, Turns, checker_of};
+    ghost use Rattle.asan_collect.specs.Benches.{lane_of, process_of, taken_of, bench_bound};
+    ghost use Rattle.asan_collect.specs.Benches.{is_over, Turns, checker_of};
 
     /// A bench of this process. Nothing was taken from its lane, and its checker has checked
     /// nothing. Takes no memory.

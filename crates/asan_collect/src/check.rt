@@ -1,8 +1,10 @@
 //! One feed on one thread: its events are checked as they are read.
 
-ghost use Rattle.std.specs.Prelude.{◌≡◌, ◌+◌, ◌<◌, ◌≤◌, ◌^◌, ◌++◌, ℕ, IsTrue, List, length, reverse};
+ghost use Rattle.std.specs.Prelude.{◌≡◌, ◌+◌, ◌<◌, ◌≤◌, ◌^◌, ◌++◌, ℕ, IsTrue, List, length};
+ghost use Rattle.std.specs.Prelude.{reverse};
 ghost use Rattle.trace_record.specs.declared.event.Event.{Event as AnEvent};
-ghost use Rattle.asan_check.specs.Standing.{StandsOrFailed, checked_of, reports_of as checker_reports};
+ghost use Rattle.asan_check.specs.Standing.{StandsOrFailed, checked_of};
+ghost use Rattle.asan_check.specs.Standing.{reports_of as checker_reports};
 ghost use Rattle.asan_collect.specs.Outcomes.{IsOutcomeOf, StopsSoon, Tells, is_read};
 ghost use Rattle.asan_collect.specs.Ranges.{most_reports};
 ghost use Rattle.asan_collect.specs.Texts.{reports_of};

@@ -1,6 +1,7 @@
 //! Collecting: all senders of a door are read and checked, each on its own lane.
 
-ghost use Rattle.std.specs.Prelude.{◌≡◌, ◌+◌, ◌≤◌, ◌⊎◌, ◌^◌, All, List, IfOk, IsTrue, OnErr, length};
+ghost use Rattle.std.specs.Prelude.{◌≡◌, ◌+◌, ◌≤◌, ◌⊎◌, ◌^◌, All, List, IfOk, IsTrue, OnErr};
+ghost use Rattle.std.specs.Prelude.{length};
 ghost use Rattle.trace_feed.specs.declared.door.Arrival.{Arrival as AnArrival};
 ghost use Rattle.asan_collect.specs.Arrivals.{Arrived, IsAllThatCame, IsAnswerTo, Pairwise};
 ghost use Rattle.asan_collect.specs.Counts.{not_opened_among};

@@ -40,7 +40,7 @@ pub use collector::collect;
 pub use gate::{Gate, OpenGate};
 pub use item::Item;
 pub use laws::{answers_are_outcomes, bytes_spell_one_end, outcomes_agree};
-pub use options::{BadOption, Options};
+pub use options::{BadOption, MOST_EVENTS, MOST_RING, MOST_WORKERS, Options};
 pub use outcome::Outcome;
 pub use reader::{ReaderDone, run_reader};
 pub use settlement::settle;

@@ -3,7 +3,8 @@
 ghost use Rattle.std.specs.Prelude.{◌≡◌, ◌≤◌, [], ℕ, vec_len, vec_capacity};
 ghost use Rattle.asan_collect.specs.Arrivals.{Pairwise};
 ghost use Rattle.asan_collect.specs.Benches.{lane_of, bench_bound};
-ghost use Rattle.asan_collect.specs.Senders.{AllJoined, AreAt, Each, Gets, HasLane, IsJoined, Rejoins};
+ghost use Rattle.asan_collect.specs.Senders.{AllJoined, AreAt, Each, Gets, HasLane, IsJoined};
+ghost use Rattle.asan_collect.specs.Senders.{Rejoins};
 ghost use Rattle.asan_collect.specs.Shares.{SharesAt};
 
 use crate::bench::Bench;

@@ -5,7 +5,8 @@ use Rattle.std.specs.Str.Parse.{ParsesUnsigned}
 use Rattle.clap.specs.Matches.{ReadsOne, one_text}
 use Rattle.asan_collect.specs.declared.options.Options.{Options}
 use Rattle.clap.specs.declared.parser.matches.Found.{Found}
-use Rattle.asancol.specs.Settings.{AreOptionsOf, IsGiven, IsSet, IsSpelled, usual_bound, usual_limit, usual_ring, usual_workers}
+use Rattle.asancol.specs.Settings.{AreOptionsOf, IsGiven, IsSet, IsSpelled}
+use Rattle.asan_collect.specs.Ranges.{usual_quarantine, usual_limit, usual_ring, usual_workers}
 
 module _ {E : Type 0} (gives : List ℕ → Result ℕ E → Type 0) (bits : ℕ)
     (parses : (text : List ℕ) (r : Result ℕ E) → gives text r → ParsesUnsigned bits 10 text r) where
@@ -35,7 +36,7 @@ module _ {E : Type 0} (gives : List ℕ → Result ℕ E → Type 0) (bits : ℕ
 -- options that were made of these values are those that were found
 pub made_of : {E : Type 0} (P : E → Type 0) (r : Result Options E) (found : Found) (quarantine ring workers limit : ℕ)
     → MatchResult r (λ o. (o.quarantine ≡ quarantine) × (o.ring ≡ ring) × (o.workers ≡ workers) × (o.limit ≡ limit)) P
-    → IsSet 64 (one_text found (codes "quarantine")) usual_bound quarantine
+    → IsSet 64 (one_text found (codes "quarantine")) usual_quarantine quarantine
     → IsSet 32 (one_text found (codes "ring")) usual_ring ring
     → IsSet 32 (one_text found (codes "workers")) usual_workers workers
     → IsSet 32 (one_text found (codes "limit")) usual_limit limit

@@ -11,7 +11,7 @@ use Rattle.asan_collect.specs.Outcomes.{IsOutcomeOf}
 use Rattle.asan_collect.specs.Ranges.{most_senders}
 use Rattle.asan_collect.specs.Statuses.{status_of, unwritten}
 use Rattle.asan_collect.specs.Texts.{texts_from}
-use Rattle.asancol.specs.Settings.{usual_bound, usual_limit}
+use Rattle.asan_collect.specs.Ranges.{usual_quarantine, usual_limit}
 
 -- A writer holds some bytes before and after.
 module _ {F A : Type 0} where
@@ -31,7 +31,7 @@ module _ {F : Type 0} (to_come : F → Option (List ℕ)) (fault_count : F → �
   abbrev pub IsFeedPrinted : F → Option (List ℕ) → Option (List ℕ) → ℕ → Type 0
   IsFeedPrinted feed before after status =
       (outcome : Outcome F Global)
-      × IsOutcomeOf to_come fault_count usual_limit usual_bound feed outcome
+      × IsOutcomeOf to_come fault_count usual_limit usual_quarantine feed outcome
       × IsPrinted before after (outcome ∷ []) status
 
   -- the same of a feed that had these bytes to come

@@ -3,25 +3,12 @@ use Rattle.std.specs.Prelude.{◌≡◌, ℕ, ◌<◌, ◌^◌, List, [], Option
 use Rattle.std.specs.Prelude.{string_bytes}
 use Rattle.std.specs.Option.{option_map_or}
 use Rattle.std.specs.Str.Parse.{IsNumeral, digits_value, without_leading_plus}
+use Rattle.asan_collect.specs.Ranges.{usual_quarantine, usual_ring, usual_workers, usual_limit}
 use Rattle.asan_collect.specs.declared.options.Options.{Options}
 use Rattle.asancol.specs.declared.command_line.Request.{Request}
 use Rattle.asancol.specs.declared.command_line.Request.TheVariants as request
 use Rattle.clap.specs.Words.{matched_of, one_text, raw_values}
 use Rattle.clap.specs.declared.parser.matches.Found.{Found}
-
--- the options where no word sets them: how many bytes a quarantine holds, how many items a ring,
--- how many checkers there are, and how many events a trace may have
-abbrev pub usual_bound : ℕ
-usual_bound = 2 ^ 28
-
-abbrev pub usual_ring : ℕ
-usual_ring = 1024
-
-abbrev pub usual_workers : ℕ
-usual_workers = 2
-
-abbrev pub usual_limit : ℕ
-usual_limit = 2 ^ 24
 
 -- the number is the one that a text spells, if the text spells one that fits into these bits
 abbrev pub IsSpelled : ℕ → List ℕ → ℕ → Type 0
@@ -38,7 +25,7 @@ IsSet bits (Some text) default number = IsSpelled bits text number
 -- each option has the value that was found, or its default
 abbrev pub AreOptionsOf : Found → Options → Type 0
 AreOptionsOf found options =
-    IsSet 64 (one_text found (codes "quarantine")) usual_bound options.quarantine
+    IsSet 64 (one_text found (codes "quarantine")) usual_quarantine options.quarantine
     × IsSet 32 (one_text found (codes "ring")) usual_ring options.ring
     × IsSet 32 (one_text found (codes "workers")) usual_workers options.workers
     × IsSet 32 (one_text found (codes "limit")) usual_limit options.limit

@@ -1,6 +1,7 @@
 //! The commands that the command line may have, and their arguments.
 
-use asan_collect::Options;
+use asan_collect::{MOST_EVENTS, MOST_RING, MOST_SENDERS, MOST_WORKERS, Options};
+use asan_units::LARGEST_QUARANTINE;
 use clap::{Arg, ArgAction, Command, value_parser};
 use std::alloc::{AllocError, Global};
 
@@ -51,9 +52,12 @@ const STATUSES: &str =
 3 if a trace was not checked up to its close, or none could be, and 4 if not everything could be
 printed.";
 
-/// The parts of the help that are put together from others. The defaults are those of `Options`.
+/// The parts of the help that are put together from others. The limits and the defaults are those
+/// of `Options`.
 #[derive(Drop)]
 pub struct HelpTexts {
+    files: String,
+    count: String,
     quarantine: String,
     ring: String,
     workers: String,
@@ -65,23 +69,31 @@ impl HelpTexts {
     pub fn new(alloc: Global) -> Result<HelpTexts, AllocError> {
         let usual = Options::usual();
         Ok(HelpTexts {
+            files: format!(in alloc;
+                "The traces, 1 to {} of them: the first is process 0, the next process 1 and so \
+                 on; - is standard input",
+                MOST_SENDERS
+            )?,
+            count: format!(in alloc;
+                "Connections to accept before the first is read, 1 to {}: the first is process 0",
+                MOST_SENDERS
+            )?,
             quarantine: format!(in alloc;
-                "Bytes of freed blocks and their redzones to hold back, 0 to 1099511627776 \
-                 [default: {}]",
-                usual.quarantine
+                "Bytes of freed blocks and their redzones to hold back, 0 to {} [default: {}]",
+                LARGEST_QUARANTINE, usual.quarantine
             )?,
             ring: format!(in alloc;
-                "Events of each process that may wait for its checker, 1 to 65536 [default: {}]",
-                usual.ring
+                "Events of each process that may wait for its checker, 1 to {} [default: {}]",
+                MOST_RING, usual.ring
             )?,
             workers: format!(in alloc;
-                "Checkers that share the processes, each on a thread of its own, 1 to 64 \
+                "Checkers that share the processes, each on a thread of its own, 1 to {} \
                  [default: {}]",
-                usual.workers
+                MOST_WORKERS, usual.workers
             )?,
             limit: format!(in alloc;
-                "Events that each trace may have, 1 to 16777216 [default: {}]",
-                usual.limit
+                "Events that each trace may have, 1 to {} [default: {}]",
+                MOST_EVENTS, usual.limit
             )?,
             after_help: format!(in alloc; "{NO_WORDS}\n\n{STATUSES}")?,
         })
@@ -111,10 +123,7 @@ pub fn command<'a>(alloc: Global, texts: &'a HelpTexts) -> Result<Command<'a>, A
 fn check_command<'a>(alloc: Global, texts: &'a HelpTexts) -> Result<Command<'a>, AllocError> {
     let files = Arg::new(alloc, FILES)
         .value_name("FILE")
-        .help(
-            "The traces, 1 to 256 of them: the first is process 0, the next process 1 and so on; \
-             - is standard input",
-        )
+        .help(texts.files.as_str())
         .required(true)
         .num_args(1..)
         .action(ArgAction::Append);
@@ -140,7 +149,7 @@ fn serve_command<'a>(alloc: Global, texts: &'a HelpTexts) -> Result<Command<'a>,
     let command = Command::new(alloc, SERVE)
         .about("Checks the traces sent to a Unix socket, each connection as a process of its own")
         .after_help(STATUSES)
-        .arg(count(alloc))?;
+        .arg(count(alloc, texts))?;
     with_options(alloc, texts, command)?
         .arg(ready(alloc))?
         .arg(socket)
@@ -154,24 +163,23 @@ fn with_options<'a>(
 ) -> Result<Command<'a>, AllocError> {
     command
         .arg(number(alloc, QUARANTINE, "BYTES", texts.quarantine.as_str()).value_parser(
-            value_parser!(u64).range(0..=1_099_511_627_776),
+            value_parser!(u64).range(0..=LARGEST_QUARANTINE as i64),
         ))?
         .arg(number(alloc, RING, "EVENTS", texts.ring.as_str()).value_parser(value_parser!(
             u32
-        ).range(1..=65_536)))?
+        ).range(1..=i64::from(MOST_RING))))?
         .arg(number(alloc, WORKERS, "CHECKERS", texts.workers.as_str()).value_parser(value_parser!(
             u32
-        ).range(1..=64)))?
+        ).range(1..=i64::from(MOST_WORKERS))))?
         .arg(number(alloc, LIMIT, "EVENTS", texts.limit.as_str()).value_parser(value_parser!(
             u32
-        ).range(1..=16_777_216)))
+        ).range(1..=i64::from(MOST_EVENTS))))
 }
 
-fn count<'a>(alloc: Global) -> Arg<'a> {
-    let help = "Connections to accept before the first is read, 1 to 256: the first is process 0";
-    number(alloc, COUNT, "SENDERS", help)
+fn count<'a>(alloc: Global, texts: &'a HelpTexts) -> Arg<'a> {
+    number(alloc, COUNT, "SENDERS", texts.count.as_str())
         .required(true)
-        .value_parser(value_parser!(u32).range(1..=256))
+        .value_parser(value_parser!(u32).range(1..=MOST_SENDERS as i64))
 }
 
 /// An option whose value is a number. One below 0 is refused as a value, and not taken for an

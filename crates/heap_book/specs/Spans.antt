@@ -1,24 +1,16 @@
 -- Blocks, the spans that they take with their redzones, and which freed blocks are held.
 --
--- Redzones, and a quarantine that is a queue with a bound, are those of the paper of 2012. The
--- redzones' size, and that the quarantine counts the bytes of spans, are this project's choice
--- (profile).
+-- Redzones, and a quarantine that is a queue with a bound, are those of the paper of 2012. That the
+-- quarantine counts the bytes of spans is this project's choice (profile).
 use Rattle.std.specs.Prelude.{◌≡◌, ℕ, ◌+◌, ◌-◌, ◌*◌, ◌/◌, ◌%◌, ◌^◌, ◌≤◌, List, [], ◌∷◌, sum_by}
 use Rattle.std.specs.Prelude.{Bool, not, ◌&&◌, ◌==◌, nat_lt, nat_le, if◌then◌else◌}
 use Rattle.std.specs.List.{list_any}
+use Rattle.asan_units.specs.Units.{address_end, granule_size, IsGranuleStart, rounded, redzone}
 
 -- what a contract sees of a block: its address and its size
 pub record Extent : Type 0 where
   pub at : ℕ
   pub size : ℕ
-
--- how many bytes a redzone has
-abbrev pub redzone : ℕ
-redzone = 32
-
--- a size rounded up to whole granules of 8 bytes
-abbrev pub rounded : ℕ → ℕ
-rounded size = (size + 7) / 8 * 8
 
 -- the span of a block, from its first byte up to the first that is not in it: the block's bytes,
 -- rounded up, and a redzone on each side
@@ -28,23 +20,23 @@ span_from b = b.at - redzone
 abbrev pub span_to : Extent → ℕ
 span_to b = b.at + rounded b.size + redzone
 
--- a block starts at a granule, and has room for its redzones from 0 up to 2^47
+-- a block starts at a granule, and has room for its redzones from 0 up to the end of the addresses
 abbrev pub IsPlaced : Extent → Type 0
-IsPlaced b = (b.at % 8 ≡ 0) × (redzone ≤ b.at) × (span_to b ≤ 2 ^ 47)
+IsPlaced b = IsGranuleStart b.at × (redzone ≤ b.at) × (span_to b ≤ address_end)
 
 -- how many bytes the span has
 abbrev pub span_bytes : Extent → ℕ
-span_bytes b = rounded b.size + 64
+span_bytes b = rounded b.size + 2 * redzone
 
 -- whether the spans of two blocks share a byte
 abbrev pub meets : Extent → Extent → Bool
 meets b c = nat_lt (span_from b) (span_to c) && nat_lt (span_from c) (span_to b)
 
 -- whether a block may be admitted beside the blocks whose spans are taken: it starts at a granule,
--- has room for its redzones below 2^47, and its span meets none of theirs
+-- has room for its redzones below the end of the addresses, and its span meets none of theirs
 abbrev pub may_be_admitted : List Extent → Extent → Bool
 may_be_admitted taken b =
-    b.at % 8 == 0 && nat_le redzone b.at && nat_le (span_to b) (2 ^ 47)
+    b.at % granule_size == 0 && nat_le redzone b.at && nat_le (span_to b) address_end
     && not (list_any (meets b) taken)
 
 -- of blocks in the order in which they were freed, those that are held: a block whose span, with

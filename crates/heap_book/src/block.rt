@@ -1,17 +1,10 @@
 //! A block and its span.
 ghost use Rattle.std.specs.Prelude.{◌≡◌, ◌+◌, ◌^◌, ◌≤◌, ◌↔◌, IsSome, IfSome};
+ghost use Rattle.asan_units.specs.Units.{address_end};
 ghost use Rattle.heap_book.specs.Spans.{IsPlaced, span_from, span_to};
 
+use asan_units::{ADDRESS_END, GRANULE, REDZONE, rounded};
 use std::marker::Model;
-
-/// How many bytes a granule has.
-const GRANULE: u64 = 8;
-
-/// How many bytes a redzone has.
-pub(crate) const REDZONE: u64 = 32;
-
-/// The first address past those of a process.
-const ADDRESS_END: u64 = 1 << 47;
 
 /// A block that was admitted. Its span is its bytes, rounded up to whole granules of 8, and a
 /// redzone of 32 bytes on each side. It starts at a granule, and its span has room from 0 up to
@@ -38,11 +31,11 @@ impl Block {
     /// The block of that many bytes at an address, if it starts at a granule and its redzones have
     /// room.
     pub(crate) fn new(at: u64, size: u64) -> Option<Block>
-        requires { at + size ≤ 2 ^ 47 }
+        requires { at + size ≤ address_end }
         ensures some { IsSome result ↔ IsPlaced (record { at = at; size = size }) }
         ensures block { IfSome result (λ block. block ≡ record { at = at; size = size }) }
     {
-        let to = at + size.next_multiple_of(GRANULE) + REDZONE;
+        let to = at + rounded(size) + REDZONE;
         if at.is_multiple_of(GRANULE) && at >= REDZONE && to <= ADDRESS_END {
             Some(Block { at, size })
         } else {
@@ -92,6 +85,6 @@ impl Block {
         ensures to { result ≡ span_to self.now }
         ensures placed { IsPlaced self.now }
     {
-        self.at + self.size.next_multiple_of(GRANULE) + REDZONE
+        self.at + rounded(self.size) + REDZONE
     }
 }

@@ -2,6 +2,7 @@
 ghost use Rattle.std.specs.Prelude.{◌≡◌, ◌+◌, ◌^◌, ◌<◌, ◌≤◌, ◌↔◌, [], true};
 ghost use Rattle.std.specs.Prelude.{IsErr, IfOk, OnErr, IfSome, IfNone};
 ghost use Rattle.std.specs.List.{IsDistinct, list_any};
+ghost use Rattle.asan_units.specs.Units.{address_end, largest_quarantine};
 ghost use Rattle.heap_book.specs.Spans.{Extent, held_of, may_be_admitted, meets, starts_at};
 ghost use Rattle.heap_book.specs.Blocks.{taken, queued_bytes, ReleasesOldest};
 ghost use Rattle.heap_book.specs.Admit.{IsAdmitAnswer, AfterAdmit};
@@ -11,13 +12,11 @@ use crate::NoMemory;
 use crate::answers::{Admit, Bound, Freed};
 use crate::block::Block;
 use crate::spans::is_free;
+use asan_units::LARGEST_QUARANTINE;
 use line_map::{LineMap, Slot};
 use std::alloc::{Allocator, Global};
 use std::collections::VecDeque;
 use std::marker::Model;
-
-/// The greatest bound that a quarantine may have, in bytes of spans.
-const MAX_BOUND: u64 = 1 << 40;
 
 /// The live blocks of a process and those in quarantine.
 #[derive(Drop)]
@@ -53,10 +52,10 @@ impl<A: Allocator + Copy> Book<A> {
     ///
     /// `Bound` exactly if the bound is over 2^40.
     pub fn new(alloc: A, bound: u64) -> Result<Book<A>, Bound>
-        ensures err { IsErr result ↔ (2 ^ 40 < bound) }
+        ensures err { IsErr result ↔ (largest_quarantine < bound) }
         ensures ok { IfOk result (λ book. book ≡ record { live = []; queue = []; bound = bound }) }
     {
-        if bound > MAX_BOUND {
+        if bound > LARGEST_QUARANTINE {
             return Err(Bound);
         }
         Ok(Book {
@@ -95,7 +94,7 @@ impl<A: Allocator + Copy> Book<A> {
     ///
     /// `NoMemory` only where the block would be admitted. The book is then as it was.
     pub fn admit(&mut self, at: u64, size: u64) -> Result<Admit, NoMemory>
-        requires { at + size ≤ 2 ^ 47 }
+        requires { at + size ≤ address_end }
         ensures answer { let block : Extent = record { at = at; size = size } in
             IfOk result (IsAdmitAnswer self.old block) }
         ensures after { IfOk result (λ admit. AfterAdmit self.old admit self.new) }

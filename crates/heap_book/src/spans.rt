@@ -4,7 +4,8 @@ ghost use Rattle.std.specs.List.{list_any};
 ghost use Rattle.heap_book.specs.Spans.{meets};
 ghost use Rattle.heap_book.specs.Slots.{FollowFrom, IsLastBefore, blocks_of};
 
-use crate::block::{Block, REDZONE};
+use crate::block::Block;
+use asan_units::REDZONE;
 use line_map::LineMap;
 use std::alloc::Allocator;
 

@@ -4,10 +4,18 @@ use Rattle.std.specs.Prelude.{List, [], ◌∷◌, Option, Some, None}
 use Rattle.line_map.specs.declared.mark.Slot.{Slot}
 use Rattle.line_map.specs.declared.mark.Mark.{Mark}
 
+-- how many bytes a line has: a span has no fewer, so that no two spans start in one line (profile)
+abbrev pub line_size : ℕ
+line_size = 64
+
+-- how many lines the addresses make up
+abbrev pub line_count : ℕ
+line_count = 2 ^ 41
+
 -- an entry in front of others, where a line has a mark
 abbrev pub with_mark : ℕ → Option Mark → List (ℕ × Slot) → List (ℕ × Slot)
 with_mark line None entries = entries
-with_mark line (Some mark) entries = (line * 64 + mark.offset, mark.slot) ∷ entries
+with_mark line (Some mark) entries = (line * line_size + mark.offset, mark.slot) ∷ entries
 
 -- the entries of the lines from one on, as many as a count says
 unfoldable pub entries_from : (ℕ → Option Mark) → ℕ → ℕ → List (ℕ × Slot)
@@ -17,9 +25,9 @@ entries_from marks line (suc count) =
 
 -- the entries of all lines
 unfoldable pub entries_of : (ℕ → Option Mark) → List (ℕ × Slot)
-entries_of marks = entries_from marks 0 (2 ^ 41)
+entries_of marks = entries_from marks 0 line_count
 
 -- each mark's address lies in its line
 abbrev pub AreInLine : (ℕ → Option Mark) → Type 0
 AreInLine marks =
-    (line : ℕ) (mark : Mark) → line < 2 ^ 41 → marks line ≡ Some mark → mark.offset < 64
+    (line : ℕ) (mark : Mark) → line < line_count → marks line ≡ Some mark → mark.offset < line_size

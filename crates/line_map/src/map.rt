@@ -3,10 +3,12 @@ ghost use Rattle.std.specs.Prelude.{◌≡◌, ℕ, ◌/◌, ◌^◌, ◌<◌, N
 ghost use Rattle.std.specs.Map.{lookup, set_value, remove_entry};
 ghost use Rattle.std.specs.BTreeMap.{insert_entry, is_at};
 ghost use Rattle.std.specs.Ordering.{nat_cmp};
+ghost use Rattle.asan_units.specs.Units.{address_end};
 ghost use Rattle.line_map.specs.Maps.{slot_at, IsLastBefore};
 
 use crate::mark::{Mark, Slot};
 use crate::tree::Tree;
+use asan_units::ADDRESS_END;
 use std::alloc::{AllocError, Allocator, Global};
 use std::marker::Model;
 
@@ -14,7 +16,7 @@ use std::marker::Model;
 const LINE: u64 = 64;
 
 /// How many lines a map has.
-const ALL: u64 = 1 << 41;
+const ALL: u64 = ADDRESS_END / LINE;
 
 /// Slots by address, at most one in each line of 64 bytes. Contracts see a map as the list of its
 /// addresses and their slots, in the order of the addresses.
@@ -122,7 +124,7 @@ impl<A: Allocator + Copy> LineMap<A> {
     /// `AllocError` if memory is refused. The map is then as it was.
     #[inline]
     pub fn insert(&mut self, at: u64, slot: Slot) -> Result<(), AllocError>
-        requires within { at < 2 ^ 47 }
+        requires within { at < address_end }
         requires alone { (other : ℕ) → other / 64 ≡ at / 64 →
             slot_at self.old other ≡ None }
         ensures ok { OnOk result (self.new ≡ insert_entry nat_cmp self.old at slot) }

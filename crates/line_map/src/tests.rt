@@ -1,5 +1,6 @@
 //! Calls of a map, and what its tests have in common.
 ghost use Rattle.std.specs.Prelude.{◌≡◌, ℕ, ◌/◌, ◌^◌, ◌<◌, true, None};
+ghost use Rattle.asan_units.specs.Units.{address_end};
 ghost use Rattle.line_map.specs.Maps.{slot_at};
 
 mod beside;
@@ -32,7 +33,7 @@ fn live(size: u64) -> Slot
 
 /// Whether the line of an address has no slot.
 fn is_alone<A: Allocator + Copy>(map: &LineMap<A>, at: u64) -> bool
-    requires { at < 2 ^ 47 }
+    requires { at < address_end }
     ensures { result ≡ true → (other : ℕ) → other / 64 ≡ at / 64 → slot_at map.now other ≡ None }
 {
     let line = at - at % 64;

@@ -1,5 +1,6 @@
 //! The tree of lines: six levels of branches over the leaves.
 ghost use Rattle.std.specs.Prelude.{◌≡◌, ℕ, ◌^◌, ◌<◌, ◌≤◌, Some, None, IsSome, OnOk, OnErr};
+ghost use Rattle.line_map.specs.Entries.{line_count};
 ghost use Rattle.line_map.specs.Sections.{IsPut, IsLastBelow};
 ghost use Rattle.line_map.specs.Trees.{tree_mark};
 
@@ -51,7 +52,7 @@ impl<A: Allocator + Copy> Tree<A> {
     #[inline]
     #[tactic(auto, unfolding(crate::specs::Trees::tree_mark))]
     pub fn get(&self, line: u64) -> Option<Mark>
-        requires { line < 2 ^ 41 }
+        requires { line < line_count }
         ensures { result ≡ tree_mark self.now line }
     {
         Some(self.root.get(line)?.mark())
@@ -61,7 +62,7 @@ impl<A: Allocator + Copy> Tree<A> {
     /// number that depends on it.
     #[inline]
     pub fn fetch(&self, line: u64) -> u64
-        requires { line < 2 ^ 41 }
+        requires { line < line_count }
     {
         self.root.fetch(line)
     }
@@ -70,7 +71,7 @@ impl<A: Allocator + Copy> Tree<A> {
     #[inline]
     #[tactic(auto, unfolding(crate::specs::Trees::tree_mark))]
     pub fn last(&self, end: u64) -> Option<(u64, Mark)>
-        requires { end ≤ 2 ^ 41 }
+        requires { end ≤ line_count }
         ensures { IsLastBelow (tree_mark self.now) end result }
     {
         let line = self.root.last(end)?;
@@ -86,9 +87,9 @@ impl<A: Allocator + Copy> Tree<A> {
     #[inline]
     #[tactic(auto, unfolding(crate::specs::Trees::tree_mark))]
     pub fn put(&mut self, alloc: A, line: u64, mark: Mark) -> Result<(), AllocError>
-        requires { line < 2 ^ 41 }
+        requires { line < line_count }
         ensures ok { OnOk result
-            (IsPut (2 ^ 41) (tree_mark self.old) (tree_mark self.new) line (Some mark)) }
+            (IsPut line_count (tree_mark self.old) (tree_mark self.new) line (Some mark)) }
         ensures err { OnErr result
             ((line : ℕ) → tree_mark self.new line ≡ tree_mark self.old line) }
     {
@@ -99,9 +100,9 @@ impl<A: Allocator + Copy> Tree<A> {
     #[inline]
     #[tactic(auto, unfolding(crate::specs::Trees::tree_mark))]
     pub fn set(&mut self, line: u64, mark: Mark)
-        requires within { line < 2 ^ 41 }
+        requires within { line < line_count }
         requires there { IsSome (tree_mark self.old line) }
-        ensures { IsPut (2 ^ 41) (tree_mark self.old) (tree_mark self.new) line (Some mark) }
+        ensures { IsPut line_count (tree_mark self.old) (tree_mark self.new) line (Some mark) }
     {
         self.root.set(line, mark);
     }
@@ -111,8 +112,8 @@ impl<A: Allocator + Copy> Tree<A> {
     #[inline]
     #[tactic(auto, unfolding(crate::specs::Trees::tree_mark))]
     pub fn remove(&mut self, alloc: A, line: u64)
-        requires { line < 2 ^ 41 }
-        ensures { IsPut (2 ^ 41) (tree_mark self.old) (tree_mark self.new) line None }
+        requires { line < line_count }
+        ensures { IsPut line_count (tree_mark self.old) (tree_mark self.new) line None }
     {
         self.root.remove(alloc, line);
     }

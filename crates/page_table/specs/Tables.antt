@@ -1,6 +1,7 @@
 -- The bytes of a table.
 use Rattle.std.specs.Prelude.{◌≡◌, ◌≢◌, ℕ, ◌+◌, ◌-◌, ◌*◌, ◌<◌, ◌≤◌, ◌^◌, ◌&&◌, nat_le, nat_lt}
 use Rattle.std.specs.Prelude.{if◌then◌else◌, List}
+use Rattle.asan_units.specs.Units.{granule_count}
 use Rattle.page_table.specs.declared.group.TheConstants.{GROUP}
 use Rattle.page_table.specs.declared.branch.TheConstants.{SECTIONS}
 use Rattle.page_table.specs.declared.table.PageTable.{PageTable}
@@ -23,7 +24,7 @@ module _ {A : Type 0} where
 
   -- the byte of a granule, and 0 past the last one
   unfoldable pub byte_of : PageTable A → ℕ → ℕ
-  byte_of table granule = if nat_lt granule (2 ^ 44) then root_byte table granule else 0
+  byte_of table granule = if nat_lt granule granule_count then root_byte table granule else 0
 
   -- the granules from one up to another have this byte now, and the others the one that they had
   abbrev pub Fills : PageTable A → PageTable A → ℕ → ℕ → ℕ → Type 0

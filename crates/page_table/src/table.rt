@@ -1,5 +1,6 @@
 //! The table.
 ghost use Rattle.std.specs.Prelude.{◌≡◌, ℕ, ◌+◌, ◌^◌, ◌<◌, ◌≤◌, OnOk, OnErr};
+ghost use Rattle.asan_units.specs.Units.{granule_count};
 ghost use Rattle.page_table.specs.Runs.{length_of};
 ghost use Rattle.page_table.specs.Sections.{IsFirstNonzero};
 ghost use Rattle.page_table.specs.Tables.{byte_of, Fills, FillsBelow, FillsRuns, FillsRunsBelow};
@@ -55,7 +56,7 @@ impl<A: Allocator + Copy> PageTable<A> {
     #[inline]
     #[tactic(auto, unfolding(crate::specs::Tables::byte_of))]
     pub fn byte(&self, granule: u64) -> u8
-        requires { granule < 2 ^ 44 }
+        requires { granule < granule_count }
         ensures { result ≡ byte_of self.now granule }
     {
         self.root.byte(granule)
@@ -65,7 +66,7 @@ impl<A: Allocator + Copy> PageTable<A> {
     /// costs one step, however large it is.
     #[tactic(auto, unfolding(crate::specs::Tables::byte_of))]
     pub fn first_nonzero(&self, from: u64, to: u64) -> Option<u64>
-        requires { to ≤ 2 ^ 44 }
+        requires { to ≤ granule_count }
         ensures { IsFirstNonzero (byte_of self.now) from to result }
     {
         self.root.first_nonzero(from, to)
@@ -77,7 +78,7 @@ impl<A: Allocator + Copy> PageTable<A> {
     #[tactic(auto, unfolding(crate::specs::Tables::byte_of))]
     pub fn fill(&mut self, from: u64, to: u64, byte: u8) -> Result<(), AllocError>
         requires order { from ≤ to }
-        requires end { to ≤ 2 ^ 44 }
+        requires end { to ≤ granule_count }
         ensures ok { OnOk result (Fills self.old self.new from to byte) }
         ensures err { OnErr result (FillsBelow self.old self.new from to byte) }
     {
@@ -97,7 +98,7 @@ impl<A: Allocator + Copy> PageTable<A> {
     /// they were.
     #[tactic(auto, unfolding(crate::specs::Tables::byte_of))]
     pub fn fill_runs(&mut self, from: u64, runs: &[Run]) -> Result<(), AllocError>
-        requires end { from + length_of runs.now ≤ 2 ^ 44 }
+        requires end { from + length_of runs.now ≤ granule_count }
         ensures ok { OnOk result (FillsRuns self.old self.new from runs.now) }
         ensures err { OnErr result (FillsRunsBelow self.old self.new from runs.now) }
     {

@@ -1,5 +1,6 @@
 //! Runs beside a fill for each of them, and fills of any width.
-ghost use Rattle.std.specs.Prelude.{◌≡◌, ◌+◌, ◌^◌, ◌≤◌};
+ghost use Rattle.std.specs.Prelude.{◌≡◌, ◌+◌, ◌≤◌};
+ghost use Rattle.asan_units.specs.Units.{granule_count};
 
 use super::*;
 use std::alloc::{AllocError, Global};
@@ -15,7 +16,7 @@ fn run(length: u64, byte: u8) -> Run
 /// The first granule from two before one on at which two tables differ, of 22.
 fn difference(one: &PageTable, other: &PageTable, from: u64) -> Option<u64>
     requires low { 2 ≤ from }
-    requires high { from + 20 ≤ 2 ^ 44 }
+    requires high { from + 20 ≤ granule_count }
 {
     for granule in from - 2..from + 20 {
         if one.byte(granule) != other.byte(granule) {
@@ -30,7 +31,7 @@ fn difference(one: &PageTable, other: &PageTable, from: u64) -> Option<u64>
 /// run had been filled by itself.
 fn first_difference(alloc: Global, first: u64) -> Result<Option<u64>, AllocError>
     requires low { 2 ≤ first }
-    requires high { first + 24 ≤ 2 ^ 44 }
+    requires high { first + 24 ≤ granule_count }
 {
     let mut one = PageTable::new(alloc);
     let mut other = PageTable::new(alloc);
@@ -82,7 +83,7 @@ fn runs_without_granules(rt: HostRuntime) -> Result<(), Fail> {
 /// The bytes of the granules on both sides of the two ends of a fill, from granule 1 up to another.
 fn around_fill(alloc: Global, width: u64) -> Result<[u8; 4], AllocError>
     requires some { 2 ≤ width }
-    requires most { width + 1 ≤ 2 ^ 44 }
+    requires most { width + 1 ≤ granule_count }
 {
     let mut table = PageTable::new(alloc);
     table.fill(1, width, 7)?;

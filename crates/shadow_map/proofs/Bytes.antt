@@ -2,9 +2,10 @@
 use Rattle.std.proofs.Common.{◌≡◌, ℕ, zero, suc, ◌+◌, ◌-◌, ◌*◌, ◌/◌, ◌%◌, ◌<◌, ◌≤◌, Bool, true, false, cond, leb, ltb, eqb, List, ◌∷◌, Some, None, refl, sym, ap, ◌∙◌, arith, add-zero}
 use Rattle.std.specs.Prelude.{min, ◌&&◌, nat_lt, unwrap_or}
 use Rattle.std.proofs.lemmas.Bool.Decides.{nat_tests}
-use Rattle.shadow_map.specs.States.{State, Addressable, HeapRedzone, Freed, UserPoison, is_addressable, code_of, Mark, Fill, Block, Poison, Unpoison, rounded, lies_in, state_of, addressable_front, shadow_byte, lift, IsMark, AreMarks}
-use Rattle.shadow_map.specs.Granules.{front_of, poisoned_front, poisoned_byte, unpoisoned_byte, block_byte}
-use Rattle.shadow_map.proofs.Fronts.{Front, after, front_step, front_of_marks, first_is, none_from_is, granule_zero, fill_keeps}
+use Rattle.shadow_map.specs.States.{State, Addressable, HeapRedzone, Freed, UserPoison, is_addressable, code_of, Mark, Fill, Block, Poison, Unpoison, lies_in, state_of, addressable_front, shadow_byte, lift, IsMark, AreMarks}
+use Rattle.asan_units.specs.Units.{rounded}
+use Rattle.shadow_map.specs.Granules.{front_of, poisoned_byte, unpoisoned_byte, block_byte}
+use Rattle.shadow_map.proofs.Fronts.{Front, poisoned_front, after, front_step, front_of_marks, first_is, none_from_is, granule_zero, fill_keeps}
 
 front_run : (states : ℕ → State) (byte front count : ℕ) → ((place : ℕ) → place < count → is_addressable (states (byte + place)) ≡ ltb place front) →
     addressable_front states byte count ≡ min front count

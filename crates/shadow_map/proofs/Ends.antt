@@ -2,7 +2,8 @@
 use Rattle.std.proofs.Common.{◌≡◌, ℕ, ◌+◌, ◌-◌, ◌*◌, ◌/◌, ◌^◌, ◌≤◌, true, false, ltb, List, [], ◌∷◌, refl, sym, ap, ◌∙◌, arith}
 use Rattle.std.specs.Prelude.{◌&&◌, nat_lt}
 use Rattle.std.proofs.lemmas.Bool.Decides.{nat_tests}
-use Rattle.shadow_map.specs.States.{Mark, Fill, Block, Poison, Unpoison, redzone, rounded, lies_in, granule_lies_in, is_addressable, state_of, lift, AreMarks}
+use Rattle.shadow_map.specs.States.{Mark, Fill, Block, Poison, Unpoison, lies_in, granule_lies_in, is_addressable, state_of, lift, AreMarks}
+use Rattle.asan_units.specs.Units.{redzone, rounded}
 use Rattle.shadow_map.specs.Laws.{AllPastTheEndIsAddressable}
 use Rattle.shadow_map.proofs.Fronts.{fill_keeps, front_of_marks}
 use Rattle.shadow_map.proofs.Bytes.{lift_is}

@@ -1,21 +1,28 @@
 -- After any marks the addressable bytes of each granule are its first ones.
-use Rattle.std.proofs.Common.{◌≡◌, ℕ, ◌+◌, ◌-◌, ◌*◌, ◌/◌, ◌%◌, ◌^◌, ◌<◌, ◌≤◌, Bool, true, false, cond, leb, ltb, List, [], ◌∷◌, Some, None, refl, arith, add-zero}
+use Rattle.std.proofs.Common.{◌≡◌, ℕ, ◌+◌, ◌-◌, ◌*◌, ◌/◌, ◌%◌, ◌^◌, ◌<◌, ◌≤◌, Bool, true, false, cond, eqb, leb, ltb, List, [], ◌∷◌, Some, None, refl, arith, add-zero}
 use Rattle.std.specs.Prelude.{min, not, ◌&&◌, ◌||◌, nat_lt, nat_le, unwrap_or}
 use Rattle.std.proofs.lemmas.Bool.Decides.{nat_tests}
-use Rattle.shadow_map.specs.States.{State, Addressable, HeapRedzone, Freed, UserPoison, is_addressable, Mark, Fill, Block, Poison, Unpoison, redzone, rounded, lies_in, none_addressable_from, given, state_of, IsMark, AreMarks}
-use Rattle.shadow_map.specs.Granules.{poisoned_front}
+use Rattle.shadow_map.specs.States.{State, Addressable, HeapRedzone, Freed, UserPoison, is_addressable, Mark, Fill, Block, Poison, Unpoison, lies_in, none_addressable_from, given, state_of, IsMark, AreMarks}
+use Rattle.asan_units.specs.Units.{redzone, rounded}
 
 -- the states after one more mark
 abbrev pub after : (ℕ → State) → Mark → ℕ → State
 after states mark byte = unwrap_or (given states mark byte) (states byte)
 
--- the first bytes of the granule, so many, are addressable, and no others
+-- how many of this number of first bytes stay addressable when those from one place up to another
+-- are poisoned
+abbrev pub poisoned_front : ℕ → ℕ → ℕ → ℕ
+poisoned_front front from to =
+    cond (eqb from 0 && eqb to 8) 0
+    (cond (nat_le front to && nat_lt from front && nat_lt from to) from front)
+
+-- the first bytes of the granule, as many as this number says, are addressable, and no others
 pub record Front (states : ℕ → State) (granule front : ℕ) : Type 0 where
   pub most : front ≤ 8
   pub each : (place : ℕ) → place < 8 → is_addressable (states (8 * granule + place)) ≡ nat_lt place front
 
-pub granule_of : (granule place : ℕ) → place < 8 → (8 * granule + place) / 8 ≡ granule
-granule_of granule place lt = omega arith
+pub granule_is : (granule place : ℕ) → place < 8 → (8 * granule + place) / 8 ≡ granule
+granule_is granule place lt = omega arith
 
 pub granule_zero : (granule : ℕ) → 8 * granule / 8 ≡ granule
 granule_zero granule = omega arith
@@ -107,11 +114,11 @@ front_step states granule front (Block at size) ok f = record {
 }
 front_step states granule front (Poison at size) ok f = record {
   most = let m = f.most in grind (arith, nat_tests);
-  each = λ place lt. rw (granule_of granule place lt, none_from_is states granule front (at + size) f, addressable_two, f.each place lt) (poison_front (8 * granule) at (at + size) front place lt f.most);
+  each = λ place lt. rw (granule_is granule place lt, none_from_is states granule front (at + size) f, addressable_two, f.each place lt) (poison_front (8 * granule) at (at + size) front place lt f.most);
 }
 front_step states granule front (Unpoison at size) ok f = record {
   most = let m = f.most in grind (arith, nat_tests);
-  each = λ place lt. rw (granule_of granule place lt, addressable_one, f.each place lt) (unpoison_front (8 * granule) at size front place lt f.most);
+  each = λ place lt. rw (granule_is granule place lt, addressable_one, f.each place lt) (unpoison_front (8 * granule) at size front place lt f.most);
 }
 
 -- so after any marks there is such a number of first bytes

@@ -4,7 +4,8 @@ use Rattle.std.specs.Prelude.{min, max, not, ◌&&◌, ◌||◌, nat_lt, nat_le,
 use Rattle.std.proofs.lemmas.Bool.Decides.{nat_tests}
 use Rattle.std.proofs.lemmas.Bool.{cases_lt}
 use Rattle.shadow_map.specs.States.{State, Addressable, HeapRedzone, Freed, UserPoison, is_addressable, code_of, Mark, AreMarks, state_of, lift, least_unaddressable, bad_byte_of}
-use Rattle.shadow_map.specs.Checks.{is_width, is_negative, check_reports}
+use Rattle.shadow_map.specs.Checks.{is_negative, check_reports}
+use Rattle.asan_units.specs.Units.{is_width}
 use Rattle.shadow_map.specs.Granules.{front_of}
 use Rattle.shadow_map.specs.Laws.{AddressableBytesLead, IsAddressableAt, IsFirstUnaddressable, FirstUnaddressableOfARegion, BadByteOfAnAccess, ShadowByteTellsTheGranule, ShadowCheckFindsTheBadByte}
 use Rattle.shadow_map.proofs.Fronts.{Front, front_of_marks}

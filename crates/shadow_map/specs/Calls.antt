@@ -3,7 +3,8 @@ use Rattle.std.specs.Prelude.{◌≡◌, ◌≢◌, ℕ, ◌+◌, ◌-◌, ◌/�
 use Rattle.std.specs.Prelude.{◌||◌, ◌==◌, List, ◌∷◌}
 use Rattle.shadow_map.specs.declared.shadow.Shadow.{Shadow}
 use Rattle.shadow_map.specs.States.{HeapRedzone, Freed, UserPoison, Mark, Fill, Block, Poison}
-use Rattle.shadow_map.specs.States.{Unpoison, code_of, redzone, rounded, state_of, lift}
+use Rattle.shadow_map.specs.States.{Unpoison, code_of, state_of, lift}
+use Rattle.asan_units.specs.Units.{granule_of, redzone, rounded}
 use Rattle.shadow_map.specs.Shows.{value_at, Shows, ShowsUpTo}
 
 -- whether a byte is the code of a state that is not addressable
@@ -37,9 +38,9 @@ module _ {A : Type 0} where
     pub byte : ℕ
     pub in_range : (range_from mark ≤ byte) × (byte < range_to mark)
     pub shown : (marks : List Mark) → Shows old marks →
-        ShowsUpTo (byte / 8) new (mark ∷ marks) marks
+        ShowsUpTo (granule_of byte) new (mark ∷ marks) marks
     pub due : (marks : List Mark) → Shows old marks →
-        lift (state_of (mark ∷ marks)) (byte / 8) ≢ lift (state_of marks) (byte / 8)
+        lift (state_of (mark ∷ marks)) (granule_of byte) ≢ lift (state_of marks) (granule_of byte)
     pub some_marks : (marks : List Mark) → Shows old marks → (now : List Mark) × Shows new now
 
   -- a call that makes this of each granule's shadow byte, and changes none outside a range, was
@@ -49,6 +50,7 @@ module _ {A : Type 0} where
     pub byte : ℕ
     pub in_range : (from ≤ byte) × (byte < to)
     pub values : (granule : ℕ) → value_at new granule
-        ≡ (if nat_lt granule (byte / 8) then made (value_at old granule) granule
+        ≡ (if nat_lt granule (granule_of byte) then made (value_at old granule) granule
         else value_at old granule)
-    pub due : made (value_at old (byte / 8)) (byte / 8) ≢ value_at old (byte / 8)
+    pub due : made (value_at old (granule_of byte)) (granule_of byte)
+        ≢ value_at old (granule_of byte)

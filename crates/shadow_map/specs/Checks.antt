@@ -1,9 +1,6 @@
 -- The check of an access, as the paper of 2012 makes it.
 use Rattle.std.specs.Prelude.{ℕ, ◌+◌, ◌%◌, Bool, not, ◌&&◌, ◌||◌, ◌==◌, nat_lt, nat_le}
-
--- the widths that an access has
-abbrev pub is_width : ℕ → Bool
-is_width width = width == 1 || width == 2 || width == 4 || width == 8
+use Rattle.asan_units.specs.Units.{granule_size}
 
 -- whether a shadow byte, read as a signed number, is below zero
 abbrev pub is_negative : ℕ → Bool
@@ -14,4 +11,5 @@ is_negative shadow = nat_le 0x80 shadow
 -- reaches past the bytes that it counts
 abbrev pub check_reports : ℕ → ℕ → ℕ → Bool
 check_reports shadow at width =
-    not (shadow == 0) && (width == 8 || is_negative shadow || nat_lt shadow (at % 8 + width))
+    not (shadow == 0)
+    && (width == 8 || is_negative shadow || nat_lt shadow (at % granule_size + width))

@@ -2,52 +2,58 @@
 -- private functions cite this.
 use Rattle.std.specs.Prelude.{ℕ, ◌+◌, ◌-◌, ◌*◌, ◌/◌, ◌%◌, ◌==◌, ◌&&◌, nat_lt, nat_le, if◌then◌else◌}
 use Rattle.std.specs.Prelude.{min}
+use Rattle.asan_units.specs.Units.{granule_size, granule_of, first_byte, granules_in, redzone}
+use Rattle.shadow_map.specs.States.{HeapRedzone, UserPoison, code_of}
 use Rattle.shadow_map.specs.declared.granule.Change.{Change}
 use Rattle.shadow_map.specs.declared.granule.Change.TheVariants.{Poisoned, Unpoisoned}
 
 -- how many bytes of a granule a shadow byte shows as addressable
 abbrev pub front_of : ℕ → ℕ
-front_of shadow = if shadow == 0 then 8 else (if nat_lt shadow 8 then shadow else 0)
-
--- how many of this number of first bytes stay addressable when those from one place up to another
--- are poisoned
-abbrev pub poisoned_front : ℕ → ℕ → ℕ → ℕ
-poisoned_front front from to =
-    if from == 0 && to == 8 then 0
-    else (if nat_le front to && nat_lt from front && nat_lt from to then from else front)
+front_of shadow =
+    if shadow == 0 then granule_size
+    else (if nat_lt shadow granule_size then shadow else 0)
 
 -- the shadow byte after the bytes from one place up to another are poisoned
 abbrev pub poisoned_byte : ℕ → ℕ → ℕ → ℕ
 poisoned_byte shadow from to =
-    if from == 0 && to == 8 then 0xf7
+    if from == 0 && to == granule_size then code_of UserPoison
     else (if nat_le (front_of shadow) to && nat_lt from (front_of shadow) && nat_lt from to
-    then (if from == 0 then 0xf7 else from) else shadow)
+    then (if from == 0 then code_of UserPoison else from) else shadow)
 
 -- the shadow byte after the bytes from one place up to another are unpoisoned
 abbrev pub unpoisoned_byte : ℕ → ℕ → ℕ → ℕ
 unpoisoned_byte shadow from to =
-    if nat_lt from to && nat_lt (front_of shadow) to then (if to == 8 then 0 else to) else shadow
+    if nat_lt from to && nat_lt (front_of shadow) to
+    then (if to == granule_size then 0 else to) else shadow
 
 -- the shadow byte after such a change of a part
 abbrev pub changed_byte : Change → ℕ → ℕ → ℕ → ℕ
 changed_byte Poisoned shadow from to = poisoned_byte shadow from to
 changed_byte Unpoisoned shadow from to = unpoisoned_byte shadow from to
 
+-- where in a granule an address lies: 0 before it, and its size past it
+abbrev pub place_in : ℕ → ℕ → ℕ
+place_in granule address = min granule_size (address - first_byte granule)
+
 -- the same of a region from one address up to another, by the granule's number
 abbrev pub changed_in : Change → ℕ → ℕ → ℕ → ℕ → ℕ
 changed_in change at end shadow granule =
-    changed_byte change shadow (min 8 (at - 8 * granule)) (min 8 (end - 8 * granule))
+    changed_byte change shadow (place_in granule at) (place_in granule end)
 
 -- the shadow byte of a granule that lies wholly in the region of a change
 abbrev pub inside_byte : Change → ℕ
-inside_byte Poisoned = 0xf7
+inside_byte Poisoned = code_of UserPoison
 inside_byte Unpoisoned = 0
 
 -- the shadow byte of a granule after a block is marked, by its address and size
 abbrev pub block_byte : ℕ → ℕ → ℕ → ℕ → ℕ
 block_byte at size granule shadow =
-    if nat_le (at / 8 - 4) granule && nat_lt granule (at / 8 + (size + 7) / 8 + 4)
-    then (if nat_le (at / 8) granule && nat_lt granule (at / 8 + size / 8) then 0
-    else (if nat_le (at / 8 + size / 8) granule && nat_lt granule (at / 8 + (size + 7) / 8)
-    then size % 8 else 0xfa))
+    let first = granule_of at
+    in let whole = first + granule_of size
+    in let end = first + granules_in size
+    in let left = granule_of redzone
+    in if nat_le (first - left) granule && nat_lt granule (end + left)
+    then (if nat_le first granule && nat_lt granule whole then 0
+    else (if nat_le whole granule && nat_lt granule end
+    then size % granule_size else code_of HeapRedzone))
     else shadow

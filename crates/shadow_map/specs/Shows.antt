@@ -1,5 +1,6 @@
 -- What a shadow shows.
 use Rattle.std.specs.Prelude.{◌≡◌, ℕ, ◌^◌, ◌<◌, nat_lt, if◌then◌else◌, List}
+use Rattle.asan_units.specs.Units.{granule_count}
 use Rattle.page_table.specs.Tables.{byte_of}
 use Rattle.shadow_map.specs.declared.shadow.Shadow.{Shadow}
 use Rattle.shadow_map.specs.States.{Mark, AreMarks, state_of, lift}
@@ -13,12 +14,12 @@ module _ {A : Type 0} where
   -- they are marks that calls may make
   pub record Shows (shadow : Shadow A) (marks : List Mark) : Type 0 where
     pub are_marks : AreMarks marks
-    pub values : (granule : ℕ) → granule < 2 ^ 44 →
+    pub values : (granule : ℕ) → granule < granule_count →
         value_at shadow granule ≡ lift (state_of marks) granule
 
   -- below a granule the shadow shows the one list of marks, and from it on the other
   abbrev pub ShowsUpTo : ℕ → Shadow A → List Mark → List Mark → Type 0
   ShowsUpTo place shadow new old =
-      (granule : ℕ) → granule < 2 ^ 44 →
+      (granule : ℕ) → granule < granule_count →
       value_at shadow granule
       ≡ (if nat_lt granule place then lift (state_of new) granule else lift (state_of old) granule)

@@ -1,11 +1,13 @@
 -- What each byte of memory is after a list of marks, the newest first, and what its shadow says.
 --
--- The shadow byte of a granule is that of the paper of 2012. The codes, the redzones' size and what
--- poison and unpoison do to a granule that they cover in part are this project's choice (profile).
+-- The shadow byte of a granule is that of the paper of 2012. The codes, and what poison and
+-- unpoison do to a granule that they cover in part, are this project's choice (profile).
 use Rattle.std.specs.Prelude.{ℕ, zero, suc, ◌+◌, ◌-◌, ◌*◌, ◌/◌, ◌%◌, ◌^◌, ◌≤◌, ◌≡◌, min, Bool, true}
 use Rattle.std.specs.Prelude.{false, not, ◌&&◌, ◌||◌, ◌==◌, nat_lt, nat_le, if◌then◌else◌, List, []}
 use Rattle.std.specs.Prelude.{◌∷◌, Option, Some, None, unwrap_or}
 use Rattle.std.specs.List.{list_all}
+use Rattle.asan_units.specs.Units.{address_end, granule_size, granule_of, first_byte}
+use Rattle.asan_units.specs.Units.{IsGranuleStart, rounded, redzone}
 
 -- what a byte is
 pub data State : Type 0 where
@@ -36,14 +38,6 @@ pub data Mark : Type 0 where
   Poison : ℕ → ℕ → Mark
   Unpoison : ℕ → ℕ → Mark
 
--- how many bytes a redzone has
-abbrev pub redzone : ℕ
-redzone = 32
-
--- a size rounded up to whole granules
-abbrev pub rounded : ℕ → ℕ
-rounded size = (size + 7) / 8 * 8
-
 -- whether a byte lies from an address up to another, which is not in the range
 abbrev pub lies_in : ℕ → ℕ → ℕ → Bool
 lies_in from to byte = nat_le from byte && nat_lt byte to
@@ -54,13 +48,15 @@ places = 0 ∷ 1 ∷ 2 ∷ 3 ∷ 4 ∷ 5 ∷ 6 ∷ 7 ∷ []
 
 -- whether the granule of a byte lies wholly in a range
 abbrev pub granule_lies_in : ℕ → ℕ → ℕ → Bool
-granule_lies_in from to byte = nat_le from (8 * (byte / 8)) && nat_le (8 * (byte / 8) + 8) to
+granule_lies_in from to byte =
+    nat_le from (first_byte (granule_of byte))
+    && nat_le (first_byte (granule_of byte) + granule_size) to
 
 -- whether no byte of a granule, from an address on, is addressable
 abbrev pub none_addressable_from : (ℕ → State) → ℕ → ℕ → Bool
 none_addressable_from before from granule =
-    list_all (λ place. nat_lt (8 * granule + place) from
-    || not (is_addressable (before (8 * granule + place)))) places
+    list_all (λ place. nat_lt (first_byte granule + place) from
+    || not (is_addressable (before (first_byte granule + place)))) places
 
 -- the state that a mark gives to a byte, if it covers it, where the states before the mark were
 -- these.
@@ -78,11 +74,12 @@ given before (Block at size) byte =
 given before (Poison at size) byte =
     if granule_lies_in at (at + size) byte then Some UserPoison
     else (if lies_in at (at + size) byte && is_addressable (before byte)
-    && none_addressable_from before (at + size) (byte / 8)
+    && none_addressable_from before (at + size) (granule_of byte)
     then Some UserPoison
     else None)
 given before (Unpoison at size) byte =
-    if nat_lt 0 size && nat_lt byte (at + size) && nat_lt at (8 * (byte / 8) + 8)
+    if nat_lt 0 size && nat_lt byte (at + size)
+    && nat_lt at (first_byte (granule_of byte) + granule_size)
     then Some Addressable else None
 
 -- the state of a byte: what the last mark that covers it gives to it, and addressable if none does
@@ -99,12 +96,15 @@ addressable_front states byte (suc count) =
 -- the shadow byte of a granule, by the number of its addressable first bytes and by the state of
 -- its first byte
 abbrev pub shadow_byte : ℕ → State → ℕ
-shadow_byte front first = if front == 8 then 0 else (if front == 0 then code_of first else front)
+shadow_byte front first =
+    if front == granule_size then 0 else (if front == 0 then code_of first else front)
 
 -- the shadow byte of a granule: 0 where all its bytes are addressable, the number of its
 -- addressable bytes where its first ones are, and else the code of its first byte
 abbrev pub lift : (ℕ → State) → ℕ → ℕ
-lift states granule = shadow_byte (addressable_front states (8 * granule) 8) (states (8 * granule))
+lift states granule =
+    shadow_byte (addressable_front states (first_byte granule) granule_size)
+    (states (first_byte granule))
 
 -- of a number of bytes from a byte on, the first that is not addressable
 abbrev pub least_unaddressable : (ℕ → State) → ℕ → ℕ → Option ℕ
@@ -115,15 +115,18 @@ least_unaddressable states byte (suc count) =
 -- the bad byte of an access: the least of its bytes in the granule of its first byte that is not
 -- addressable
 abbrev pub bad_byte_of : (ℕ → State) → ℕ → ℕ → Option ℕ
-bad_byte_of states at width = least_unaddressable states at (min width (8 - at % 8))
+bad_byte_of states at width =
+    least_unaddressable states at (min width (granule_size - at % granule_size))
 
 -- a mark that a call may make: of whole granules where it says so, and none past the last address
 abbrev pub IsMark : Mark → Type 0
 IsMark (Fill from to Addressable) = ⊥
-IsMark (Fill from to state) = (from % 8 ≡ 0) × (to % 8 ≡ 0) × (from ≤ to) × (to ≤ 2 ^ 47)
-IsMark (Block at size) = (at % 8 ≡ 0) × (redzone ≤ at) × (at + rounded size + redzone ≤ 2 ^ 47)
-IsMark (Poison at size) = at + size ≤ 2 ^ 47
-IsMark (Unpoison at size) = at + size ≤ 2 ^ 47
+IsMark (Fill from to state) =
+    IsGranuleStart from × IsGranuleStart to × (from ≤ to) × (to ≤ address_end)
+IsMark (Block at size) =
+    IsGranuleStart at × (redzone ≤ at) × (at + rounded size + redzone ≤ address_end)
+IsMark (Poison at size) = at + size ≤ address_end
+IsMark (Unpoison at size) = at + size ≤ address_end
 
 abbrev pub AreMarks : List Mark → Type 0
 AreMarks [] = Unit {0}

@@ -2,12 +2,12 @@
 ghost use Rattle.std.specs.Prelude.{◌≡◌, ◌-◌, ◌*◌, ◌^◌, ◌<◌, ◌≤◌, min};
 ghost use Rattle.shadow_map.specs.Granules.{front_of, poisoned_byte, unpoisoned_byte, changed_byte};
 ghost use Rattle.shadow_map.specs.Granules.{inside_byte};
+ghost use Rattle.asan_units.specs.Units.{granule_size, granule_count, first_byte};
 
-/// How many bytes a granule has.
-pub const GRANULE: u64 = 8;
+use asan_units::GRANULE;
 
 /// How many bytes of a granule are addressable where all are.
-const WHOLE: u8 = 8;
+const WHOLE: u8 = GRANULE as u8;
 
 /// The shadow byte of a granule whose bytes are a redzone of a block on the heap.
 pub const HEAP_REDZONE: u8 = 0xfa;
@@ -32,8 +32,8 @@ pub fn front(shadow: u8) -> u8
 
 /// How many bytes of a granule lie before an address.
 pub fn part(address: u64, granule: u64) -> u8
-    requires { granule < 2 ^ 44 }
-    ensures { result ≡ min 8 (address - 8 * granule) }
+    requires { granule < granule_count }
+    ensures { result ≡ min granule_size (address - first_byte granule) }
 {
     address.saturating_sub(GRANULE * granule).min(GRANULE) as u8
 }
@@ -59,7 +59,7 @@ impl Change {
     /// The shadow byte of a granule whose bytes from one place up to another lie in the region, by
     /// the one before.
     pub fn byte(self, shadow: u8, from: u8, to: u8) -> u8
-        requires { to ≤ 8 }
+        requires { to ≤ granule_size }
         ensures { result ≡ changed_byte self shadow from to }
     {
         match self {
@@ -71,7 +71,7 @@ impl Change {
 
 /// The shadow byte after poison of the bytes from one place up to another.
 fn poisoned(shadow: u8, from: u8, to: u8) -> u8
-    requires { to ≤ 8 }
+    requires { to ≤ granule_size }
     ensures { result ≡ poisoned_byte shadow from to }
 {
     let front = front(shadow);
@@ -87,7 +87,7 @@ fn poisoned(shadow: u8, from: u8, to: u8) -> u8
 /// The shadow byte after the bytes from one place up to another, and those before them, are
 /// addressable.
 fn unpoisoned(shadow: u8, from: u8, to: u8) -> u8
-    requires { to ≤ 8 }
+    requires { to ≤ granule_size }
     ensures { result ≡ unpoisoned_byte shadow from to }
 {
     if from < to && front(shadow) < to {

@@ -1,19 +1,21 @@
 //! The calls that mark memory.
 ghost use Rattle.std.specs.Prelude.{◌≡◌, ◌≢◌, ℕ, ◌+◌, ◌-◌, ◌/◌, ◌%◌, ◌^◌, ◌<◌, ◌≤◌, ◌==◌, ◌&&◌};
 ghost use Rattle.std.specs.Prelude.{not, if◌then◌else◌, IsTrue, OnOk, OnErr};
-ghost use Rattle.shadow_map.specs.States.{State, Fill, Block, Poison, Unpoison, code_of, redzone};
-ghost use Rattle.shadow_map.specs.States.{rounded};
+ghost use Rattle.shadow_map.specs.States.{State, Fill, Block, Poison, Unpoison, code_of};
+ghost use Rattle.asan_units.specs.Units.{address_end, granule_size, granule_of};
+ghost use Rattle.asan_units.specs.Units.{IsGranuleStart, redzone, rounded};
 ghost use Rattle.shadow_map.specs.Shows.{value_at};
 ghost use Rattle.shadow_map.specs.Calls.{is_code, Adds, AddsInPart, IsBrokenOff};
 ghost use Rattle.shadow_map.specs.Granules.{block_byte, changed_in};
 
-use crate::granule::{Change, GRANULE, HEAP_REDZONE, part};
+use crate::granule::{Change, HEAP_REDZONE, part};
 use crate::{NoMemory, Shadow};
+use asan_units::{GRANULE, REDZONE};
 use page_table::Run;
 use std::alloc::Allocator;
 
 /// How many granules a redzone has.
-const REDZONE: u64 = 4;
+const REDZONE_GRANULES: u64 = REDZONE / GRANULE;
 
 /// After `NoMemory` a call is done in part: there is a granule of its range below which all are as
 /// after the call, and from which on all are as before it. The call had still to change that
@@ -26,9 +28,9 @@ impl<A: Allocator + Copy> Shadow<A> {
     /// [`FREED`]: crate::FREED
     /// [`USER_POISON`]: crate::USER_POISON
     pub fn mark(&mut self, from: u64, to: u64, code: u8) -> Result<(), NoMemory>
-        requires granules { (from % 8 ≡ 0) × (to % 8 ≡ 0) }
+        requires granules { IsGranuleStart from × IsGranuleStart to }
         requires order { from ≤ to }
-        requires end { to ≤ 2 ^ 47 }
+        requires end { to ≤ address_end }
         requires code { IsTrue (is_code code) }
         ensures ok { OnOk result ((state : State) → code_of state ≡ code →
             Adds self.old self.new (Fill from to state)) }
@@ -42,9 +44,9 @@ impl<A: Allocator + Copy> Shadow<A> {
     /// is left of its last granule is a heap redzone, as are the 32 bytes before its first granule
     /// and the 32 after its last.
     pub fn block(&mut self, at: u64, size: u64) -> Result<(), NoMemory>
-        requires granules { at % 8 ≡ 0 }
+        requires granules { IsGranuleStart at }
         requires room { redzone ≤ at }
-        requires end { at + rounded size + redzone ≤ 2 ^ 47 }
+        requires end { at + rounded size + redzone ≤ address_end }
         ensures ok { OnOk result (Adds self.old self.new (Block at size)) }
         ensures err { OnErr result (AddsInPart self.old self.new (Block at size)) }
     {
@@ -56,7 +58,7 @@ impl<A: Allocator + Copy> Shadow<A> {
     /// become user poison, if none of its bytes at the region's end or past it is addressable;
     /// otherwise it stays as it is.
     pub fn poison(&mut self, at: u64, size: u64) -> Result<(), NoMemory>
-        requires { at + size ≤ 2 ^ 47 }
+        requires { at + size ≤ address_end }
         ensures ok { OnOk result (Adds self.old self.new (Poison at size)) }
         ensures err { OnErr result (AddsInPart self.old self.new (Poison at size)) }
     {
@@ -66,7 +68,7 @@ impl<A: Allocator + Copy> Shadow<A> {
     /// Makes `size` bytes from `at` on addressable, and with each of them all bytes before it in
     /// its granule.
     pub fn unpoison(&mut self, at: u64, size: u64) -> Result<(), NoMemory>
-        requires { at + size ≤ 2 ^ 47 }
+        requires { at + size ≤ address_end }
         ensures ok { OnOk result (Adds self.old self.new (Unpoison at size)) }
         ensures err { OnErr result (AddsInPart self.old self.new (Unpoison at size)) }
     {
@@ -75,9 +77,9 @@ impl<A: Allocator + Copy> Shadow<A> {
 
     /// Marks a block, run after run of granules.
     fn block_granules(&mut self, at: u64, size: u64) -> Result<(), NoMemory>
-        requires granules { at % 8 ≡ 0 }
+        requires granules { IsGranuleStart at }
         requires room { redzone ≤ at }
-        requires end { at + rounded size + redzone ≤ 2 ^ 47 }
+        requires end { at + rounded size + redzone ≤ address_end }
         ensures ok { OnOk result ((granule : ℕ) → value_at self.new granule
             ≡ block_byte at size granule (value_at self.old granule)) }
         ensures err { OnErr result (IsBrokenOff (at - redzone) (at + rounded size + redzone)
@@ -85,7 +87,7 @@ impl<A: Allocator + Copy> Shadow<A> {
     {
         let first = at / GRANULE;
         let redzone = Run {
-            length: REDZONE,
+            length: REDZONE_GRANULES,
             byte: HEAP_REDZONE,
         };
         let whole = Run {
@@ -96,13 +98,13 @@ impl<A: Allocator + Copy> Shadow<A> {
             length: size.div_ceil(GRANULE) - size / GRANULE,
             byte: (size % GRANULE) as u8,
         };
-        self.fill_runs(first - REDZONE, &[redzone, whole, part, redzone])
+        self.fill_runs(first - REDZONE_GRANULES, &[redzone, whole, part, redzone])
     }
 
     /// Changes a region: its whole granules by one fill, and a granule that lies there in part by
     /// itself.
     fn change(&mut self, change: Change, at: u64, size: u64) -> Result<(), NoMemory>
-        requires { at + size ≤ 2 ^ 47 }
+        requires { at + size ≤ address_end }
         ensures ok { OnOk result ((granule : ℕ) → value_at self.new granule
             ≡ changed_in change at (at + size) (value_at self.old granule) granule) }
         ensures err { OnErr result (IsBrokenOff at (at + size)
@@ -126,15 +128,15 @@ impl<A: Allocator + Copy> Shadow<A> {
 
     /// Changes the granule that an edge of a region cuts in two, if it cuts one.
     fn change_edge(&mut self, change: Change, at: u64, end: u64, edge: u64) -> Result<(), NoMemory>
-        requires { edge ≤ 2 ^ 47 }
+        requires { edge ≤ address_end }
         ensures ok { OnOk result ((granule : ℕ) → value_at self.new granule
-            ≡ (if granule == edge / 8 && not (edge % 8 == 0)
+            ≡ (if granule == granule_of edge && not (edge % granule_size == 0)
             then changed_in change at end (value_at self.old granule) granule
             else value_at self.old granule)) }
-        ensures err { OnErr result ((0 < edge % 8)
+        ensures err { OnErr result ((0 < edge % granule_size)
             × ((granule : ℕ) → value_at self.new granule ≡ value_at self.old granule)
-            × (changed_in change at end (value_at self.old (edge / 8)) (edge / 8)
-            ≢ value_at self.old (edge / 8))) }
+            × (changed_in change at end (value_at self.old (granule_of edge)) (granule_of edge)
+            ≢ value_at self.old (granule_of edge))) }
     {
         if edge % GRANULE == 0 {
             return Ok(());

@@ -5,16 +5,14 @@ ghost use Rattle.std.specs.Prelude.{◌≡◌, ◌≢◌, ℕ, ◌+◌, ◌-◌,
 ghost use Rattle.std.specs.Prelude.{nat_lt, if◌then◌else◌, List, [], IsTrue, OnOk, OnErr};
 ghost use Rattle.shadow_map.specs.States.{Mark, is_addressable, state_of, lift};
 ghost use Rattle.shadow_map.specs.States.{least_unaddressable, bad_byte_of};
-ghost use Rattle.shadow_map.specs.Checks.{is_width};
+ghost use Rattle.asan_units.specs.Units.{address_end, granule_count, is_width};
 ghost use Rattle.shadow_map.specs.Shows.{Shows, value_at};
 
 use crate::NoMemory;
-use crate::granule::{GRANULE, front};
+use crate::granule::front;
+use asan_units::{GRANULE, GRANULES};
 use page_table::{PageTable, Run};
 use std::alloc::{Allocator, Global};
-
-/// How many granules the memory has whose bytes can be marked.
-const GRANULES: u64 = 1 << 44;
 
 /// The shadow bytes of a process's memory.
 ///
@@ -41,8 +39,8 @@ impl<A: Allocator + Copy> Shadow<A> {
     #[inline]
     #[tactic(auto, unfolding(crate::specs::Shows::value_at))]
     pub fn value(&self, granule: u64) -> u8
-        ensures kept { granule < 2 ^ 44 → result ≡ value_at self.now granule }
-        ensures past_the_end { 2 ^ 44 ≤ granule → result ≡ 0 }
+        ensures kept { granule < granule_count → result ≡ value_at self.now granule }
+        ensures past_the_end { granule_count ≤ granule → result ≡ 0 }
         ensures shown { (marks : List Mark) → Shows self.now marks →
             result ≡ lift (state_of marks) granule }
     {
@@ -58,7 +56,7 @@ impl<A: Allocator + Copy> Shadow<A> {
     #[inline]
     pub fn bad_byte(&self, at: u64, width: u8) -> Option<u64>
         requires width { IsTrue (is_width width) }
-        requires end { at + width ≤ 2 ^ 47 }
+        requires end { at + width ≤ address_end }
         ensures { (marks : List Mark) → Shows self.now marks →
             result ≡ bad_byte_of (state_of marks) at width }
     {
@@ -77,7 +75,7 @@ impl<A: Allocator + Copy> Shadow<A> {
     /// The least of `size` bytes from `at` on that is not addressable. Memory that was never
     /// marked, or was unpoisoned as a whole, costs a few steps, however large it is.
     pub fn first_poisoned(&self, at: u64, size: u64) -> Option<u64>
-        requires { at + size ≤ 2 ^ 47 }
+        requires { at + size ≤ address_end }
         ensures { (marks : List Mark) → Shows self.now marks →
             result ≡ least_unaddressable (state_of marks) at size }
     {
@@ -96,7 +94,7 @@ impl<A: Allocator + Copy> Shadow<A> {
     /// The first granule from one on, below another, whose shadow byte is not 0.
     #[tactic(auto, unfolding(crate::specs::Shows::value_at))]
     fn first_marked(&self, from: u64, to: u64) -> Option<u64>
-        requires { to ≤ 2 ^ 44 }
+        requires { to ≤ granule_count }
         ensures { IsFirstNonzero (λ granule. value_at self.now granule) from to result }
     {
         self.granules.first_nonzero(from, to)
@@ -105,7 +103,7 @@ impl<A: Allocator + Copy> Shadow<A> {
     /// The least of `size` bytes from `at` on, within the granule of `at`, that is not addressable.
     #[inline]
     fn bad_byte_in_granule(&self, at: u64, size: u64) -> Option<u64>
-        requires { at < 2 ^ 47 }
+        requires { at < address_end }
         ensures { (marks : List Mark) → Shows self.now marks →
             result ≡ bad_byte_of (state_of marks) at size }
     {
@@ -127,7 +125,7 @@ impl<A: Allocator + Copy> Shadow<A> {
     #[inline]
     #[tactic(auto, unfolding(crate::specs::Shows::value_at))]
     fn value_before_end(&self, granule: u64) -> u8
-        requires { granule < 2 ^ 44 }
+        requires { granule < granule_count }
         ensures kept { result ≡ value_at self.now granule }
         ensures shown { (marks : List Mark) → Shows self.now marks →
             result ≡ lift (state_of marks) granule }
@@ -141,7 +139,7 @@ impl<A: Allocator + Copy> Shadow<A> {
     #[tactic(auto, unfolding(crate::specs::Shows::value_at))]
     pub(crate) fn fill(&mut self, from: u64, to: u64, value: u8) -> Result<(), NoMemory>
         requires order { from ≤ to }
-        requires end { to ≤ 2 ^ 44 }
+        requires end { to ≤ granule_count }
         ensures ok { OnOk result ((granule : ℕ) → value_at self.new granule
             ≡ (if nat_le from granule && nat_lt granule to then value
             else value_at self.old granule)) }
@@ -159,7 +157,7 @@ impl<A: Allocator + Copy> Shadow<A> {
     /// were.
     #[tactic(auto, unfolding(crate::specs::Shows::value_at))]
     pub(crate) fn fill_runs(&mut self, from: u64, runs: &[Run]) -> Result<(), NoMemory>
-        requires end { from + length_of runs.now ≤ 2 ^ 44 }
+        requires end { from + length_of runs.now ≤ granule_count }
         ensures ok { OnOk result ((granule : ℕ) → value_at self.new granule
             ≡ (if nat_le from granule && nat_lt granule (from + length_of runs.now)
             then byte_of_runs runs.now (granule - from) else value_at self.old granule)) }

@@ -24,4 +24,4 @@ mod tests;
 pub use lane_end::LaneEnd;
 pub use lane_in::LaneIn;
 pub use lane_out::LaneOut;
-pub use make::{LaneError, lane};
+pub use make::{LaneError, MOST_ITEMS, lane};

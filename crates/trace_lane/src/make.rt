@@ -10,7 +10,7 @@ use std::alloc::Allocator;
 use thiserror::Error;
 
 /// The most items that a ring holds.
-const MOST_ITEMS: usize = 1 << 16;
+pub const MOST_ITEMS: usize = 1 << 16;
 
 /// The most items that the buffer of the taking end holds.
 const MOST_BUFFERED: usize = 64;

@@ -5,7 +5,7 @@ use Rattle.std.proofs.Math.Bridge.{le_prop}
 use Rattle.std.proofs.Props.{props}
 use Rattle.std.proofs.lemmas.Bool.{cases_eq}
 use Rattle.std.proofs.lemmas.Bool.Decides.{nat_tests}
-use Rattle.trace_record.specs.Ranges.{is_width}
+use Rattle.asan_units.specs.Units.{is_width}
 use Rattle.trace_record.specs.Flaws.{access_flaw, region_flaw, place_flaw}
 use Rattle.trace_record.specs.declared.event.Access.{Access}
 use Rattle.trace_record.specs.declared.event.Region.{Region}

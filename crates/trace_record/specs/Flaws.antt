@@ -2,7 +2,8 @@
 use Rattle.std.specs.Prelude.{ℕ, ◌+◌, nat_lt, nat_le, if◌then◌else◌, Option, Some, None}
 use Rattle.trace_record.specs.declared.end.Flaw.{Flaw}
 use Rattle.trace_record.specs.declared.end.Flaw.TheVariants as flaw
-use Rattle.trace_record.specs.Ranges.{is_width, largest_region, address_end}
+use Rattle.trace_record.specs.Ranges.{largest_region}
+use Rattle.asan_units.specs.Units.{is_width, address_end}
 
 -- of an access: its width is none that an access has, or it reaches past the last address
 abbrev pub access_flaw : ℕ → ℕ → Option Flaw

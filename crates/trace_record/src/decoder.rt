@@ -15,7 +15,7 @@ use crate::partial::Partial;
 use std::marker::Model;
 
 /// The greatest event limit.
-const LARGEST_LIMIT: u32 = 1 << 24;
+pub const LARGEST_LIMIT: u32 = 1 << 24;
 
 /// Reads one stream, whose bytes come in pieces of any lengths, record by record.
 ///

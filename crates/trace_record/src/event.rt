@@ -1,12 +1,11 @@
 //! The events of a trace, and the ranges that their numbers keep.
 
 ghost use Rattle.std.specs.Prelude.{◌≡◌, ◌+◌, ◌<◌, ◌≤◌, IsTrue, MatchResult, Some};
-ghost use Rattle.trace_record.specs.Ranges.{is_width, largest_region, address_end};
+ghost use Rattle.trace_record.specs.Ranges.{largest_region};
+ghost use Rattle.asan_units.specs.Units.{is_width, address_end};
 
 use crate::end::Flaw;
-
-/// The first address past those that a process has.
-const ADDRESS_END: u64 = 1 << 47;
+use asan_units::{ADDRESS_END, is_width};
 
 /// The most bytes that a malloc, a poison or an unpoison may speak of.
 const LARGEST_REGION: u64 = 1 << 28;
@@ -133,13 +132,4 @@ impl Place {
     {
         self.at
     }
-}
-
-/// Whether an access can have this width. It is computed without branches: of four comparisons a
-/// processor would often predict one wrong.
-#[inline]
-fn is_width(width: u8) -> bool
-    ensures { result ≡ is_width width }
-{
-    width <= 8 && width.is_power_of_two()
 }

@@ -13,7 +13,7 @@ mod partial;
 #[cfg(test)]
 mod tests;
 
-pub use decoder::{Ahead, Decoder, Out, Step};
+pub use decoder::{Ahead, Decoder, LARGEST_LIMIT, Out, Step};
 pub use encoding::encode;
 pub use end::{End, Fate, Flaw};
 pub use event::{Access, Event, Place, Region};

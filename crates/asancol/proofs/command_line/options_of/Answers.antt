@@ -1,16 +1,17 @@
 use Rattle.std.specs.Prelude.{codes}
 use Rattle.std.specs.Str.Parse.{ExplainsUnsignedError, HasUnsignedDigitsIfOk, ParsesUnsigned}
 use Rattle.clap.specs.Words.{found_of, one_text}
-use Rattle.asancol.specs.Settings.{IsSet, usual_bound, usual_limit, usual_ring, usual_workers}
+use Rattle.asancol.specs.Settings.{IsSet}
+use Rattle.asan_collect.specs.Ranges.{usual_quarantine, usual_limit, usual_ring, usual_workers}
 use Rattle.asancol.proofs.Reading.{made_of, set_of}
 use Rattle.asancol.proofs.command_line.options_of.Goals as goal
 
 pub returns : goal.returns
 returns c =
     let found = found_of c.args.matches.now in
-    let quarantine : IsSet 64 (one_text found (codes "quarantine")) usual_bound c.unwrap_or.result =
+    let quarantine : IsSet 64 (one_text found (codes "quarantine")) usual_quarantine c.unwrap_or.result =
     set_of (λ text r. ParsesUnsigned 64 10 text r × ExplainsUnsignedError 10 text r × HasUnsignedDigitsIfOk text r) 64 (λ text r given. given.0)
-    (one_text found (codes "quarantine")) c.get_one.result _ usual_bound _ c.unwrap_or.ensures c.usual-usual.ensures.quarantine c.get_one.ensures.none c.get_one.ensures.value in
+    (one_text found (codes "quarantine")) c.get_one.result _ usual_quarantine _ c.unwrap_or.ensures c.usual-usual.ensures.quarantine c.get_one.ensures.none c.get_one.ensures.value in
     let ring : IsSet 32 (one_text found (codes "ring")) usual_ring c.unwrap_or-2.result =
     set_of (λ text r. ParsesUnsigned 32 10 text r × ExplainsUnsignedError 10 text r × HasUnsignedDigitsIfOk text r) 32 (λ text r given. given.0)
     (one_text found (codes "ring")) c.get_one-2.result _ usual_ring _ c.unwrap_or-2.ensures c.usual-usual.ensures.ring c.get_one-2.ensures.none c.get_one-2.ensures.value in

@@ -1,7 +1,8 @@
 use Rattle.std.proofs.Common.{◌≡◌, ◌<◌, ◌≤◌, ◌+◌, ◌-◌, List, [], ◌∷◌, ◌++◌, refl, subst, ◌∙◌, arith}
 use Rattle.shadow_map.specs.States.{Freed, HeapRedzone}
 use Rattle.std.specs.Prelude.{sum_by}
-use Rattle.heap_book.specs.Spans.{Extent, span_bytes, rounded}
+use Rattle.heap_book.specs.Spans.{Extent, span_bytes}
+use Rattle.asan_units.specs.Units.{rounded}
 use Rattle.asan_check.specs.History.{marks, freed_mark, released_mark}
 use Rattle.asan_check.proofs.Frees.{releasing_starts, releasing_goes_on, releasing_ends, marked_push}
 use Rattle.asan_check.proofs.checker.Checker.hold.Goals as goal
