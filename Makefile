@@ -5,7 +5,7 @@ PREFIX ?= /usr/local
 SOURCES := crates.txt HANDLES $(shell find crates -name out -prune -o -type f \( -name '*.rt' -o -name '*.antt' \) -print)
 EXAMPLE := examples/one_byte_past_the_end.trace
 
-.PHONY: all demo check install clean
+.PHONY: all demo check stress install clean
 
 # The program, proved.
 all: asancol
@@ -23,6 +23,13 @@ demo: asancol
 # Proves everything from nothing, tries the wrong bodies, and runs the tests and the program.
 check:
 	tests/check.py
+
+# Many traces at once, again and again, for as many minutes: each text has to be that of its trace
+# checked alone.
+MINUTES := 10
+
+stress: asancol
+	tests/stress.py --minutes $(MINUTES) ./asancol
 
 install: asancol
 	install -D asancol $(DESTDIR)$(PREFIX)/bin/asancol
