@@ -89,6 +89,21 @@ def cut(process=0):
     return f"p{process} end truncated events 1 offset 25 reports 0\n"
 
 
+def prepared(before=None):
+    """What is done just before a program starts: root is given up for good, and `before` called.
+
+    Where the real user is not the one that a program acts for, the C library opens something in
+    the place of each standard stream that is closed, and no other run has that."""
+
+    def prepare():
+        os.setresgid(*[os.getegid()] * 3)
+        os.setresuid(*[os.geteuid()] * 3)
+        if before:
+            before()
+
+    return prepare
+
+
 class Program:
     """A program that was built, and the folder that it runs in."""
 
@@ -101,7 +116,11 @@ class Program:
         if "stdin" not in streams:
             streams["input"] = given
         ran = subprocess.run(
-            [self.path, *words], preexec_fn=before, timeout=PATIENCE, check=False, **streams
+            [self.path, *words],
+            preexec_fn=prepared(before),
+            timeout=PATIENCE,
+            check=False,
+            **streams,
         )
         return ran.returncode, ran.stdout, ran.stderr
 
@@ -240,6 +259,30 @@ def input_that_cannot_be_read(program):
     finally:
         os.close(folder)
     program.expect([], 3, text, before=lambda: os.close(0))
+
+
+def closing(*streams):
+    """What closes these standard streams before the program starts."""
+    return lambda: [os.close(stream) for stream in streams]
+
+
+def closed_streams(program):
+    """No file is taken for a standard stream that was closed."""
+    put("sound", SOUND)
+    put("past", PAST_THE_END)
+    unread = "p{} end read-failed events 0 offset 0 reports 0\n"
+    for words, text in [
+        (["-"], unread.format(0)),
+        (["sound", "-"], sound(0) + unread.format(1)),
+        (["-", "past", "sound"], unread.format(0) + past_the_end(1) + sound(2)),
+    ]:
+        program.expect(["check", *words], 3, text, before=closing(0))
+    program.expect(["check", "sound", "past"], 1, sound(0) + past_the_end(1), before=closing(0))
+    for streams in [(1,), (0, 1), (0, 1, 2)]:
+        ran = program.run(["check", "past", "sound"], before=closing(*streams))
+        same(streams, ran, (4, b"", b""))
+    ran = program.run(["check", "--verbose", "past", "sound"], before=closing(0, 2))
+    same("check --verbose", ran, (1, (past_the_end(0) + sound(1)).encode(), b""))
 
 
 # ---- files
@@ -434,6 +477,18 @@ def word_that_is_no_text(program):
         program.expect([], 0, sound(), stdin=file)
 
 
+def name_that_is_no_text(program):
+    """The program does its work under a path that is not UTF-8, and names a word that is none."""
+    os.mkdir(b"caf\xe9")
+    moved = Program(shutil.copy(program.path, b"caf\xe9/asancol"))
+    put("trace", PAST_THE_END)
+    moved.expect(["check", "trace"], 1, past_the_end())
+    moved.expect([], 1, past_the_end(), given=PAST_THE_END)
+    moved.expect_refused(["trace"], HINT)
+    said = r"error: a word of the command line is not valid UTF-8: '\xff'" "\n"
+    moved.expect(["check", b"\xff"], 2, "", said)
+
+
 def help_texts(program):
     serve = "asancol serve [OPTIONS] --count <SENDERS> <SOCKET>\n"
     for words, part in [
@@ -592,10 +647,11 @@ class Served:
     # Those that were started and not seen to end.
     running = []
 
-    def __init__(self, program, *words):
+    def __init__(self, program, *words, before=None):
         self.words = ["serve", *words, "socket"]
         self.program = subprocess.Popen(
             [program.path, *self.words],
+            preexec_fn=prepared(before),
             stdin=subprocess.DEVNULL,
             stdout=subprocess.PIPE,
             stderr=subprocess.PIPE,
@@ -650,6 +706,21 @@ def options_of_serve(program):
     Served(program, "--limit", "2", "--count", "1").send(TWICE_FREED).expect(
         3, "p0 end too-many events 2 offset 34 reports 0\n"
     )
+
+
+def peers_beside_closed_streams(program):
+    """No peer is taken for a standard stream that was closed: none gets what is printed."""
+    for streams in [(0,), (0, 1), (0, 1, 2)]:
+        served = Served(program, "--count", "2", before=closing(*streams))
+        peers = [served.connect() for _ in range(2)]
+        for peer in peers:
+            peer.sendall(PAST_THE_END)
+            peer.shutdown(socket.SHUT_WR)
+        both = past_the_end(0) + past_the_end(1)
+        served.expect(*((1, both) if streams == (0,) else (4, "")))
+        for peer in peers:
+            same(streams, peer.recv(4096), b"")
+            peer.close()
 
 
 def checkers_that_work(program):
@@ -707,6 +778,7 @@ CASES = [
     one_file,
     worked_traces,
     input_that_cannot_be_read,
+    closed_streams,
     as_many_processes_as_files,
     one_file_twice,
     files_of_all_kinds,
@@ -717,6 +789,7 @@ CASES = [
     ends_of_ranges,
     refused_words,
     word_that_is_no_text,
+    name_that_is_no_text,
     help_texts,
     release,
     file_without_a_command,
@@ -727,6 +800,7 @@ CASES = [
     no_memory_to_begin,
     peers_on_a_socket,
     options_of_serve,
+    peers_beside_closed_streams,
     checkers_that_work,
     paths_that_cannot_be_served,
     file_that_says_ready,

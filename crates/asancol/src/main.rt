@@ -2,6 +2,7 @@
 #![tactic(auto)]
 
 mod arguments;
+mod closed_streams;
 mod command_line;
 mod input_door;
 mod report;
@@ -10,45 +11,25 @@ mod serve;
 mod source;
 #[cfg(test)]
 mod tests;
+mod words;
 
-use std::env::FillError;
+use closed_streams::ClosedStreams;
 use std::io::ErrorKind;
 use std::process::ExitCode;
-use std::rt::Env;
-use std::{env, io};
+use words::{word_that_is_no_text, words_of};
 
 /// How long a word may be that is named.
 const LONGEST_WORD: usize = 4096;
 
 fn main(rt: HostRuntime) -> ExitCode {
+    let closed = ClosedStreams::hold(&rt);
     let output = &mut rt.stdout();
     let faults = &mut rt.stderr();
-    let status = match words_of(&rt) {
+    let status = match words_of(&rt, rt.alloc()) {
         Ok(words) => run::run(&rt, &words, rt.stdin(), output, faults),
         Err(error) if error.kind() == ErrorKind::OutOfMemory => run::no_memory(faults),
         Err(_) => run::no_text(faults, word_that_is_no_text(&rt, &mut [0; LONGEST_WORD])),
     };
+    drop(closed);
     ExitCode::from(status)
-}
-
-/// The words after the program's name.
-fn words_of<R: Env + AllocGlobal>(rt: &R) -> io::Result<Vec<String>> {
-    let mut words = Vec::new(rt.alloc());
-    for word in env::args(rt)?.skip(1) {
-        words.push(word)?;
-    }
-    Ok(words)
-}
-
-/// The first word after the program's name that is not UTF-8, or an empty one where there is none
-/// that fits into `room`.
-fn word_that_is_no_text<'a, R: Env>(rt: &R, room: &'a mut [u8]) -> &'a [u8] {
-    for number in 1..usize::MAX {
-        match rt.arg(number, room) {
-            Ok(length) if str::from_utf8(&room[..length]).is_err() => return &room[..length],
-            Err(FillError::NotPresent) => break,
-            _ => {}
-        }
-    }
-    &[]
 }
