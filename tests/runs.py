@@ -261,6 +261,28 @@ def input_that_cannot_be_read(program):
     program.expect([], 3, text, before=lambda: os.close(0))
 
 
+def many_reports(program):
+    """None is lost of more than 5,000 reports of one trace."""
+    count = 6000
+    records = []
+    lines = []
+    for first in range(2, 2 + count, 3):
+        records += [load(1, 0x1008), free(0x2000), malloc(0x1008, 8)]
+        lines += [
+            f"#{first} load 1 at 000000001008 bad 000000001008 heap-buffer-overflow shadow fa\n",
+            f"#{first + 1} free at 000000002000 bad-free\n",
+            f"#{first + 2} malloc 8 at 000000001008 bad-malloc\n",
+        ]
+    trace = closed(malloc(0x1000, 8), *records)
+    lines.append(f"end closed events {count + 1} offset {len(trace)} reports {count}\n")
+    texts = ["".join(f"p{process} {line}" for line in lines) for process in range(2)]
+    put("trace", trace)
+    program.expect([], 1, texts[0], given=trace)
+    program.expect(["check", "trace"], 1, texts[0])
+    for ring in ["1", "1024", "65536"]:
+        program.expect(["check", "--ring", ring, "trace", "trace"], 1, "".join(texts))
+
+
 def closing(*streams):
     """What closes these standard streams before the program starts."""
     return lambda: [os.close(stream) for stream in streams]
@@ -779,6 +801,7 @@ CASES = [
     worked_traces,
     input_that_cannot_be_read,
     closed_streams,
+    many_reports,
     as_many_processes_as_files,
     one_file_twice,
     files_of_all_kinds,
