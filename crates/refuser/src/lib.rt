@@ -47,12 +47,14 @@ impl<B: Allocator> Refuser<B> {
         self.requests.has_refused()
     }
 
-    /// How many requests were made, a refused one too.
+    /// How many requests were made, a refused one too. No clause says the number: another thread
+    /// may make one at any time.
     pub fn requests_made(&self) -> u64 {
         self.requests.count()
     }
 
-    /// How many bytes all these requests asked for. What was given back since is not taken off.
+    /// How many bytes all these requests asked for. What was given back since is not taken off. No
+    /// clause says the number either.
     pub fn bytes_asked(&self) -> u64 {
         self.requests.bytes_asked()
     }

@@ -1,10 +1,10 @@
 //! A checker and the plain model, driven by the same events.
-ghost use Rattle.std.specs.Prelude.{◌<◌};
 
 use super::model::{Model, State, state_of};
 use super::{USUAL, free, load, malloc, poison, step, store, unpoison};
 use crate::{Checker, report_text};
 use std::test::Fail;
+use test_draws::Draws;
 use trace_record::{Event, Flaw};
 
 /// How many histories are drawn.
@@ -23,57 +23,37 @@ const GREATEST_SIZE: u64 = 40;
 /// them, touch or meet.
 const STRIDE: u64 = 80;
 
-/// A fixed sequence of numbers.
-#[derive(Drop)]
-struct Draws {
-    state: u64,
+/// A size: a small one mostly, else one from a power of two on.
+fn drawn_size(draws: &mut Draws) -> u64 {
+    if draws.below(16) == 0 {
+        let power = 1u64 << draws.below(29);
+        power.saturating_add(draws.below(9))
+    } else {
+        draws.below(GREATEST_SIZE + 1)
+    }
 }
 
-impl Draws {
-    /// The next number, below a bound.
-    fn below(&mut self, bound: u64) -> u64
-        requires { 0 < bound }
-        ensures { result < bound }
-    {
-        self.state = self
-            .state
-            .wrapping_mul(6_364_136_223_846_793_005)
-            .wrapping_add(1_442_695_040_888_963_407);
-        (self.state >> 33) % bound
-    }
-
-    /// A size: a small one mostly, else one from a power of two on.
-    fn size(&mut self) -> u64 {
-        if self.below(16) == 0 {
-            let power = 1u64 << self.below(29);
-            power.saturating_add(self.below(9))
-        } else {
-            self.below(GREATEST_SIZE + 1)
-        }
-    }
-
-    /// An event in the window from an address on, or a flaw where it would reach past the last
-    /// address, or is too large.
-    fn event(&mut self, base: u64) -> Result<Event, Flaw> {
-        let at = base.saturating_add(self.below(WINDOW));
-        let size = self.size();
-        let width = 1 << self.below(4);
-        let stray = if self.below(8) == 0 {
-            self.below(STRIDE)
-        } else {
-            0
-        };
-        let block = base
-            .saturating_add(self.below(WINDOW / STRIDE) * STRIDE)
-            .saturating_add(stray);
-        match self.below(16) {
-            0..3 => load(width, at),
-            3..6 => store(width, at),
-            6..9 => malloc(block, size),
-            9..12 => free(block),
-            12..14 => poison(at, size),
-            _ => unpoison(at, size),
-        }
+/// An event in the window from an address on, or a flaw where it would reach past the last
+/// address, or is too large.
+fn drawn_event(draws: &mut Draws, base: u64) -> Result<Event, Flaw> {
+    let at = base.saturating_add(draws.below(WINDOW));
+    let size = drawn_size(draws);
+    let width = 1 << draws.below(4);
+    let stray = if draws.below(8) == 0 {
+        draws.below(STRIDE)
+    } else {
+        0
+    };
+    let block = base
+        .saturating_add(draws.below(WINDOW / STRIDE) * STRIDE)
+        .saturating_add(stray);
+    match draws.below(16) {
+        0..3 => load(width, at),
+        3..6 => store(width, at),
+        6..9 => malloc(block, size),
+        9..12 => free(block),
+        12..14 => poison(at, size),
+        _ => unpoison(at, size),
     }
 }
 
@@ -81,7 +61,7 @@ impl Draws {
 fn checker_agrees_with_the_model(rt: HostRuntime) -> Result<(), Fail> {
     let bounds = [0, 71, 72, 200, 400, USUAL];
     let bases = [0x1000, 0, (1 << 47) - WINDOW];
-    let mut draws = Draws { state: 1 };
+    let mut draws = Draws::new();
     let mut text = String::new(rt.alloc());
     for history in 0..HISTORIES {
         let bound = bounds[(history / 3 % 6) as usize];
@@ -94,7 +74,7 @@ fn checker_agrees_with_the_model(rt: HostRuntime) -> Result<(), Fail> {
         };
         let mut reports = Vec::new(rt.alloc());
         for _ in 0..EVENTS {
-            if let Ok(event) = draws.event(base) {
+            if let Ok(event) = drawn_event(&mut draws, base) {
                 let report = step(&rt, &mut checker, &event)?;
                 assert_eq!(rt; report, model.step(event)?, "history {history}, {event:?}");
                 if let Some(report) = report {

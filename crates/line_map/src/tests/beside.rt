@@ -1,41 +1,21 @@
 //! A map beside a plain ordered map, to which the same drawn calls are made.
-ghost use Rattle.std.specs.Prelude.{◌<◌};
 
 use super::{WIDTHS, insert, live, remove};
 use crate::{LineMap, Slot};
 use std::alloc::{AllocError, Global};
 use std::collections::BTreeMap;
 use std::test::Fail;
+use test_draws::Draws;
 
 /// How many calls are drawn.
 const CALLS: u64 = 20_000;
 
-/// A fixed sequence of numbers.
-#[derive(Drop)]
-struct Draws {
-    state: u64,
-}
-
-impl Draws {
-    /// The next number, below a bound.
-    fn below(&mut self, bound: u64) -> u64
-        requires { 0 < bound }
-        ensures { result < bound }
-    {
-        self.state = self
-            .state
-            .wrapping_mul(6_364_136_223_846_793_005)
-            .wrapping_add(1_442_695_040_888_963_407);
-        (self.state >> 33) % bound
-    }
-
-    /// An address at most two lines from an end of a node of some level, mostly below 2^47.
-    fn address(&mut self) -> u64 {
-        let width = WIDTHS[self.below(8) as usize];
-        let end = width.wrapping_mul(self.below(4) + 1);
-        let line = end.wrapping_add(self.below(4) * 64).wrapping_sub(128);
-        line.wrapping_add(self.below(2) * self.below(64))
-    }
+/// An address at most two lines from an end of a node of some level, mostly below 2^47.
+fn drawn_address(draws: &mut Draws) -> u64 {
+    let width = WIDTHS[draws.below(8) as usize];
+    let end = width.wrapping_mul(draws.below(4) + 1);
+    let line = end.wrapping_add(draws.below(4) * 64).wrapping_sub(128);
+    line.wrapping_add(draws.below(2) * draws.below(64))
 }
 
 /// The two maps.
@@ -91,15 +71,15 @@ impl Both {
 
 #[test]
 fn map_agrees_with_a_plain_one(rt: HostRuntime) -> Result<(), Fail> {
-    let mut draws = Draws { state: 1 };
+    let mut draws = Draws::new();
     let mut both = Both::new(rt.alloc());
     let mut most = 0;
     for call in 0..CALLS {
-        let at = draws.address();
+        let at = drawn_address(&mut draws);
         let size = draws.below(1 << 32);
         both.call(at, size)?;
         most = both.plain.len().max(most);
-        for near in [at, draws.address(), draws.address()] {
+        for near in [at, drawn_address(&mut draws), drawn_address(&mut draws)] {
             assert!(rt; both.agree(near), "call {call}, address {near}");
         }
     }
