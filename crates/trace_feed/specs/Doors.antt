@@ -3,6 +3,18 @@ use Rattle.std.specs.Prelude.{◌≡◌, ℕ, ◌+◌, ◌∷◌, ◌&&◌, [], 
 use Rattle.std.specs.Prelude.{None, Option, Some}
 use Rattle.trace_feed.specs.declared.door.Arrival.{Arrival}
 use Rattle.trace_feed.specs.declared.door.Arrival.TheVariants.{Came, Refused, Over}
+use Rattle.trace_feed.specs.Feeds.{FeedState}
+
+-- what is seen of any door whose feeds are of the type F
+pub record DoorState (F : Type 0) : Type 0 where
+  -- the arrivals still to come, without the end, where they are known
+  pub to_arrive : Option (List (Arrival F))
+  -- how many arrivals are left, where that is known
+  pub left : Option ℕ
+  -- how many senders were refused
+  pub refusals : ℕ
+  -- whether no more senders come
+  pub is_shut : Bool
 
 -- the arrivals before the first Over
 abbrev pub before_over : {F : Type 0} → List (Arrival F) → List (Arrival F)
@@ -47,17 +59,16 @@ IfCame P (Came f) = P f
 IfCame P Refused = Unit {0}
 IfCame P Over = Unit {0}
 
--- whether no read has failed of the feed that came, where one did, by the count of a feed's failed
--- reads
-abbrev pub is_fresh : {F : Type 0} → (F → ℕ) → Arrival F → Bool
-is_fresh count (Came f) = nat_eq (count f) 0
-is_fresh count Refused = true
-is_fresh count Over = true
+-- whether no read has failed of the feed that came, where one did, by what is seen of a feed
+abbrev pub is_fresh : {F : Type 0} → (F → FeedState) → Arrival F → Bool
+is_fresh seen (Came f) = nat_eq (seen f).faults 0
+is_fresh seen Refused = true
+is_fresh seen Over = true
 
 -- whether no read has failed of any feed in the list
-abbrev pub all_fresh : {F : Type 0} → (F → ℕ) → List (Arrival F) → Bool
-all_fresh count [] = true
-all_fresh count (arrival ∷ rest) = is_fresh count arrival && all_fresh count rest
+abbrev pub all_fresh : {F : Type 0} → (F → FeedState) → List (Arrival F) → Bool
+all_fresh seen [] = true
+all_fresh seen (arrival ∷ rest) = is_fresh seen arrival && all_fresh seen rest
 
 -- a door whose arrivals are known: those still to come, and how many senders were refused
 pub record Arrivals (F : Type 0) : Type 0 where

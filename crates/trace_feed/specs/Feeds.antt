@@ -2,10 +2,11 @@
 use Rattle.std.specs.Prelude.{◌≡◌, ℕ, ◌+◌, ◌<◌, ◌≤◌, ◌⊎◌, List, length, Option, Some, Contains}
 use Rattle.std.specs.Prelude.{drop}
 
--- what is seen of any feed: the bytes still to come, where they are known, and how many reads have
--- failed
+-- what is seen of any feed
 pub record FeedState : Type 0 where
+  -- the bytes still to come, where they are known
   pub to_come : Option (List ℕ)
+  -- how many reads have failed
   pub faults : ℕ
 
 -- a feed over bytes in memory: all of its bytes, where its reads are cut, where they fail, the

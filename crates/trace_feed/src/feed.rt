@@ -1,8 +1,9 @@
 //! The trait of feeds: the bytes of one sender, in pieces.
 
-ghost use Rattle.std.specs.Prelude.{◌≡◌, ◌+◌, ◌-◌, ◌<◌, ◌≤◌, ◌^◌, ℕ, IfOk, List, Option};
+ghost use Rattle.std.specs.Prelude.{◌≡◌, ◌+◌, ◌-◌, ◌<◌, ◌≤◌, ◌^◌, IfOk};
 ghost use Rattle.std.specs.Prelude.{if◌then◌else◌, is_ok, length};
 ghost use Rattle.std.specs.Io.KnownBytes.{ReadConsumes};
+ghost use Rattle.trace_feed.specs.Feeds.{FeedState};
 
 use thiserror::Error;
 
@@ -13,11 +14,8 @@ pub struct FeedFault;
 
 /// Bytes that come in pieces, and a count of the reads that failed.
 pub trait Feed {
-    // The bytes still to come, where they are known.
-    ghost to_come: { Self → Option (List ℕ) };
-
-    // How many reads have failed.
-    ghost fault_count: { Self → ℕ };
+    // What is seen of the feed.
+    ghost seen: { Self → FeedState };
 
     /// Reads the next piece into the front of `buf`.
     ///
@@ -26,13 +24,13 @@ pub trait Feed {
     /// leaves the bytes still to come as they were. The count has to be below `u64::MAX` before
     /// the call.
     fn next(&mut self, buf: &mut [u8]) -> Result<usize, FeedFault>
-        requires { fault_count self.old < 2 ^ 64 - 1 }
+        requires { (seen self.old).faults < 2 ^ 64 - 1 }
         ensures bound { IfOk result (λ n. n ≤ length buf.new) }
-        ensures bytes { ReadConsumes (to_come self.old) (to_come self.new) result buf.new }
-        ensures faults { fault_count self.new ≡
-            (if is_ok result then fault_count self.old else fault_count self.old + 1) };
+        ensures bytes { ReadConsumes (seen self.old).to_come (seen self.new).to_come result buf.new }
+        ensures faults { (seen self.new).faults ≡
+            (if is_ok result then (seen self.old).faults else (seen self.old).faults + 1) };
 
     /// How many reads have failed.
     fn faults(&self) -> u64
-        ensures { result ≡ fault_count self.now };
+        ensures { result ≡ (seen self.now).faults };
 }

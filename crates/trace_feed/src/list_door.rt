@@ -24,7 +24,7 @@ impl<F: Feed, A: Allocator + Copy> Model for ListDoor<F, A> {
 
     ghost view = { λ d. record { to_arrive = before_over d.rest.items; refusals = d.refusals } };
 
-    ghost invariant = { λ d. IsTrue (all_fresh F.fault_count d.rest.items) };
+    ghost invariant = { λ d. IsTrue (all_fresh F.seen d.rest.items) };
 }
 
 impl<F: Feed, A: Allocator + Copy> ListDoor<F, A> {
@@ -32,7 +32,7 @@ impl<F: Feed, A: Allocator + Copy> ListDoor<F, A> {
     ///
     /// No read may have failed yet of any feed in the list.
     pub fn new(arrivals: Vec<Arrival<F>, A>) -> ListDoor<F, A>
-        requires { IsTrue (all_fresh F.fault_count arrivals.items) }
+        requires { IsTrue (all_fresh F.seen arrivals.items) }
         ensures arrivals { result.to_arrive ≡ before_over arrivals.items }
         ensures none_refused { result.refusals ≡ 0 }
     {
@@ -46,13 +46,12 @@ impl<F: Feed, A: Allocator + Copy> ListDoor<F, A> {
 impl<F: Feed + Drop, A: Allocator + Copy> Door for ListDoor<F, A> {
     type Feed = F;
 
-    ghost to_arrive = { λ d. Some d.to_arrive };
-
-    ghost arrivals_left = { λ d. Some (length d.to_arrive) };
-
-    ghost refusal_count = { λ d. d.refusals };
-
-    ghost is_shut = { λ d. length d.to_arrive == 0 };
+    ghost seen = { λ d. record {
+      to_arrive = Some d.to_arrive;
+      left = Some (length d.to_arrive);
+      refusals = d.refusals;
+      is_shut = length d.to_arrive == 0;
+    } };
 
     fn next(&mut self) -> Arrival<F> {
         match self.rest.pop_front() {

@@ -80,9 +80,7 @@ impl<A: Allocator + Copy> MemFeed<A> {
 }
 
 impl<A: Allocator + Copy> Feed for MemFeed<A> {
-    ghost to_come = { bytes_left };
-
-    ghost fault_count = { λ f. f.faults };
+    ghost seen = { λ f. record { to_come = bytes_left f; faults = f.faults } };
 
     /// Gives the bytes up to the next greater cut, the failing place, the end of the bytes or the
     /// end of `buf`, whichever is first, and leaves the rest of `buf`. It fails where it starts at

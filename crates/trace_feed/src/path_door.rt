@@ -48,13 +48,12 @@ impl<'a, R: Files, A: Allocator + Copy> PathDoor<'a, R, A> {
 impl<'a, R: Files, A: Allocator + Copy> Door for PathDoor<'a, R, A> {
     type Feed = ReadFeed<R::File>;
 
-    ghost to_arrive = { λ _. None };
-
-    ghost arrivals_left = { λ d. Some (length d.paths) };
-
-    ghost refusal_count = { λ d. d.refusals };
-
-    ghost is_shut = { λ d. length d.paths == 0 };
+    ghost seen = { λ d. record {
+      to_arrive = None;
+      left = Some (length d.paths);
+      refusals = d.refusals;
+      is_shut = length d.paths == 0;
+    } };
 
     /// Opens the next file. One that can't be opened is `Refused`. Each call uses up one path,
     /// until none is left.

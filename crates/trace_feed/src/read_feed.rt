@@ -33,9 +33,7 @@ impl<R: Read> ReadFeed<R> {
 }
 
 impl<R: Read> Feed for ReadFeed<R> {
-    ghost to_come = { λ f. f.to_come };
-
-    ghost fault_count = { λ f. f.faults };
+    ghost seen = { λ f. f };
 
     /// One read of the reader. Any error of it is a failed read, an interrupted one too.
     fn next(&mut self, buf: &mut [u8]) -> Result<usize, FeedFault> {

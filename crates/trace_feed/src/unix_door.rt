@@ -44,13 +44,12 @@ impl UnixDoor {
 impl Door for UnixDoor {
     type Feed = ReadFeed<UnixStream>;
 
-    ghost to_arrive = { λ _. None };
-
-    ghost arrivals_left = { λ d. Some d.left };
-
-    ghost refusal_count = { λ d. d.refusals };
-
-    ghost is_shut = { λ d. d.left == 0 };
+    ghost seen = { λ d. record {
+      to_arrive = None;
+      left = Some d.left;
+      refusals = d.refusals;
+      is_shut = d.left == 0;
+    } };
 
     /// Waits for the next peer and accepts it. Where that fails, the answer is `Refused`.
     ///
