@@ -18,7 +18,7 @@ use Rattle.asan_collect.specs.declared.item.Item.TheVariants as item
 use Rattle.asan_collect.specs.Items.{items_of, events_of, has_end}
 use Rattle.asan_collect.specs.Ranges.{most_events}
 use Rattle.asan_collect.specs.Checking.{StandsAfter, HasChecked}
-use Rattle.asan_collect.proofs.Stepping.{stepped, reverse-more, checked_within, told_short, told_whole}
+use Rattle.asan_collect.proofs.Stepping.{stepped, reverse-more, checked_within, reports_short, reports_whole}
 use Rattle.asan_collect.proofs.Told.{few_of}
 
 pub events_of-event : (items : List Item) (e : Event) → events_of (items ++ item.Event e ∷ []) ≡ events_of items ++ e ∷ []
@@ -159,10 +159,10 @@ module _ {A : Type 0} where
       (seen.count ∙ ap length all, subst (λ es. ∥ StandsOrFailed (bound_of first) c (reverse es) ∥₁) all seen.stands)
 
   pub whole_stream : (bound : ℕ) (c : Checker A) (events : List Event) → ∥ StandsOrFailed bound c (reverse events) ∥₁ → (checked_of c < length events → ⊥) → reports_of c ≡ verdicts bound events
-  whole_stream bound c events stands none = ∥∥₁_elim stands (reports-prop (reports_of c) (verdicts bound events)) (λ s. told_whole bound c events s none)
+  whole_stream bound c events stands none = ∥∥₁_elim stands (reports-prop (reports_of c) (verdicts bound events)) (λ s. reports_whole bound c events s none)
 
   pub first_of_stream : (bound : ℕ) (c : Checker A) (events : List Event) → ∥ StandsOrFailed bound c (reverse events) ∥₁ → checked_of c < length events → reports_of c ≡ verdicts bound (take (checked_of c) events)
-  first_of_stream bound c events stands some = ∥∥₁_elim stands (reports-prop (reports_of c) (verdicts bound (take (checked_of c) events))) (λ s. told_short bound c events s some)
+  first_of_stream bound c events stands some = ∥∥₁_elim stands (reports-prop (reports_of c) (verdicts bound (take (checked_of c) events))) (λ s. reports_short bound c events s some)
 
   few_reported : (bound : ℕ) (c : Checker A) (past : List Event) → StandsOrFailed bound c past → length (reports_of c) ≤ length past
   few_reported bound c past (inl s) = rw s.reports (few_of bound past)
@@ -175,21 +175,21 @@ module _ {A : Type 0} where
       omega (arith, length-reverse (take most_events (events_of items))))
 
   -- a bench whose lane gave an event, which its checker was handed
-  pub behind_event : (old new : Checker A) (r : Result (Option Report) Failed) (e : Event) (items more : List Item) → more ≡ items ++ item.Event e ∷ []
+  pub stands_event : (old new : Checker A) (r : Result (Option Report) Failed) (e : Event) (items more : List Item) → more ≡ items ++ item.Event e ∷ []
       → IfOk r (λ report. (b : ℕ) (p : List Event) → Stands b old p → (report ≡ verdict b p e) × Stands b new (e ∷ p))
       → OnErr r ((b : ℕ) (p : List Event) → Stands b old p → FailedAt b new (e ∷ p) × (checked_of new ≡ length p))
       → (has_failed old ≡ true → IsErr r × (new ≡ old))
       → bound_of new ≡ bound_of old → StandsAfter old items → StandsAfter new more
-  behind_event old new r e items more taken ok err stays same stands =
+  stands_event old new r e items more taken ok err stays same stands =
       subst (λ b. ∥ StandsOrFailed b new (reverse (events_of more)) ∥₁) (sym same)
       (subst (λ es. ∥ StandsOrFailed (bound_of old) new (reverse es) ∥₁) (sym (ap events_of taken ∙ events_of-event items e))
       (steps (bound_of old) old new r e (events_of items) ok err stays stands))
 
   -- a bench whose lane gave the end
-  pub behind_end : (c : Checker A) (items more : List Item) (end : End) → more ≡ items ++ item.End end ∷ [] → StandsAfter c items → StandsAfter c more
-  behind_end c items more end taken stands =
+  pub stands_end : (c : Checker A) (items more : List Item) (end : End) → more ≡ items ++ item.End end ∷ [] → StandsAfter c items → StandsAfter c more
+  stands_end c items more end taken stands =
       subst (λ es. ∥ StandsOrFailed (bound_of c) c (reverse es) ∥₁) (sym (ap events_of taken ∙ events_of-end items end)) stands
 
   -- a checker that was handed few events has room for one more
-  pub room_behind : (bound : ℕ) (c : Checker A) (events : List Event) (n : ℕ) → ∥ StandsOrFailed bound c (reverse events) ∥₁ → n ≡ length events → n < most_events → checked_of c + 1 < 2 ^ 64
-  room_behind bound c events n stands count few = let most = checked_few bound c events stands in omega arith
+  pub room_for_one : (bound : ℕ) (c : Checker A) (events : List Event) (n : ℕ) → ∥ StandsOrFailed bound c (reverse events) ∥₁ → n ≡ length events → n < most_events → checked_of c + 1 < 2 ^ 64
+  room_for_one bound c events n stands count few = let most = checked_few bound c events stands in omega arith

@@ -1,8 +1,10 @@
 -- Refusals and outcomes are counted alike.
-use Rattle.std.proofs.Common.{ℕ, suc, ◌≡◌, ◌<◌, ◌+◌, List, [], ◌∷◌, ◌++◌, length, Option, refl, arith, slice_index_or}
+use Rattle.std.proofs.Common.{ℕ, suc, ◌≡◌, ◌+◌, List, [], ◌∷◌, ◌++◌, refl, arith}
 use Rattle.trace_feed.specs.declared.door.Arrival.{Arrival}
 use Rattle.trace_feed.specs.declared.door.Arrival.TheVariants as arrival
 use Rattle.trace_feed.specs.Doors.{refusals_after}
+use Rattle.trace_feed.specs.Feeds.{FeedState}
+use Rattle.asan_collect.specs.declared.options.Options.{Options}
 use Rattle.asan_collect.specs.declared.outcome.Outcome.{Outcome}
 use Rattle.asan_collect.specs.declared.outcome.Outcome.TheVariants as outcome
 use Rattle.asan_collect.specs.Arrivals.{Pairwise, IsAnswerTo}
@@ -27,22 +29,22 @@ module _ {X Y : Type 0} (R : X → Y → Type 0) where
     each = λ i d e below. b.each (suc i) d e (omega arith);
   }
 
-module _ {F A : Type 0} (to_come : F → Option (List ℕ)) (fault_count : F → ℕ) (limit bound : ℕ) where
-  one_counted : (a : Arrival F) (told : Outcome F A) → IsAnswerTo to_come fault_count limit bound a told → not_opened told ≡ refused a
+module _ {F A : Type 0} (seen : F → FeedState) (options : Options) where
+  one_counted : (a : Arrival F) (result : Outcome F A) → IsAnswerTo seen options a result → not_opened result ≡ refused a
   one_counted (arrival.Came feed) (outcome.Settled f n rs) fits = refl
   one_counted (arrival.Came feed) (outcome.NoMemory f n k rs) fits = refl
   one_counted (arrival.Came feed) outcome.NotOpened fits = absurd fits
   one_counted (arrival.Came feed) outcome.NotStarted fits = refl
   one_counted (arrival.Came feed) outcome.Unsettled fits = refl
-  one_counted arrival.Refused told fits = rw fits refl
-  one_counted arrival.Over told fits = absurd fits
+  one_counted arrival.Refused result fits = rw fits refl
+  one_counted arrival.Over result fits = absurd fits
 
   -- one outcome is not-opened for each refusal
-  pub all_counted : (arrivals : List (Arrival F)) (outcomes : List (Outcome F A)) → Pairwise (IsAnswerTo to_come fault_count limit bound) arrivals outcomes → not_opened_among outcomes ≡ refused_among arrivals
+  pub all_counted : (arrivals : List (Arrival F)) (outcomes : List (Outcome F A)) → Pairwise (IsAnswerTo seen options) arrivals outcomes → not_opened_among outcomes ≡ refused_among arrivals
   all_counted [] [] fit = refl
-  all_counted [] (told ∷ outcomes) fit = absurd (let same = fit.same_length in omega arith)
+  all_counted [] (result ∷ outcomes) fit = absurd (let same = fit.same_length in omega arith)
   all_counted (a ∷ arrivals) [] fit = absurd (let same = fit.same_length in omega arith)
-  all_counted (a ∷ arrivals) (told ∷ outcomes) fit =
-      let one = one_counted a told (pairs_first (IsAnswerTo to_come fault_count limit bound) a arrivals told outcomes fit) in
-      let rest = all_counted arrivals outcomes (pairs_rest (IsAnswerTo to_come fault_count limit bound) a arrivals told outcomes fit) in
+  all_counted (a ∷ arrivals) (result ∷ outcomes) fit =
+      let one = one_counted a result (pairs_first (IsAnswerTo seen options) a arrivals result outcomes fit) in
+      let rest = all_counted arrivals outcomes (pairs_rest (IsAnswerTo seen options) a arrivals result outcomes fit) in
       omega arith

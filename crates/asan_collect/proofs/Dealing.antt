@@ -1,9 +1,10 @@
 -- The benches of each checker, as they go on.
-use Rattle.std.proofs.Common.{ℕ, suc, ◌≡◌, ◌<◌, ◌≤◌, ◌+◌, ◌*◌, ◌%◌, ◌/◌, ◌++◌, ◌∷◌, [], List, length, length-append, refl, ◌∙◌, sym, ap, arith, slice_index_or, slice_set, inl, inr, Option}
+use Rattle.std.proofs.Common.{ℕ, suc, ◌≡◌, ◌<◌, ◌≤◌, ◌+◌, ◌*◌, ◌%◌, ◌/◌, ◌++◌, ◌∷◌, [], List, length, length-append, refl, ◌∙◌, sym, ap, arith, slice_index_or, slice_set, inl, inr}
 use Rattle.std.specs.Vec.{vec_capacity}
 use Rattle.std.proofs.Math.Nat.{div-add-mod, mod-lt, mul-le-mul_left, lt_of_mul-lt-mul_left, mul-suc}
 use Rattle.std.proofs.lemmas.Bool.{cases_eq}
 use Rattle.std.proofs.lemmas.List.{length-set, get_or-set_same, get_or-set_other, get_or_append_left, get_or_at}
+use Rattle.trace_feed.specs.Feeds.{FeedState}
 use Rattle.asan_collect.specs.declared.bench.Bench.{Bench}
 use Rattle.asan_collect.specs.declared.sender.Sender.{Sender}
 use Rattle.asan_collect.specs.declared.sender.Sender.TheVariants as sender
@@ -140,23 +141,23 @@ module _ {F A : Type 0} where
         ];
   }
 
-module _ {F A : Type 0} (to_come : F → Option (List ℕ)) (fault_count : F → ℕ) where
+module _ {F A : Type 0} (seen : F → FeedState) where
   -- what gets no reader, or is left alone and then read
-  pub becomes_after : (limit : ℕ) (x y z : Sender F A) → GivesUp x y → Becomes to_come fault_count limit y z → Becomes to_come fault_count limit x z
+  pub becomes_after : (limit : ℕ) (x y z : Sender F A) → GivesUp x y → Becomes seen limit y z → Becomes seen limit x z
   becomes_after limit sender.NotOpened y z p q = rw p at q
   becomes_after limit sender.NotStarted y z p q = rw p at q
   becomes_after limit (sender.Ready feed lane) y z p q = elim p [ inl e ↦ rw e at q | inr e ↦ rw (rw e at q) tt ]
   becomes_after limit (sender.Read d) y z p q = rw p at q
   becomes_after limit (sender.Joined d b) y z p q = rw p at q
 
-  gives_up_fresh : (x y : Sender F A) → GivesUp x y → IsFresh to_come fault_count x → IsFresh to_come fault_count y
+  gives_up_fresh : (x y : Sender F A) → GivesUp x y → IsFresh seen x → IsFresh seen y
   gives_up_fresh sender.NotOpened y p h = rw p tt
   gives_up_fresh sender.NotStarted y p h = rw p tt
   gives_up_fresh (sender.Ready feed lane) y p h = elim p [ inl e ↦ rw e h | inr e ↦ rw e tt ]
   gives_up_fresh (sender.Read d) y p h = rw p tt
   gives_up_fresh (sender.Joined d b) y p h = rw p tt
 
-  pub fresh_left : (xs ys : List (Sender F A)) → Each GivesUp 0 xs ys → AllFresh to_come fault_count xs → AllFresh to_come fault_count ys
+  pub fresh_left : (xs ys : List (Sender F A)) → Each GivesUp 0 xs ys → AllFresh seen xs → AllFresh seen ys
   fresh_left xs ys r h = record {
     each = λ i d below.
         let low : i < length xs = let e = r.same_length in omega arith in

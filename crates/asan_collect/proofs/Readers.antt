@@ -3,6 +3,7 @@ use Rattle.std.proofs.Common.{◌≡◌, ℕ, List, [], ◌∷◌, ◌++◌, Opt
 use Rattle.std.specs.Prelude.{IfSome}
 use Rattle.trace_record.specs.declared.event.Event.{Event}
 use Rattle.trace_record.specs.declared.end.End.{End}
+use Rattle.trace_feed.specs.Feeds.{FeedState}
 use Rattle.trace_lane.specs.Lanes.{in_lane, end_lane, put_list, end_list}
 use Rattle.trace_lane.specs.declared.lane_end.LaneEnd.{LaneEnd}
 use Rattle.trace_lane.specs.declared.lane_in.LaneIn.{LaneIn}
@@ -17,12 +18,12 @@ pub if_some : {X : Type 0} (o : Option X) (P Q : X → Type 0) → IfSome o P �
 if_some None P Q p f = p
 if_some (Some x) P Q p f = f x p
 
-module _ {F A : Type 0} (to_come : F → Option (List ℕ)) (fault_count : F → ℕ) where
+module _ {F A : Type 0} (seen : F → FeedState) where
   pub reader_done : (limit : ℕ) (feed after : F) (lane now : LaneIn Item A) (lane_end : Option (LaneEnd Item A)) (end : End) (events : List Event)
       → IfSome lane_end (λ e. (end_lane e ≡ in_lane now) × (end_list e ≡ put_list now ++ item.End end ∷ []))
       → in_lane now ≡ in_lane lane → put_list now ≡ put_list lane ++ event_items events
-      → IsSpelled limit (to_come feed) (to_come after) (fault_count after) events end
-      → IfSome lane_end (λ e. (end_lane e ≡ in_lane lane) × IsPut to_come fault_count limit feed after end (put_list lane) (end_list e))
+      → IsSpelled limit (seen feed) (seen after) events end
+      → IfSome lane_end (λ e. (end_lane e ≡ in_lane lane) × IsPut seen limit feed after end (put_list lane) (end_list e))
   reader_done limit feed after lane now lane_end end events ended same put spelled =
       if_some lane_end _ _ ended (λ e is. (
         is.0 ∙ same,

@@ -1,12 +1,13 @@
 -- Outcomes, lists, texts and statuses that the contracts refuse.
 -- Each lemma is named for what would have gone wrong.
-use Rattle.std.proofs.Common.{◌≡◌, ◌⊎◌, inl, inr, ℕ, true, false, List, [], ◌∷◌, Some, Option, refl, sym, ap, ◌∙◌, arith}
+use Rattle.std.proofs.Common.{◌≡◌, ◌⊎◌, inl, inr, ℕ, true, false, List, [], ◌∷◌, Some, refl, sym, ap, ◌∙◌, arith}
 use Rattle.std.specs.Prelude.{◌≢◌, IsTrue, length, take, Vec}
 use Rattle.std.specs.Io.KnownBytes.{Appends}
 use Rattle.trace_record.specs.declared.event.Event.{Event}
 use Rattle.trace_record.specs.declared.end.End.{End}
 use Rattle.trace_record.specs.declared.end.Fate.{Fate}
 use Rattle.trace_record.specs.declared.end.Fate.TheVariants as fate
+use Rattle.trace_feed.specs.Feeds.{FeedState}
 use Rattle.trace_feed.specs.declared.door.Arrival.TheVariants as arrival
 use Rattle.asan_check.specs.declared.report.Fault.TheVariants as fault
 use Rattle.asan_check.specs.declared.report.Report.{Report}
@@ -15,6 +16,7 @@ use Rattle.asan_check.proofs.Refuted.{differ, bad_access_is_passed_over}
 use Rattle.asan_collect.specs.declared.item.Item.{Item}
 use Rattle.asan_collect.specs.declared.item.Item.TheVariants as item
 use Rattle.asan_collect.specs.declared.bench.Turn.TheVariants as turn
+use Rattle.asan_collect.specs.declared.options.Options.{Options}
 use Rattle.asan_collect.specs.declared.outcome.Outcome.TheVariants as outcome
 use Rattle.asan_collect.specs.Arrivals.{IsAnswerTo}
 use Rattle.asan_collect.specs.Benches.{Takes}
@@ -30,39 +32,36 @@ end_as fate events offset = record { fate = fate; events = events; offset = offs
 
 -- the stream is said to end without its close, and bytes of the feed are left
 says_no_close_unread :
-    (limit n offset byte : ℕ) (left : List ℕ) (before : Option (List ℕ)) (events : List Event) →
-    ¬ IsSpelled limit before (Some (byte ∷ left)) 0 events (end_as fate.NoClose n offset)
+    (limit n offset byte : ℕ) (left : List ℕ) (before : FeedState) (events : List Event) →
+    ¬ IsSpelled limit before (record { to_come = Some (byte ∷ left); faults = 0 }) events
+    (end_as fate.NoClose n offset)
 says_no_close_unread limit n offset byte left before events spelled =
     let none_left : byte ∷ left ≡ [] = spelled.no_more tt in absurd cc
 
 -- the end is a failed read, and no read of the feed failed
 says_read_failed_unread :
-    (limit n offset : ℕ) (before after : Option (List ℕ)) (events : List Event) →
-    ¬ IsSpelled limit before after 0 events (end_as fate.ReadFailed n offset)
-says_read_failed_unread limit n offset before after events spelled =
-    let none_is_one : ◌≡◌ {A = ℕ} 0 1 = spelled.faults_are in absurd (omega arith)
+    (limit n offset : ℕ) (before after : FeedState) (events : List Event) → after.faults ≡ 0 →
+    ¬ IsSpelled limit before after events (end_as fate.ReadFailed n offset)
+says_read_failed_unread limit n offset before after events none spelled =
+    let none_is_one : ◌≡◌ {A = ℕ} 0 1 = sym none ∙ spelled.faults_are in absurd (omega arith)
 
-module _
-    {F A : Type 0} (to_come : F → Option (List ℕ)) (fault_count : F → ℕ) (limit bound : ℕ)
-  where
-    -- another sender's failed read ends this one, of whose feed no read failed
-    one_fault_ends_the_others :
-        (feed after : F) (n offset : ℕ) (reports : Vec Report A) → fault_count after ≡ 0 →
-        ¬ IsAnswerTo to_come fault_count limit bound (arrival.Came feed)
-        (outcome.Settled after (end_as fate.ReadFailed n offset) reports)
-    one_fault_ends_the_others feed after n offset reports none told =
-        let none_is_one : ◌≡◌ {A = ℕ} 0 1 =
-        sym none ∙ ap fault_count told.4.0 ∙ told.3.faults_are
-        ∙ ap (λ e. faults_of e.fate) (sym told.4.1)
-        in absurd (omega arith)
+module _ {F A : Type 0} (seen : F → FeedState) (options : Options) where
+  -- another sender's failed read ends this one, of whose feed no read failed
+  one_fault_ends_the_others :
+      (feed after : F) (n offset : ℕ) (reports : Vec Report A) → (seen after).faults ≡ 0 →
+      ¬ IsAnswerTo seen options (arrival.Came feed)
+      (outcome.Settled after (end_as fate.ReadFailed n offset) reports)
+  one_fault_ends_the_others feed after n offset reports none answer =
+      let none_is_one : ◌≡◌ {A = ℕ} 0 1 =
+      sym none ∙ ap (λ f. (seen f).faults) answer.4.0 ∙ answer.3.faults_are
+      ∙ ap (λ e. faults_of e.fate) (sym answer.4.1)
+      in absurd (omega arith)
 
 -- the outcome of a feed that came is that of one that was refused
 not_opened_for_a_feed_that_came :
-    (F A : Type 0) (to_come : F → Option (List ℕ)) (fault_count : F → ℕ) (limit bound : ℕ)
-    (feed : F) →
-    ¬ IsAnswerTo {F = F} {A = A} to_come fault_count limit bound (arrival.Came feed)
-    outcome.NotOpened
-not_opened_for_a_feed_that_came F A to_come fault_count limit bound feed told = told
+    (F A : Type 0) (seen : F → FeedState) (options : Options) (feed : F) →
+    ¬ IsAnswerTo {F = F} {A = A} seen options (arrival.Came feed) outcome.NotOpened
+not_opened_for_a_feed_that_came F A seen options feed answer = answer
 
 module _ {F A : Type 0} (feed : F) (end : End) (reports : Vec Report A) where
   -- the last of the decoded events is not checked

@@ -1,15 +1,16 @@
 -- Senders and benches, as they go on.
-use Rattle.std.proofs.Common.{Vec, vec_len, ℕ, ◌≡◌, ◌≢◌, ◌<◌, ◌≤◌, ◌+◌, ◌++◌, ◌∷◌, [], List, length, length-append, refl, ◌∙◌, sym, arith, slice_index_or, slice_set, inl, inr, Option}
+use Rattle.std.proofs.Common.{Vec, vec_len, ℕ, ◌≡◌, ◌≢◌, ◌<◌, ◌+◌, ◌++◌, ◌∷◌, [], List, length, length-append, refl, ◌∙◌, sym, arith, slice_index_or, slice_set, inl, inr}
 use Rattle.std.proofs.lemmas.Bool.{cases_eq}
 use Rattle.std.proofs.lemmas.List.{length-set, get_or-set_same, get_or-set_other, get_or_append_left, get_or_at}
 use Rattle.trace_feed.specs.declared.door.Arrival.{Arrival}
 use Rattle.trace_feed.specs.declared.door.Arrival.TheVariants as arrival
+use Rattle.trace_feed.specs.Feeds.{FeedState}
+use Rattle.asan_collect.specs.declared.options.Options.{Options}
 use Rattle.asan_collect.specs.declared.bench.Bench.{Bench}
 use Rattle.asan_collect.specs.declared.outcome.Outcome.{Outcome}
 use Rattle.asan_collect.specs.declared.sender.Sender.{Sender}
 use Rattle.asan_collect.specs.declared.sender.Sender.TheVariants as sender
 use Rattle.asan_collect.specs.Benches.{lane_of, process_of, bench_bound}
-use Rattle.asan_collect.specs.Ranges.{most_events}
 use Rattle.asan_collect.specs.Benches.{EachLater}
 use Rattle.asan_collect.specs.Senders.{Each, Came, IsFresh, AllFresh, Becomes, HasLane, Keeps, IsAt, AreAt, Rejoins, Gets}
 use Rattle.asan_collect.specs.Arrivals.{Pairwise, IsAnswerTo}
@@ -118,8 +119,8 @@ module _ {F A : Type 0} where
     };
   }
 
-module _ {F A : Type 0} (to_come : F → Option (List ℕ)) (fault_count : F → ℕ) where
-  pub fresh_set : (at : ℕ) (xs : List (Sender F A)) (x : Sender F A) → IsFresh to_come fault_count x → AllFresh to_come fault_count xs → AllFresh to_come fault_count (slice_set xs at x)
+module _ {F A : Type 0} (seen : F → FeedState) where
+  pub fresh_set : (at : ℕ) (xs : List (Sender F A)) (x : Sender F A) → IsFresh seen x → AllFresh seen xs → AllFresh seen (slice_set xs at x)
   fresh_set at xs x here h = record {
     each = λ i d below. elim (cases_eq i at) [
       | inl e ↦ let low : at < length xs = omega (arith, length-set xs at x) in rw (e, get_or-set_same xs at x d low) here
@@ -127,7 +128,7 @@ module _ {F A : Type 0} (to_come : F → Option (List ℕ)) (fault_count : F →
     ];
   }
 
-  pub fresh_push : (xs : List (Sender F A)) (s : Sender F A) → AllFresh to_come fault_count xs → IsFresh to_come fault_count s → AllFresh to_come fault_count (xs ++ s ∷ [])
+  pub fresh_push : (xs : List (Sender F A)) (s : Sender F A) → AllFresh seen xs → IsFresh seen s → AllFresh seen (xs ++ s ∷ [])
   fresh_push xs s h here = record {
     each = λ i d below. elim (cases_eq i (length xs)) [
       | inl e ↦ rw (get_or_at xs s [] d i (sym e)) here
@@ -135,19 +136,19 @@ module _ {F A : Type 0} (to_come : F → Option (List ℕ)) (fault_count : F →
     ];
   }
 
-  pub rejoins_same : (bound : ℕ) (x : Sender F A) → Rejoins to_come fault_count bound x x
+  pub rejoins_same : (bound : ℕ) (x : Sender F A) → Rejoins seen bound x x
   rejoins_same bound x = record {
-    came = λ limit a h. h;
+    came = λ options a is h. h;
     lane = λ l h. h;
   }
 
-  pub rejoins_on : (bound : ℕ) (x y z : Sender F A) → Rejoins to_come fault_count bound x y → Rejoins to_come fault_count bound y z → Rejoins to_come fault_count bound x z
+  pub rejoins_on : (bound : ℕ) (x y z : Sender F A) → Rejoins seen bound x y → Rejoins seen bound y z → Rejoins seen bound x z
   rejoins_on bound x y z p q = record {
-    came = λ limit a h. q.came limit a (p.came limit a h);
+    came = λ options a is h. q.came options a is (p.came options a is h);
     lane = λ l h. q.lane l (p.lane l h);
   }
 
-  pub becomes_keeps : (limit : ℕ) (s t : Sender F A) → Becomes to_come fault_count limit s t → Keeps s t
+  pub becomes_keeps : (limit : ℕ) (s t : Sender F A) → Becomes seen limit s t → Keeps s t
   becomes_keeps limit sender.NotOpened t h x l = rw h tt
   becomes_keeps limit sender.NotStarted t h x l = rw h tt
   becomes_keeps limit (sender.Ready f lane) sender.NotStarted h x l = tt
@@ -158,29 +159,29 @@ module _ {F A : Type 0} (to_come : F → Option (List ℕ)) (fault_count : F →
   becomes_keeps limit (sender.Read d) t h x l = rw h l
   becomes_keeps limit (sender.Joined d bench) t h x l = rw h tt
 
-  pub came_on : (limit bound : ℕ) (a : Arrival F) (s t : Sender F A) → Came to_come fault_count limit bound a s → Becomes to_come fault_count limit s t → Came to_come fault_count limit bound a t
-  came_on limit bound arrival.Over s t h b = absurd h
-  came_on limit bound arrival.Refused s t h b = rw (rw h at b) refl
-  came_on limit bound (arrival.Came feed) sender.NotOpened t h b = elim h [ ]
-  came_on limit bound (arrival.Came feed) sender.NotStarted t h b = rw b tt
-  came_on limit bound (arrival.Came feed) (sender.Ready f lane) sender.NotOpened h b = elim b [ ]
-  came_on limit bound (arrival.Came feed) (sender.Ready f lane) (sender.Ready g other) h b = elim b [ ]
-  came_on limit bound (arrival.Came feed) (sender.Ready f lane) (sender.Joined d bench) h b = elim b [ ]
-  came_on limit bound (arrival.Came feed) (sender.Ready f lane) sender.NotStarted h b = tt
-  came_on limit bound (arrival.Came feed) (sender.Ready f lane) (sender.Read d) h b = if_some d.lane_end _ _ b (λ e k. rw (h.0, h.1) at k.1)
-  came_on limit bound (arrival.Came feed) (sender.Read d) t h b = rw b h
-  came_on limit bound (arrival.Came feed) (sender.Joined d bench) t h b = rw b h
+  pub came_on : (options : Options) (a : Arrival F) (s t : Sender F A) → Came seen options a s → Becomes seen options.limit s t → Came seen options a t
+  came_on options arrival.Over s t h b = absurd h
+  came_on options arrival.Refused s t h b = rw (rw h at b) refl
+  came_on options (arrival.Came feed) sender.NotOpened t h b = elim h [ ]
+  came_on options (arrival.Came feed) sender.NotStarted t h b = rw b tt
+  came_on options (arrival.Came feed) (sender.Ready f lane) sender.NotOpened h b = elim b [ ]
+  came_on options (arrival.Came feed) (sender.Ready f lane) (sender.Ready g other) h b = elim b [ ]
+  came_on options (arrival.Came feed) (sender.Ready f lane) (sender.Joined d bench) h b = elim b [ ]
+  came_on options (arrival.Came feed) (sender.Ready f lane) sender.NotStarted h b = tt
+  came_on options (arrival.Came feed) (sender.Ready f lane) (sender.Read d) h b = if_some d.lane_end _ _ b (λ e k. rw (h.0, h.1) at k.1)
+  came_on options (arrival.Came feed) (sender.Read d) t h b = rw b h
+  came_on options (arrival.Came feed) (sender.Joined d bench) t h b = rw b h
 
-  pub pairs_on : (limit bound : ℕ) (R : Sender F A → Sender F A → Type 0) → ((a : Arrival F) (s t : Sender F A) → Came to_come fault_count limit bound a s → R s t → Came to_come fault_count limit bound a t)
-      → (arrivals : List (Arrival F)) (xs ys : List (Sender F A)) → Pairwise (Came to_come fault_count limit bound) arrivals xs → Each R 0 xs ys → Pairwise (Came to_come fault_count limit bound) arrivals ys
-  pairs_on limit bound R on arrivals xs ys h r = record {
+  pub pairs_on : (options : Options) (R : Sender F A → Sender F A → Type 0) → ((a : Arrival F) (s t : Sender F A) → Came seen options a s → R s t → Came seen options a t)
+      → (arrivals : List (Arrival F)) (xs ys : List (Sender F A)) → Pairwise (Came seen options) arrivals xs → Each R 0 xs ys → Pairwise (Came seen options) arrivals ys
+  pairs_on options R on arrivals xs ys h r = record {
     same_length = r.same_length ∙ h.same_length;
     each = λ i d e below. on (slice_index_or arrivals i d) (slice_index_or xs i e) (slice_index_or ys i e) (h.each i d e below) (r.each i e (omega arith) (let l = h.same_length in omega arith));
   }
 
-  pub pairs_fit : (limit bound : ℕ) (arrivals : List (Arrival F)) (xs : List (Sender F A)) (os : List (Outcome F A)) → limit ≤ most_events
-      → Pairwise (Came to_come fault_count limit bound) arrivals xs → Pairwise (Gets to_come fault_count) xs os → Pairwise (IsAnswerTo to_come fault_count limit bound) arrivals os
-  pairs_fit limit bound arrivals xs os small h r = record {
+  pub pairs_fit : (options : Options) (arrivals : List (Arrival F)) (xs : List (Sender F A)) (os : List (Outcome F A))
+      → Pairwise (Came seen options) arrivals xs → Pairwise (Gets seen) xs os → Pairwise (IsAnswerTo seen options) arrivals os
+  pairs_fit options arrivals xs os h r = record {
     same_length = r.same_length ∙ h.same_length;
-    each = λ i d e below. r.each i sender.NotOpened e (let l = h.same_length in omega arith) limit bound (slice_index_or arrivals i d) small (h.each i d sender.NotOpened below);
+    each = λ i d e below. r.each i sender.NotOpened e (let l = h.same_length in omega arith) options (slice_index_or arrivals i d) (h.each i d sender.NotOpened below);
   }

@@ -3,6 +3,8 @@ use Rattle.std.specs.Prelude.{◌≡◌, ℕ, ◌<◌, List, ◌++◌, Option, N
 use Rattle.std.specs.Prelude.{slice_index_or}
 use Rattle.trace_feed.specs.declared.door.Arrival.{Arrival}
 use Rattle.trace_feed.specs.declared.door.Arrival.TheVariants as arrival
+use Rattle.trace_feed.specs.Feeds.{FeedState}
+use Rattle.asan_collect.specs.declared.options.Options.{Options}
 use Rattle.asan_collect.specs.declared.outcome.Outcome.{Outcome}
 use Rattle.asan_collect.specs.declared.outcome.Outcome.TheVariants as outcome
 use Rattle.asan_collect.specs.Outcomes.{IsOutcomeOf}
@@ -21,10 +23,10 @@ IsAllThatCame None came = Unit {0}
 IsAllThatCame (Some left) came = came ≡ min left most_senders
 
 -- a sender arrived, and no read of its feed has failed
-abbrev pub IsArrived : {F : Type 0} → (F → ℕ) → Arrival F → Type 0
-IsArrived fault_count (arrival.Came feed) = fault_count feed ≡ 0
-IsArrived fault_count arrival.Refused = Unit {0}
-IsArrived fault_count arrival.Over = ⊥
+abbrev pub IsArrived : {F : Type 0} → (F → FeedState) → Arrival F → Type 0
+IsArrived seen (arrival.Came feed) = (seen feed).faults ≡ 0
+IsArrived seen arrival.Refused = Unit {0}
+IsArrived seen arrival.Over = ⊥
 
 -- two lists, element by element
 pub record Pairwise {X Y : Type 0} (R : X → Y → Type 0) (xs : List X) (ys : List Y) : Type 0 where
@@ -32,20 +34,20 @@ pub record Pairwise {X Y : Type 0} (R : X → Y → Type 0) (xs : List X) (ys : 
   pub each :
       (i : ℕ) (d : X) (e : Y) → i < length xs → R (slice_index_or xs i d) (slice_index_or ys i e)
 
-module _ {F A : Type 0} (to_come : F → Option (List ℕ)) (fault_count : F → ℕ) where
+module _ {F A : Type 0} (seen : F → FeedState) (options : Options) where
   -- the outcome of a sender whose feed came: what its feed's bytes spell was checked; or a worker,
   -- a lane or the end of its lane was missing
-  abbrev pub IsAnswerToFeed : ℕ → ℕ → F → Outcome F A → Type 0
-  IsAnswerToFeed limit bound feed (outcome.Settled f end reports) =
-      IsOutcomeOf to_come fault_count limit bound feed (outcome.Settled f end reports)
-  IsAnswerToFeed limit bound feed (outcome.NoMemory f end checked reports) =
-      IsOutcomeOf to_come fault_count limit bound feed (outcome.NoMemory f end checked reports)
-  IsAnswerToFeed limit bound feed outcome.NotOpened = ⊥
-  IsAnswerToFeed limit bound feed outcome.NotStarted = Unit {0}
-  IsAnswerToFeed limit bound feed outcome.Unsettled = Unit {0}
+  abbrev pub IsAnswerToFeed : F → Outcome F A → Type 0
+  IsAnswerToFeed feed (outcome.Settled f end reports) =
+      IsOutcomeOf seen options feed (outcome.Settled f end reports)
+  IsAnswerToFeed feed (outcome.NoMemory f end checked reports) =
+      IsOutcomeOf seen options feed (outcome.NoMemory f end checked reports)
+  IsAnswerToFeed feed outcome.NotOpened = ⊥
+  IsAnswerToFeed feed outcome.NotStarted = Unit {0}
+  IsAnswerToFeed feed outcome.Unsettled = Unit {0}
 
   -- the outcome of an arrival
-  abbrev pub IsAnswerTo : ℕ → ℕ → Arrival F → Outcome F A → Type 0
-  IsAnswerTo limit bound (arrival.Came feed) told = IsAnswerToFeed limit bound feed told
-  IsAnswerTo limit bound arrival.Refused told = told ≡ outcome.NotOpened
-  IsAnswerTo limit bound arrival.Over told = ⊥
+  abbrev pub IsAnswerTo : Arrival F → Outcome F A → Type 0
+  IsAnswerTo (arrival.Came feed) result = IsAnswerToFeed feed result
+  IsAnswerTo arrival.Refused result = result ≡ outcome.NotOpened
+  IsAnswerTo arrival.Over result = ⊥

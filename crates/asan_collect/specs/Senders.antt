@@ -1,10 +1,11 @@
 -- How far a sender may come.
-use Rattle.std.specs.Prelude.{◌≡◌, ℕ, ◌<◌, ◌≤◌, List, [], length, slice_index_or, Option, IfSome}
+use Rattle.std.specs.Prelude.{◌≡◌, ℕ, ◌<◌, ◌≤◌, List, [], length, slice_index_or, IfSome}
 use Rattle.trace_feed.specs.declared.door.Arrival.{Arrival}
 use Rattle.trace_feed.specs.declared.door.Arrival.TheVariants as arrival
+use Rattle.trace_feed.specs.Feeds.{FeedState}
 use Rattle.trace_lane.specs.Lanes.{Lane, in_lane, end_lane, put_list, end_list}
+use Rattle.asan_collect.specs.declared.options.Options.{Options}
 use Rattle.asan_collect.specs.declared.outcome.Outcome.{Outcome}
-use Rattle.asan_collect.specs.declared.outcome.Outcome.TheVariants as outcome
 use Rattle.asan_collect.specs.declared.bench.Bench.{Bench}
 use Rattle.asan_collect.specs.declared.sender.Sender.{Sender}
 use Rattle.asan_collect.specs.declared.sender.Sender.TheVariants as sender
@@ -13,7 +14,6 @@ use Rattle.asan_collect.specs.declared.reader_threads.ReaderThread.TheVariants a
 use Rattle.asan_collect.specs.declared.reader.ReaderDone.{ReaderDone}
 use Rattle.asan_collect.specs.Benches.{lane_of, process_of, bench_bound}
 use Rattle.asan_collect.specs.Arrivals.{IsAnswerTo}
-use Rattle.asan_collect.specs.Ranges.{most_events}
 use Rattle.asan_collect.specs.Readers.{IsPut, IsReaderOf}
 
 -- from a place on each element has become that of the other list, and below it nothing changed
@@ -24,23 +24,23 @@ pub record Each {X : Type 0} (Becomes : X → X → Type 0) (from : ℕ) (xs ys 
       (i : ℕ) (d : X) → from ≤ i → i < length xs →
       Becomes (slice_index_or xs i d) (slice_index_or ys i d)
 
-module _ {F A : Type 0} (to_come : F → Option (List ℕ)) (fault_count : F → ℕ) where
+module _ {F A : Type 0} (seen : F → FeedState) where
   -- how far the sender that arrived so may have come
-  abbrev pub Came : ℕ → ℕ → Arrival F → Sender F A → Type 0
-  Came limit bound arrival.Refused s = s ≡ sender.NotOpened
-  Came limit bound arrival.Over s = ⊥
-  Came limit bound (arrival.Came feed) sender.NotOpened = ⊥
-  Came limit bound (arrival.Came feed) sender.NotStarted = Unit {0}
-  Came limit bound (arrival.Came feed) (sender.Ready f lane) = (f ≡ feed) × (put_list lane ≡ [])
-  Came limit bound (arrival.Came feed) (sender.Read d) =
-      IfSome d.lane_end (λ e. IsPut to_come fault_count limit feed d.feed d.end [] (end_list e))
-  Came limit bound (arrival.Came feed) (sender.Joined d b) =
-      (bench_bound b ≡ bound) × IfSome d.lane_end (λ e. end_lane e ≡ lane_of b)
-      × IfSome d.lane_end (λ e. IsPut to_come fault_count limit feed d.feed d.end [] (end_list e))
+  abbrev pub Came : Options → Arrival F → Sender F A → Type 0
+  Came options arrival.Refused s = s ≡ sender.NotOpened
+  Came options arrival.Over s = ⊥
+  Came options (arrival.Came feed) sender.NotOpened = ⊥
+  Came options (arrival.Came feed) sender.NotStarted = Unit {0}
+  Came options (arrival.Came feed) (sender.Ready f lane) = (f ≡ feed) × (put_list lane ≡ [])
+  Came options (arrival.Came feed) (sender.Read d) =
+      IfSome d.lane_end (λ e. IsPut seen options.limit feed d.feed d.end [] (end_list e))
+  Came options (arrival.Came feed) (sender.Joined d b) =
+      (bench_bound b ≡ options.quarantine) × IfSome d.lane_end (λ e. end_lane e ≡ lane_of b)
+      × IfSome d.lane_end (λ e. IsPut seen options.limit feed d.feed d.end [] (end_list e))
 
   -- no read of a feed that waits for its reader has failed
   abbrev pub IsFresh : Sender F A → Type 0
-  IsFresh (sender.Ready f lane) = fault_count f ≡ 0
+  IsFresh (sender.Ready f lane) = (seen f).faults ≡ 0
   IsFresh sender.NotOpened = Unit {0}
   IsFresh sender.NotStarted = Unit {0}
   IsFresh (sender.Read d) = Unit {0}
@@ -52,7 +52,7 @@ module _ {F A : Type 0} (to_come : F → Option (List ℕ)) (fault_count : F →
   -- what a reader may make of a sender
   abbrev pub Becomes : ℕ → Sender F A → Sender F A → Type 0
   Becomes limit (sender.Ready feed lane) (sender.Read d) =
-      IsReaderOf to_come fault_count limit feed lane d
+      IsReaderOf seen limit feed lane d
   Becomes limit (sender.Ready feed lane) sender.NotStarted = Unit {0}
   Becomes limit (sender.Ready feed lane) sender.NotOpened = ⊥
   Becomes limit (sender.Ready feed lane) (sender.Ready f l) = ⊥
@@ -67,7 +67,7 @@ module _ {F A : Type 0} (to_come : F → Option (List ℕ)) (fault_count : F →
   WillBe limit s (running.Kept t) = Becomes limit s t
   WillBe limit s (running.Running h) =
       (d : ReaderDone F A) →
-      IsReaderOf to_come fault_count h.promise.limit h.promise.feed.value h.promise.lane.value d
+      IsReaderOf seen h.promise.limit h.promise.feed.value h.promise.lane.value d
       → Becomes limit s (sender.Read d)
 
 -- Whose lane a bench has.
@@ -106,17 +106,16 @@ module _ {F A : Type 0} where
   pub record AllJoined (senders : List (Sender F A)) : Type 0 where
     pub each : (i : ℕ) (d : Sender F A) → i < length senders → IsJoined (slice_index_or senders i d)
 
-module _ {F A : Type 0} (to_come : F → Option (List ℕ)) (fault_count : F → ℕ) where
+module _ {F A : Type 0} (seen : F → FeedState) where
   -- a bench of this bound may have come to the sender, which keeps what was right of it, and its
   -- lane
   pub record Rejoins (bound : ℕ) (s t : Sender F A) : Type 0 where
     pub came :
-        (limit : ℕ) (a : Arrival F) →
-        Came to_come fault_count limit bound a s → Came to_come fault_count limit bound a t
+        (options : Options) (a : Arrival F) → bound ≡ options.quarantine →
+        Came seen options a s → Came seen options a t
     pub lane : Keeps s t
 
   -- the outcome is right where the sender was
   abbrev pub Gets : Sender F A → Outcome F A → Type 0
-  Gets s told =
-      (limit bound : ℕ) (a : Arrival F) → limit ≤ most_events →
-      Came to_come fault_count limit bound a s → IsAnswerTo to_come fault_count limit bound a told
+  Gets s result =
+      (options : Options) (a : Arrival F) → Came seen options a s → IsAnswerTo seen options a result

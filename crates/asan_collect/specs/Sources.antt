@@ -1,42 +1,44 @@
 -- What was read of a feed: the text that was decoded, and the events that it gave.
-use Rattle.std.specs.Prelude.{◌≡◌, ℕ, ◌<◌, ◌⊎◌, Bool, true, false, List, ◌++◌, length, Option, Some}
+use Rattle.std.specs.Prelude.{◌≡◌, ℕ, ◌<◌, ◌⊎◌, Bool, true, false, List, ◌++◌, length, Some}
 use Rattle.std.specs.Io.KnownBytes.{Consumes, IsAtEnd}
 use Rattle.trace_record.specs.declared.event.Event.{Event}
 use Rattle.trace_record.specs.declared.end.End.{End}
 use Rattle.trace_record.specs.Stream.{IsDecidedFate}
 use Rattle.trace_record.specs.Standing.{StandsAt}
+use Rattle.trace_feed.specs.Feeds.{FeedState}
 use Rattle.asan_collect.specs.declared.source.Source.{Source}
 use Rattle.asan_collect.specs.Pieces.{rest_of}
 use Rattle.asan_collect.specs.Outcomes.{IsSpelled, IsDecidedSoon}
 
--- The functions say what a feed has to come and how many of its reads have failed. The feed was
--- `first` before it was read.
+-- The function says what is seen of a feed. The feed was `first` before it was read.
 module _
-    {F : Type 0} (to_come : F → Option (List ℕ)) (fault_count : F → ℕ) (limit : ℕ) (first : F)
+    {F : Type 0} (seen : F → FeedState) (limit : ℕ) (first : F)
   where
     -- this text was read and decoded, it is open, and these are its events
     pub record HasRead (s : Source F) (text : List ℕ) (events : List Event) : Type 0 where
-      pub taken : Consumes (to_come first) (to_come s.feed) (text ++ rest_of s.piece)
+      pub taken : Consumes (seen first).to_come (seen s.feed).to_come (text ++ rest_of s.piece)
       pub decoder : StandsAt s.decoder text events
       pub limit_is : s.decoder.limit ≡ limit
-      pub fresh : fault_count s.feed ≡ 0
+      pub fresh : (seen s.feed).faults ≡ 0
 
     -- what was read spells these events, and the end that a byte of it decided
     pub record IsDecided (s : Source F) (events : List Event) : Type 0 where
       pub end : End
       pub stop : s.decoder.stop ≡ Some end
       pub decided : IsDecidedFate end.fate
-      pub spelled : IsSpelled limit (to_come first) (to_come s.feed) (fault_count s.feed) events end
-      pub soon : IsDecidedSoon limit (to_come first) (to_come s.feed) end
+      pub spelled : IsSpelled limit (seen first) (seen s.feed) events end
+      pub soon : IsDecidedSoon limit (seen first) (seen s.feed) end
 
     -- what was read is an open text with these events, and then a read failed, or nothing more was
     -- to come
     pub record IsBroken (s : Source F) (events : List Event) : Type 0 where
       pub text : List ℕ
-      pub taken : Consumes (to_come first) (to_come s.feed) text
+      pub taken : Consumes (seen first).to_come (seen s.feed).to_come text
       pub decoder : StandsAt s.decoder text events
       pub limit_is : s.decoder.limit ≡ limit
-      pub why : (fault_count s.feed ≡ 1) ⊎ ((fault_count s.feed ≡ 0) × IsAtEnd (to_come s.feed))
+      pub why :
+          ((seen s.feed).faults ≡ 1)
+          ⊎ (((seen s.feed).faults ≡ 0) × IsAtEnd (seen s.feed).to_come)
 
     -- the feed was read to the end of its stream, and gave these events
     abbrev pub HasEnded : Source F → List Event → Type 0
@@ -55,5 +57,5 @@ module _
 
     -- an end of the feed's stream, which these events came before
     pub record IsEndOf (feed : F) (events : List Event) (end : End) : Type 0 where
-      pub spelled : IsSpelled limit (to_come first) (to_come feed) (fault_count feed) events end
-      pub soon : IsDecidedFate end.fate → IsDecidedSoon limit (to_come first) (to_come feed) end
+      pub spelled : IsSpelled limit (seen first) (seen feed) events end
+      pub soon : IsDecidedFate end.fate → IsDecidedSoon limit (seen first) (seen feed) end

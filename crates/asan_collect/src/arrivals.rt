@@ -19,13 +19,13 @@ pub(crate) fn ask<D: Door, A: Allocator + Copy>(
 ) -> Vec<Arrival<D::Feed>, A>
     requires empty { room.items ≡ [] }
     requires room { most_senders ≤ vec_capacity room }
-    requires few_refused { D.refusal_count door.old ≤ 2 ^ 32 }
-    ensures arrived { Arrived (D.to_arrive door.old) (D.to_arrive door.new) result.items }
-    ensures fresh { All (IsArrived D.Feed.fault_count) result.items }
-    ensures refused { D.refusal_count door.new
-        ≡ refused_among result.items + D.refusal_count door.old }
-    ensures all { IsTrue (D.is_shut door.new) ⊎ (length result.items ≡ most_senders) }
-    ensures count { IsAllThatCame (D.arrivals_left door.old) (length result.items) }
+    requires few_refused { (D.seen door.old).refusals ≤ 2 ^ 32 }
+    ensures arrived { Arrived (D.seen door.old).to_arrive (D.seen door.new).to_arrive result.items }
+    ensures fresh { All (IsArrived D.Feed.seen) result.items }
+    ensures refused { (D.seen door.new).refusals
+        ≡ refused_among result.items + (D.seen door.old).refusals }
+    ensures all { IsTrue (D.seen door.new).is_shut ⊎ (length result.items ≡ most_senders) }
+    ensures count { IsAllThatCame (D.seen door.old).left (length result.items) }
     ensures few { length result.items ≤ most_senders }
 {
     let mut arrivals = room;

@@ -29,10 +29,9 @@ pub fn check_feed<F: Feed, A: Allocator + Copy>(
     feed: F,
     options: Options,
 ) -> Outcome<F, A>
-    requires fresh { F.fault_count feed ≡ 0 }
-    ensures outcome { IsOutcomeOf F.to_come F.fault_count options.limit options.quarantine
-        feed result }
-    ensures soon { StopsSoon F.to_come options.limit feed result }
+    requires fresh { (F.seen feed).faults ≡ 0 }
+    ensures outcome { IsOutcomeOf F.seen options feed result }
+    ensures soon { StopsSoon F.seen options feed result }
     ensures few { length (reports_of result) ≤ most_reports }
 {
     let mut checker = Checker::new(alloc, options.quarantine).unwrap();

@@ -133,8 +133,8 @@ pub(crate) fn check_from<
     options: Options,
 )
     requires at { at ≤ vec_len shares.old }
-    requires fresh { AllFresh F.to_come F.fault_count senders.old.items }
-    ensures senders { Each (Becomes F.to_come F.fault_count options.limit) 0
+    requires fresh { AllFresh F.seen senders.old.items }
+    ensures senders { Each (Becomes F.seen options.limit) 0
         senders.old.items senders.new.items }
     ensures shares { Each ComesBack at shares.old.items shares.new.items }
     ensures does { M.does foreground.old foreground.new }

@@ -54,17 +54,15 @@ pub fn collect<
 ) -> Result<Vec<Outcome<D::Feed, A>, A>, NoMemory>
 where
     D::Feed: Send + Drop,
-    requires { D.refusal_count door.old ≤ 2 ^ 32 }
+    requires { (D.seen door.old).refusals ≤ 2 ^ 32 }
     ensures each { IfOk result (λ outcomes. (arrivals : List (AnArrival D.Feed))
-        × Arrived (D.to_arrive door.old) (D.to_arrive door.new) arrivals
-        × (IsTrue (D.is_shut door.new) ⊎ (length arrivals ≡ most_senders))
-        × Pairwise
-        (IsAnswerTo D.Feed.to_come D.Feed.fault_count options.limit options.quarantine)
-        arrivals outcomes.items) }
+        × Arrived (D.seen door.old).to_arrive (D.seen door.new).to_arrive arrivals
+        × (IsTrue (D.seen door.new).is_shut ⊎ (length arrivals ≡ most_senders))
+        × Pairwise (IsAnswerTo D.Feed.seen options) arrivals outcomes.items) }
     ensures count { IfOk result (λ outcomes.
-        IsAllThatCame (D.arrivals_left door.old) (length outcomes.items)) }
+        IsAllThatCame (D.seen door.old).left (length outcomes.items)) }
     ensures refused { IfOk result (λ outcomes.
-        D.refusal_count door.new ≡ not_opened_among outcomes.items + D.refusal_count door.old) }
+        (D.seen door.new).refusals ≡ not_opened_among outcomes.items + (D.seen door.old).refusals) }
     ensures few { IfOk result (λ outcomes. length outcomes.items ≤ most_senders) }
     ensures few_reports { IfOk result (λ outcomes.
         All (λ o. length (reports_of o) ≤ most_reports) outcomes.items) }

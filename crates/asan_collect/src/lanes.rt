@@ -1,7 +1,6 @@
 //! A lane and a bench for each sender, and the share of the benches that each checker gets.
 
-ghost use Rattle.std.specs.Prelude.{◌≡◌, ◌<◌, ◌≤◌, ◌%◌, [], ℕ, All, IfOk, IfSome, length, vec_len};
-ghost use Rattle.std.specs.Prelude.{vec_capacity};
+ghost use Rattle.std.specs.Prelude.{◌≡◌, ◌<◌, ◌≤◌, ◌%◌, [], All, IfOk, IfSome, length, vec_len, vec_capacity};
 ghost use Rattle.asan_collect.specs.Arrivals.{IsArrived, Pairwise};
 ghost use Rattle.asan_collect.specs.Benches.{lane_of, process_of, bench_bound};
 ghost use Rattle.asan_collect.specs.Ranges.{most_senders, most_workers};
@@ -44,9 +43,9 @@ fn open<F: Feed + Drop, A: Allocator + Copy>(
     process: u32,
     options: Options,
 ) -> (Sender<F, A>, Option<Bench<A>>)
-    requires { IsArrived F.fault_count arrival }
-    ensures came { (limit bound : ℕ) → Came F.to_come F.fault_count limit bound arrival result.0 }
-    ensures fresh { IsFresh F.to_come F.fault_count result.0 }
+    requires { IsArrived F.seen arrival }
+    ensures came { Came F.seen options arrival result.0 }
+    ensures fresh { IsFresh F.seen result.0 }
     ensures bench { IfSome result.1 (λ b. (process_of b ≡ process)
         × (bench_bound b ≡ options.quarantine)
         × HasLane result.0 (lane_of b)) }
@@ -87,14 +86,13 @@ pub(crate) fn open_all<F: Feed + Drop, A: Allocator + Copy>(
     shares: Vec<Vec<Bench<A>, A>, A>,
     options: Options,
 ) -> (Vec<Sender<F, A>, A>, Vec<Vec<Bench<A>, A>, A>)
-    requires arrived { All (IsArrived F.fault_count) arrivals.items }
+    requires arrived { All (IsArrived F.seen) arrivals.items }
     requires few { length arrivals.items ≤ most_senders }
     requires senders { (sender_room.items ≡ []) × (most_senders ≤ vec_capacity sender_room) }
     requires some { 0 < vec_len shares }
     requires shares { AreEmpty (vec_len shares) shares.items }
-    ensures came { (limit bound : ℕ) →
-        Pairwise (Came F.to_come F.fault_count limit bound) arrivals.items result.0.items }
-    ensures fresh { AllFresh F.to_come F.fault_count result.0.items }
+    ensures came { Pairwise (Came F.seen options) arrivals.items result.0.items }
+    ensures fresh { AllFresh F.seen result.0.items }
     ensures shares { SharesAt options.quarantine result.0.items result.1.items }
     ensures some { 0 < vec_len result.1 }
 {

@@ -53,15 +53,15 @@ impl Piece {
     /// Reads the next piece of a feed in place of this one, and answers its length, which is 0 at
     /// the end of the feed only. Where the read fails the piece has no bytes.
     pub(crate) fn refill<F: Feed>(&mut self, feed: &mut F) -> Result<usize, FeedFault>
-        requires { F.fault_count feed.old < 2 ^ 64 - 1 }
+        requires { (F.seen feed.old).faults < 2 ^ 64 - 1 }
         ensures length { IfOk result (λ n. n ≡ length (rest_of self.new)) }
         ensures bytes { IfOk result (λ _.
-            Consumes (F.to_come feed.old) (F.to_come feed.new) (rest_of self.new)) }
-        ensures at_end { IfOk result (λ n. n ≡ 0 → IsAtEnd (F.to_come feed.new)) }
-        ensures kept { OnErr result (Keeps (F.to_come feed.old) (F.to_come feed.new)) }
+            Consumes (F.seen feed.old).to_come (F.seen feed.new).to_come (rest_of self.new)) }
+        ensures at_end { IfOk result (λ n. n ≡ 0 → IsAtEnd (F.seen feed.new).to_come) }
+        ensures kept { OnErr result (Keeps (F.seen feed.old).to_come (F.seen feed.new).to_come) }
         ensures none { OnErr result (rest_of self.new ≡ []) }
-        ensures faults { F.fault_count feed.new ≡
-            (if is_ok result then F.fault_count feed.old else F.fault_count feed.old + 1) }
+        ensures faults { (F.seen feed.new).faults ≡
+            (if is_ok result then (F.seen feed.old).faults else (F.seen feed.old).faults + 1) }
     {
         self.used = 0;
         self.filled = 0;

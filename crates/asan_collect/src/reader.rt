@@ -43,9 +43,9 @@ pub fn run_reader<F: Feed, A: Allocator + Copy, R: Wait + Clock>(
     lane: LaneIn<Item, A>,
     limit: u32,
 ) -> ReaderDone<F, A>
-    requires fresh { F.fault_count feed ≡ 0 }
+    requires fresh { (F.seen feed).faults ≡ 0 }
     requires limit { (0 < limit) × (limit ≤ most_events) }
-    ensures { IsReaderOf F.to_come F.fault_count limit feed lane result }
+    ensures { IsReaderOf F.seen limit feed lane result }
 {
     let mut lane = lane;
     let mut source = Source::new(feed, limit);

@@ -30,7 +30,7 @@ pub(crate) struct Reading<F, A: Allocator + Copy> {
 
 impl<F: Feed, A: Allocator + Copy> Promise<ReaderDone<F, A>> for Reading<F, A> {
     ghost kept_by = { λ p r.
-        IsReaderOf F.to_come F.fault_count p.limit p.feed.value p.lane.value r };
+        IsReaderOf F.seen p.limit p.feed.value p.lane.value r };
 }
 
 /// What was begun with a sender.
@@ -55,8 +55,8 @@ fn start<
     sender: Sender<F, A>,
     options: Options,
 ) -> ReaderThread<F, A>
-    requires fresh { IsFresh F.to_come F.fault_count sender }
-    ensures { WillBe F.to_come F.fault_count options.limit sender result }
+    requires fresh { IsFresh F.seen sender }
+    ensures { WillBe F.seen options.limit sender result }
 {
     let (feed, lane) = match sender {
         Sender::Ready(feed, lane) => (feed, lane),
@@ -69,9 +69,9 @@ fn start<
         limit,
     };
     let work = move || -> ReaderDone<F, A>
-        requires fresh { F.fault_count feed ≡ 0 }
+        requires fresh { (F.seen feed).faults ≡ 0 }
         requires limit { (0 < limit) × (limit ≤ most_events) }
-        ensures { IsReaderOf F.to_come F.fault_count limit feed lane result }
+        ensures { IsReaderOf F.seen limit feed lane result }
     { run_reader(rt, feed, lane, limit) };
     match scope.spawn_with(promise, work) {
         Ok(handle) => ReaderThread::Running(handle),
@@ -84,8 +84,8 @@ fn finish<F: Feed, A: Allocator + Copy, R: Threads>(
     rt: &R,
     running: ReaderThread<F, A>,
 ) -> Sender<F, A>
-    ensures { (limit : ℕ) (s : ASender F A) → WillBe F.to_come F.fault_count limit s running →
-        Becomes F.to_come F.fault_count limit s result }
+    ensures { (limit : ℕ) (s : ASender F A) → WillBe F.seen limit s running →
+        Becomes F.seen limit s result }
 {
     match running {
         ReaderThread::Kept(sender) => sender,
@@ -111,8 +111,8 @@ pub(crate) fn read_from<
     options: Options,
 )
     requires at { at ≤ vec_len senders.old }
-    requires fresh { AllFresh F.to_come F.fault_count senders.old.items }
-    ensures read { Each (Becomes F.to_come F.fault_count options.limit) at
+    requires fresh { AllFresh F.seen senders.old.items }
+    ensures read { Each (Becomes F.seen options.limit) at
         senders.old.items senders.new.items }
     ensures does { M.does foreground.old foreground.new }
 {

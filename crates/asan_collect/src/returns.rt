@@ -21,7 +21,7 @@ fn rejoin<F: Feed + Drop, A: Allocator + Copy>(
     bench: Bench<A>,
 ) -> Sender<F, A>
     requires { HasLane sender (lane_of bench) }
-    ensures { Rejoins F.to_come F.fault_count (bench_bound bench) sender result }
+    ensures { Rejoins F.seen (bench_bound bench) sender result }
 {
     match sender {
         Sender::Read(done) => Sender::Joined(done, bench),
@@ -32,7 +32,7 @@ fn rejoin<F: Feed + Drop, A: Allocator + Copy>(
 /// A bench comes back to the sender at this place.
 fn rejoin_at<F: Feed + Drop, A: Allocator + Copy>(sender: &mut Sender<F, A>, bench: Bench<A>)
     requires { HasLane sender.old (lane_of bench) }
-    ensures { Rejoins F.to_come F.fault_count (bench_bound bench) sender.old sender.new }
+    ensures { Rejoins F.seen (bench_bound bench) sender.old sender.new }
 {
     let was = mem::replace(sender, Sender::NotStarted);
     let _ = mem::replace(sender, rejoin(was, bench));
@@ -45,7 +45,7 @@ pub(crate) fn place<F: Feed + Drop, A: Allocator + Copy>(
     bound: u64,
 )
     requires { AreAt bound senders.old.items benches.items }
-    ensures { Each (Rejoins F.to_come F.fault_count bound) 0 senders.old.items senders.new.items }
+    ensures { Each (Rejoins F.seen bound) 0 senders.old.items senders.new.items }
 {
     let mut benches = benches;
     while let Some(bench) = benches.pop() {
@@ -61,7 +61,7 @@ pub(crate) fn place_all<F: Feed + Drop, A: Allocator + Copy>(
     bound: u64,
 )
     requires { SharesAt bound senders.old.items shares.items }
-    ensures { Each (Rejoins F.to_come F.fault_count bound) 0 senders.old.items senders.new.items }
+    ensures { Each (Rejoins F.seen bound) 0 senders.old.items senders.new.items }
 {
     let mut shares = shares;
     while let Some(share) = shares.pop() {
@@ -72,7 +72,7 @@ pub(crate) fn place_all<F: Feed + Drop, A: Allocator + Copy>(
 /// What became of a sender, once the benches are back.
 fn settle_sender<F: Feed + Drop, A: Allocator + Copy>(sender: Sender<F, A>) -> Outcome<F, A>
     requires { IsJoined sender }
-    ensures { Gets F.to_come F.fault_count sender result }
+    ensures { Gets F.seen sender result }
 {
     match sender {
         Sender::NotOpened => Outcome::NotOpened,
@@ -90,7 +90,7 @@ pub(crate) fn settle_all<F: Feed + Drop, A: Allocator + Copy>(
     requires empty { room.items ≡ [] }
     requires room { vec_len senders ≤ vec_capacity room }
     requires joined { AllJoined senders.items }
-    ensures { Pairwise (Gets F.to_come F.fault_count) senders.items result.items }
+    ensures { Pairwise (Gets F.seen) senders.items result.items }
 {
     let (mut senders, mut outcomes) = (senders, room);
     for i in 0..senders.len() {

@@ -44,9 +44,9 @@ impl<F: Feed> Source<F> {
     /// Starts to read a feed whose stream may have at most `limit` events, 1 to 2^24. No read of it
     /// may have failed.
     pub(crate) fn new(feed: F, limit: u32) -> Source<F>
-        requires fresh { F.fault_count feed ≡ 0 }
+        requires fresh { (F.seen feed).faults ≡ 0 }
         requires limit { (0 < limit) × (limit ≤ most_events) }
-        ensures { HasRead F.to_come F.fault_count limit feed result [] [] }
+        ensures { HasRead F.seen limit feed result [] [] }
     {
         Source {
             feed,
@@ -59,14 +59,14 @@ impl<F: Feed> Source<F> {
     /// is asked once at most, and only when all that it gave before was decoded. After the last
     /// batch this is not to be called again.
     pub(crate) fn next_batch(&mut self, events: &mut [Event]) -> Batch
-        requires fresh { F.fault_count self.old.feed ≡ 0 }
+        requires fresh { (F.seen self.old.feed).faults ≡ 0 }
         requires running { self.old.decoder.stop ≡ None }
         requires some_room { 0 < length events.old }
         ensures room { length events.new ≡ length events.old }
         ensures count { result.count ≤ length events.old }
         ensures read { (limit : ℕ) (first : F) (text : List ℕ) (before : List AnEvent) →
-            HasRead F.to_come F.fault_count limit first self.old text before →
-            AfterBatch F.to_come F.fault_count limit first result.is_last self.new text
+            HasRead F.seen limit first self.old text before →
+            AfterBatch F.seen limit first result.is_last self.new text
             (before ++ take result.count events.new) }
     {
         if self.piece.rest().is_empty() && !self.refill() {
@@ -85,13 +85,13 @@ impl<F: Feed> Source<F> {
 
     /// Asks the feed for its next piece, and answers whether there is one.
     fn refill(&mut self) -> bool
-        requires fresh { F.fault_count self.old.feed ≡ 0 }
+        requires fresh { (F.seen self.old.feed).faults ≡ 0 }
         requires used_up { rest_of self.old.piece ≡ [] }
         ensures decoder { self.new.decoder ≡ self.old.decoder }
         ensures some { IsTrue result → 0 < length (rest_of self.new.piece) }
         ensures read { (limit : ℕ) (first : F) (text : List ℕ) (events : List AnEvent) →
-            HasRead F.to_come F.fault_count limit first self.old text events →
-            AfterRefill F.to_come F.fault_count limit first result self.new text events }
+            HasRead F.seen limit first self.old text events →
+            AfterRefill F.seen limit first result self.new text events }
     {
         match self.piece.refill(&mut self.feed) {
             Ok(0) | Err(_) => false,
@@ -102,8 +102,8 @@ impl<F: Feed> Source<F> {
     /// The feed, and the end of its stream. It has no meaning before the last batch.
     pub(crate) fn into_end(self) -> (F, End)
         ensures { (limit : ℕ) (first : F) (events : List AnEvent) →
-            HasEnded F.to_come F.fault_count limit first self events →
-            IsEndOf F.to_come F.fault_count limit first result.0 events result.1 }
+            HasEnded F.seen limit first self events →
+            IsEndOf F.seen limit first result.0 events result.1 }
     {
         let Source { feed, decoder, .. } = self;
         let end = if feed.faults() > 0 {

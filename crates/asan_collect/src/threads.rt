@@ -43,8 +43,8 @@ fn run_in<
     options: Options,
 )
     requires some { 0 < vec_len shares.old }
-    requires fresh { AllFresh F.to_come F.fault_count senders.old.items }
-    ensures senders { Each (Becomes F.to_come F.fault_count options.limit) 0
+    requires fresh { AllFresh F.seen senders.old.items }
+    ensures senders { Each (Becomes F.seen options.limit) 0
         senders.old.items senders.new.items }
     ensures shares { Each ComesBack 0 shares.old.items shares.new.items }
 {
@@ -71,8 +71,8 @@ pub(crate) fn run_all<
     shares: Vec<Vec<Bench<A>, A>, A>,
     options: Options,
 ) -> Returned<F, A>
-    requires { (0 < vec_len shares) × AllFresh F.to_come F.fault_count senders.items }
-    ensures senders { Each (Becomes F.to_come F.fault_count options.limit) 0
+    requires { (0 < vec_len shares) × AllFresh F.seen senders.items }
+    ensures senders { Each (Becomes F.seen options.limit) 0
         senders.items result.senders.items }
     ensures shares { Each ComesBack 0 shares.items result.shares.items }
 {
@@ -80,8 +80,8 @@ pub(crate) fn run_all<
         thread::scope_env(),
         rt,
         move |scope| -> Returned<F, A>
-            requires { (0 < vec_len shares) × AllFresh F.to_come F.fault_count senders.items }
-            ensures senders { Each (Becomes F.to_come F.fault_count options.limit) 0
+            requires { (0 < vec_len shares) × AllFresh F.seen senders.items }
+            ensures senders { Each (Becomes F.seen options.limit) 0
                 senders.items result.senders.items }
             ensures shares { Each ComesBack 0 shares.items result.shares.items }
         {

@@ -5,12 +5,12 @@ use Rattle.std.specs.Str.Parse.{ParsesUnsigned}
 use Rattle.clap.specs.Matches.{ReadsOne, one_text}
 use Rattle.asan_collect.specs.declared.options.Options.{Options}
 use Rattle.clap.specs.declared.parser.matches.Found.{Found}
-use Rattle.asancol.specs.Settings.{AreOptionsOf, IsGiven, IsSet, IsSpelled}
+use Rattle.asancol.specs.Settings.{AreOptionsOf, IsGiven, IsSet, IsReadAs}
 use Rattle.asan_collect.specs.Ranges.{usual_quarantine, usual_limit, usual_ring, usual_workers}
 
 module _ {E : Type 0} (gives : List ℕ → Result ℕ E → Type 0) (bits : ℕ)
     (parses : (text : List ℕ) (r : Result ℕ E) → gives text r → ParsesUnsigned bits 10 text r) where
-  pub spelled : (text : List ℕ) (got : Option ℕ) (default : ℕ) → ReadsOne gives text got → IsSpelled bits text (unwrap_or got default)
+  pub spelled : (text : List ℕ) (got : Option ℕ) (default : ℕ) → ReadsOne gives text got → IsReadAs bits text (unwrap_or got default)
   spelled text (Some v) default so numeral fits = (parses text (Ok v) so).1
   spelled text None default so numeral fits = absurd ((parses text (Err so.0) so.1) (numeral, fits))
 
@@ -30,7 +30,7 @@ module _ {E : Type 0} (gives : List ℕ → Result ℕ E → Type 0) (bits : ℕ
   given_by None None number is none some = absurd (let e : None ≡ Some number = is in cc)
   given_by None (Some n) number is none some = absurd (let e : Some n ≡ None = none refl in cc)
   given_by (Some t) got number is none some =
-      let value : IsSpelled bits t (unwrap_or got number) = spelled t got number (some t refl) in
+      let value : IsReadAs bits t (unwrap_or got number) = spelled t got number (some t refl) in
       rw is at value
 
 -- options that were made of these values are those that were found

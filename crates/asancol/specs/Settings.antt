@@ -11,8 +11,8 @@ use Rattle.clap.specs.Words.{matched_of, one_text, raw_values}
 use Rattle.clap.specs.declared.parser.matches.Found.{Found}
 
 -- the number is the one that a text spells, if the text spells one that fits into these bits
-abbrev pub IsSpelled : ℕ → List ℕ → ℕ → Type 0
-IsSpelled bits text number =
+abbrev pub IsReadAs : ℕ → List ℕ → ℕ → Type 0
+IsReadAs bits text number =
     IsNumeral 10 (without_leading_plus text)
     → digits_value 10 (without_leading_plus text) < 2 ^ bits
     → number ≡ digits_value 10 (without_leading_plus text)
@@ -20,7 +20,7 @@ IsSpelled bits text number =
 -- the number that was given, or the default where none was
 abbrev pub IsSet : ℕ → Option (List ℕ) → ℕ → ℕ → Type 0
 IsSet bits None default number = number ≡ default
-IsSet bits (Some text) default number = IsSpelled bits text number
+IsSet bits (Some text) default number = IsReadAs bits text number
 
 -- each option has the value that was found, or its default
 abbrev pub AreOptionsOf : Found → Options → Type 0
@@ -29,6 +29,12 @@ AreOptionsOf found options =
     × IsSet 32 (one_text found (codes "ring")) usual_ring options.ring
     × IsSet 32 (one_text found (codes "workers")) usual_workers options.workers
     × IsSet 32 (one_text found (codes "limit")) usual_limit options.limit
+
+-- each option has its default
+abbrev pub AreUsual : Options → Type 0
+AreUsual options =
+    (options.quarantine ≡ usual_quarantine) × (options.ring ≡ usual_ring)
+    × (options.workers ≡ usual_workers) × (options.limit ≡ usual_limit)
 
 -- the files that were found, in order, with their options
 abbrev pub AreFilesOf : Found → Request → Type 0
@@ -41,4 +47,4 @@ AreFilesOf found (request.Serve serving) = ⊥
 -- the number is the one that was given
 abbrev pub IsGiven : ℕ → Option (List ℕ) → ℕ → Type 0
 IsGiven bits None number = ⊥
-IsGiven bits (Some text) number = IsSpelled bits text number
+IsGiven bits (Some text) number = IsReadAs bits text number

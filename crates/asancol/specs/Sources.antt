@@ -1,5 +1,5 @@
 -- Feeds of two kinds, and a door whose arrivals are joined by one more.
-use Rattle.std.specs.Prelude.{ℕ, ◌+◌, ◌&&◌, Bool, true, false, List, Option, None, Some}
+use Rattle.std.specs.Prelude.{ℕ, ◌+◌, Bool, false, Option, None, Some}
 use Rattle.asancol.specs.declared.source.Source.{Source}
 use Rattle.asancol.specs.declared.source.Source.TheVariants as source
 

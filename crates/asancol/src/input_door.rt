@@ -67,13 +67,12 @@ impl<D: Door, I: Read + Drop> Door for InputDoor<D, I> {
     ghost use Rattle.std.specs.Prelude.{None};
     ghost use Rattle.asancol.specs.Sources.{is_shut_with, left_with};
 
-    ghost to_arrive = { λ _. None };
-
-    ghost arrivals_left = { λ d. left_with d.input (D.arrivals_left d.door) };
-
-    ghost refusal_count = { λ d. D.refusal_count d.door };
-
-    ghost is_shut = { λ d. is_shut_with d.input (D.is_shut d.door) };
+    ghost seen = { λ d. record {
+      to_arrive = None;
+      left = left_with d.input (D.seen d.door).left;
+      refusals = (D.seen d.door).refusals;
+      is_shut = is_shut_with d.input (D.seen d.door).is_shut;
+    } };
 
     fn next(&mut self) -> Arrival<Source<D::Feed, ReadFeed<I>>> {
         if self.before > 0 {

@@ -24,9 +24,9 @@ pub fn report_feed<F: Feed + Drop, W: Write>(
     feed: F,
     output: &mut W,
 ) -> Result<u8, AllocError>
-    requires { F.fault_count feed ≡ 0 }
+    requires { (F.seen feed).faults ≡ 0 }
     ensures ok { IfOk result (λ status.
-        IsFeedPrinted F.to_come F.fault_count feed
+        IsFeedPrinted F.seen feed
         (W.contents output.old) (W.contents output.new) status) }
     ensures err { OnErr result (output.new ≡ output.old) }
 {
@@ -54,14 +54,11 @@ pub fn report_each<D: Door, W: Write, E: Write, R: Threads + Wait + Clock + Sync
 ) -> Result<u8, AllocError>
 where
     D::Feed: Send + Drop,
-    requires { D.refusal_count door.old ≤ 2 ^ 32 }
+    requires { (D.seen door.old).refusals ≤ 2 ^ 32 }
     ensures ok { IfOk result (λ status.
-        AreSendersPrinted D.Feed.to_come D.Feed.fault_count options.limit options.quarantine
-        (D.to_arrive door.old) (D.to_arrive door.new) (D.arrivals_left door.old)
-        (D.is_shut door.new)
-        (D.refusal_count door.old) (D.refusal_count door.new)
+        AreSendersPrinted D.Feed.seen options (D.seen door.old) (D.seen door.new)
         (W.contents output.old) (W.contents output.new) status) }
-    ensures refused { IfOk result (λ status. D.refusal_count door.old < D.refusal_count door.new
+    ensures refused { IfOk result (λ status. (D.seen door.old).refusals < (D.seen door.new).refusals
         → (status ≡ unchecked) ⊎ (status ≡ unwritten)) }
     ensures unasked { OnErr result (door.new ≡ door.old) }
     ensures err { OnErr result (output.new ≡ output.old) }

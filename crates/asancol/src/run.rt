@@ -42,7 +42,7 @@ where
     O: Write,
     E: Write,
     ensures no_words { words.now ≡ [] →
-        IsInputPrinted ⟦<ReadFeed<I> as Feed>⟧.to_come ⟦<ReadFeed<I> as Feed>⟧.fault_count
+        IsInputPrinted ⟦<ReadFeed<I> as Feed>⟧.seen
         (I.remaining input) (O.contents output.old) (O.contents output.new) result
         ⊎ ((result ≡ unchecked) × (output.new ≡ output.old)) }
     ensures refused { result ≡ refused → output.new ≡ output.old }

@@ -12,9 +12,7 @@ pub enum Source<F, I> {
 impl<F: Feed, I: Feed> Feed for Source<F, I> {
     ghost use Rattle.asancol.specs.Sources.{of_either};
 
-    ghost to_come = { of_either F.to_come I.to_come };
-
-    ghost fault_count = { of_either F.fault_count I.fault_count };
+    ghost seen = { of_either F.seen I.seen };
 
     fn next(&mut self, buf: &mut [u8]) -> Result<usize, FeedFault> {
         match self {

@@ -12,8 +12,8 @@ writes_on_after_fault appended =
     let two_is_one : ◌≡◌ {A = ℕ} 2 1 = ap length appended in absurd (omega arith)
 
 -- a door with no arrivals left answers that one was refused
-over_told_as_refused : (F : Type 0) → ¬ Arrives {F = F} (Some []) (Some []) Refused
-over_told_as_refused F arrives = absurd cc
+refused_where_none_is_left : (F : Type 0) → ¬ Arrives {F = F} (Some []) (Some []) Refused
+refused_where_none_is_left F arrives = absurd cc
 
 -- a door is over though one is left to arrive
 over_before_the_last : (F : Type 0) → ¬ Arrives {F = F} (Some (Refused ∷ [])) (Some []) Over

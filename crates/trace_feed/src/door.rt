@@ -1,7 +1,8 @@
 //! The trait of doors: senders that arrive one after the other.
 
 ghost use Rattle.std.specs.Prelude.{◌≡◌, ◌-◌, ◌<◌, ◌^◌, IsTrue};
-ghost use Rattle.trace_feed.specs.Doors.{Arrives, CountsDown, DoorState, IfCame, is_over, refusals_after};
+ghost use Rattle.trace_feed.specs.Doors.{Arrives, CountsDown, DoorState, IfCame};
+ghost use Rattle.trace_feed.specs.Doors.{is_over, refusals_after};
 
 use crate::feed::Feed;
 

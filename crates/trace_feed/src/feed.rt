@@ -26,7 +26,8 @@ pub trait Feed {
     fn next(&mut self, buf: &mut [u8]) -> Result<usize, FeedFault>
         requires { (seen self.old).faults < 2 ^ 64 - 1 }
         ensures bound { IfOk result (λ n. n ≤ length buf.new) }
-        ensures bytes { ReadConsumes (seen self.old).to_come (seen self.new).to_come result buf.new }
+        ensures bytes { ReadConsumes (seen self.old).to_come (seen self.new).to_come
+            result buf.new }
         ensures faults { (seen self.new).faults ≡
             (if is_ok result then (seen self.old).faults else (seen self.old).faults + 1) };
 

@@ -27,7 +27,7 @@ pub(super) fn printed_of<D: Door, G: Gate + Sync, R: Threads + Wait + Clock + Sy
 ) -> Result<(String, u8), Fail>
 where
     D::Feed: Send + Drop,
-    requires { D.refusal_count door.old ≤ 2 ^ 32 }
+    requires { (D.seen door.old).refusals ≤ 2 ^ 32 }
 {
     let outcomes = collect(rt, alloc, door, gate, options)?;
     let mut text = Vec::new(alloc);
@@ -123,13 +123,12 @@ impl Door for Crowd {
 
     ghost use Rattle.std.specs.Prelude.{None, Some, ◌-◌, nat_le};
 
-    ghost to_arrive = { λ _. None };
-
-    ghost arrivals_left = { λ d. Some (d.last - d.arrived) };
-
-    ghost refusal_count = { λ d. d.refusals };
-
-    ghost is_shut = { λ d. nat_le d.last d.arrived };
+    ghost seen = { λ d. record {
+      to_arrive = None;
+      left = Some (d.last - d.arrived);
+      refusals = d.refusals;
+      is_shut = nat_le d.last d.arrived;
+    } };
 
     fn next(&mut self) -> Arrival<MemFeed> {
         if self.last <= self.arrived {
@@ -247,13 +246,12 @@ impl Door for Repeated {
 
     ghost use Rattle.std.specs.Prelude.{None, Some, ◌==◌};
 
-    ghost to_arrive = { λ _. None };
-
-    ghost arrivals_left = { λ d. Some d.left };
-
-    ghost refusal_count = { λ d. d.refusals };
-
-    ghost is_shut = { λ d. d.left == 0 };
+    ghost seen = { λ d. record {
+      to_arrive = None;
+      left = Some d.left;
+      refusals = d.refusals;
+      is_shut = d.left == 0;
+    } };
 
     fn next(&mut self) -> Arrival<MemFeed> {
         if self.left == 0 {

@@ -10,7 +10,7 @@ use trace_feed::{Feed, FeedFault, MemFeed};
 use trace_record::{End, Fate};
 
 /// What is printed of the first process whose feed is this one, and the status.
-fn told(alloc: Global, feed: MemFeed, options: Options) -> Result<(String, u8), Fail>
+fn printed(alloc: Global, feed: MemFeed, options: Options) -> Result<(String, u8), Fail>
     requires { feed.faults ≡ 0 }
 {
     let outcomes = [check_feed(alloc, feed, options)];
@@ -30,7 +30,7 @@ fn cut_anywhere(rt: HostRuntime) -> Result<(), Fail> {
             (STREAM.len(), Some(36)),
         ] {
             let feed = feed_of(alloc, &STREAM[..length], &[cut], fail_at)?;
-            let (text, status) = told(alloc, feed, options)?;
+            let (text, status) = printed(alloc, feed, options)?;
             assert_eq!(rt; text.as_str(), TEXT, "cut at {cut}");
             assert_eq!(rt; status, 1);
         }
@@ -39,7 +39,7 @@ fn cut_anywhere(rt: HostRuntime) -> Result<(), Fail> {
     for (index, place) in places.iter_mut().enumerate() {
         *place = index as u64;
     }
-    let (text, _) = told(alloc, feed_of(alloc, &STREAM, &places, None)?, options)?;
+    let (text, _) = printed(alloc, feed_of(alloc, &STREAM, &places, None)?, options)?;
     assert_eq!(rt; text.as_str(), TEXT, "byte by byte");
     Ok(())
 }
@@ -52,7 +52,7 @@ fn unknown_code(rt: HostRuntime) -> Result<(), Fail> {
     for cut in 0..=56u64 {
         for (length, fail_at) in [(26, None), (bytes.len(), None), (26, Some(26))] {
             let feed = feed_of(alloc, &bytes[..length], &[cut], fail_at)?;
-            let (text, status) = told(alloc, feed, Options::usual())?;
+            let (text, status) = printed(alloc, feed, Options::usual())?;
             assert_eq!(rt;
                 text.as_str(),
                 "p0 end malformed code events 1 offset 25 reports 0\n",
@@ -84,8 +84,8 @@ fn record_limit(rt: HostRuntime) -> Result<(), Fail> {
         ),
     ] {
         let options = Options::new(1 << 28, 1024, 2, 2)?;
-        let (printed, _) = told(alloc, feed_of(alloc, bytes, &[], None)?, options)?;
-        assert_eq!(rt; printed.as_str(), text);
+        let (line, _) = printed(alloc, feed_of(alloc, bytes, &[], None)?, options)?;
+        assert_eq!(rt; line.as_str(), text);
     }
     Ok(())
 }
@@ -163,9 +163,7 @@ struct Counted {
 impl Feed for Counted {
     ghost use Rattle.std.specs.Prelude.{None};
 
-    ghost to_come = { λ _. None };
-
-    ghost fault_count = { λ c. c.feed.faults };
+    ghost seen = { λ c. record { to_come = None; faults = c.feed.faults } };
 
     fn next(&mut self, buf: &mut [u8]) -> Result<usize, FeedFault> {
         self.reads = self.reads.saturating_add(1);

@@ -47,9 +47,7 @@ struct Waiting<'a> {
 impl<'a> Feed for Waiting<'a> {
     ghost use Rattle.std.specs.Prelude.{None};
 
-    ghost to_come = { λ _. None };
-
-    ghost fault_count = { λ w. w.faults };
+    ghost seen = { λ w. record { to_come = None; faults = w.faults } };
 
     fn next(&mut self, buf: &mut [u8]) -> Result<usize, FeedFault> {
         let is_first = self.place == 0;

@@ -1,4 +1,4 @@
-use Rattle.std.proofs.Common.{rules, ◌∙◌, ◌≡◌, ◌≤◌, ◌+◌, ◌^◌, [], ◌∷◌, ◌++◌, length, arith, inl, inr, refl}
+use Rattle.std.proofs.Common.{rules, ◌∙◌, ◌≡◌, ◌≤◌, ◌+◌, [], ◌∷◌, ◌++◌, length, arith, inl, inr, refl}
 use Rattle.std.proofs.lemmas.List.Elements.{All-push}
 use Rattle.asan_collect.specs.Counts.{refused}
 use Rattle.asan_collect.proofs.Counting.{refused-after, refused-push}
@@ -33,14 +33,14 @@ pub loop-preserved : goal.loop-preserved
 loop-preserved g c =
     let a = c.match-next.arrival in
     let xs = c.loop.arrivals.items in
-    let before = g.D.Door.to_arrive c.args.door.now in
-    let after = g.D.Door.to_arrive c.next.new.self in
+    let before = (g.D.Door.seen c.args.door.now).to_arrive in
+    let after = (g.D.Door.seen c.next.new.self).to_arrive in
     let arrived : Arrived before after (xs ++ a ∷ []) =
     elim c.match-next.branch [
       | in-Came w ↦ rw w.arrival-is (arrived_came _ _ _ xs _ c.loop.invariant.arrived (rw w.in-Came.is at c.next.ensures.order))
       | in-Refused w ↦ rw w.arrival-is (arrived_refused _ _ _ xs c.loop.invariant.arrived (rw w.in-Refused.is at c.next.ensures.order))
     ] in
-    let fresh : IsArrived g.D.Feed.Feed.fault_count a =
+    let fresh : IsArrived g.D.Feed.Feed.seen a =
     elim c.match-next.branch [
       | in-Came w ↦ rw w.arrival-is (rw w.in-Came.is at c.next.ensures.fresh)
       | in-Refused w ↦ rw w.arrival-is tt
@@ -50,7 +50,7 @@ loop-preserved g c =
       | in-Came w ↦ rw (w.arrival-is, w.in-Came.is) refl
       | in-Refused w ↦ rw (w.arrival-is, w.in-Refused.is) refl
     ] in
-    let left : IsLeft (g.D.Door.arrivals_left c.args.door.now) (g.D.Door.arrivals_left c.next.new.self) (length xs + 1) =
+    let left : IsLeft (g.D.Door.seen c.args.door.now).left (g.D.Door.seen c.next.new.self).left (length xs + 1) =
     elim c.match-next.branch [
       | in-Came w ↦ left_came _ _ _ _ _ c.loop.invariant.left (rw w.in-Came.is at c.next.ensures.turn)
       | in-Refused w ↦ left_refused _ _ _ _ _ c.loop.invariant.left (rw w.in-Refused.is at c.next.ensures.turn)
@@ -62,17 +62,17 @@ loop-preserved g c =
       refusals =
           let most = c.loop.invariant.refusals in
           let now = c.next.ensures.count in
-          let rise = refusals_rise c.next.result (g.D.Door.refusal_count c.loop.door) in
+          let rise = refusals_rise c.next.result (g.D.Door.seen c.loop.door).refusals in
           omega arith;
       refused = rw pushed (
           let was = c.loop.invariant.refused in
           let now = c.next.ensures.count in
-          let one = refused-after c.next.result (g.D.Door.refusal_count c.loop.door) in
+          let one = refused-after c.next.result (g.D.Door.seen c.loop.door).refusals in
           let more = refused-push xs a in
           omega arith);
       arrived = rw pushed arrived;
       left = (let more : length (xs ++ a ∷ []) ≡ length xs + 1 = search rules in rw (pushed, more) left);
-      fresh = rw pushed (All-push (IsArrived g.D.Feed.Feed.fault_count) xs a c.loop.invariant.fresh fresh);
+      fresh = rw pushed (All-push (IsArrived g.D.Feed.Feed.seen) xs a c.loop.invariant.fresh fresh);
     }
 
 pub returns-in-Over-clause-arrived : goal.returns-in-Over-clause-arrived

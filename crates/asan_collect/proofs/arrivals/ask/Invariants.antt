@@ -9,9 +9,9 @@ abbrev pub invariant-loop : goal.invariant-loop
 invariant-loop g l = record {
   count : vec_len l.arrivals ≡ l.counter;
   room : 256 ≤ vec_capacity l.arrivals;
-  refusals : g.D.Door.refusal_count l.door ≤ 2 ^ 32 + l.counter;
-  refused : g.D.Door.refusal_count l.door ≡ refused_among l.arrivals.items + g.D.Door.refusal_count l.initial.door;
-  arrived : Arrived (g.D.Door.to_arrive l.initial.door) (g.D.Door.to_arrive l.door) l.arrivals.items;
-  left : IsLeft (g.D.Door.arrivals_left l.initial.door) (g.D.Door.arrivals_left l.door) (length l.arrivals.items);
-  fresh : All (IsArrived g.D.Feed.Feed.fault_count) l.arrivals.items;
+  refusals : (g.D.Door.seen l.door).refusals ≤ 2 ^ 32 + l.counter;
+  refused : (g.D.Door.seen l.door).refusals ≡ refused_among l.arrivals.items + (g.D.Door.seen l.initial.door).refusals;
+  arrived : Arrived (g.D.Door.seen l.initial.door).to_arrive (g.D.Door.seen l.door).to_arrive l.arrivals.items;
+  left : IsLeft (g.D.Door.seen l.initial.door).left (g.D.Door.seen l.door).left (length l.arrivals.items);
+  fresh : All (IsArrived g.D.Feed.Feed.seen) l.arrivals.items;
 }

@@ -17,14 +17,13 @@ returns-clause-shares g t c =
 
 pub returns-clause-senders : goal.returns-clause-senders
 returns-clause-senders g t c =
-    let to_come = g.F.Feed.to_come in
-    let count = g.F.Feed.fault_count in
+    let seen = g.F.Feed.seen in
     let limit = c.args.options.limit in
-    each_after GivesUp (Becomes to_come count limit) (Becomes to_come count limit) (becomes_after to_come count limit) c.args.senders.now.items c.give_up_senders.new.senders.items c.check_from.new.senders.items c.give_up_senders.ensures c.check_from.ensures.senders
+    each_after GivesUp (Becomes seen limit) (Becomes seen limit) (becomes_after seen limit) c.args.senders.now.items c.give_up_senders.new.senders.items c.check_from.new.senders.items c.give_up_senders.ensures c.check_from.ensures.senders
 
 pub check_from-requires-clause-fresh : goal.check_from-requires-clause-fresh
 check_from-requires-clause-fresh g t c κs within =
-    fresh_left g.F.Feed.to_come g.F.Feed.fault_count c.args.senders.now.items c.give_up_senders.new.senders.items c.give_up_senders.ensures c.requires.fresh
+    fresh_left g.F.Feed.seen c.args.senders.now.items c.give_up_senders.new.senders.items c.give_up_senders.ensures c.requires.fresh
 
 pub index_mut-requires-2 : goal.index_mut-requires-2
 index_mut-requires-2 g t c =

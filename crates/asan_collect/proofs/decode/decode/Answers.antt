@@ -8,13 +8,13 @@ use Rattle.trace_record.proofs.Steps.{joined}
 use Rattle.asan_collect.proofs.Stepping.{said}
 use Rattle.asan_collect.proofs.decode.decode.Goals as goal
 
--- the first of the events that were put behind others
-put_behind : (events new : List Event) (i k n : ℕ) → i ≤ length events → n ≤ length new → take (i + n) (put_mid i k events new) ≡ take i events ++ take n new
-put_behind events new i k n within few =
+-- the first of the events that were put after others
+put_after : (events new : List Event) (i k n : ℕ) → i ≤ length events → n ≤ length new → take (i + n) (put_mid i k events new) ≡ take i events ++ take n new
+put_after events new i k n within few =
     let front = take i events in
-    let behind = new ++ post_of i k events in
+    let after = new ++ post_of i k events in
     let len = length-take-le i events within in
-    take-add i n (front ++ behind) ∙ (rw (take_at front behind i len, drop_at front behind i len, take-append-le n new (post_of i k events) few) refl)
+    take-add i n (front ++ after) ∙ (rw (take_at front after i len, drop_at front after i len, take-append-le n new (post_of i k events) few) refl)
 
 -- where a decoder stands that has read ahead
 ahead_of : (d now : Standing) (text piece : List ℕ) (used size : ℕ) (before events new : List Event) (i k n : ℕ) → i ≤ length events
@@ -23,7 +23,7 @@ ahead_of : (d now : Standing) (text piece : List ℕ) (used size : ℕ) (before 
     → StandsAt d (text ++ take used piece) (before ++ take i events)
     → StandsAt now (text ++ take (used + size) piece) (before ++ take (i + n) (put_mid i k events new))
 ahead_of d now text piece used size before events new i k n within few room answers at =
-    let more = ap (λ es. before ++ es) (put_behind events new i k n within (omega arith)) ∙ sym (append_assoc before (take i events) (take n new)) in
+    let more = ap (λ es. before ++ es) (put_after events new i k n within (omega arith)) ∙ sym (append_assoc before (take i events) (take n new)) in
     rw (← joined text piece used size, more) (rw (take_rest piece used) at answers (text ++ take used piece) (before ++ take i events) at)
 
 pub loop-count-preserved : goal.loop-count-preserved
@@ -53,9 +53,9 @@ loop-count-preserved c =
       limit = c.next-step.ensures.limit ∙ ahead.limit ∙ was.limit;
       reads = λ text before at.
           let at_first = ahead_of _ _ text piece _ _ before events _ i _ _ was.some ahead.count ahead.room ahead.answers (was.reads text before at) in
-          let told = rw c.in-Got.is at (said _ _ text piece used _ _ _ (rw (take_rest piece used) at c.next-step.ensures.answers) at_first) in
+          let stands = rw c.in-Got.is at (said _ _ text piece used _ _ _ (rw (take_rest piece used) at c.next-step.ensures.answers) at_first) in
           let more = ap (λ es. before ++ es) (take_more_set put count event low) ∙ sym (append_assoc before (take count put) (event ∷ [])) in
-          rw more told.0;
+          rw more stands.0;
     }
 
 pub returns-then-count-events-clause-decoded : goal.returns-then-count-events-clause-decoded
@@ -71,8 +71,8 @@ returns-in-Stop-clause-decoded c text before at =
     let ahead = c.next_events-ahead.ensures in
     let used = c.loop-count.used + c.next_events-ahead.result.used in
     let at_first = ahead_of _ _ text piece _ _ before c.loop-count.events _ c.loop-count.count _ _ was.some ahead.count ahead.room ahead.answers (was.reads text before at) in
-    let told = rw c.in-Stop.is at (said _ _ text piece used _ _ _ (rw (take_rest piece used) at c.next-step.ensures.answers) at_first) in
-    (rw c.in-Stop.is at c.next-step.ensures.stop, told.0, told.1, told.2)
+    let stands = rw c.in-Stop.is at (said _ _ text piece used _ _ _ (rw (take_rest piece used) at c.next-step.ensures.answers) at_first) in
+    (rw c.in-Stop.is at c.next-step.ensures.stop, stands.0, stands.1, stands.2)
 
 pub returns-in-Need-clause-decoded : goal.returns-in-Need-clause-decoded
 returns-in-Need-clause-decoded c text before at =

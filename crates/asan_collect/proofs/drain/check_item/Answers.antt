@@ -2,7 +2,7 @@ use Rattle.std.proofs.Common.{◌<◌, rules, take}
 use Rattle.asan_collect.specs.Items.{events_of}
 use Rattle.asan_collect.specs.Ranges.{most_events}
 use Rattle.asan_check.specs.Standing.{bound_of}
-use Rattle.asan_collect.proofs.Checking.{seen_end, seen_past, seen_more, room_behind}
+use Rattle.asan_collect.proofs.Checking.{seen_end, seen_past, seen_more, room_for_one}
 use Rattle.asan_collect.proofs.drain.check_item.Goals as goal
 
 pub returns-in_default : goal.returns-in_default
@@ -16,7 +16,7 @@ pub step-requires : goal.step-requires
 step-requires g c =
     let seen = c.requires.2 in
     let few : c.args.events.now < most_events = search rules in
-    record { room = room_behind (bound_of c.requires.0) c.args.checker.now (take most_events (events_of c.requires.1)) c.args.events.now seen.stands seen.count few }
+    record { room = room_for_one (bound_of c.requires.0) c.args.checker.now (take most_events (events_of c.requires.1)) c.args.events.now seen.stands seen.count few }
 
 pub returns : goal.returns
 returns g c first items seen =

@@ -35,7 +35,7 @@ open-sender-requires g c =
     let first : i < length c.args.arrivals.items = search rules in
     let a = c.replace-arrival.result in
     let is : a ≡ slice_index_or c.args.arrivals.items i a = c.replace-arrival.ensures.value ∙ (c.index_mut.ensures.value ∙ (get_or_default now i c.index_mut.result.now a low ∙ inv.going.rest i a (omega arith))) in
-    subst (IsArrived g.F.Feed.fault_count) (sym is) (c.requires.arrived i a first)
+    subst (IsArrived g.F.Feed.seen) (sym is) (c.requires.arrived i a first)
 
 pub loop-i-preserved : goal.loop-i-preserved
 loop-i-preserved g c =
@@ -63,7 +63,7 @@ loop-i-preserved g c =
           | inr other ↦ let first : k < length senders = omega arith in rw (pushed, get_or_append_left senders (s ∷ []) e k first) (inv.going.each k d e (omega arith))
         ];
       };
-      fresh = rw pushed (fresh_push g.F.Feed.to_come g.F.Feed.fault_count senders s inv.fresh c.open-sender.ensures.fresh);
+      fresh = rw pushed (fresh_push g.F.Feed.seen senders s inv.fresh c.open-sender.ensures.fresh);
       benches = elim c.match-bench.branch [
         | in-Some w ↦
             let is_new = rw w.in-Some.is at c.open-sender.ensures.bench in
@@ -83,9 +83,9 @@ loop-i-preserved g c =
     }
 
 pub returns-clause-came : goal.returns-clause-came
-returns-clause-came g c = λ limit bound. record {
+returns-clause-came g c = record {
   same_length = search rules;
-  each = λ i d e below. c.loop-i.invariant.going.each i d e (search rules) limit bound;
+  each = λ i d e below. c.loop-i.invariant.going.each i d e (search rules);
 }
 
 pub returns-clause-some : goal.returns-clause-some

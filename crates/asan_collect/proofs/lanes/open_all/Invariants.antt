@@ -12,9 +12,9 @@ pub record Going {S O : Type 0} (Gets : S → O → Type 0) (i m : ℕ) (was now
 abbrev pub invariant-loop-i : goal.invariant-loop-i
 invariant-loop-i g l = record {
   same : vec_len l.arrivals ≡ vec_len l.initial.arrivals;
-  going : Going (λ a s. (limit bound : ℕ) → Came g.F.Feed.to_come g.F.Feed.fault_count limit bound a s) l.i (vec_len l.senders)
+  going : Going (Came g.F.Feed.seen l.options) l.i (vec_len l.senders)
       (slice_index_or l.initial.arrivals.items) (slice_index_or l.arrivals.items) (slice_index_or l.senders.items);
-  fresh : AllFresh g.F.Feed.to_come g.F.Feed.fault_count l.senders.items;
+  fresh : AllFresh g.F.Feed.seen l.senders.items;
   benches : SharesAt l.options.quarantine l.senders.items l.shares.items;
   sender_room : 256 ≤ vec_capacity l.senders;
   room : HasRoom (vec_len l.shares) l.i l.shares.items;

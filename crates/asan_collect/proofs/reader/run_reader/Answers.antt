@@ -1,5 +1,5 @@
-use Rattle.std.proofs.Common.{◌≡◌, ◌++◌, take, sym, ◌∙◌}
-use Rattle.trace_lane.specs.Lanes.{in_lane, put_list}
+use Rattle.std.proofs.Common.{◌++◌, take, sym, ◌∙◌}
+use Rattle.trace_lane.specs.Lanes.{put_list}
 use Rattle.asan_collect.specs.Sources.{HasEnded, IsEndOf}
 use Rattle.asan_collect.proofs.Lengths.{fewer_left}
 use Rattle.asan_collect.proofs.Readers.{reader_done}
@@ -8,8 +8,7 @@ use Rattle.asan_collect.proofs.reader.run_reader.Goals as goal
 
 pub returns-then-batch : goal.returns-then-batch
 returns-then-batch g c =
-    let to_come = g.F.Feed.to_come in
-    let count = g.F.Feed.fault_count in
+    let seen = g.F.Feed.seen in
     let was = c.loop-events.invariant in
     let read = was.read in
     let batch = c.next_batch-batch in
@@ -17,9 +16,9 @@ returns-then-batch g c =
     let events = read.1 ++ more in
     let feed = c.into_end-feed-then-batch.result.0 in
     let end = c.into_end-feed-then-batch.result.1 in
-    let ended : HasEnded to_come count c.args.limit c.args.feed batch.new.self events = rw c.if-batch.true at (batch.ensures.read c.args.limit c.args.feed read.0 read.1 read.2) in
-    let is_end : IsEndOf to_come count c.args.limit c.args.feed feed events end = c.into_end-feed-then-batch.ensures c.args.limit c.args.feed events ended in
-    reader_done to_come count c.args.limit c.args.feed feed c.args.lane c.put_events.new.lane c.close-lane_end.result end events
+    let ended : HasEnded seen c.args.limit c.args.feed batch.new.self events = rw c.if-batch.true at (batch.ensures.read c.args.limit c.args.feed read.0 read.1 read.2) in
+    let is_end : IsEndOf seen c.args.limit c.args.feed feed events end = c.into_end-feed-then-batch.ensures c.args.limit c.args.feed events ended in
+    reader_done seen c.args.limit c.args.feed feed c.args.lane c.put_events.new.lane c.close-lane_end.result end events
     c.close-lane_end.ensures (c.put_events.ensures.lane ∙ was.lane)
     (batch_put (put_list c.args.lane) (put_list c.loop-events.lane) (put_list c.put_events.new.lane) read.1 more read.3 (c.put_events.ensures.put c.if-not-put_events.false))
     is_end.spelled

@@ -9,13 +9,13 @@ use Rattle.asan_collect.proofs.reader.run_reader.Given as goal
 
 abbrev pub invariant-loop-events : goal.invariant-loop-events
 invariant-loop-events g l = record {
-  fresh : g.F.Feed.fault_count l.source.feed ≡ 0;
+  fresh : (g.F.Feed.seen l.source.feed).faults ≡ 0;
   running : l.source.decoder.stop ≡ None;
   room : length l.events ≡ batch_size;
   item_room : length l.items ≡ batch_size;
   lane : in_lane l.lane ≡ in_lane l.fn.lane;
   read : (text : List ℕ) × (before : List Event)
-      × HasRead g.F.Feed.to_come g.F.Feed.fault_count l.fn.limit l.fn.feed l.source text before
+      × HasRead g.F.Feed.seen l.fn.limit l.fn.feed l.source text before
       × (put_list l.lane ≡ put_list l.fn.lane ++ event_items before);
 }
 

@@ -23,7 +23,7 @@ rejoin_at-requires g c =
 pub loop-bench-preserved : goal.loop-bench-preserved
 loop-bench-preserved g c =
     let bound = c.args.bound in
-    let rejoins = Rejoins g.F.Feed.to_come g.F.Feed.fault_count bound in
+    let rejoins = Rejoins g.F.Feed.seen bound in
     let bench = c.in-Some.bench in
     let xs = c.args.senders.now.items in
     let ys = c.loop-bench.senders.items in
@@ -32,7 +32,7 @@ loop-bench-preserved g c =
     let same : length ys ≡ length xs = c.loop-bench.invariant.0.same_length in
     let first : at < length xs = let h = here.low in let e = c.process-at.ensures in omega arith in
     let low : at < length ys = omega arith in (
-      (each_set rejoins (rejoins_on g.F.Feed.to_come g.F.Feed.fault_count bound) at xs ys c.rejoin_at.new.sender first
+      (each_set rejoins (rejoins_on g.F.Feed.seen bound) at xs ys c.rejoin_at.new.sender first
           (λ d. rw (c.index_mut.ensures.value ∙ get_or_default ys at c.index_mut.result.now d low, here.bound_is) at c.rejoin_at.ensures) c.loop-bench.invariant.0),
       at_front bound xs c.pop.new.self.items bench (rw c.in-Some.ensures.items at c.loop-bench.invariant.1),
     )

@@ -3,7 +3,7 @@ use Rattle.asan_collect.specs.Senders.{Each, Rejoins, AreAt}
 use Rattle.asan_collect.proofs.returns.place.Given as goal
 
 abbrev pub invariant-loop-bench : goal.invariant-loop-bench
-invariant-loop-bench g l = Each (Rejoins g.F.Feed.to_come g.F.Feed.fault_count l.bound) 0 l.initial.senders.items l.senders.items × AreAt l.bound l.initial.senders.items l.benches.items
+invariant-loop-bench g l = Each (Rejoins g.F.Feed.seen l.bound) 0 l.initial.senders.items l.senders.items × AreAt l.bound l.initial.senders.items l.benches.items
 
 abbrev pub decreases-loop-bench : goal.decreases-loop-bench
 decreases-loop-bench g l = vec_len l.benches

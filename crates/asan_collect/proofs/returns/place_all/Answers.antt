@@ -4,19 +4,19 @@ use Rattle.asan_collect.proofs.Senders.{at_kept, each_after, each_refl, rejoins_
 use Rattle.asan_collect.proofs.returns.place_all.Goals as goal
 
 pub loop-share-init : goal.loop-share-init
-loop-share-init g c = (each_refl (Rejoins g.F.Feed.to_come g.F.Feed.fault_count c.args.bound) (rejoins_same g.F.Feed.to_come g.F.Feed.fault_count c.args.bound) c.args.senders.now.items, c.requires)
+loop-share-init g c = (each_refl (Rejoins g.F.Feed.seen c.args.bound) (rejoins_same g.F.Feed.seen c.args.bound) c.args.senders.now.items, c.requires)
 
 pub place-requires : goal.place-requires
 place-requires g c =
-    let rejoins = Rejoins g.F.Feed.to_come g.F.Feed.fault_count c.args.bound in
+    let rejoins = Rejoins g.F.Feed.seen c.args.bound in
     let xs = c.args.senders.now.items in
     at_kept rejoins (λ s t h. h.lane) c.args.bound xs c.loop-share.senders.items c.in-Some.share.items c.loop-share.invariant.0
     (shares_last c.args.bound xs c.pop.new.self.items c.in-Some.share (rw c.in-Some.ensures.items at c.loop-share.invariant.1))
 
 pub loop-share-preserved : goal.loop-share-preserved
 loop-share-preserved g c =
-    let rejoins = Rejoins g.F.Feed.to_come g.F.Feed.fault_count c.args.bound in
+    let rejoins = Rejoins g.F.Feed.seen c.args.bound in
     let xs = c.args.senders.now.items in (
-      each_after rejoins rejoins rejoins (rejoins_on g.F.Feed.to_come g.F.Feed.fault_count c.args.bound) xs c.loop-share.senders.items c.place.new.senders.items c.loop-share.invariant.0 c.place.ensures,
+      each_after rejoins rejoins rejoins (rejoins_on g.F.Feed.seen c.args.bound) xs c.loop-share.senders.items c.place.new.senders.items c.loop-share.invariant.0 c.place.ensures,
       shares_front c.args.bound xs c.pop.new.self.items c.in-Some.share (rw c.in-Some.ensures.items at c.loop-share.invariant.1),
     )

@@ -4,7 +4,7 @@ use Rattle.asan_collect.specs.Senders.{Each, Rejoins}
 use Rattle.asan_collect.proofs.returns.place_all.Given as goal
 
 abbrev pub invariant-loop-share : goal.invariant-loop-share
-invariant-loop-share g l = Each (Rejoins g.F.Feed.to_come g.F.Feed.fault_count l.bound) 0 l.initial.senders.items l.senders.items × SharesAt l.bound l.initial.senders.items l.shares.items
+invariant-loop-share g l = Each (Rejoins g.F.Feed.seen l.bound) 0 l.initial.senders.items l.senders.items × SharesAt l.bound l.initial.senders.items l.shares.items
 
 abbrev pub decreases-loop-share : goal.decreases-loop-share
 decreases-loop-share g l = vec_len l.shares

@@ -11,5 +11,5 @@ pub record Going {S O : Type 0} (Gets : S → O → Type 0) (n i m room : ℕ) (
 abbrev pub invariant-loop-i : goal.invariant-loop-i
 invariant-loop-i g l =
     (vec_len l.senders ≡ vec_len l.initial.senders)
-    × Going (Gets g.F.Feed.to_come g.F.Feed.fault_count) (vec_len l.initial.senders) l.i (vec_len l.outcomes) (vec_capacity l.outcomes)
+    × Going (Gets g.F.Feed.seen) (vec_len l.initial.senders) l.i (vec_len l.outcomes) (vec_capacity l.outcomes)
     (slice_index_or l.initial.senders.items) (slice_index_or l.senders.items) (slice_index_or l.outcomes.items)

@@ -1,4 +1,4 @@
-use Rattle.std.proofs.Common.{rules, refl, ◌≡◌, ◌<◌, ◌++◌, length, take}
+use Rattle.std.proofs.Common.{rules, refl, ◌<◌, ◌++◌, length, take}
 use Rattle.asan_collect.specs.Pieces.{rest_of}
 use Rattle.asan_collect.specs.Sources.{HasRead}
 use Rattle.asan_collect.proofs.Reading.{batch_read}
@@ -7,10 +7,9 @@ use Rattle.asan_collect.proofs.source.Source.next_batch.Goals as goal
 
 pub returns-clause-read : goal.returns-clause-read
 returns-clause-read g c limit first text before read =
-    let to_come = g.F.Feed.to_come in
-    let fault_count = g.F.Feed.fault_count in
+    let seen = g.F.Feed.seen in
     let s = c.else-is_empty.self in
-    let ready : HasRead to_come fault_count limit first s text before × (0 < length (rest_of s.piece)) = elim c.else-is_empty.branch [
+    let ready : HasRead seen limit first s text before × (0 < length (rest_of s.piece)) = elim c.else-is_empty.branch [
       | else-is_empty-via-then-is_empty+else-not-refill w ↦ rw w.self-is
           (rw w.if-not-refill.false at (w.refill.ensures.read limit first text before read), w.refill.ensures.some w.if-not-refill.false)
       | else-is_empty-via-else-is_empty w ↦ rw w.self-is (read, search rules)
@@ -18,6 +17,6 @@ returns-clause-read g c limit first text before read =
     let piece = c.rest-2.ensures in
     let decoded = c.decode-decoded in
     let events = before ++ take decoded.result.count decoded.new.events in
-    rw c.is_some.ensures (batch_read to_come fault_count limit first s _ text before events decoded.result.used decoded.result.end
+    rw c.is_some.ensures (batch_read seen limit first s _ text before events decoded.result.used decoded.result.end
     ready.0 (decoded.ensures.moved (rw piece ready.1) c.requires.some_room) (rw piece at decoded.ensures.used)
     refl c.advance.ensures decoded.ensures.limit (rw piece at (decoded.ensures.decoded text before ready.0.decoder)))
