@@ -2,17 +2,18 @@
 --
 -- The check of an access is that of the paper of 2012. The classes, the verdicts on frees and
 -- mallocs, and that the replay goes on after a report are this project's choice (profile).
-use Rattle.std.specs.Prelude.{ℕ, ◌+◌, ◌*◌, ◌/◌, Bool, true, false, not, ◌||◌, ◌==◌, if◌then◌else◌}
+use Rattle.std.specs.Prelude.{ℕ, ◌+◌, ◌*◌, ◌/◌, Bool, true, false, ◌||◌, ◌==◌, if◌then◌else◌}
 use Rattle.std.specs.Prelude.{List, [], ◌∷◌, ◌++◌, length, Option, Some, None, option_to_list}
 use Rattle.std.specs.Prelude.{reverse}
-use Rattle.std.specs.List.{list_all, list_any}
+use Rattle.std.specs.List.{list_any}
 use Rattle.std.specs.Option.{option_map}
 use Rattle.asan_units.specs.Units.{granule_of, first_byte}
 use Rattle.trace_record.specs.declared.event.Event.{Event}
 use Rattle.trace_record.specs.declared.event.Event.TheVariants as event
 use Rattle.trace_record.specs.declared.event.Access.{Access}
 use Rattle.shadow_map.specs.States.{State, Addressable, HeapRedzone, Freed, UserPoison}
-use Rattle.shadow_map.specs.States.{is_addressable, places, state_of, lift, bad_byte_of}
+use Rattle.shadow_map.specs.States.{state_of, lift, bad_byte_of}
+use Rattle.shadow_map.specs.Causes.{deciding_granule}
 use Rattle.heap_book.specs.Spans.{starts_at}
 use Rattle.asan_check.specs.declared.report.Class.{Class}
 use Rattle.asan_check.specs.declared.report.Class.TheVariants as class
@@ -28,18 +29,9 @@ class_of_state HeapRedzone = class.HeapBufferOverflow
 class_of_state Freed = class.HeapUseAfterFree
 class_of_state UserPoison = class.UseAfterPoison
 
--- whether a granule has no addressable byte
-abbrev pub has_none_addressable : (ℕ → State) → ℕ → Bool
-has_none_addressable states granule =
-    list_all (λ place. not (is_addressable (states (first_byte granule + place)))) places
-
--- the class of a bad access: that of the first byte of its granule if none of the granule's bytes
--- is addressable, else that of the first byte of the next granule
+-- the class of a bad access: that of the first byte of the granule that decides
 abbrev pub class_of : (ℕ → State) → ℕ → Class
-class_of states at =
-    let granule = granule_of at
-    in class_of_state (states (first_byte
-    (if has_none_addressable states granule then granule else granule + 1)))
+class_of states at = class_of_state (states (first_byte (deciding_granule states at)))
 
 -- what is wrong with a load or a store of memory in these states
 abbrev pub access_fault : (ℕ → State) → Bool → Access → Option Fault

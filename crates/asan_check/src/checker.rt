@@ -7,23 +7,20 @@ ghost use Rattle.trace_record.specs.declared.event.Event.{Event as AnEvent};
 ghost use Rattle.trace_record.specs.declared.event.Event.TheVariants as event;
 ghost use Rattle.trace_record.specs.declared.event.Place.{Place as APlace};
 ghost use Rattle.shadow_map.specs.States.{is_addressable, state_of, least_unaddressable};
+ghost use Rattle.shadow_map.specs.States.{bad_byte_of};
 ghost use Rattle.asan_check.specs.History.{marks};
 ghost use Rattle.asan_check.specs.Verdicts.{verdict, fault_of, access_fault, malloc_fault};
-ghost use Rattle.asan_check.specs.Verdicts.{free_fault, class_of, marks_none};
+ghost use Rattle.asan_check.specs.Verdicts.{free_fault, marks_none};
 ghost use Rattle.asan_check.specs.Laws.{class_of_shadow};
 
 use crate::NoMemory;
 use crate::report::{Class, Fault, Report};
-use asan_units::{GRANULE, REDZONE};
+use asan_units::REDZONE;
 use heap_book::{Admit, Block, Book, Bound, Freed};
 use shadow_map::{FREED, HEAP_REDZONE, Shadow, USER_POISON};
 use std::alloc::{Allocator, Global};
 use thiserror::Error;
 use trace_record::{Access, Event, Place, Region};
-
-/// The least shadow byte that is a code. A granule with one has no addressable byte, and the code
-/// says what it is.
-const LEAST_CODE: u8 = 0x80;
 
 /// There was no memory for this event or for an earlier one.
 #[derive(Clone, Copy, Debug, PartialEq, Eq, Error)]
@@ -289,28 +286,23 @@ impl<A: Allocator + Copy> Checker<A> {
             result ≡ access_fault (state_of (marks bound past)) store access.now }
     {
         let bad = self.shadow.bad_byte(access.at(), access.width())?;
-        Some(Fault::Access {
+        Some(self.bad_access(store, access, bad))
+    }
+
+    /// What is wrong with a load or a store that has this bad byte.
+    fn bad_access(&self, store: bool, access: &Access, bad: u64) -> Fault
+        ensures { (bound : ℕ) (past : List AnEvent) → ShowsHistory bound self.now past →
+            bad_byte_of (state_of (marks bound past)) access.now.at access.now.width ≡ Some bad →
+            access_fault (state_of (marks bound past)) store access.now ≡ Some result }
+    {
+        let cause = self.shadow.cause(access.at());
+        Fault::Access {
             store,
             width: access.width(),
             at: access.at(),
             bad,
-            class: self.class_at(access.at()),
-            shadow: self.shadow.value(access.at() / GRANULE),
-        })
-    }
-
-    /// The class of a bad access at `at`. The first byte of its granule decides if none of the
-    /// granule's bytes is addressable, else the first byte of the next granule.
-    fn class_at(&self, at: u64) -> Class
-        requires { at < address_end }
-        ensures { (bound : ℕ) (past : List AnEvent) → ShowsHistory bound self.now past →
-            result ≡ class_of (state_of (marks bound past)) at }
-    {
-        let own = self.shadow.value(at / GRANULE);
-        if own < LEAST_CODE {
-            class_by(self.shadow.value(at / GRANULE + 1))
-        } else {
-            class_by(own)
+            class: class_by(cause.deciding),
+            shadow: cause.own,
         }
     }
 

@@ -1,10 +1,12 @@
 -- What the shadow byte of a granule answers: the bad byte of an access, and the laws of shadow bytes.
 use Rattle.std.proofs.Common.{◌≡◌, ◌≢◌, ℕ, zero, suc, ◌+◌, ◌-◌, ◌*◌, ◌/◌, ◌%◌, ◌<◌, ◌≤◌, Bool, true, false, cond, leb, ltb, eqb, List, Option, Some, None, refl, sym, ap, subst, ◌∙◌, arith, inl, inr, add-zero}
+use Rattle.std.specs.List.{list_all}
 use Rattle.std.specs.Prelude.{min, max, not, ◌&&◌, ◌||◌, nat_lt, nat_le, ◌↔◌, is_some, IsTrue, MatchOption}
 use Rattle.std.proofs.lemmas.Bool.Decides.{nat_tests}
 use Rattle.std.proofs.lemmas.Bool.{cases_lt}
-use Rattle.shadow_map.specs.States.{State, Addressable, HeapRedzone, Freed, UserPoison, is_addressable, code_of, Mark, AreMarks, state_of, lift, least_unaddressable, bad_byte_of}
+use Rattle.shadow_map.specs.States.{State, Addressable, HeapRedzone, Freed, UserPoison, is_addressable, code_of, Mark, AreMarks, places, state_of, lift, least_unaddressable, bad_byte_of}
 use Rattle.shadow_map.specs.Checks.{is_negative, check_reports}
+use Rattle.shadow_map.specs.Causes.{has_none_addressable, deciding_granule}
 use Rattle.asan_units.specs.Units.{is_width}
 use Rattle.shadow_map.specs.Granules.{front_of}
 use Rattle.shadow_map.specs.Laws.{AddressableBytesLead, IsAddressableAt, IsFirstUnaddressable, FirstUnaddressableOfARegion, BadByteOfAnAccess, ShadowByteTellsTheGranule, ShadowCheckFindsTheBadByte}
@@ -56,6 +58,30 @@ addressable_shown marks ok at shadow is =
     let split : 8 * (at / 8) + at % 8 ≡ at = omega arith in
     let here = rw split at (p.1.each (at % 8) (omega arith)) in
     rw (here, front) (grind (arith, nat_tests))
+
+-- the granule that decides why an access is bad, by the shadow byte of the granule of its first byte
+none_of_front : (front : ℕ) → list_all (λ place. not (nat_lt place front)) places ≡ nat_le front 0
+none_of_front zero = refl
+none_of_front (suc front) = let first : nat_lt 0 (suc front) ≡ true = grind (arith, nat_tests) in let some : nat_le (suc front) 0 ≡ false = grind (arith, nat_tests) in rw (first, some) refl
+
+negative_without_front : (front code : ℕ) → front ≤ 8 → (front ≡ 0 → 128 ≤ code) → nat_le front 0 ≡ is_negative (byte_by front code)
+negative_without_front front code most high = grind (arith, nat_tests)
+
+none_addressable_shown : (marks : List Mark) → AreMarks marks → (granule : ℕ) →
+    has_none_addressable (state_of marks) granule ≡ is_negative (lift (state_of marks) granule)
+none_addressable_shown marks ok granule =
+    let states : ℕ → State = state_of marks in
+    let p = front_of_marks marks ok granule in
+    let each = p.1.each in
+    let front : has_none_addressable states granule ≡ nat_le p.0 0 =
+    rw (each 0 (omega arith), each 1 (omega arith), each 2 (omega arith), each 3 (omega arith), each 4 (omega arith), each 5 (omega arith), each 6 (omega arith), each 7 (omega arith))
+    (none_of_front p.0) in
+    front ∙ negative_without_front p.0 (code_of (states (8 * granule))) p.1.most (first_code states granule p.0 p.1)
+    ∙ ap is_negative (sym (lift_is states granule p.0 p.1))
+
+pub deciding_shown : (marks : List Mark) → AreMarks marks → (at shadow : ℕ) → shadow ≡ lift (state_of marks) (at / 8) →
+    deciding_granule (state_of marks) at ≡ cond (is_negative shadow) (at / 8) (at / 8 + 1)
+deciding_shown marks ok at shadow is = rw (none_addressable_shown marks ok (at / 8), is) refl
 
 -- a search for the first byte that is not addressable: what it finds among some bytes it finds among more
 pub least_found : (states : ℕ → State) (byte count more found : ℕ) → least_unaddressable states byte count ≡ Some found →

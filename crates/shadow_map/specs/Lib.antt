@@ -1,5 +1,6 @@
 pub mod States
 pub mod Checks
+pub mod Causes
 pub mod Shows
 pub mod Calls
 pub mod Granules

@@ -9,6 +9,9 @@ use asan_units::GRANULE;
 /// How many bytes of a granule are addressable where all are.
 const WHOLE: u8 = GRANULE as u8;
 
+/// The least shadow byte that is a code. A granule with a code has no addressable byte.
+pub const LEAST_CODE: u8 = 0x80;
+
 /// The shadow byte of a granule whose bytes are a redzone of a block on the heap.
 pub const HEAP_REDZONE: u8 = 0xfa;
 

@@ -34,5 +34,5 @@ pub use laws::{
     first_unaddressable_of_a_region, poison_of_a_granule, shadow_byte_tells_the_granule,
     shadow_check_finds_the_bad_byte, unpoison_of_a_granule,
 };
-pub use shadow::Shadow;
+pub use shadow::{Cause, Shadow};
 pub use std::alloc::AllocError as NoMemory;

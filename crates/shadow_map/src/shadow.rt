@@ -1,15 +1,16 @@
 //! The shadow, and what is asked of it.
 ghost use Rattle.page_table.specs.Sections.{IsFirstNonzero};
 ghost use Rattle.page_table.specs.Runs.{length_of, byte_of_runs};
-ghost use Rattle.std.specs.Prelude.{◌≡◌, ◌≢◌, ℕ, ◌+◌, ◌-◌, ◌^◌, ◌<◌, ◌≤◌, ◌&&◌, not, nat_le};
+ghost use Rattle.std.specs.Prelude.{◌≡◌, ◌≢◌, ℕ, ◌+◌, ◌-◌, ◌/◌, ◌^◌, ◌<◌, ◌≤◌, ◌&&◌, not, nat_le};
 ghost use Rattle.std.specs.Prelude.{nat_lt, if◌then◌else◌, List, [], IsTrue, OnOk, OnErr};
 ghost use Rattle.shadow_map.specs.States.{Mark, is_addressable, state_of, lift};
 ghost use Rattle.shadow_map.specs.States.{least_unaddressable, bad_byte_of};
-ghost use Rattle.asan_units.specs.Units.{address_end, granule_count, is_width};
+ghost use Rattle.asan_units.specs.Units.{address_end, granule_count, granule_of, is_width};
+ghost use Rattle.shadow_map.specs.Causes.{deciding_granule};
 ghost use Rattle.shadow_map.specs.Shows.{Shows, value_at};
 
 use crate::NoMemory;
-use crate::granule::front;
+use crate::granule::{LEAST_CODE, front};
 use asan_units::{GRANULE, GRANULES};
 use page_table::{PageTable, Run};
 use std::alloc::{Allocator, Global};
@@ -22,6 +23,15 @@ use std::alloc::{Allocator, Global};
 pub struct Shadow<A: Allocator + Copy = Global> {
     // The shadow byte of each granule.
     granules: PageTable<A>,
+}
+
+/// The shadow bytes that say why an access is bad.
+#[derive(Clone, Copy, Debug, PartialEq, Eq)]
+pub struct Cause {
+    /// The shadow byte of the granule of its first byte.
+    pub own: u8,
+    /// The shadow byte that decides: the same one if it is a code, else that of the next granule.
+    pub deciding: u8,
 }
 
 impl<A: Allocator + Copy> Shadow<A> {
@@ -61,6 +71,22 @@ impl<A: Allocator + Copy> Shadow<A> {
             result ≡ bad_byte_of (state_of marks) at width }
     {
         self.bad_byte_in_granule(at, width as u64)
+    }
+
+    /// The shadow bytes that say why an access at `at` is bad, if it is.
+    pub fn cause(&self, at: u64) -> Cause
+        ensures own { (marks : List Mark) → Shows self.now marks →
+            result.own ≡ lift (state_of marks) (granule_of at) }
+        ensures deciding { (marks : List Mark) → Shows self.now marks →
+            result.deciding ≡ lift (state_of marks) (deciding_granule (state_of marks) at) }
+    {
+        let own = self.value(at / GRANULE);
+        let deciding = if own < LEAST_CODE {
+            self.value(at / GRANULE + 1)
+        } else {
+            own
+        };
+        Cause { own, deciding }
     }
 
     /// Whether a byte is not addressable.

@@ -45,6 +45,19 @@ fn shadow_calls(rt: HostRuntime) -> Result<(), Fail> {
         ],
         [Some(0x1005), None, Some(0xfe0), Some(0x1006)]
     );
+    assert_eq!(rt;
+        [shadow.cause(0x1006), shadow.cause(0x1008)],
+        [
+            Cause {
+                own: 0x05,
+                deciding: 0xfa
+            },
+            Cause {
+                own: 0xfa,
+                deciding: 0xfa
+            }
+        ]
+    );
     assert!(rt; !shadow.is_poisoned(0x1004));
     assert_eq!(rt; values_in_turn(&mut shadow)?, [0x07, 0xf7, 0xfd]);
     Ok(())
