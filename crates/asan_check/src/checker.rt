@@ -2,6 +2,7 @@
 ghost use Rattle.std.specs.Prelude.{◌≡◌, ℕ, ◌+◌, ◌<◌, ◌≤◌, ◌^◌, ◌↔◌, List, [], ◌∷◌, ◌++◌, IfOk};
 ghost use Rattle.std.specs.Prelude.{IsErr, IsTrue, IsSome, IsSomeAnd, OnOk, OnErr, true, false};
 ghost use Rattle.std.specs.Prelude.{not, length, take, reverse, None, Some, option_to_list};
+ghost use Rattle.std.specs.Prelude.{MatchOption};
 ghost use Rattle.asan_units.specs.Units.{address_end, largest_quarantine};
 ghost use Rattle.trace_record.specs.declared.event.Event.{Event as AnEvent};
 ghost use Rattle.trace_record.specs.declared.event.Event.TheVariants as event;
@@ -192,10 +193,7 @@ impl<A: Allocator + Copy> Checker<A> {
             result ≡ Some (not (is_addressable (state_of (marks bound past) at))) }
         ensures failed { has_failed self.now ≡ true → result ≡ None }
     {
-        if self.failed {
-            return None;
-        }
-        Some(self.shadow.is_poisoned(at))
+        Some(self.shadow()?.is_poisoned(at))
     }
 
     /// The address of the first of `size` bytes from `at` on that is not addressable, if there is
@@ -206,10 +204,19 @@ impl<A: Allocator + Copy> Checker<A> {
             result ≡ Some (least_unaddressable (state_of (marks bound past)) at size) }
         ensures failed { has_failed self.now ≡ true → result ≡ None }
     {
+        Some(self.shadow()?.first_poisoned(at, size))
+    }
+
+    /// The shadow, or `None` once a step has failed.
+    fn shadow(&self) -> Option<&Shadow<A>>
+        ensures { MatchOption result (has_failed self.now ≡ true)
+            (λ shadow. (has_failed self.now ≡ false) × (shadow.now ≡ self.now.shadow)) }
+    {
         if self.failed {
-            return None;
+            None
+        } else {
+            Some(&self.shadow)
         }
-        Some(self.shadow.first_poisoned(at, size))
     }
 
     /// Whether an event is a load or a store that isn't bad. Most are, and they change nothing.
