@@ -15,6 +15,7 @@ ghost use Rattle.asan_check.specs.Verdicts.{free_fault, marks_none};
 ghost use Rattle.asan_check.specs.Laws.{class_of_shadow};
 
 use crate::NoMemory;
+use crate::fetched::Fetched;
 use crate::report::{Class, Fault, Report};
 use asan_units::REDZONE;
 use heap_book::{Admit, Block, Book, Bound, Freed};
@@ -45,6 +46,8 @@ pub struct Checker<A: Allocator + Copy = Global> {
     checked: u64,
     /// Whether there was no memory for one more. Shadow and book are then not looked at any more.
     failed: bool,
+    /// What of the shadow was read ahead.
+    fetched: Fetched,
 }
 
 impl<A: Allocator + Copy> Checker<A> {
@@ -69,6 +72,7 @@ impl<A: Allocator + Copy> Checker<A> {
             reports: Vec::new(alloc),
             checked: 0,
             failed: false,
+            fetched: Fetched::new(),
         })
     }
 
@@ -119,20 +123,32 @@ impl<A: Allocator + Copy> Checker<A> {
         Ok(report)
     }
 
-    /// Reads what the checker keeps of the blocks of the events to come, so that the processor has
-    /// it at hand when they are stepped. Changes nothing.
+    /// Reads what the checker keeps of the blocks of the events to come, and the shadow of the first
+    /// load or store between them, so that the processor has it at hand when they are stepped.
+    /// Changes nothing.
     #[inline(never)]
     pub fn fetch(&mut self, events: &[Event])
         ensures { self.new ≡ self.old }
     {
         let mut frees = 0;
+        let mut is_read = false;
         for event in events {
             match event {
-                Event::Malloc(region) => self.book.fetch(region.at()),
+                Event::Load(access) | Event::Store(access) => {
+                    if !is_read {
+                        self.fetched.mix(self.shadow.value(access.at() / GRANULE));
+                    }
+                    is_read = true;
+                }
+                Event::Malloc(region) => {
+                    self.book.fetch(region.at());
+                    is_read = false;
+                }
                 Event::Free(place) => {
                     self.book.fetch(place.at());
                     self.book.fetch_held(frees);
                     frees += 1;
+                    is_read = false;
                 }
                 _ => {}
             }

@@ -3,6 +3,7 @@
 
 mod checker;
 mod ending;
+mod fetched;
 mod laws;
 mod report;
 #[cfg(test)]
