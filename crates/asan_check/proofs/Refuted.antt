@@ -49,10 +49,10 @@ differ reports others own apart is = false≢true (sym apart ∙ ap (alike repor
 -- ---- accesses
 
 -- a store is reported as a load
-store_told_as_load :
+store_reported_as_load :
     verdicts usual (malloc 0x1000 5 refl ∷ store 0x1004 4 refl ∷ [])
     ≢ report 2 (fault.Access false 4 0x1004 0x1005 class.HeapBufferOverflow 5) ∷ []
-store_told_as_load = differ _ _ refl refl
+store_reported_as_load = differ _ _ refl refl
 
 -- the first byte of an access is given for the bad one
 access_for_the_bad_byte :
@@ -126,10 +126,10 @@ freed_bytes_stay_addressable :
 freed_bytes_stay_addressable = differ _ _ refl refl
 
 -- freed memory is reported as poison
-freed_memory_told_as_poison :
+freed_memory_reported_as_poison :
     verdicts usual (malloc 0x1000 8 refl ∷ free 0x1000 refl ∷ load 0x1000 1 refl ∷ [])
     ≢ report 3 (fault.Access false 1 0x1000 0x1000 class.UseAfterPoison 0xfd) ∷ []
-freed_memory_told_as_poison = differ _ _ refl refl
+freed_memory_reported_as_poison = differ _ _ refl refl
 
 -- a free marks the block's redzones as freed too
 free_marks_the_whole_span :
@@ -138,16 +138,16 @@ free_marks_the_whole_span :
 free_marks_the_whole_span = differ _ _ refl refl
 
 -- a second free is reported as a free of no block
-double_free_told_as_bad_free :
+double_free_reported_as_bad_free :
     verdicts usual (malloc 0x1000 8 refl ∷ free 0x1000 refl ∷ free 0x1000 refl ∷ [])
     ≢ report 3 (fault.BadFree 0x1000) ∷ []
-double_free_told_as_bad_free = differ _ _ refl refl
+double_free_reported_as_bad_free = differ _ _ refl refl
 
 -- a free inside a block in quarantine is reported as a double free
-free_inside_told_as_double_free :
+free_inside_reported_as_double_free :
     verdicts usual (malloc 0x1000 8 refl ∷ free 0x1000 refl ∷ free 0x1004 refl ∷ [])
     ≢ report 3 (fault.DoubleFree 0x1004) ∷ []
-free_inside_told_as_double_free = differ _ _ refl refl
+free_inside_reported_as_double_free = differ _ _ refl refl
 
 -- ---- releases
 

@@ -17,7 +17,7 @@ ghost use Rattle.asan_check.specs.Laws.{class_of_shadow};
 use crate::NoMemory;
 use crate::fetched::Fetched;
 use crate::report::{Class, Fault, Report};
-use asan_units::REDZONE;
+use asan_units::{GRANULE, REDZONE};
 use heap_book::{Admit, Block, Book, Bound, Freed};
 use shadow_map::{FREED, HEAP_REDZONE, Shadow, USER_POISON};
 use std::alloc::{Allocator, Global};

@@ -313,9 +313,9 @@ fn given(mark: &Mark, before: &[State; 8], first: u64, place: usize) -> Option<S
         Mark::Poison { at, end } => {
             let is_whole = at <= first && address(8) <= end;
             let is_addressable = before.get(place) == Some(&State::Addressable);
-            let none_behind = before.iter().enumerate().all(|(other, state)| address(other) < end
+            let none_past_it = before.iter().enumerate().all(|(other, state)| address(other) < end
                 || *state != State::Addressable);
-            let covers = is_whole || lies_in(at, end, byte) && is_addressable && none_behind;
+            let covers = is_whole || lies_in(at, end, byte) && is_addressable && none_past_it;
             covers.then_some(State::UserPoison)
         }
         Mark::Unpoison { at, end } => (place..8)
