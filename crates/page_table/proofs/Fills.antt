@@ -3,7 +3,7 @@ use Rattle.std.proofs.Common.{◌≡◌, ◌≢◌, ℕ, ◌<◌, ◌≤◌, con
 use Rattle.std.specs.Prelude.{◌&&◌}
 use Rattle.std.proofs.lemmas.Bool.{cases_lt}
 use Rattle.std.proofs.lemmas.Bool.Decides.{nat_tests}
-use Rattle.page_table.specs.Sections.{IsFilled, IsBrokenOff}
+use Rattle.page_table.specs.Sections.{IsFilled, IsFilledInPart}
 
 goes_on : (from at next byte old index : ℕ) → from ≤ at → at ≤ next →
     cond (leb at index && ltb index next) byte (cond (leb from index && ltb index at) byte old) ≡ cond (leb from index && ltb index next) byte old
@@ -18,7 +18,7 @@ module _ (width : ℕ) (old now new : ℕ → ℕ) (from at byte : ℕ) (low : f
   filled_on next more filled index lt = filled index lt ∙ rw (done index lt) (goes_on from at next byte (old index) index low more)
 
   pub broken_off_later : (next to : ℕ) → next ≤ to → to ≤ width →
-      IsBrokenOff width now new at next byte → IsBrokenOff width old new from to byte
+      IsFilledInPart width now new at next byte → IsFilledInPart width old new from to byte
   broken_off_later next to end within torn = (
     torn.0,
     (let place = torn.1 in omega arith),
@@ -31,7 +31,7 @@ module _ (width : ℕ) (old now new : ℕ → ℕ) (from at byte : ℕ) (low : f
   )
 
 pub broken_off_at_once : (width : ℕ) (old new : ℕ → ℕ) (from to byte : ℕ) → from < to → old from ≢ byte →
-    ((index : ℕ) → new index ≡ old index) → IsBrokenOff width old new from to byte
+    ((index : ℕ) → new index ≡ old index) → IsFilledInPart width old new from to byte
 broken_off_at_once width old new from to byte order due same =
     (from, omega arith, order, λ index lt. same index ∙ none_filled width old from byte index lt, due)
 

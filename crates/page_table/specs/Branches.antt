@@ -2,7 +2,7 @@
 use Rattle.std.specs.Prelude.{ℕ, ◌*◌, ◌/◌, ◌%◌, map, slice_index_or}
 use Rattle.page_table.specs.declared.branch.TheConstants.{SECTIONS}
 use Rattle.page_table.specs.declared.branch.Branch.{Branch}
-use Rattle.page_table.specs.Sections.{IsFilled, IsBrokenOff}
+use Rattle.page_table.specs.Sections.{IsFilled, IsFilledInPart}
 
 -- the byte of a branch at an index, by how a section has its bytes, and by the sections' width:
 -- that of the section in which the index lies, and the rest's byte where that section is not kept
@@ -22,5 +22,5 @@ FillsBranch byte_at width old new from to byte =
 abbrev pub FillsBranchBelow :
     {S A : Type 0} → (S → ℕ → ℕ) → ℕ → Branch S A → Branch S A → ℕ → ℕ → ℕ → Type 0
 FillsBranchBelow byte_at width old new from to byte =
-    IsBrokenOff (SECTIONS * width)
+    IsFilledInPart (SECTIONS * width)
     (branch_byte byte_at width old) (branch_byte byte_at width new) from to byte

@@ -17,8 +17,8 @@ IsFilled width old new from to byte =
 
 -- the fill was broken off at an index whose byte had still to change: the bytes at the indices
 -- below it are set, and nothing else has changed
-abbrev pub IsBrokenOff : ℕ → (ℕ → ℕ) → (ℕ → ℕ) → ℕ → ℕ → ℕ → Type 0
-IsBrokenOff width old new from to byte =
+abbrev pub IsFilledInPart : ℕ → (ℕ → ℕ) → (ℕ → ℕ) → ℕ → ℕ → ℕ → Type 0
+IsFilledInPart width old new from to byte =
     (place : ℕ) × (from ≤ place) × (place < to) × IsFilled width old new from place byte
     × (old place ≢ byte)
 

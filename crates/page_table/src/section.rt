@@ -1,6 +1,7 @@
 //! What the groups and the branches of a table have in common.
 ghost use Rattle.std.specs.Prelude.{◌≡◌, ℕ, ◌+◌, ◌<◌, ◌≤◌, IsTrue, false, OnOk, OnErr};
-ghost use Rattle.page_table.specs.Sections.{IsWidth, IsFilled, IsBrokenOff, HasRuns, HasRunsBelow};
+ghost use Rattle.page_table.specs.Sections.{IsWidth, IsFilled, IsFilledInPart};
+ghost use Rattle.page_table.specs.Sections.{HasRuns, HasRunsBelow};
 ghost use Rattle.page_table.specs.Sections.{IsFirstNonzero};
 ghost use Rattle.page_table.specs.Runs.{length_of};
 
@@ -45,7 +46,7 @@ pub trait Section<A: Allocator + Copy>: Drop {
         requires end { to ≤ width }
         ensures ok { OnOk result (IsFilled width (byte_at self.old)
             (byte_at self.new) from to byte) }
-        ensures err { OnErr result (IsBrokenOff width (byte_at self.old)
+        ensures err { OnErr result (IsFilledInPart width (byte_at self.old)
             (byte_at self.new) from to byte) };
 
     /// Sets the bytes at the indices from one up to another, run after run, if these are a part of
