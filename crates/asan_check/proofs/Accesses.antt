@@ -7,7 +7,7 @@ use Rattle.trace_record.specs.declared.event.Event.{Event}
 use Rattle.trace_record.specs.declared.event.Access.{Access}
 use Rattle.shadow_map.specs.States.{State, Addressable, HeapRedzone, Freed, is_addressable, code_of, lies_in, state_of, addressable_front, shadow_byte, lift, least_unaddressable, bad_byte_of}
 use Rattle.heap_book.specs.Spans.{Extent, span_from, span_to}
-use Rattle.asan_units.specs.Units.{rounded}
+use Rattle.asan_units.specs.Units.{round_up}
 use Rattle.asan_check.specs.declared.report.Class.{Class}
 use Rattle.asan_check.specs.declared.report.Class.TheVariants as class
 use Rattle.asan_check.specs.declared.report.Fault.{Fault}
@@ -112,7 +112,7 @@ quiet bound past b is_store a has inside clear =
     (no_fault (state_of (marks bound past)) is_store a (λ byte above below. let from = inside.0 in let to = inside.1 in live_inside bound past b byte has (omega arith) (omega arith) clear))
 
 -- the numbers of the last granule of a block, where an address past its bytes lies there
-tail_granule : (at size place : ℕ) → at % 8 ≡ 0 → at + size ≤ place → place < at + rounded size → (8 * (place / 8) + size % 8 ≡ at + size) × (0 < size % 8)
+tail_granule : (at size place : ℕ) → at % 8 ≡ 0 → at + size ≤ place → place < at + round_up size → (8 * (place / 8) + size % 8 ≡ at + size) × (0 < size % 8)
 tail_granule at size place aligned past within = (omega arith, omega arith)
 
 tail_test : (at size base k i : ℕ) → at ≤ base → base + k ≡ at + size → i < 8 → lies_in at (at + size) (base + i) ≡ ltb i k
@@ -129,7 +129,7 @@ module _ (states : ℕ → State) (b : Extent) (placed : IsPlaced b) (each : (by
       each byte in_span ∙ rw off refl
 
   -- in a redzone's granule
-  in_redzone : (at : ℕ) → IsInSpan b at → (at < b.at) ⊎ (b.at + rounded b.size ≤ at) → (class_of states at ≡ class.HeapBufferOverflow) × (lift states (at / 8) ≡ code_of HeapRedzone)
+  in_redzone : (at : ℕ) → IsInSpan b at → (at < b.at) ⊎ (b.at + round_up b.size ≤ at) → (class_of states at ≡ class.HeapBufferOverflow) × (lift states (at / 8) ≡ code_of HeapRedzone)
   in_redzone at in_span out =
       let from = in_span.from in
       let to = in_span.to in
@@ -147,7 +147,7 @@ module _ (states : ℕ → State) (b : Extent) (placed : IsPlaced b) (each : (by
       (own_class states at none ∙ ap class_of_state is, own_shadow states (at / 8) bad ∙ ap code_of is)
 
   -- in the granule of the block's last bytes
-  in_tail_granule : (at : ℕ) → b.at + b.size ≤ at → at < b.at + rounded b.size → (class_of states at ≡ class.HeapBufferOverflow) × (lift states (at / 8) ≡ b.size % 8)
+  in_tail_granule : (at : ℕ) → b.at + b.size ≤ at → at < b.at + round_up b.size → (class_of states at ≡ class.HeapBufferOverflow) × (lift states (at / 8) ≡ b.size % 8)
   in_tail_granule at past within =
       let aligned = placed.0 in
       let above = placed.1 in
@@ -164,15 +164,15 @@ module _ (states : ℕ → State) (b : Extent) (placed : IsPlaced b) (each : (by
       (next_class states at (b.size % 8) some (omega arith) run ∙ ap class_of_state next, part_shadow states at (b.size % 8) some (omega arith) run)
 
   around : (at : ℕ) → IsInSpan b at → (at < b.at) ⊎ (b.at + b.size ≤ at) → (class_of states at ≡ class.HeapBufferOverflow) × (lift states (at / 8) ≡ shadow_around b at)
-  around at in_span out = go (lies_in b.at (b.at + rounded b.size) at) refl
+  around at in_span out = go (lies_in b.at (b.at + round_up b.size) at) refl
     where
-      go : (t : Bool) → lies_in b.at (b.at + rounded b.size) at ≡ t → (class_of states at ≡ class.HeapBufferOverflow) × (lift states (at / 8) ≡ cond t (b.size % 8) (code_of HeapRedzone))
+      go : (t : Bool) → lies_in b.at (b.at + round_up b.size) at ≡ t → (class_of states at ≡ class.HeapBufferOverflow) × (lift states (at / 8) ≡ cond t (b.size % 8) (code_of HeapRedzone))
       go true is =
           let above : b.at ≤ at = grind (arith, nat_tests) in
-          let below : at < b.at + rounded b.size = grind (arith, nat_tests) in
+          let below : at < b.at + round_up b.size = grind (arith, nat_tests) in
           let past : b.at + b.size ≤ at = grind (arith, nat_tests) in
           in_tail_granule at past below
-      go false is = let out : (at < b.at) ⊎ (b.at + rounded b.size ≤ at) = beyond b.at (b.at + rounded b.size) at is in in_redzone at in_span out
+      go false is = let out : (at < b.at) ⊎ (b.at + round_up b.size ≤ at) = beyond b.at (b.at + round_up b.size) at is in in_redzone at in_span out
         where
           beyond : (from to byte : ℕ) → lies_in from to byte ≡ false → (byte < from) ⊎ (to ≤ byte)
           beyond from to byte off = grind (arith, nat_tests)
@@ -194,7 +194,7 @@ overflow bound past b is_store a has start clear clear' =
     verdict_from bound past is_store a _ (first_fault states is_store a bad) ∙ some_report past is_store a _ _ _ _ told.0 told.1
 
 pub late : (bound : ℕ) (past : List Event) (b : Extent) (is_store : Bool) (a : Access) → Contains (held bound past) b → StartsWithin b a →
-    NoPoisonShares (since_free bound past b) b.at (b.at + rounded b.size) → NoUnpoisonShares (since_free bound past b) b.at (b.at + rounded b.size) →
+    NoPoisonShares (since_free bound past b) b.at (b.at + round_up b.size) → NoUnpoisonShares (since_free bound past b) b.at (b.at + round_up b.size) →
     verdict bound past (access_event is_store a) ≡ Some (first_byte_report past is_store a class.HeapUseAfterFree (code_of Freed))
 late bound past b is_store a has start clear clear' =
     let states = state_of (marks bound past) in
@@ -202,7 +202,7 @@ late bound past b is_store a has start clear clear' =
     let to = start.1 in
     let placed = held_placed bound past b has in
     let aligned = placed.0 in
-    let each : (byte : ℕ) → b.at ≤ byte → byte < b.at + rounded b.size → states byte ≡ Freed = λ byte above below. held_bytes bound past b byte has above below clear clear' in
+    let each : (byte : ℕ) → b.at ≤ byte → byte < b.at + round_up b.size → states byte ≡ Freed = λ byte above below. held_bytes bound past b byte has above below clear clear' in
     let bad = ap is_addressable (each a.at from to) in
     let base = each (8 * (a.at / 8)) (omega arith) (omega arith) in
     let closed = ap is_addressable base in

@@ -11,9 +11,9 @@ use Rattle.trace_record.specs.declared.event.Place.{Place}
 use Rattle.trace_record.specs.declared.event.Region.{Region}
 use Rattle.shadow_map.specs.States.{Addressable, HeapRedzone, Freed, Mark, Block, lies_in, state_of}
 use Rattle.heap_book.specs.Spans.{Extent, span_from, span_to, meets, starts_at}
-use Rattle.asan_units.specs.Units.{rounded}
+use Rattle.asan_units.specs.Units.{round_up}
 use Rattle.heap_book.proofs.NeverMeet.{meets-flip}
-use Rattle.asan_check.specs.History.{block_of, live, held, admits, marks, marked, freed_mark, released_mark, gone}
+use Rattle.asan_check.specs.History.{block_of, live, held, admits, marks, with_marks, freed_mark, released_mark, released_from}
 use Rattle.asan_check.specs.Laws.{since_malloc, since_free, NoPoisonShares, NoUnpoisonShares}
 use Rattle.asan_check.proofs.Steps.{eqb_flips, spans_apart, held_malloc}
 use Rattle.asan_check.proofs.Members.{in_none, in_head, in_tail, from_filtered, passes_any, none_passes, apart_across, apart_left, apart_right, apart_beside, starts_once}
@@ -38,12 +38,12 @@ beside_malloc bound past b r byte has in_span = go (admits bound past (block_of 
 -- a free, where the block meets none of those that it frees and releases
 beside_free : (bound : ℕ) (past : List Event) (b : Extent) (p : Place) (byte : ℕ) → IsInSpan b byte →
     ((c : Extent) → Contains (filter (starts_at p.at) (live bound past)) c → meets b c ≡ false) →
-    ((c : Extent) → Contains (gone (held bound past ++ filter (starts_at p.at) (live bound past)) (held bound (event.Free p ∷ past))) c → meets b c ≡ false) →
+    ((c : Extent) → Contains (released_from (held bound past ++ filter (starts_at p.at) (live bound past)) (held bound (event.Free p ∷ past))) c → meets b c ≡ false) →
     state_of (marks bound (event.Free p ∷ past)) byte ≡ state_of (marks bound past) byte
 beside_free bound past b p byte in_span freed released =
     let freed_now = filter (starts_at p.at) (live bound past) in
     let now = held bound (event.Free p ∷ past) in
-    marked_leaves released_mark (gone (held bound past ++ freed_now) now) (marked freed_mark freed_now (marks bound past)) byte
+    marked_leaves released_mark (released_from (held bound past ++ freed_now) now) (with_marks freed_mark freed_now (marks bound past)) byte
     (λ c has. released_leaves b c byte (released c has) in_span)
     ∙ marked_leaves freed_mark freed_now (marks bound past) byte (λ c has. freed_leaves b c byte (freed c has) in_span)
 
@@ -66,7 +66,7 @@ beside_live bound past b p byte has other in_span =
         apart_beside (live bound past) b c (apart_left (live bound past) (held bound past) all) has parts.0 (subst (λ (at : ℕ). eqb at b.at ≡ false) (sym (eqb-true c.at p.at parts.1)) (eqb_flips p.at b.at ∙ other))
 
 -- what is gone starts elsewhere than what is held
-gone_elsewhere : (before now : List Extent) (b c : Extent) → Contains now b → Contains (gone before now) c → starts_at b.at c ≡ false
+gone_elsewhere : (before now : List Extent) (b c : Extent) → Contains now b → Contains (released_from before now) c → starts_at b.at c ≡ false
 gone_elsewhere before now b c has has_c =
     let parts = from_filtered (λ x. not (list_any (starts_at x.at) now)) before c has_c in
     false_from_ne_true _ (λ same.
@@ -96,10 +96,10 @@ NoPoisonShares-tail e since from to clear r has = clear r (in_tail _ e since has
 NoUnpoisonShares-tail : (e : Event) (since : List Event) (from to : ℕ) → NoUnpoisonShares (e ∷ since) from to → NoUnpoisonShares since from to
 NoUnpoisonShares-tail e since from to clear r has = clear r (in_tail _ e since has)
 
-bytes_in_span : (b : Extent) (byte : ℕ) → b.at ≤ byte → byte < b.at + rounded b.size → IsInSpan b byte
+bytes_in_span : (b : Extent) (byte : ℕ) → b.at ≤ byte → byte < b.at + round_up b.size → IsInSpan b byte
 bytes_in_span b byte above below = record { from = omega arith; to = omega arith }
 
-rounds_up : (b : Extent) → b.size ≤ rounded b.size
+rounds_up : (b : Extent) → b.size ≤ round_up b.size
 rounds_up b = omega arith
 
 -- an admitted malloc's own bytes
@@ -170,15 +170,15 @@ live_span bound (event.Malloc r ∷ past) b byte has in_span clear clear' =
 
 -- the free itself
 freed_byte : (bound : ℕ) (past : List Event) (b : Extent) (p : Place) (byte : ℕ) → Contains (live bound past) b → starts_at p.at b ≡ true → Contains (held bound (event.Free p ∷ past)) b →
-    b.at ≤ byte → byte < b.at + rounded b.size → state_of (marks bound (event.Free p ∷ past)) byte ≡ Freed
+    b.at ≤ byte → byte < b.at + round_up b.size → state_of (marks bound (event.Free p ∷ past)) byte ≡ Freed
 freed_byte bound past b p byte has here stays above below =
     let freed_now = filter (starts_at p.at) (live bound past) in
     let now = held bound (event.Free p ∷ past) in
     let all = spans_apart bound past in
     let alone : freed_now ≡ b ∷ [] = starts_once (live bound past) b p.at (apart_left (live bound past) (held bound past) all) has (eqb-true b.at p.at here) in
-    let inside : lies_in b.at (b.at + rounded b.size) byte ≡ true = grind (arith, nat_tests) in
-    let freed : state_of (marked freed_mark freed_now (marks bound past)) byte ≡ Freed = rw (alone, inside) refl in
-    marked_leaves released_mark (gone (held bound past ++ freed_now) now) (marked freed_mark freed_now (marks bound past)) byte
+    let inside : lies_in b.at (b.at + round_up b.size) byte ≡ true = grind (arith, nat_tests) in
+    let freed : state_of (with_marks freed_mark freed_now (marks bound past)) byte ≡ Freed = rw (alone, inside) refl in
+    marked_leaves released_mark (released_from (held bound past ++ freed_now) now) (with_marks freed_mark freed_now (marks bound past)) byte
     (λ c has_c. released_leaves b c byte
     (elim (Contains-append_cases (held bound past) freed_now c (from_filtered _ _ c has_c).0) [
       | inl old ↦ apart_across (live bound past) (held bound past) b c all has old
@@ -187,17 +187,17 @@ freed_byte bound past b p byte has here stays above below =
     (bytes_in_span b byte above below))
     ∙ freed
 
-pub held_bytes : (bound : ℕ) (past : List Event) (b : Extent) (byte : ℕ) → Contains (held bound past) b → b.at ≤ byte → byte < b.at + rounded b.size →
-    NoPoisonShares (since_free bound past b) b.at (b.at + rounded b.size) → NoUnpoisonShares (since_free bound past b) b.at (b.at + rounded b.size) →
+pub held_bytes : (bound : ℕ) (past : List Event) (b : Extent) (byte : ℕ) → Contains (held bound past) b → b.at ≤ byte → byte < b.at + round_up b.size →
+    NoPoisonShares (since_free bound past b) b.at (b.at + round_up b.size) → NoUnpoisonShares (since_free bound past b) b.at (b.at + round_up b.size) →
     state_of (marks bound past) byte ≡ Freed
 held_bytes bound [] b byte has above below clear clear' = absurd (in_none b has)
 held_bytes bound (event.Load a ∷ past) b byte has above below clear clear' = held_bytes bound past b byte has above below (NoPoisonShares-tail _ _ _ _ clear) (NoUnpoisonShares-tail _ _ _ _ clear')
 held_bytes bound (event.Store a ∷ past) b byte has above below clear clear' = held_bytes bound past b byte has above below (NoPoisonShares-tail _ _ _ _ clear) (NoUnpoisonShares-tail _ _ _ _ clear')
 held_bytes bound (event.Poison r ∷ past) b byte has above below clear clear' =
-    poison_leaves r b.at (b.at + rounded b.size) byte (clear r (in_head _ _)) above below (marks bound past)
+    poison_leaves r b.at (b.at + round_up b.size) byte (clear r (in_head _ _)) above below (marks bound past)
     ∙ held_bytes bound past b byte has above below (NoPoisonShares-tail _ _ _ _ clear) (NoUnpoisonShares-tail _ _ _ _ clear')
 held_bytes bound (event.Unpoison r ∷ past) b byte has above below clear clear' =
-    unpoison_leaves r b.at (b.at + rounded b.size) byte (clear' r (in_head _ _)) above below (marks bound past)
+    unpoison_leaves r b.at (b.at + round_up b.size) byte (clear' r (in_head _ _)) above below (marks bound past)
     ∙ held_bytes bound past b byte has above below (NoPoisonShares-tail _ _ _ _ clear) (NoUnpoisonShares-tail _ _ _ _ clear')
 held_bytes bound (event.Malloc r ∷ past) b byte has above below clear clear' =
     let old = rw (held_malloc bound r past) at has in

@@ -6,8 +6,8 @@ use Rattle.std.proofs.lemmas.Bool.Decides.{nat_tests}
 use Rattle.trace_record.specs.declared.event.Region.{Region}
 use Rattle.shadow_map.specs.States.{State, Addressable, Mark, Block, Poison, Unpoison, lies_in, granule_lies_in, state_of}
 use Rattle.heap_book.specs.Spans.{Extent, span_from, span_to, meets}
-use Rattle.asan_units.specs.Units.{rounded}
-use Rattle.asan_check.specs.History.{marked, freed_mark, released_mark}
+use Rattle.asan_units.specs.Units.{round_up}
+use Rattle.asan_check.specs.History.{with_marks, freed_mark, released_mark}
 use Rattle.asan_check.specs.Laws.{SharesGranule}
 use Rattle.asan_check.proofs.Members.{in_head, in_tail}
 
@@ -26,7 +26,7 @@ module _ (b other : Extent) (byte : ℕ) (apart : meets b other ≡ false) (in_s
   off_span : lies_in (span_from other) (span_to other) byte ≡ false
   off_span = let from = in_span.from in let to = in_span.to in grind (arith, nat_tests)
 
-  off_bytes : lies_in other.at (other.at + rounded other.size) byte ≡ false
+  off_bytes : lies_in other.at (other.at + round_up other.size) byte ≡ false
   off_bytes = let from = in_span.from in let to = in_span.to in grind (arith, nat_tests)
 
   pub block_leaves : Leaves (Block other.at other.size) byte
@@ -40,7 +40,7 @@ module _ (b other : Extent) (byte : ℕ) (apart : meets b other ≡ false) (in_s
 
 -- the same for a mark of each block of a list
 pub marked_leaves : (mark : Extent → Mark) (blocks : List Extent) (marks : List Mark) (byte : ℕ) → ((b : Extent) → Contains blocks b → Leaves (mark b) byte) →
-    state_of (marked mark blocks marks) byte ≡ state_of marks byte
+    state_of (with_marks mark blocks marks) byte ≡ state_of marks byte
 marked_leaves mark [] marks byte each = refl
 marked_leaves mark (b ∷ blocks) marks byte each =
     marked_leaves mark blocks (mark b ∷ marks) byte (λ c has. each c (in_tail c b blocks has)) ∙ each b (in_head b blocks) marks

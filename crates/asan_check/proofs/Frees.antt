@@ -14,19 +14,19 @@ use Rattle.shadow_map.specs.States.{Mark}
 use Rattle.heap_book.specs.Spans.{Extent, span_bytes, meets, held_of, starts_at}
 use Rattle.heap_book.proofs.Held.{held-within, held-past, held-total}
 use Rattle.heap_book.proofs.NeverMeet.{meets-flip}
-use Rattle.asan_check.specs.History.{live, freed, held, marks, marked, freed_mark, released_mark, gone}
+use Rattle.asan_check.specs.History.{live, freed, held, marks, with_marks, freed_mark, released_mark, released_from}
 use Rattle.asan_check.proofs.Steps.{live_free, held_free, spans_apart}
 use Rattle.asan_check.proofs.Members.{at_each, passes_any, none_passes, none_from, filter_all, filter_none, apart_starts, apart_across, apart_left, apart_right, starts_once}
 
 -- ---- lists
 
 -- one more released block is one more mark
-pub marked_push : (mark : Extent → Mark) (blocks : List Extent) (b : Extent) (marks : List Mark) → marked mark (blocks ++ b ∷ []) marks ≡ mark b ∷ marked mark blocks marks
+pub marked_push : (mark : Extent → Mark) (blocks : List Extent) (b : Extent) (marks : List Mark) → with_marks mark (blocks ++ b ∷ []) marks ≡ mark b ∷ with_marks mark blocks marks
 marked_push mark [] b marks = refl
 marked_push mark (c ∷ blocks) b marks = marked_push mark blocks b (mark c ∷ marks)
 
 -- what is gone from a list of which the end stays is its front
-gone_front : (front stays : List Extent) → IsDistinct meets (front ++ stays) → gone (front ++ stays) stays ≡ front
+gone_front : (front stays : List Extent) → IsDistinct meets (front ++ stays) → released_from (front ++ stays) stays ≡ front
 gone_front front stays apart =
     filter-append (λ b. not (list_any (starts_at b.at) stays)) front stays
     ∙ ap (λ xs. xs ++ filter (λ b. not (list_any (starts_at b.at) stays)) stays)
@@ -64,14 +64,14 @@ module _ (bound : ℕ) (past : List Event) (p : Place) (b : Extent) (is_live : C
 
   -- where blocks were taken from the front of the queue until what is held was left, those are the ones that are gone
   pub gone_is : (evicted : List Extent) → evicted ++ held bound (event.Free p ∷ past) ≡ held bound past ++ b ∷ [] →
-      gone (held bound past ++ b ∷ []) (held bound (event.Free p ∷ past)) ≡ evicted
+      released_from (held bound past ++ b ∷ []) (held bound (event.Free p ∷ past)) ≡ evicted
   gone_is evicted parts =
       let stays = held bound (event.Free p ∷ past) in
-      ap (λ xs. gone xs stays) (sym parts) ∙ gone_front evicted stays (rw parts queue_apart)
+      ap (λ xs. released_from xs stays) (sym parts) ∙ gone_front evicted stays (rw parts queue_apart)
 
   -- then the marks of the free are the block's bytes, freed, and after it the release of each of those in turn
   pub marks_after : (evicted : List Extent) → evicted ++ held bound (event.Free p ∷ past) ≡ held bound past ++ b ∷ [] →
-      marks bound (event.Free p ∷ past) ≡ marked released_mark evicted (freed_mark b ∷ marks bound past)
+      marks bound (event.Free p ∷ past) ≡ with_marks released_mark evicted (freed_mark b ∷ marks bound past)
   marks_after evicted parts = rw (freed_block, gone_is evicted parts) refl
 
   -- ---- the release of what the bound no longer holds
@@ -96,7 +96,7 @@ module _ (bound : ℕ) (past : List Event) (p : Place) (b : Extent) (is_live : C
 
   -- once they don't, the queue is what is held after the free, and its marks are the block's and those of what went
   pub releasing_ends : (evicted queue : List Extent) → IsReleasing evicted queue → sum_by span_bytes queue ≤ bound →
-      (queue ≡ held bound (event.Free p ∷ past)) × (marks bound (event.Free p ∷ past) ≡ marked released_mark evicted (freed_mark b ∷ marks bound past))
+      (queue ≡ held bound (event.Free p ∷ past)) × (marks bound (event.Free p ∷ past) ≡ with_marks released_mark evicted (freed_mark b ∷ marks bound past))
   releasing_ends evicted queue so_far within =
       let is : queue ≡ held bound (event.Free p ∷ past) = sym (held-within bound queue within) ∙ so_far.left in
       (is, marks_after evicted (ap (λ xs. evicted ++ xs) (sym is) ∙ so_far.parts))

@@ -1,4 +1,4 @@
-pub mod Rows
+pub mod Examples
 pub mod Refuted
 pub mod Steps
 pub mod Members

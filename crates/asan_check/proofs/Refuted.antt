@@ -9,7 +9,7 @@ use Rattle.asan_check.specs.declared.report.Fault.{Fault}
 use Rattle.asan_check.specs.declared.report.Fault.TheVariants as fault
 use Rattle.asan_check.specs.declared.report.Report.{Report}
 use Rattle.asan_check.specs.Verdicts.{verdicts}
-use Rattle.asan_check.proofs.Rows.{load, store, malloc, poison, free, report, usual}
+use Rattle.asan_check.proofs.Examples.{load, store, malloc, poison, free, report, usual}
 
 -- ---- reports as numbers, which are easily compared
 

@@ -17,7 +17,7 @@ use Rattle.heap_book.proofs.Held.{held-append}
 use Rattle.heap_book.proofs.NeverMeet.{apart-freed, apart-admitted, meets-flip}
 use Rattle.std.proofs.lemmas.List.Sorted.{IsPermutation-sym, IsPermutation-middle}
 use Rattle.std.proofs.lemmas.Map.Keys.{IsDistinct-IsPermutation}
-use Rattle.asan_check.specs.History.{Admitted, block_of, is_freed_since, is_unfreed, live_among, freed_among, admitted, live, freed, held, admits}
+use Rattle.asan_check.specs.History.{Admitted, block_of, is_freed_since, is_unfreed, live_among, freed_among, admitted_blocks, live, freed, held, admits}
 
 -- an admitted block, at the end of the live ones
 apart_pushed : (lives helds : List Extent) (b : Extent) → IsDistinct meets (lives ++ helds) → may_be_admitted (lives ++ helds) b ≡ true → IsDistinct meets ((lives ++ b ∷ []) ++ helds)
@@ -43,7 +43,7 @@ numbers_push n [] b h le = (le, tt)
 numbers_push n (c ∷ blocks) b h le = (h.0, numbers_push n blocks b h.1 le)
 
 -- a block's number is that of an event of the history
-numbers : (bound : ℕ) (past : List Event) → NumbersUpTo (length past) (admitted bound past)
+numbers : (bound : ℕ) (past : List Event) → NumbersUpTo (length past) (admitted_blocks bound past)
 numbers bound [] = tt
 numbers bound (event.Load a ∷ past) = rw (← add-one) (numbers_more _ _ (numbers bound past))
 numbers bound (event.Store a ∷ past) = rw (← add-one) (numbers_more _ _ (numbers bound past))
@@ -52,8 +52,8 @@ numbers bound (event.Poison a ∷ past) = rw (← add-one) (numbers_more _ _ (nu
 numbers bound (event.Unpoison a ∷ past) = rw (← add-one) (numbers_more _ _ (numbers bound past))
 numbers bound (event.Malloc r ∷ past) = go (admits bound past (block_of r)) (numbers_more _ _ (numbers bound past))
   where
-    go : (b : Bool) → NumbersUpTo (length past + 1) (admitted bound past) →
-        NumbersUpTo (suc (length past)) (cond b (admitted bound past ++ record { number = length past + 1; block = block_of r } ∷ []) (admitted bound past))
+    go : (b : Bool) → NumbersUpTo (length past + 1) (admitted_blocks bound past) →
+        NumbersUpTo (suc (length past)) (cond b (admitted_blocks bound past ++ record { number = length past + 1; block = block_of r } ∷ []) (admitted_blocks bound past))
     go true more = rw (← add-one) (numbers_push _ _ _ more (omega arith))
     go false more = rw (← add-one) more
 
@@ -93,7 +93,7 @@ live_filter p past (b ∷ blocks) h =
 -- a free takes away the live block that starts at its address
 pub live_free : (bound : ℕ) (p : Place) (past : List Event) →
     live bound (event.Free p ∷ past) ≡ filter (λ x. not (starts_at p.at x)) (live bound past)
-live_free bound p past = live_filter p past (admitted bound past) (numbers bound past)
+live_free bound p past = live_filter p past (admitted_blocks bound past) (numbers bound past)
 
 -- an admitted malloc adds its block at the end
 pub live_malloc : (bound : ℕ) (r : Region) (past : List Event) → admits bound past (block_of r) ≡ true →
@@ -106,7 +106,7 @@ live_malloc bound r past ok =
 -- a free adds the live block that starts at its address
 pub freed_free : (bound : ℕ) (p : Place) (past : List Event) →
     freed bound (event.Free p ∷ past) ≡ freed bound past ++ filter (starts_at p.at) (live bound past)
-freed_free bound p past = ap (λ xs. freed bound past ++ xs) (taken (admitted bound past) (numbers bound past))
+freed_free bound p past = ap (λ xs. freed bound past ++ xs) (taken (admitted_blocks bound past) (numbers bound past))
   where
     taken : (blocks : List Admitted) → NumbersUpTo (length past) blocks →
         map (λ b. b.block) (filter (λ b. eqb b.block.at p.at && leb b.number (length past) && is_unfreed past b) blocks) ≡ filter (starts_at p.at) (live_among past blocks)
@@ -144,8 +144,8 @@ freed_new (event.Free p ∷ past) blocks b lt =
 pub freed_malloc : (bound : ℕ) (r : Region) (past : List Event) → freed bound (event.Malloc r ∷ past) ≡ freed bound past
 freed_malloc bound r past = go (admits bound past (block_of r))
   where
-    go : (b : Bool) → freed_among past (cond b (admitted bound past ++ record { number = length past + 1; block = block_of r } ∷ []) (admitted bound past)) ≡ freed bound past
-    go true = freed_new past (admitted bound past) _ (omega arith)
+    go : (b : Bool) → freed_among past (cond b (admitted_blocks bound past ++ record { number = length past + 1; block = block_of r } ∷ []) (admitted_blocks bound past)) ≡ freed bound past
+    go true = freed_new past (admitted_blocks bound past) _ (omega arith)
     go false = refl
 
 -- ---- the held blocks

@@ -12,7 +12,7 @@ use Rattle.trace_record.specs.declared.event.Event.TheVariants as event
 use Rattle.trace_record.specs.declared.event.Region.{Region}
 use Rattle.shadow_map.specs.States.{Freed, HeapRedzone, Mark, Fill, Block, Poison, Unpoison}
 use Rattle.heap_book.specs.Spans.{Extent, span_from, span_to, may_be_admitted, held_of}
-use Rattle.asan_units.specs.Units.{rounded}
+use Rattle.asan_units.specs.Units.{round_up}
 use Rattle.heap_book.specs.Spans.{starts_at}
 
 -- the block that a malloc asks for
@@ -55,22 +55,22 @@ admits_among bound past blocks b =
     may_be_admitted (live_among past blocks ++ held_of bound (freed_among past blocks)) b
 
 -- the blocks that the mallocs of the history were admitted with, oldest first
-abbrev pub admitted : ℕ → List Event → List Admitted
-admitted bound [] = []
-admitted bound (event.Malloc r ∷ past) =
-    if admits_among bound past (admitted bound past) (block_of r)
-    then admitted bound past ++ (record { number = length past + 1; block = block_of r }) ∷ []
-    else admitted bound past
-admitted bound (e ∷ past) = admitted bound past
+abbrev pub admitted_blocks : ℕ → List Event → List Admitted
+admitted_blocks bound [] = []
+admitted_blocks bound (event.Malloc r ∷ past) =
+    if admits_among bound past (admitted_blocks bound past) (block_of r)
+    then admitted_blocks bound past ++ (record { number = length past + 1; block = block_of r }) ∷ []
+    else admitted_blocks bound past
+admitted_blocks bound (e ∷ past) = admitted_blocks bound past
 
 -- the live blocks: those of admitted mallocs that no free has followed
 abbrev pub live : ℕ → List Event → List Extent
-live bound past = live_among past (admitted bound past)
+live bound past = live_among past (admitted_blocks bound past)
 
 -- the freed blocks: those of admitted mallocs that a free has followed, in the order of the first
 -- such frees
 abbrev pub freed : ℕ → List Event → List Extent
-freed bound past = freed_among past (admitted bound past)
+freed bound past = freed_among past (admitted_blocks bound past)
 
 -- the held blocks, which are in quarantine, oldest free first
 abbrev pub held : ℕ → List Event → List Extent
@@ -78,24 +78,24 @@ held bound past = held_of bound (freed bound past)
 
 -- whether a malloc of this block after the history is admitted
 abbrev pub admits : ℕ → List Event → Extent → Bool
-admits bound past b = admits_among bound past (admitted bound past) b
+admits bound past b = admits_among bound past (admitted_blocks bound past) b
 
 -- of the blocks of a list, those that are not in another: no block of that starts where they do
-abbrev pub gone : List Extent → List Extent → List Extent
-gone before now = filter (λ b. not (list_any (starts_at b.at) now)) before
+abbrev pub released_from : List Extent → List Extent → List Extent
+released_from before now = filter (λ b. not (list_any (starts_at b.at) now)) before
 
 -- the mark of a block's free: its bytes, rounded up, are freed memory
 abbrev pub freed_mark : Extent → Mark
-freed_mark b = Fill b.at (b.at + rounded b.size) Freed
+freed_mark b = Fill b.at (b.at + round_up b.size) Freed
 
 -- the mark of a block's release: its whole span is a redzone
 abbrev pub released_mark : Extent → Mark
 released_mark b = Fill (span_from b) (span_to b) HeapRedzone
 
 -- after these marks, a mark for each of the blocks in turn
-abbrev pub marked : (Extent → Mark) → List Extent → List Mark → List Mark
-marked mark [] marks = marks
-marked mark (b ∷ blocks) marks = marked mark blocks (mark b ∷ marks)
+abbrev pub with_marks : (Extent → Mark) → List Extent → List Mark → List Mark
+with_marks mark [] marks = marks
+with_marks mark (b ∷ blocks) marks = with_marks mark blocks (mark b ∷ marks)
 
 -- the marks of a history, the newest first. An admitted malloc lays its block. A free of a live
 -- block marks its bytes as freed, and then releases each block that was held before, or that it
@@ -108,8 +108,8 @@ marks bound (event.Malloc r ∷ past) =
     else marks bound past
 marks bound (event.Free p ∷ past) =
     let freed_now = filter (starts_at p.at) (live bound past)
-    in marked released_mark (gone (held bound past ++ freed_now) (held bound (event.Free p ∷ past)))
-    (marked freed_mark freed_now (marks bound past))
+    in with_marks released_mark (released_from (held bound past ++ freed_now) (held bound (event.Free p ∷ past)))
+    (with_marks freed_mark freed_now (marks bound past))
 marks bound (event.Poison r ∷ past) = Poison r.at r.size ∷ marks bound past
 marks bound (event.Unpoison r ∷ past) = Unpoison r.at r.size ∷ marks bound past
 marks bound (event.Load a ∷ past) = marks bound past

@@ -11,7 +11,7 @@ use Rattle.trace_record.specs.declared.event.Place.{Place}
 use Rattle.trace_record.specs.declared.event.Region.{Region}
 use Rattle.shadow_map.specs.States.{HeapRedzone, Freed, UserPoison, code_of, lies_in}
 use Rattle.heap_book.specs.Spans.{Extent, span_from, span_to, starts_at}
-use Rattle.asan_units.specs.Units.{granule_size, granule_of, rounded}
+use Rattle.asan_units.specs.Units.{granule_size, granule_of, round_up}
 use Rattle.asan_check.specs.declared.report.Class.{Class}
 use Rattle.asan_check.specs.declared.report.Class.TheVariants as class
 use Rattle.asan_check.specs.declared.report.Fault.TheVariants as fault
@@ -105,7 +105,7 @@ StartsAround b a =
 
 -- an access that starts at a block's bytes, or at those that round its size up
 abbrev pub StartsWithin : Extent → Access → Type 0
-StartsWithin b a = (b.at ≤ a.at) × (a.at < b.at + rounded b.size)
+StartsWithin b a = (b.at ≤ a.at) × (a.at < b.at + round_up b.size)
 
 -- the report on an access after a history, where the access's first byte is the bad one
 abbrev pub first_byte_report : List Event → Bool → Access → Class → ℕ → Report
@@ -119,7 +119,7 @@ first_byte_report past is_store a class shadow =
 -- granule, or a redzone's code where it has none
 abbrev pub shadow_around : Extent → ℕ → ℕ
 shadow_around b at =
-    if lies_in b.at (b.at + rounded b.size) at then b.size % granule_size else code_of HeapRedzone
+    if lies_in b.at (b.at + round_up b.size) at then b.size % granule_size else code_of HeapRedzone
 
 -- ---- spans, and the reports on events
 

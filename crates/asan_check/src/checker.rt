@@ -123,35 +123,40 @@ impl<A: Allocator + Copy> Checker<A> {
         Ok(report)
     }
 
-    /// Reads what the checker keeps of the blocks of the events to come, and the shadow of the first
-    /// load or store between them, so that the processor has it at hand when they are stepped.
-    /// Changes nothing.
+    /// Reads what the checker keeps of the blocks of the events to come, and the shadow of the
+    /// first load or store between two of them, so that the processor has it at hand when they are
+    /// stepped. Changes nothing.
     #[inline(never)]
     pub fn fetch(&mut self, events: &[Event])
         ensures { self.new ≡ self.old }
     {
         let mut frees = 0;
-        let mut is_read = false;
+        let mut first = None;
         for event in events {
             match event {
-                Event::Load(access) | Event::Store(access) => {
-                    if !is_read {
-                        self.fetched.mix(self.shadow.value(access.at() / GRANULE));
-                    }
-                    is_read = true;
-                }
+                Event::Load(access) | Event::Store(access) => first = first.or(Some(access.at())),
                 Event::Malloc(region) => {
                     self.book.fetch(region.at());
-                    is_read = false;
+                    self.fetch_shadow(first.take());
                 }
                 Event::Free(place) => {
                     self.book.fetch(place.at());
                     self.book.fetch_held(frees);
                     frees += 1;
-                    is_read = false;
+                    self.fetch_shadow(first.take());
                 }
                 _ => {}
             }
+        }
+    }
+
+    /// Reads the shadow byte of an address.
+    #[inline]
+    fn fetch_shadow(&mut self, at: Option<u64>)
+        ensures { self.new ≡ self.old }
+    {
+        if let Some(at) = at {
+            self.fetched.mix(self.shadow.value(at / GRANULE));
         }
     }
 

@@ -8,7 +8,7 @@ ghost use Rattle.trace_record.specs.declared.event.Event.{Event};
 ghost use Rattle.trace_record.specs.declared.event.Access.{Access};
 ghost use Rattle.shadow_map.specs.States.{Freed, code_of};
 ghost use Rattle.heap_book.specs.Spans.{Extent, span_from, span_to, meets};
-ghost use Rattle.asan_units.specs.Units.{rounded};
+ghost use Rattle.asan_units.specs.Units.{round_up};
 ghost use Rattle.asan_check.specs.declared.report.Class.TheVariants as class;
 ghost use Rattle.asan_check.specs.declared.report.Report.{Report};
 ghost use Rattle.asan_check.specs.History.{live, held};
@@ -84,8 +84,8 @@ pub fn use_after_free_is_reported()
     ensures { (bound : ℕ) (past : List Event) (block : Extent) (is_store : Bool) (access : Access) →
         Contains (held bound past) block →
         StartsWithin block access →
-        NoPoisonShares (since_free bound past block) block.at (block.at + rounded block.size) →
-        NoUnpoisonShares (since_free bound past block) block.at (block.at + rounded block.size) →
+        NoPoisonShares (since_free bound past block) block.at (block.at + round_up block.size) →
+        NoUnpoisonShares (since_free bound past block) block.at (block.at + round_up block.size) →
         verdict bound past (access_event is_store access)
         ≡ Some (first_byte_report past is_store access class.HeapUseAfterFree (code_of Freed)) }
 {}

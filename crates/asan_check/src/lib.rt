@@ -5,10 +5,10 @@ mod checker;
 mod ending;
 mod fetched;
 mod laws;
+mod lines;
 mod report;
 #[cfg(test)]
 mod tests;
-mod text;
 
 pub use checker::{Checker, Failed};
 pub use ending::Ending;
@@ -18,6 +18,6 @@ pub use laws::{
     live_since_its_malloc, overflow_is_reported, quiet_inside_live_block, reports_are_verdicts,
     spans_never_meet, use_after_free_is_reported,
 };
+pub use lines::{end_text, report_text};
 pub use report::{Class, Fault, Report};
 pub use std::alloc::AllocError as NoMemory;
-pub use text::{end_text, report_text};

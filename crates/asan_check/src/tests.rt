@@ -1,9 +1,9 @@
 //! Events, and the calls of a checker that the tests share.
 mod beside_the_model;
+mod examples;
 mod model;
 mod passing;
 mod refusals;
-mod rows;
 
 use crate::{Checker, Failed, Report};
 use std::alloc::Allocator;

@@ -11,7 +11,7 @@ use Rattle.trace_feed.specs.Feeds.{FeedState}
 use Rattle.trace_feed.specs.declared.door.Arrival.TheVariants as arrival
 use Rattle.asan_check.specs.declared.report.Fault.TheVariants as fault
 use Rattle.asan_check.specs.declared.report.Report.{Report}
-use Rattle.asan_check.proofs.Rows.{malloc, store, free, report, usual}
+use Rattle.asan_check.proofs.Examples.{malloc, store, free, report, usual}
 use Rattle.asan_check.proofs.Refuted.{differ, bad_access_is_passed_over}
 use Rattle.asan_collect.specs.declared.item.Item.{Item}
 use Rattle.asan_collect.specs.declared.item.Item.TheVariants as item

@@ -1,6 +1,7 @@
 //! A lane and a bench for each sender, and the share of the benches that each checker gets.
 
-ghost use Rattle.std.specs.Prelude.{◌≡◌, ◌<◌, ◌≤◌, ◌%◌, [], All, IfOk, IfSome, length, vec_len, vec_capacity};
+ghost use Rattle.std.specs.Prelude.{◌≡◌, ◌<◌, ◌≤◌, ◌%◌, [], All, IfOk, IfSome, length, vec_len};
+ghost use Rattle.std.specs.Prelude.{vec_capacity};
 ghost use Rattle.asan_collect.specs.Arrivals.{IsArrived, Pairwise};
 ghost use Rattle.asan_collect.specs.Benches.{lane_of, process_of, bench_bound};
 ghost use Rattle.asan_collect.specs.Ranges.{most_senders, most_workers};

@@ -4,7 +4,6 @@
 
 mod arrivals;
 mod bench;
-mod check;
 mod checker;
 mod checker_threads;
 mod collector;
@@ -22,6 +21,7 @@ mod piece;
 mod printer;
 mod reader;
 mod reader_threads;
+mod replay;
 mod returns;
 mod sender;
 mod settlement;
@@ -34,7 +34,6 @@ mod write;
 
 pub use arrivals::MOST_SENDERS;
 pub use bench::{Bench, Turn};
-pub use check::check_feed;
 pub use checker::run_checker;
 pub use collector::collect;
 pub use gate::{Gate, OpenGate};
@@ -43,6 +42,7 @@ pub use laws::{answers_are_outcomes, bytes_spell_one_end, outcomes_agree};
 pub use options::{BadOption, MOST_EVENTS, MOST_RING, MOST_WORKERS, Options};
 pub use outcome::Outcome;
 pub use reader::{ReaderDone, run_reader};
+pub use replay::check_feed;
 pub use settlement::settle;
 pub use status::{UNCHECKED, UNWRITTEN, exit_status};
 pub use std::alloc::AllocError as NoMemory;

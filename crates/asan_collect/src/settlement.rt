@@ -11,10 +11,10 @@ ghost use Rattle.asan_collect.specs.Ranges.{most_events, most_reports};
 ghost use Rattle.asan_collect.specs.Texts.{reports_of};
 
 use crate::bench::Bench;
-use crate::check::outcome_of;
 use crate::drain::Drained;
 use crate::outcome::Outcome;
 use crate::reader::ReaderDone;
+use crate::replay::outcome_of;
 use std::alloc::Allocator;
 
 /// What became of a sender whose reader is done. Takes what is left of the sender's lane and checks

@@ -35,8 +35,8 @@ abbrev pub granules_in : ℕ → ℕ
 granules_in size = (size + 7) / granule_size
 
 -- a size rounded up to whole granules
-abbrev pub rounded : ℕ → ℕ
-rounded size = granules_in size * granule_size
+abbrev pub round_up : ℕ → ℕ
+round_up size = granules_in size * granule_size
 
 -- how many bytes a redzone has
 abbrev pub redzone : ℕ

@@ -5,7 +5,7 @@
 #![tactic(auto)]
 
 ghost use Rattle.std.specs.Prelude.{◌≡◌, ◌+◌, ◌^◌, ◌<◌};
-ghost use Rattle.asan_units.specs.Units.{is_width, rounded};
+ghost use Rattle.asan_units.specs.Units.{is_width, round_up};
 
 /// The first address past those that a process has: that of user space on x86-64.
 pub const ADDRESS_END: u64 = 1 << 47;
@@ -34,9 +34,9 @@ pub fn is_width(width: u8) -> bool
 
 /// A size, in bytes, rounded up to whole granules.
 #[inline]
-pub fn rounded(size: u64) -> u64
+pub fn round_up(size: u64) -> u64
     requires { size + 7 < 2 ^ 64 }
-    ensures { result ≡ rounded size }
+    ensures { result ≡ round_up size }
 {
     size.next_multiple_of(GRANULE)
 }

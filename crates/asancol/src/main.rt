@@ -5,7 +5,7 @@ mod arguments;
 mod closed_streams;
 mod command_line;
 mod input_door;
-mod report;
+mod print;
 mod run;
 mod serve;
 mod source;

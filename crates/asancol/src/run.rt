@@ -8,7 +8,7 @@ ghost use Rattle.asancol.specs.Requests.{is_verbose};
 
 use crate::command_line::{Refusal, Request, read_words};
 use crate::input_door::door_of;
-use crate::report::{report_each, report_feed};
+use crate::print::{report_each, report_feed};
 use crate::serve::listen;
 use asan_collect::{UNCHECKED, UNWRITTEN};
 use clap::error::ErrorKind;

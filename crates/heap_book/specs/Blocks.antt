@@ -10,8 +10,8 @@ pub record Blocks : Type 0 where
   pub bound : ℕ
 
 -- the blocks whose spans are taken: the live ones and those in quarantine
-abbrev pub taken : Blocks → List Extent
-taken book = book.live ++ book.queue
+abbrev pub taken_blocks : Blocks → List Extent
+taken_blocks book = book.live ++ book.queue
 
 -- how many bytes the spans in quarantine have
 abbrev pub queued_bytes : Blocks → ℕ

@@ -5,7 +5,7 @@
 use Rattle.std.specs.Prelude.{◌≡◌, ℕ, ◌+◌, ◌-◌, ◌*◌, ◌/◌, ◌%◌, ◌^◌, ◌≤◌, List, [], ◌∷◌, sum_by}
 use Rattle.std.specs.Prelude.{Bool, not, ◌&&◌, ◌==◌, nat_lt, nat_le, if◌then◌else◌}
 use Rattle.std.specs.List.{list_any}
-use Rattle.asan_units.specs.Units.{address_end, granule_size, IsGranuleStart, rounded, redzone}
+use Rattle.asan_units.specs.Units.{address_end, granule_size, IsGranuleStart, round_up, redzone}
 
 -- what a contract sees of a block: its address and its size
 pub record Extent : Type 0 where
@@ -18,7 +18,7 @@ abbrev pub span_from : Extent → ℕ
 span_from b = b.at - redzone
 
 abbrev pub span_to : Extent → ℕ
-span_to b = b.at + rounded b.size + redzone
+span_to b = b.at + round_up b.size + redzone
 
 -- a block starts at a granule, and has room for its redzones from 0 up to the end of the addresses
 abbrev pub IsPlaced : Extent → Type 0
@@ -26,7 +26,7 @@ IsPlaced b = IsGranuleStart b.at × (redzone ≤ b.at) × (span_to b ≤ address
 
 -- how many bytes the span has
 abbrev pub span_bytes : Extent → ℕ
-span_bytes b = rounded b.size + 2 * redzone
+span_bytes b = round_up b.size + 2 * redzone
 
 -- whether the spans of two blocks share a byte
 abbrev pub meets : Extent → Extent → Bool

@@ -3,7 +3,7 @@ ghost use Rattle.std.specs.Prelude.{◌≡◌, ◌+◌, ◌^◌, ◌≤◌, ◌�
 ghost use Rattle.asan_units.specs.Units.{address_end};
 ghost use Rattle.heap_book.specs.Spans.{IsPlaced, span_from, span_to};
 
-use asan_units::{ADDRESS_END, GRANULE, REDZONE, rounded};
+use asan_units::{ADDRESS_END, GRANULE, REDZONE, round_up};
 use std::marker::Model;
 
 /// A block that was admitted. Its span is its bytes, rounded up to whole granules of 8, and a
@@ -35,7 +35,7 @@ impl Block {
         ensures some { IsSome result ↔ IsPlaced (record { at = at; size = size }) }
         ensures block { IfSome result (λ block. block ≡ record { at = at; size = size }) }
     {
-        let to = at + rounded(size) + REDZONE;
+        let to = at + round_up(size) + REDZONE;
         if at.is_multiple_of(GRANULE) && at >= REDZONE && to <= ADDRESS_END {
             Some(Block { at, size })
         } else {
@@ -85,6 +85,6 @@ impl Block {
         ensures to { result ≡ span_to self.now }
         ensures placed { IsPlaced self.now }
     {
-        self.at + rounded(self.size) + REDZONE
+        self.at + round_up(self.size) + REDZONE
     }
 }

@@ -4,14 +4,14 @@ ghost use Rattle.std.specs.Prelude.{IsErr, IfOk, OnErr, IfSome, IfNone};
 ghost use Rattle.std.specs.List.{IsDistinct, list_any};
 ghost use Rattle.asan_units.specs.Units.{address_end, largest_quarantine};
 ghost use Rattle.heap_book.specs.Spans.{Extent, held_of, may_be_admitted, meets, starts_at};
-ghost use Rattle.heap_book.specs.Blocks.{taken, queued_bytes, ReleasesOldest};
+ghost use Rattle.heap_book.specs.Blocks.{taken_blocks, queued_bytes, ReleasesOldest};
 ghost use Rattle.heap_book.specs.Admit.{IsAdmitAnswer, AfterAdmit};
 ghost use Rattle.heap_book.specs.Freed.{IsFreeAnswer, AfterFree};
 
 use crate::NoMemory;
 use crate::answers::{Admit, Bound, Freed};
 use crate::block::Block;
-use crate::spans::is_free;
+use crate::slots::is_free;
 use asan_units::LARGEST_QUARANTINE;
 use line_map::{LineMap, Slot};
 use std::alloc::{Allocator, Global};
@@ -99,7 +99,7 @@ impl<A: Allocator + Copy> Book<A> {
             IfOk result (IsAdmitAnswer self.old block) }
         ensures after { IfOk result (λ admit. AfterAdmit self.old admit self.new) }
         ensures no_memory { let block : Extent = record { at = at; size = size } in
-            OnErr result (may_be_admitted (taken self.old) block ≡ true) }
+            OnErr result (may_be_admitted (taken_blocks self.old) block ≡ true) }
         ensures unchanged { OnErr result (self.new ≡ self.old) }
     {
         if at == 0 {
@@ -162,7 +162,7 @@ impl<A: Allocator + Copy> Book<A> {
             ≡ held_of self.old.bound self.old.queue }
 
         // True of every book: no two of its spans share a byte.
-        ensures apart { IsDistinct meets (taken self.old) }
+        ensures apart { IsDistinct meets (taken_blocks self.old) }
     {
         if self.queued <= self.bound {
             return None;

@@ -21,7 +21,7 @@
 mod answers;
 mod block;
 mod book;
-mod spans;
+mod slots;
 #[cfg(test)]
 mod tests;
 

@@ -1,4 +1,4 @@
--- The marks of a branch by those of its sections.
+-- The marks of a branch by those of its nodes.
 use Rattle.std.proofs.Common.{◌≡◌, ◌≢◌, ℕ, zero, suc, ◌+◌, ◌-◌, ◌*◌, ◌/◌, ◌%◌, ◌<◌, ◌≤◌, cond, eqb, true, false, List, [], ◌∷◌, ◌++◌, Option, Some, None, length, get_or, set, length-append, refl, sym, ap, ◌∙◌, arith, inl, inr}
 use Rattle.std.specs.Prelude.{map, nat_lt, IsSome}
 use Rattle.std.proofs.lemmas.Bool.{cases_eq, cases_lt}
@@ -8,10 +8,10 @@ use Rattle.std.proofs.Math.Seq.{get_or-append_seam}
 use Rattle.std.proofs.lemmas.Nat.{div-mul-add, mod-mul-add, div-add-mod'}
 use Rattle.std.proofs.Math.Nat.{mod-lt, mul-le-mul_right}
 use Rattle.line_map.specs.declared.mark.Mark.{Mark}
-use Rattle.line_map.specs.Sections.{IsPut, IsLastLine}
-use Rattle.line_map.specs.Branches.{sections_mark}
+use Rattle.line_map.specs.Nodes.{IsPut, IsLastLine}
+use Rattle.line_map.specs.Branches.{nodes_mark}
 
--- ---- a line of the branch, and the same line within its section
+-- ---- a line of the branch, and the same line within its node
 same_line : (width line index : ℕ) → index / width ≡ line / width → eqb (index % width) (line % width) ≡ eqb index line
 same_line width line index same =
     let split : line / width * width + line % width ≡ line = div-add-mod' line width in
@@ -25,7 +25,7 @@ other_line width line index other =
       | inr apart ↦ grind (arith, nat_tests)
     ]
 
--- ---- whole sections
+-- ---- whole nodes
 pub within : (place width line : ℕ) → place * width ≤ line → line < place * width + width → line / width ≡ place
 within place width line low high =
     let rest : line ≡ place * width + (line - place * width) = omega arith in
@@ -80,19 +80,19 @@ raised marks low end (Some found) le none last = (
 some_of : {new old : Option Mark} → new ≡ old → IsSome old → IsSome new
 some_of same some = rw same some
 
--- ---- the mark of a line, by the section in which it lies
-module _ {S : Type 0} (mark_at : S → ℕ → Option Mark) (width first : ℕ) (sections : List S) where
+-- ---- the mark of a line, by the node in which it lies
+module _ {S : Type 0} (mark_at : S → ℕ → Option Mark) (width first : ℕ) (nodes : List S) where
   abbrev marks : ℕ → Option Mark
-  marks line = sections_mark mark_at width first sections line
+  marks line = nodes_mark mark_at width first nodes line
 
-  -- a section that is kept
-  pub kept_mark : (place line : ℕ) (section : S) → place < length sections → section ≡ get_or sections place section → line / width ≡ first + place →
-      marks line ≡ mark_at section (line % width)
-  kept_mark place line section lt is same =
-      let there : S → Option Mark = λ section. mark_at section (line % width) in
+  -- a node that is kept
+  pub kept_mark : (place line : ℕ) (node : S) → place < length nodes → node ≡ get_or nodes place node → line / width ≡ first + place →
+      marks line ≡ mark_at node (line % width)
+  kept_mark place line node lt is same =
+      let there : S → Option Mark = λ node. mark_at node (line % width) in
       let no : nat_lt (line / width) first ≡ false = grind (arith, nat_tests) in
       let at : line / width - first ≡ place = omega arith in
-      rw (no, at) (get_or-map there sections place section None lt ∙ ap there (sym is))
+      rw (no, at) (get_or-map there nodes place node None lt ∙ ap there (sym is))
 
   -- one below those that are kept
   pub below_mark : (line : ℕ) → line / width < first → marks line ≡ None
@@ -101,123 +101,123 @@ module _ {S : Type 0} (mark_at : S → ℕ → Option Mark) (width first : ℕ) 
       rw yes refl
 
   -- one above them
-  pub above_mark : (line : ℕ) → first + length sections ≤ line / width → marks line ≡ None
+  pub above_mark : (line : ℕ) → first + length nodes ≤ line / width → marks line ≡ None
   above_mark line le =
-      let there : S → Option Mark = λ section. mark_at section (line % width) in
+      let there : S → Option Mark = λ node. mark_at node (line % width) in
       let no : nat_lt (line / width) first ≡ false = grind (arith, nat_tests) in
-      let len : length (map there sections) ≡ length sections = length-map sections there in
-      rw no (get_or_past (map there sections) (line / width - first) None (omega arith))
+      let len : length (map there nodes) ≡ length nodes = length-map nodes there in
+      rw no (get_or_past (map there nodes) (line / width - first) None (omega arith))
 
-  -- ---- the last line of a section that has a mark, as one of the branch
-  module _ (place : ℕ) (section : S) (positive : 0 < width) (kept : place < length sections) (is : section ≡ get_or sections place section) where
-    pub none_below : (end : ℕ) → end ≤ width → IsLastLine (mark_at section) end None →
+  -- ---- the last line of a node that has a mark, as one of the branch
+  module _ (place : ℕ) (node : S) (positive : 0 < width) (kept : place < length nodes) (is : node ≡ get_or nodes place node) where
+    pub none_below : (end : ℕ) → end ≤ width → IsLastLine (mark_at node) end None →
         (line : ℕ) → (first + place) * width ≤ line → line < (first + place) * width + end → marks line ≡ None
     none_below end most none line low high =
         let here : line / width ≡ first + place = within (first + place) width line low (omega arith) in
         let split : line / width * width + line % width ≡ line = div-add-mod' line width in
         let same : line / width * width ≡ (first + place) * width = ap (λ i. i * width) here in
-        kept_mark place line section kept is here ∙ none (line % width) (omega arith)
+        kept_mark place line node kept is here ∙ none (line % width) (omega arith)
 
-    pub last_below : (end : ℕ) (found : ℕ) → end ≤ width → IsLastLine (mark_at section) end (Some found) →
+    pub last_below : (end : ℕ) (found : ℕ) → end ≤ width → IsLastLine (mark_at node) end (Some found) →
         IsLastLine marks ((first + place) * width + end) (Some ((first + place) * width + found))
     last_below end found most last =
         let below : found < end = last.0 in
         let here : ((first + place) * width + found) / width ≡ first + place = div-mul-add (first + place) width found (omega arith) in
         let rest : ((first + place) * width + found) % width ≡ found = mod-mul-add (first + place) width found (omega arith) in (
           omega arith,
-          some_of (kept_mark place ((first + place) * width + found) section kept is here ∙ ap (mark_at section) rest) last.1,
+          some_of (kept_mark place ((first + place) * width + found) node kept is here ∙ ap (mark_at node) rest) last.1,
           λ line past lt.
               let there : line / width ≡ first + place = within (first + place) width line (omega arith) (omega arith) in
               let split : line / width * width + line % width ≡ line = div-add-mod' line width in
               let same : line / width * width ≡ (first + place) * width = ap (λ i. i * width) there in
-              kept_mark place line section kept is there ∙ last.2 (line % width) (omega arith) (omega arith),
+              kept_mark place line node kept is there ∙ last.2 (line % width) (omega arith) (omega arith),
         )
 
-module _ {S : Type 0} (mark_at : S → ℕ → Option Mark) (width first : ℕ) (sections : List S) where
+module _ {S : Type 0} (mark_at : S → ℕ → Option Mark) (width first : ℕ) (nodes : List S) where
   abbrev old : ℕ → Option Mark
-  old line = sections_mark mark_at width first sections line
+  old line = nodes_mark mark_at width first nodes line
 
-  -- ---- one section is another now
-  module _ (place : ℕ) (new : S) (lt : place < length sections) where
+  -- ---- one node is another now
+  module _ (place : ℕ) (new : S) (lt : place < length nodes) where
     abbrev now : ℕ → Option Mark
-    now line = sections_mark mark_at width first (set sections place new) line
+    now line = nodes_mark mark_at width first (set nodes place new) line
 
     here_mark : (line : ℕ) → line / width ≡ first + place → now line ≡ mark_at new (line % width)
     here_mark line same =
-        kept_mark mark_at width first (set sections place new) place line new (rw length-set lt) (sym (get_or-set_same sections place new new lt)) same
+        kept_mark mark_at width first (set nodes place new) place line new (rw length-set lt) (sym (get_or-set_same nodes place new new lt)) same
 
     other_mark : (line : ℕ) → line / width ≢ first + place → now line ≡ old line
     other_mark line other =
         elim (cases_lt (line / width) first) [
-          | inl below ↦ below_mark mark_at width first (set sections place new) line below ∙ sym (below_mark mark_at width first sections line below)
+          | inl below ↦ below_mark mark_at width first (set nodes place new) line below ∙ sym (below_mark mark_at width first nodes line below)
           | inr above ↦
-              let there : S → Option Mark = λ section. mark_at section (line % width) in
+              let there : S → Option Mark = λ node. mark_at node (line % width) in
               let no : nat_lt (line / width) first ≡ false = grind (arith, nat_tests) in
               rw no
-              (ap (λ (marks : List (Option Mark)). get_or marks (line / width - first) None) (map-set there sections place new)
-              ∙ get_or-set_other (map there sections) place (line / width - first) (there new) None (omega arith))
+              (ap (λ (marks : List (Option Mark)). get_or marks (line / width - first) None) (map-set there nodes place new)
+              ∙ get_or-set_other (map there nodes) place (line / width - first) (there new) None (omega arith))
         ]
 
     -- one line of it is given a mark, or loses its own
-    pub section_put : (line : ℕ) (mark : Option Mark) (section : S) → 0 < width → line / width ≡ first + place → section ≡ get_or sections place section →
-        IsPut width (mark_at section) (mark_at new) (line % width) mark → (index : ℕ) → now index ≡ cond (eqb index line) mark (old index)
-    section_put line mark section positive here is put index =
+    pub node_put : (line : ℕ) (mark : Option Mark) (node : S) → 0 < width → line / width ≡ first + place → node ≡ get_or nodes place node →
+        IsPut width (mark_at node) (mark_at new) (line % width) mark → (index : ℕ) → now index ≡ cond (eqb index line) mark (old index)
+    node_put line mark node positive here is put index =
         elim (cases_eq (index / width) (line / width)) [
           | inl same ↦
-              let was : old index ≡ mark_at section (index % width) = kept_mark mark_at width first sections place index section lt is (same ∙ here) in
+              let was : old index ≡ mark_at node (index % width) = kept_mark mark_at width first nodes place index node lt is (same ∙ here) in
               here_mark index (same ∙ here) ∙ put (index % width) (mod-lt index positive) ∙ rw (was, same_line width line index same) refl
           | inr other ↦ rw (other_line width line index other) (other_mark index (λ same. other (same ∙ sym here)))
         ]
 
     -- its marks are what they were
-    pub section_same : (section : S) → section ≡ get_or sections place section → ((line : ℕ) → mark_at new line ≡ mark_at section line) →
+    pub node_same : (node : S) → node ≡ get_or nodes place node → ((line : ℕ) → mark_at new line ≡ mark_at node line) →
         (line : ℕ) → now line ≡ old line
-    section_same section is same line =
+    node_same node is same line =
         elim (cases_eq (line / width) (first + place)) [
-          | inl here ↦ here_mark line here ∙ same (line % width) ∙ sym (kept_mark mark_at width first sections place line section lt is here)
+          | inl here ↦ here_mark line here ∙ same (line % width) ∙ sym (kept_mark mark_at width first nodes place line node lt is here)
           | inr other ↦ other_mark line other
         ]
 
-  -- ---- one section more is kept, which has no marks
-  module _ (section : S) (none : (line : ℕ) → mark_at section line ≡ None) where
+  -- ---- one node more is kept, which has no marks
+  module _ (node : S) (none : (line : ℕ) → mark_at node line ≡ None) where
     -- above the others
-    pub pushed : (line : ℕ) → sections_mark mark_at width first (sections ++ section ∷ []) line ≡ old line
+    pub pushed : (line : ℕ) → nodes_mark mark_at width first (nodes ++ node ∷ []) line ≡ old line
     pushed line =
         elim (cases_lt (line / width) first) [
-          | inl below ↦ below_mark mark_at width first (sections ++ section ∷ []) line below ∙ sym (below_mark mark_at width first sections line below)
+          | inl below ↦ below_mark mark_at width first (nodes ++ node ∷ []) line below ∙ sym (below_mark mark_at width first nodes line below)
           | inr above ↦
-              let len : length (sections ++ section ∷ []) ≡ length sections + 1 = length-append sections (section ∷ []) in
-              elim (cases_lt (line / width) (first + length sections)) [
+              let len : length (nodes ++ node ∷ []) ≡ length nodes + 1 = length-append nodes (node ∷ []) in
+              elim (cases_lt (line / width) (first + length nodes)) [
                 | inl kept ↦
                     let place : ℕ = line / width - first in
-                    let lt : place < length sections = omega arith in
+                    let lt : place < length nodes = omega arith in
                     let at : line / width ≡ first + place = omega arith in
-                    let had : S = get_or sections place section in
-                    let is : had ≡ get_or sections place had = get_or_default sections place section had lt in
-                    kept_mark mark_at width first (sections ++ section ∷ []) place line had (omega arith)
-                    (is ∙ sym (get_or_append_left sections (section ∷ []) had place lt)) at
-                    ∙ sym (kept_mark mark_at width first sections place line had lt is at)
+                    let had : S = get_or nodes place node in
+                    let is : had ≡ get_or nodes place had = get_or_default nodes place node had lt in
+                    kept_mark mark_at width first (nodes ++ node ∷ []) place line had (omega arith)
+                    (is ∙ sym (get_or_append_left nodes (node ∷ []) had place lt)) at
+                    ∙ sym (kept_mark mark_at width first nodes place line had lt is at)
                 | inr past ↦
-                    elim (cases_eq (line / width) (first + length sections)) [
+                    elim (cases_eq (line / width) (first + length nodes)) [
                       | inl same ↦
-                          kept_mark mark_at width first (sections ++ section ∷ []) (length sections) line section (omega arith) (sym (get_or-append_seam sections section [] section)) same
-                          ∙ none (line % width) ∙ sym (above_mark mark_at width first sections line past)
-                      | inr other ↦ above_mark mark_at width first (sections ++ section ∷ []) line (omega arith) ∙ sym (above_mark mark_at width first sections line past)
+                          kept_mark mark_at width first (nodes ++ node ∷ []) (length nodes) line node (omega arith) (sym (get_or-append_seam nodes node [] node)) same
+                          ∙ none (line % width) ∙ sym (above_mark mark_at width first nodes line past)
+                      | inr other ↦ above_mark mark_at width first (nodes ++ node ∷ []) line (omega arith) ∙ sym (above_mark mark_at width first nodes line past)
                     ]
               ]
         ]
 
     -- below the others
-    pub fronted : 0 < first → (line : ℕ) → sections_mark mark_at width (first - 1) (section ∷ sections) line ≡ old line
+    pub fronted : 0 < first → (line : ℕ) → nodes_mark mark_at width (first - 1) (node ∷ nodes) line ≡ old line
     fronted positive line =
         elim (cases_lt (line / width) first) [
           | inl below ↦
               (elim (cases_lt (line / width) (first - 1)) [
-                | inl low ↦ below_mark mark_at width (first - 1) (section ∷ sections) line low
-                | inr high ↦ kept_mark mark_at width (first - 1) (section ∷ sections) 0 line section (omega arith) refl (omega arith) ∙ none (line % width)
-              ]) ∙ sym (below_mark mark_at width first sections line below)
+                | inl low ↦ below_mark mark_at width (first - 1) (node ∷ nodes) line low
+                | inr high ↦ kept_mark mark_at width (first - 1) (node ∷ nodes) 0 line node (omega arith) refl (omega arith) ∙ none (line % width)
+              ]) ∙ sym (below_mark mark_at width first nodes line below)
           | inr above ↦
-              let there : S → Option Mark = λ section. mark_at section (line % width) in
+              let there : S → Option Mark = λ node. mark_at node (line % width) in
               let no : nat_lt (line / width) first ≡ false = grind (arith, nat_tests) in
               let also : nat_lt (line / width) (first - 1) ≡ false = grind (arith, nat_tests) in
               let next : line / width - (first - 1) ≡ suc (line / width - first) = omega arith in

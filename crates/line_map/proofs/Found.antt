@@ -8,7 +8,7 @@ use Rattle.std.proofs.lemmas.Bool.{cases_eq, cases_lt}
 use Rattle.std.proofs.lemmas.Bool.Decides.{nat_tests}
 use Rattle.line_map.specs.declared.mark.Slot.{Slot}
 use Rattle.line_map.specs.declared.mark.Mark.{Mark}
-use Rattle.line_map.specs.Sections.{IsPut, IsLastBelow}
+use Rattle.line_map.specs.Nodes.{IsPut, IsLastBelow}
 use Rattle.line_map.specs.Maps.{slot_at, IsLastBefore}
 use Rattle.line_map.specs.Entries.{entries_of, AreInLine}
 use Rattle.line_map.proofs.Entries.{slot_in, found-past, found-in, entries-same, entries-insert, entries-set, entries-remove, entries-none}

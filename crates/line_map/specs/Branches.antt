@@ -4,19 +4,19 @@ use Rattle.std.specs.Prelude.{List, map, Option, None, slice_index_or}
 use Rattle.line_map.specs.declared.mark.Mark.{Mark}
 use Rattle.line_map.specs.declared.branch.Branch.{Branch}
 
--- the mark of a line of one section, of the one at a place among some; none past the last of them
+-- the mark of a line of one node, of the one at a place among some; none past the last of them
 abbrev pub mark_among : {S : Type 0} → (S → ℕ → Option Mark) → List S → ℕ → ℕ → Option Mark
-mark_among mark_at sections place line =
-    slice_index_or (map (λ section. mark_at section line) sections) place None
+mark_among mark_at nodes place line =
+    slice_index_or (map (λ node. mark_at node line) nodes) place None
 
--- the mark of a line of sections that lie side by side and of which some are kept: that of the kept
--- section in which the line lies. The first that is kept has this number
-abbrev pub sections_mark : {S : Type 0} → (S → ℕ → Option Mark) → ℕ → ℕ → List S → ℕ → Option Mark
-sections_mark mark_at width first sections line =
+-- the mark of a line of nodes that lie side by side and of which some are kept: that of the kept
+-- node in which the line lies. The first that is kept has this number
+abbrev pub nodes_mark : {S : Type 0} → (S → ℕ → Option Mark) → ℕ → ℕ → List S → ℕ → Option Mark
+nodes_mark mark_at width first nodes line =
     if nat_lt (line / width) first then None
-    else mark_among mark_at sections (line / width - first) (line % width)
+    else mark_among mark_at nodes (line / width - first) (line % width)
 
 -- the mark of a line of a branch
 abbrev pub branch_mark : {S A : Type 0} → (S → ℕ → Option Mark) → ℕ → Branch S A → ℕ → Option Mark
 branch_mark mark_at width branch line =
-    sections_mark mark_at width branch.first branch.kept.items line
+    nodes_mark mark_at width branch.first branch.kept.items line

@@ -1,5 +1,5 @@
 pub mod Marks
-pub mod Sections
+pub mod Nodes
 pub mod Leaves
 pub mod Branches
 pub mod Trees

@@ -2,14 +2,14 @@
 use Rattle.std.specs.Prelude.{ℕ, ◌*◌, ◌^◌, Option}
 use Rattle.line_map.specs.declared.mark.Mark.{Mark}
 use Rattle.line_map.specs.declared.leaf.TheConstants.{LINES}
-use Rattle.line_map.specs.declared.branch.TheConstants.{SECTIONS}
+use Rattle.line_map.specs.declared.branch.TheConstants.{NODES}
 use Rattle.line_map.specs.declared.tree.Tree.{Tree}
 use Rattle.line_map.specs.Leaves.{leaf_mark}
 use Rattle.line_map.specs.Branches.{branch_mark}
 
--- how many lines a section has, by its levels of branches: none for a leaf
+-- how many lines a node has, by its levels of branches: none for a leaf
 abbrev pub width_over : ℕ → ℕ
-width_over levels = SECTIONS ^ levels * LINES
+width_over levels = NODES ^ levels * LINES
 
 -- the mark of a line
 unfoldable pub tree_mark : {A : Type 0} → Tree A → ℕ → Option Mark

@@ -1,11 +1,11 @@
 //! A leaf of a map: lines side by side, some of which have a mark.
 ghost use Rattle.std.specs.Prelude.{◌≡◌, ℕ, ◌^◌, ◌<◌, ◌≤◌, count_ones, length};
 ghost use Rattle.line_map.specs.declared.leaf.TheConstants.{LINES};
-ghost use Rattle.line_map.specs.Sections.{IsWidth};
+ghost use Rattle.line_map.specs.Nodes.{IsWidth};
 
 use crate::entry::Entry;
 use crate::mark::Mark;
-use crate::section::Section;
+use crate::node::Node;
 use std::alloc::{AllocError, Allocator, Global};
 
 /// How many lines a leaf has.
@@ -52,7 +52,7 @@ impl<A: Allocator + Copy> Leaf<A> {
     }
 }
 
-impl<A: Allocator + Copy> Section<A> for Leaf<A> {
+impl<A: Allocator + Copy> Node<A> for Leaf<A> {
     ghost use Rattle.line_map.specs.Leaves.{leaf_mark};
 
     ghost width = { LINES };

@@ -12,7 +12,7 @@ mod entry;
 mod leaf;
 mod map;
 mod mark;
-mod section;
+mod node;
 #[cfg(test)]
 mod tests;
 mod tree;

@@ -1,13 +1,13 @@
 //! The tree of lines: six levels of branches over the leaves.
 ghost use Rattle.std.specs.Prelude.{◌≡◌, ℕ, ◌^◌, ◌<◌, ◌≤◌, Some, None, IsSome, OnOk, OnErr};
 ghost use Rattle.line_map.specs.Entries.{line_count};
-ghost use Rattle.line_map.specs.Sections.{IsPut, IsLastBelow};
+ghost use Rattle.line_map.specs.Nodes.{IsPut, IsLastBelow};
 ghost use Rattle.line_map.specs.Trees.{tree_mark};
 
 use crate::branch::Branch;
 use crate::leaf::Leaf;
 use crate::mark::Mark;
-use crate::section::Section;
+use crate::node::Node;
 use std::alloc::{AllocError, Allocator, Global};
 
 // The branches, by how many levels of them there are. Each has 64 times the lines of one of the
@@ -24,7 +24,7 @@ type Level5<A> = Branch<Level4<A>, A>;
 
 type Level6<A> = Branch<Level5<A>, A>;
 
-// What a section takes where it stands, without what it holds.
+// What a node takes where it stands, without what it holds.
 const _: () = prove!(size_of::<Leaf>() == 32);
 
 const _: () = prove!(size_of::<Level1<Global>>() == 32);

@@ -3,7 +3,7 @@ use Rattle.std.proofs.Common.{◌≡◌, ◌≢◌, ℕ, ◌<◌, ◌≤◌, con
 use Rattle.std.specs.Prelude.{◌&&◌}
 use Rattle.std.proofs.lemmas.Bool.{cases_lt}
 use Rattle.std.proofs.lemmas.Bool.Decides.{nat_tests}
-use Rattle.page_table.specs.Sections.{IsFilled, IsFilledInPart}
+use Rattle.page_table.specs.Nodes.{IsFilled, IsFilledInPart}
 
 goes_on : (from at next byte old index : ℕ) → from ≤ at → at ≤ next →
     cond (leb at index && ltb index next) byte (cond (leb from index && ltb index at) byte old) ≡ cond (leb from index && ltb index next) byte old

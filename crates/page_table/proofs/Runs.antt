@@ -6,7 +6,7 @@ use Rattle.std.proofs.lemmas.List.{take_more}
 use Rattle.std.proofs.lemmas.List.Sums.{sum_by-cons, sum_by-append, sum_by-take-le}
 use Rattle.page_table.specs.declared.run.Run.{Run}
 use Rattle.page_table.specs.Runs.{length_of, byte_of_runs}
-use Rattle.page_table.specs.Sections.{IsFilled, HasRunsUpTo}
+use Rattle.page_table.specs.Nodes.{IsFilled, HasRunsUpTo}
 
 -- what stands past the last run
 abbrev pub no_run : Run

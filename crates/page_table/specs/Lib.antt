@@ -1,5 +1,5 @@
 pub mod Runs
-pub mod Sections
-pub mod Groups
+pub mod Nodes
+pub mod Leaves
 pub mod Branches
 pub mod Tables

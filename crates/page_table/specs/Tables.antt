@@ -2,23 +2,23 @@
 use Rattle.std.specs.Prelude.{◌≡◌, ◌≢◌, ℕ, ◌+◌, ◌-◌, ◌*◌, ◌<◌, ◌≤◌, ◌^◌, ◌&&◌, nat_le, nat_lt}
 use Rattle.std.specs.Prelude.{if◌then◌else◌, List}
 use Rattle.asan_units.specs.Units.{granule_count}
-use Rattle.page_table.specs.declared.group.TheConstants.{GROUP}
-use Rattle.page_table.specs.declared.branch.TheConstants.{SECTIONS}
+use Rattle.page_table.specs.declared.leaf.TheConstants.{LEAF}
+use Rattle.page_table.specs.declared.branch.TheConstants.{NODES}
 use Rattle.page_table.specs.declared.table.PageTable.{PageTable}
 use Rattle.page_table.specs.declared.run.Run.{Run}
 use Rattle.page_table.specs.Runs.{length_of, byte_of_runs}
-use Rattle.page_table.specs.Groups.{group_byte}
+use Rattle.page_table.specs.Leaves.{leaf_byte}
 use Rattle.page_table.specs.Branches.{branch_byte}
 
 -- how many granules a branch has, by the number of levels of branches below it
 abbrev pub width_over : ℕ → ℕ
-width_over levels = SECTIONS ^ levels * GROUP
+width_over levels = NODES ^ levels * LEAF
 
 module _ {A : Type 0} where
   -- the byte at an index of the root, which has room for more granules than there are
   abbrev pub root_byte : PageTable A → ℕ → ℕ
   root_byte table granule =
-      branch_byte (branch_byte (branch_byte (branch_byte (branch_byte group_byte
+      branch_byte (branch_byte (branch_byte (branch_byte (branch_byte leaf_byte
       (width_over 0)) (width_over 1)) (width_over 2)) (width_over 3))
       (width_over 4) table.root granule
 

@@ -1,37 +1,37 @@
 //! A branch of a table.
 ghost use Rattle.std.specs.Prelude.{◌≡◌, ℕ, ◌+◌, ◌-◌, ◌*◌, ◌%◌, ◌<◌, ◌≤◌, OnOk, OnErr, vec_len};
-ghost use Rattle.page_table.specs.declared.branch.TheConstants.{SECTIONS};
-ghost use Rattle.page_table.specs.Sections.{IsWidth};
+ghost use Rattle.page_table.specs.declared.branch.TheConstants.{NODES};
+ghost use Rattle.page_table.specs.Nodes.{IsWidth};
 
+use crate::node::Node;
 use crate::run::Run;
-use crate::section::Section;
 use std::alloc::{AllocError, Allocator, Global};
 
-/// How many sections a branch has.
-const SECTIONS: usize = 128;
+/// How many nodes a branch has.
+const NODES: usize = 128;
 
-/// Sections of one width, side by side. Those that are not kept have one byte.
+/// Nodes of one width, side by side. Those that are not kept have one byte.
 #[derive(Drop)]
 pub struct Branch<S, A: Allocator = Global> {
-    // The first sections.
+    // The first nodes.
     kept: Vec<S, A>,
 
     // The byte at each index of the others.
     rest: u8,
 }
 
-impl<S: Section<A>, A: Allocator + Copy> Section<A> for Branch<S, A> {
+impl<S: Node<A>, A: Allocator + Copy> Node<A> for Branch<S, A> {
     ghost use Rattle.page_table.specs.Branches.{branch_byte};
 
-    ghost width = { SECTIONS * S.width };
+    ghost width = { NODES * S.width };
 
-    ghost fits = { IsWidth (SECTIONS * S.width) × S.fits };
+    ghost fits = { IsWidth (NODES * S.width) × S.fits };
 
     ghost byte_at = { branch_byte S.byte_at S.width };
 
     #[inline]
     fn width() -> u64 {
-        SECTIONS as u64 * S::width()
+        NODES as u64 * S::width()
     }
 
     #[inline]
@@ -77,9 +77,9 @@ impl<S: Section<A>, A: Allocator + Copy> Section<A> for Branch<S, A> {
             self.fill_whole(alloc, byte);
             Ok(())
         } else if to <= from - from % S::width() + S::width() {
-            self.fill_within_section(alloc, from, to, byte)
+            self.fill_within_node(alloc, from, to, byte)
         } else {
-            self.fill_across_sections(alloc, from, to, byte)
+            self.fill_across_nodes(alloc, from, to, byte)
         }
     }
 
@@ -95,10 +95,10 @@ impl<S: Section<A>, A: Allocator + Copy> Section<A> for Branch<S, A> {
     ghost is_width = { λ fits. fits.0 };
 }
 
-impl<S: Section<A>, A: Allocator + Copy> Branch<S, A> {
+impl<S: Node<A>, A: Allocator + Copy> Branch<S, A> {
     ghost use Rattle.page_table.specs.Branches.{branch_byte, FillsBranch, FillsBranchBelow};
 
-    /// Sets the bytes at all indices. Gives back the memory of the sections.
+    /// Sets the bytes at all indices. Gives back the memory of the nodes.
     #[inline(never)]
     fn fill_whole(&mut self, alloc: A, byte: u8)
         ensures { (index : ℕ) → branch_byte S.byte_at S.width self.new index ≡ byte }
@@ -106,19 +106,19 @@ impl<S: Section<A>, A: Allocator + Copy> Branch<S, A> {
         *self = Branch::same(alloc, byte);
     }
 
-    /// Sets the bytes at the indices from one up to another, section by section.
+    /// Sets the bytes at the indices from one up to another, node by node.
     #[inline(never)]
-    fn fill_across_sections(
+    fn fill_across_nodes(
         &mut self,
         alloc: A,
         from: u64,
         to: u64,
         byte: u8,
     ) -> Result<(), AllocError>
-        requires width { IsWidth (SECTIONS * S.width) }
+        requires width { IsWidth (NODES * S.width) }
         requires fits { S.fits }
         requires order { from < to }
-        requires end { to ≤ SECTIONS * S.width }
+        requires end { to ≤ NODES * S.width }
         ensures ok { OnOk result
             (FillsBranch S.byte_at S.width self.old self.new from to byte) }
         ensures err { OnErr result
@@ -128,26 +128,20 @@ impl<S: Section<A>, A: Allocator + Copy> Branch<S, A> {
         let mut at = from;
         while at < to {
             let next = to.min(at - at % width + width);
-            self.fill_within_section(alloc, at, next, byte)?;
+            self.fill_within_node(alloc, at, next, byte)?;
             at = next;
         }
         Ok(())
     }
 
-    /// Sets the bytes at the indices from one up to another, which lie in one section. A section
+    /// Sets the bytes at the indices from one up to another, which lie in one node. A node
     /// that is not kept and has the byte already stays so.
     #[inline]
-    fn fill_within_section(
-        &mut self,
-        alloc: A,
-        from: u64,
-        to: u64,
-        byte: u8,
-    ) -> Result<(), AllocError>
+    fn fill_within_node(&mut self, alloc: A, from: u64, to: u64, byte: u8) -> Result<(), AllocError>
         requires fits { S.fits }
         requires order { from < to }
         requires within { to ≤ from - from % S.width + S.width }
-        requires end { to ≤ SECTIONS * S.width }
+        requires end { to ≤ NODES * S.width }
         ensures ok { OnOk result
             (FillsBranch S.byte_at S.width self.old self.new from to byte) }
         ensures err { OnErr result
@@ -165,7 +159,7 @@ impl<S: Section<A>, A: Allocator + Copy> Branch<S, A> {
         self.kept[place].fill(alloc, first, first + (to - from), byte)
     }
 
-    /// Keeps at least this number of sections. Takes memory once, for all sections of the branch.
+    /// Keeps at least this number of nodes. Takes memory once, for all nodes of the branch.
     #[inline(never)]
     fn keep(&mut self, alloc: A, count: usize) -> Result<(), AllocError>
         ensures ok { OnOk result (count ≤ vec_len self.new.kept) }
@@ -174,7 +168,7 @@ impl<S: Section<A>, A: Allocator + Copy> Branch<S, A> {
             ≡ branch_byte S.byte_at S.width self.old index }
     {
         if self.kept.is_empty() {
-            self.kept = Vec::with_capacity(alloc, SECTIONS)?;
+            self.kept = Vec::with_capacity(alloc, NODES)?;
         }
         for _place in self.kept.len()..count {
             self.kept.push(S::same(alloc, self.rest))?;

@@ -2,18 +2,18 @@
 ghost use Rattle.std.specs.Prelude.{◌≡◌, ℕ, ◌+◌, ◌^◌, ◌<◌, ◌≤◌, OnOk, OnErr};
 ghost use Rattle.asan_units.specs.Units.{granule_count};
 ghost use Rattle.page_table.specs.Runs.{length_of};
-ghost use Rattle.page_table.specs.Sections.{IsFirstNonzero};
+ghost use Rattle.page_table.specs.Nodes.{IsFirstNonzero};
 ghost use Rattle.page_table.specs.Tables.{byte_of, Fills, FillsBelow, FillsRuns, FillsRunsBelow};
 
 use crate::branch::Branch;
-use crate::group::Group;
+use crate::leaf::Leaf;
+use crate::node::{Node, fill_each_run};
 use crate::run::{Run, total_length};
-use crate::section::{Section, fill_each_run};
 use std::alloc::{AllocError, Allocator, Global};
 
 /// The branches by how many levels of them there are: each has 128 times the granules of one of the
 /// level below.
-type Level1<A> = Branch<Group<A>, A>;
+type Level1<A> = Branch<Leaf<A>, A>;
 
 type Level2<A> = Branch<Level1<A>, A>;
 
@@ -23,8 +23,8 @@ type Level4<A> = Branch<Level3<A>, A>;
 
 type Level5<A> = Branch<Level4<A>, A>;
 
-// What 128 sections of a branch take: 4,096 bytes, whether they are groups or branches.
-const _: () = prove!(size_of::<Group>() == 32);
+// What 128 nodes of a branch take: 4,096 bytes, whether they are leaves or branches.
+const _: () = prove!(size_of::<Leaf>() == 32);
 
 const _: () = prove!(size_of::<Level1<Global>>() == 32);
 
@@ -32,7 +32,7 @@ const _: () = prove!(size_of::<Level5<Global>>() == 32);
 
 /// A byte for each granule below 2^44.
 ///
-/// The memory that one fill takes depends on its two ends alone: the 4,096 bytes of a group and a
+/// The memory that one fill takes depends on its two ends alone: the 4,096 bytes of a leaf and a
 /// branch of each level for each of them, where these are not there yet.
 #[derive(Drop)]
 pub struct PageTable<A: Allocator + Copy = Global> {

@@ -51,7 +51,7 @@ fn first_difference(alloc: Global, first: u64) -> Result<Option<u64>, AllocError
 
 #[test]
 fn runs_are_fills(rt: HostRuntime) -> Result<(), Fail> {
-    // Within a page, over the ends of a page, of a group and of branches of each level, and before
+    // Within a page, over the ends of a page, of a leaf and of branches of each level, and before
     // the end of the memory.
     assert_eq!(rt;
         [

@@ -3,7 +3,7 @@ use Rattle.std.proofs.Common.{◌≡◌, ℕ, zero, suc, ◌+◌, ◌-◌, ◌*�
 use Rattle.std.specs.Prelude.{min, ◌&&◌, nat_lt, unwrap_or}
 use Rattle.std.proofs.lemmas.Bool.Decides.{nat_tests}
 use Rattle.shadow_map.specs.States.{State, Addressable, HeapRedzone, Freed, UserPoison, is_addressable, code_of, Mark, Fill, Block, Poison, Unpoison, lies_in, state_of, addressable_front, shadow_byte, lift, IsMark, AreMarks}
-use Rattle.asan_units.specs.Units.{rounded}
+use Rattle.asan_units.specs.Units.{round_up}
 use Rattle.shadow_map.specs.Granules.{front_of, poisoned_byte, unpoisoned_byte, block_byte}
 use Rattle.shadow_map.proofs.Fronts.{Front, poisoned_front, after, front_step, front_of_marks, first_is, none_from_is, granule_zero, fill_keeps}
 
@@ -86,10 +86,10 @@ block_inside at size granule =
 
 block_number : (granule at size front code shadow : ℕ) → at % 8 ≡ 0 → 32 ≤ at → front ≤ 8 → shadow ≡ byte_by front code →
     block_byte at size granule shadow
-    ≡ byte_by (cond (lies_in (at - 32) (at + rounded size + 32) (8 * granule)) (cond (leb at (8 * granule)) (min 8 (at + size - 8 * granule)) 0) front)
-    (cond (lies_in (at - 32) (at + rounded size + 32) (8 * granule)) (cond (lies_in at (at + size) (8 * granule)) 0 0xfa) code)
+    ≡ byte_by (cond (lies_in (at - 32) (at + round_up size + 32) (8 * granule)) (cond (leb at (8 * granule)) (min 8 (at + size - 8 * granule)) 0) front)
+    (cond (lies_in (at - 32) (at + round_up size + 32) (8 * granule)) (cond (lies_in at (at + size) (8 * granule)) 0 0xfa) code)
 block_number granule at size front code shadow aligned room most is =
-    let span : lies_in (at - 32) (at + rounded size + 32) (8 * granule) ≡ (leb (at / 8 - 4) granule && ltb granule (at / 8 + (size + 7) / 8 + 4)) = grind (arith, nat_tests) in
+    let span : lies_in (at - 32) (at + round_up size + 32) (8 * granule) ≡ (leb (at / 8 - 4) granule && ltb granule (at / 8 + (size + 7) / 8 + 4)) = grind (arith, nat_tests) in
     rw span (by_span (leb (at / 8 - 4) granule && ltb granule (at / 8 + (size + 7) / 8 + 4)))
   where
     inside : block_inside at size granule ≡ byte_by (cond (leb at (8 * granule)) (min 8 (at + size - 8 * granule)) 0) (cond (lies_in at (at + size) (8 * granule)) 0 0xfa)

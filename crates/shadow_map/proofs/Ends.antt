@@ -3,7 +3,7 @@ use Rattle.std.proofs.Common.{◌≡◌, ℕ, ◌+◌, ◌-◌, ◌*◌, ◌/◌
 use Rattle.std.specs.Prelude.{◌&&◌, nat_lt}
 use Rattle.std.proofs.lemmas.Bool.Decides.{nat_tests}
 use Rattle.shadow_map.specs.States.{Mark, Fill, Block, Poison, Unpoison, lies_in, granule_lies_in, is_addressable, state_of, lift, AreMarks}
-use Rattle.asan_units.specs.Units.{redzone, rounded}
+use Rattle.asan_units.specs.Units.{redzone, round_up}
 use Rattle.shadow_map.specs.Laws.{AllPastTheEndIsAddressable}
 use Rattle.shadow_map.proofs.Fronts.{fill_keeps, front_of_marks}
 use Rattle.shadow_map.proofs.Bytes.{lift_is}
@@ -15,8 +15,8 @@ all_past_the_end_is_addressable (Fill from to state ∷ marks) ok byte le =
     let off : lies_in from to byte ≡ false = grind (arith, nat_tests) in
     rw off (all_past_the_end_is_addressable marks ok.1 byte le)
 all_past_the_end_is_addressable (Block at size ∷ marks) ok byte le =
-    let end : at + rounded size + redzone ≤ 2 ^ 47 = ok.0.2 in
-    let off : lies_in (at - redzone) (at + rounded size + redzone) byte ≡ false = grind (arith, nat_tests) in
+    let end : at + round_up size + redzone ≤ 2 ^ 47 = ok.0.2 in
+    let off : lies_in (at - redzone) (at + round_up size + redzone) byte ≡ false = grind (arith, nat_tests) in
     rw off (all_past_the_end_is_addressable marks ok.1 byte le)
 all_past_the_end_is_addressable (Poison at size ∷ marks) ok byte le =
     let end : at + size ≤ 2 ^ 47 = ok.0 in

@@ -2,12 +2,12 @@
 use Rattle.std.proofs.Common.{◌≡◌, ℕ, ◌+◌, ◌-◌, ◌*◌, ◌/◌, ◌%◌, ◌^◌, ◌<◌, ◌≤◌, Bool, true, false, cond, eqb, leb, ltb, List, [], ◌∷◌, Some, None, refl, arith, add-zero}
 use Rattle.std.specs.Prelude.{min, not, ◌&&◌, ◌||◌, nat_lt, nat_le, unwrap_or}
 use Rattle.std.proofs.lemmas.Bool.Decides.{nat_tests}
-use Rattle.shadow_map.specs.States.{State, Addressable, HeapRedzone, Freed, UserPoison, is_addressable, Mark, Fill, Block, Poison, Unpoison, lies_in, none_addressable_from, given, state_of, IsMark, AreMarks}
-use Rattle.asan_units.specs.Units.{redzone, rounded}
+use Rattle.shadow_map.specs.States.{State, Addressable, HeapRedzone, Freed, UserPoison, is_addressable, Mark, Fill, Block, Poison, Unpoison, lies_in, none_addressable_from, state_given, state_of, IsMark, AreMarks}
+use Rattle.asan_units.specs.Units.{redzone, round_up}
 
 -- the states after one more mark
 abbrev pub after : (ℕ → State) → Mark → ℕ → State
-after states mark byte = unwrap_or (given states mark byte) (states byte)
+after states mark byte = unwrap_or (state_given states mark byte) (states byte)
 
 -- how many of this number of first bytes stay addressable when those from one place up to another
 -- are poisoned
@@ -73,7 +73,7 @@ fill_keeps from to UserPoison h = (refl, h.0, h.1, h.3)
 abbrev pub front_after : Mark → ℕ → ℕ → ℕ
 front_after (Fill from to state) granule front = cond (lies_in from to (8 * granule)) 0 front
 front_after (Block at size) granule front =
-    cond (lies_in (at - redzone) (at + rounded size + redzone) (8 * granule)) (cond (leb at (8 * granule)) (min 8 (at + size - 8 * granule)) 0) front
+    cond (lies_in (at - redzone) (at + round_up size + redzone) (8 * granule)) (cond (leb at (8 * granule)) (min 8 (at + size - 8 * granule)) 0) front
 front_after (Poison at size) granule front = poisoned_front front (min 8 (at - 8 * granule)) (min 8 (at + size - 8 * granule))
 front_after (Unpoison at size) granule front =
     let end = min 8 (at + size - 8 * granule) in
@@ -85,8 +85,8 @@ fill_front : (x from to front place : ℕ) → place < 8 → x % 8 ≡ 0 → fro
 fill_front x from to front place lt base low high = grind (arith, nat_tests)
 
 block_front : (x at size front place : ℕ) → place < 8 → x % 8 ≡ 0 → at % 8 ≡ 0 → 32 ≤ at → front ≤ 8 →
-    cond (lies_in (at - 32) (at + rounded size + 32) (x + place)) (lies_in at (at + size) (x + place)) (ltb place front)
-    ≡ ltb place (cond (lies_in (at - 32) (at + rounded size + 32) x) (cond (leb at x) (min 8 (at + size - x)) 0) front)
+    cond (lies_in (at - 32) (at + round_up size + 32) (x + place)) (lies_in at (at + size) (x + place)) (ltb place front)
+    ≡ ltb place (cond (lies_in (at - 32) (at + round_up size + 32) x) (cond (leb at x) (min 8 (at + size - x)) 0) front)
 block_front x at size front place lt base aligned room most = grind (arith, nat_tests)
 
 poison_front : (x at end front place : ℕ) → place < 8 → front ≤ 8 →

@@ -1,4 +1,4 @@
-pub mod Rows
+pub mod Examples
 pub mod Fronts
 pub mod Bytes
 pub mod Queries

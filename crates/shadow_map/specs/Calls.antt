@@ -4,7 +4,7 @@ use Rattle.std.specs.Prelude.{◌||◌, ◌==◌, List, ◌∷◌}
 use Rattle.shadow_map.specs.declared.shadow.Shadow.{Shadow}
 use Rattle.shadow_map.specs.States.{HeapRedzone, Freed, UserPoison, Mark, Fill, Block, Poison}
 use Rattle.shadow_map.specs.States.{Unpoison, code_of, state_of, lift}
-use Rattle.asan_units.specs.Units.{granule_of, redzone, rounded}
+use Rattle.asan_units.specs.Units.{granule_of, redzone, round_up}
 use Rattle.shadow_map.specs.Shows.{value_at, Shows, ShowsUpTo}
 
 -- whether a byte is the code of a state that is not addressable
@@ -21,7 +21,7 @@ range_from (Unpoison at size) = at
 
 abbrev pub range_to : Mark → ℕ
 range_to (Fill from to state) = to
-range_to (Block at size) = at + rounded size + redzone
+range_to (Block at size) = at + round_up size + redzone
 range_to (Poison at size) = at + size
 range_to (Unpoison at size) = at + size
 

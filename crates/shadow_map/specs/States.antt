@@ -7,7 +7,7 @@ use Rattle.std.specs.Prelude.{false, not, ◌&&◌, ◌||◌, ◌==◌, nat_lt, 
 use Rattle.std.specs.Prelude.{◌∷◌, Option, Some, None, unwrap_or}
 use Rattle.std.specs.List.{list_all}
 use Rattle.asan_units.specs.Units.{address_end, granule_size, granule_of, first_byte}
-use Rattle.asan_units.specs.Units.{IsGranuleStart, rounded, redzone}
+use Rattle.asan_units.specs.Units.{IsGranuleStart, round_up, redzone}
 
 -- what a byte is
 pub data State : Type 0 where
@@ -65,19 +65,19 @@ none_addressable_from before from granule =
 -- Poison covers a byte whose granule lies wholly in its region; any other byte of the region only
 -- where it is addressable and no byte of its granule at the region's end or past it is.
 -- Unpoison covers a byte where it or a later byte of its granule lies in the region.
-abbrev pub given : (ℕ → State) → Mark → ℕ → Option State
-given before (Fill from to state) byte = if lies_in from to byte then Some state else None
-given before (Block at size) byte =
-    if lies_in (at - redzone) (at + rounded size + redzone) byte
+abbrev pub state_given : (ℕ → State) → Mark → ℕ → Option State
+state_given before (Fill from to state) byte = if lies_in from to byte then Some state else None
+state_given before (Block at size) byte =
+    if lies_in (at - redzone) (at + round_up size + redzone) byte
     then Some (if lies_in at (at + size) byte then Addressable else HeapRedzone)
     else None
-given before (Poison at size) byte =
+state_given before (Poison at size) byte =
     if granule_lies_in at (at + size) byte then Some UserPoison
     else (if lies_in at (at + size) byte && is_addressable (before byte)
     && none_addressable_from before (at + size) (granule_of byte)
     then Some UserPoison
     else None)
-given before (Unpoison at size) byte =
+state_given before (Unpoison at size) byte =
     if nat_lt 0 size && nat_lt byte (at + size)
     && nat_lt at (first_byte (granule_of byte) + granule_size)
     then Some Addressable else None
@@ -85,7 +85,7 @@ given before (Unpoison at size) byte =
 -- the state of a byte: what the last mark that covers it gives to it, and addressable if none does
 abbrev pub state_of : List Mark → ℕ → State
 state_of [] byte = Addressable
-state_of (mark ∷ marks) byte = unwrap_or (given (state_of marks) mark byte) (state_of marks byte)
+state_of (mark ∷ marks) byte = unwrap_or (state_given (state_of marks) mark byte) (state_of marks byte)
 
 -- of a number of bytes from a byte on, how many are addressable before one is not
 abbrev pub addressable_front : (ℕ → State) → ℕ → ℕ → ℕ
@@ -124,7 +124,7 @@ IsMark (Fill from to Addressable) = ⊥
 IsMark (Fill from to state) =
     IsGranuleStart from × IsGranuleStart to × (from ≤ to) × (to ≤ address_end)
 IsMark (Block at size) =
-    IsGranuleStart at × (redzone ≤ at) × (at + rounded size + redzone ≤ address_end)
+    IsGranuleStart at × (redzone ≤ at) × (at + round_up size + redzone ≤ address_end)
 IsMark (Poison at size) = at + size ≤ address_end
 IsMark (Unpoison at size) = at + size ≤ address_end
 

@@ -3,7 +3,7 @@ ghost use Rattle.std.specs.Prelude.{◌≡◌, ◌≢◌, ℕ, ◌+◌, ◌-◌,
 ghost use Rattle.std.specs.Prelude.{not, if◌then◌else◌, IsTrue, OnOk, OnErr};
 ghost use Rattle.shadow_map.specs.States.{State, Fill, Block, Poison, Unpoison, code_of};
 ghost use Rattle.asan_units.specs.Units.{address_end, granule_size, granule_of};
-ghost use Rattle.asan_units.specs.Units.{IsGranuleStart, redzone, rounded};
+ghost use Rattle.asan_units.specs.Units.{IsGranuleStart, redzone, round_up};
 ghost use Rattle.shadow_map.specs.Shows.{value_at};
 ghost use Rattle.shadow_map.specs.Calls.{is_code, Adds, AddsInPart, IsBrokenOff};
 ghost use Rattle.shadow_map.specs.Granules.{block_byte, changed_in};
@@ -46,7 +46,7 @@ impl<A: Allocator + Copy> Shadow<A> {
     pub fn block(&mut self, at: u64, size: u64) -> Result<(), NoMemory>
         requires granules { IsGranuleStart at }
         requires room { redzone ≤ at }
-        requires end { at + rounded size + redzone ≤ address_end }
+        requires end { at + round_up size + redzone ≤ address_end }
         ensures ok { OnOk result (Adds self.old self.new (Block at size)) }
         ensures err { OnErr result (AddsInPart self.old self.new (Block at size)) }
     {
@@ -79,10 +79,10 @@ impl<A: Allocator + Copy> Shadow<A> {
     fn block_granules(&mut self, at: u64, size: u64) -> Result<(), NoMemory>
         requires granules { IsGranuleStart at }
         requires room { redzone ≤ at }
-        requires end { at + rounded size + redzone ≤ address_end }
+        requires end { at + round_up size + redzone ≤ address_end }
         ensures ok { OnOk result ((granule : ℕ) → value_at self.new granule
             ≡ block_byte at size granule (value_at self.old granule)) }
-        ensures err { OnErr result (IsBrokenOff (at - redzone) (at + rounded size + redzone)
+        ensures err { OnErr result (IsBrokenOff (at - redzone) (at + round_up size + redzone)
             (λ shadow granule. block_byte at size granule shadow) self.old self.new) }
     {
         let first = at / GRANULE;

@@ -20,8 +20,8 @@ module _ {T A : Type 0} (before after : LaneIn T A) (x y : T) where
       let three : length (x ∷ x ∷ y ∷ []) ≡ 3 = refl in
       let two : length (x ∷ y ∷ []) ≡ 2 = refl in
       let same : length (put_list before ++ x ∷ x ∷ y ∷ [])
-          ≡ length (put_list before ++ take count (x ∷ y ∷ []))
-          = ap length (sym twice ∙ put) in
+      ≡ length (put_list before ++ take count (x ∷ y ∷ []))
+      = ap length (sym twice ∙ put) in
       let wrong = length-append (put_list before) (x ∷ x ∷ y ∷ []) in
       let right = length-append (put_list before) (take count (x ∷ y ∷ [])) in
       let taken = length-take-le count (x ∷ y ∷ []) some in

@@ -51,7 +51,7 @@ fn lies_in(from: u64, to: u64, at: u64) -> bool {
 }
 
 /// A size rounded up to whole granules.
-fn rounded(size: u64) -> u64 {
+fn round_up(size: u64) -> u64 {
     size.saturating_add(7) / 8 * 8
 }
 
@@ -62,7 +62,7 @@ fn span_from(at: u64) -> u64 {
 
 /// The first address past a block's span.
 fn span_to(at: u64, size: u64) -> u64 {
-    at.saturating_add(rounded(size)).saturating_add(REDZONE)
+    at.saturating_add(round_up(size)).saturating_add(REDZONE)
 }
 
 impl Block {
@@ -73,7 +73,7 @@ impl Block {
 
     /// How many bytes its span has.
     fn span_bytes(&self) -> u64 {
-        rounded(self.size).saturating_add(2 * REDZONE)
+        round_up(self.size).saturating_add(2 * REDZONE)
     }
 
     /// The mark that makes its span a redzone.
@@ -89,7 +89,7 @@ impl Block {
     fn freed(&self) -> Mark {
         Mark::Fill {
             from: self.at,
-            to: self.at.saturating_add(rounded(self.size)),
+            to: self.at.saturating_add(round_up(self.size)),
             state: State::Freed,
         }
     }

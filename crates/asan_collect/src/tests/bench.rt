@@ -10,7 +10,7 @@ use crate::{
     Bench, Gate, Item, Outcome, ReaderDone, Turn, exit_status, run_reader, settle, write_outcomes,
 };
 use asan_check::Checker;
-use refuser::Refuser;
+use failing_allocator::FailingAllocator;
 use std::alloc::Global;
 use std::snapshot::Snapshot;
 use std::sync::Wait;
@@ -76,7 +76,7 @@ fn a_failed_checker_takes_and_drops(rt: HostRuntime) -> Result<(), Fail> {
     let load = Item::Event(Event::Load(Access::new(0x1000, 1)?));
     let malloc = Item::Event(Event::Malloc(Region::new(0x1000, 8)?));
     for turn in 1..100u64 {
-        let heap = Refuser::new(rt.alloc(), turn);
+        let heap = FailingAllocator::new(rt.alloc(), turn);
         let Ok((mut into, out)) = lane(&heap, 4) else {
             continue;
         };

@@ -3,15 +3,15 @@ ghost use Rattle.std.specs.Prelude.{◌^◌, ◌≤◌};
 
 use super::{WIDTHS, insert, live, remove};
 use crate::LineMap;
-use refuser::Refuser;
+use failing_allocator::FailingAllocator;
 use std::alloc::{AllocError, Allocator};
 use std::test::Fail;
 
 /// How many levels of branches a map has.
 const LEVELS: u64 = 6;
 
-/// How many sections a branch has room for at most.
-const SECTIONS: u64 = 64;
+/// How many nodes a branch has room for at most.
+const NODES: u64 = 64;
 
 /// How many bytes an entry of a leaf takes.
 const ENTRY: u64 = 12;
@@ -19,7 +19,7 @@ const ENTRY: u64 = 12;
 /// How many bytes a leaf asks for with its first entry: it makes room for four.
 const ENTRIES: u64 = 4 * ENTRY;
 
-/// How many bytes a section takes besides its own, in these tests: those of a handle on the test's
+/// How many bytes a node takes besides its own, in these tests: those of a handle on the test's
 /// allocator. The handle on the program's has none.
 const HANDLE: u64 = 8;
 
@@ -46,8 +46,8 @@ fn chain(levels: u64) -> u64
 
 /// How many requests for memory it takes to put a slot at an address, and for how many bytes.
 fn asked<B: Allocator>(
-    heap: &Refuser<B>,
-    map: &mut LineMap<&Refuser<B>>,
+    heap: &FailingAllocator<B>,
+    map: &mut LineMap<&FailingAllocator<B>>,
     at: u64,
 ) -> Result<(u64, u64), AllocError> {
     let (requests, bytes) = (heap.requests_made(), heap.bytes_asked());
@@ -62,7 +62,7 @@ fn asked<B: Allocator>(
 fn memory_of_a_lone_slot(rt: HostRuntime) -> Result<(), Fail> {
     for width in WIDTHS {
         for at in [width.saturating_sub(64), width.min(END)] {
-            let heap = Refuser::new(rt.alloc(), 0);
+            let heap = FailingAllocator::new(rt.alloc(), 0);
             let mut map = LineMap::new(&heap);
             assert_eq!(rt; asked(&heap, &mut map, at)?, (LEVELS + 1, chain(LEVELS)));
         }
@@ -76,15 +76,15 @@ fn memory_of_a_slot_past_an_end(rt: HostRuntime) -> Result<(), Fail> {
     for levels in 0..LEVELS {
         // The line before an end of nodes of a level has a slot. The line after it asks for a leaf
         // and a branch of each level below the node that has both, and that one makes room for a
-        // second section.
+        // second node.
         let end = WIDTHS[(levels + 1) as usize];
-        let section = if levels == 0 { LEAF } else { BRANCH };
-        let heap = Refuser::new(rt.alloc(), 0);
+        let node = if levels == 0 { LEAF } else { BRANCH };
+        let heap = FailingAllocator::new(rt.alloc(), 0);
         let mut map = LineMap::new(&heap);
         asked(&heap, &mut map, end.saturating_sub(64))?;
         assert_eq!(rt;
             asked(&heap, &mut map, end)?,
-            (levels + 2, 2 * section + chain(levels)),
+            (levels + 2, 2 * node + chain(levels)),
             "levels {levels}"
         );
         assert_eq!(rt; asked(&heap, &mut map, end.saturating_add(64))?, (0, 0));
@@ -94,7 +94,7 @@ fn memory_of_a_slot_past_an_end(rt: HostRuntime) -> Result<(), Fail> {
 
 #[test]
 fn memory_of_a_leaf(rt: HostRuntime) -> Result<(), Fail> {
-    let heap = Refuser::new(rt.alloc(), 0);
+    let heap = FailingAllocator::new(rt.alloc(), 0);
     let mut map = LineMap::new(&heap);
     asked(&heap, &mut map, 0)?;
     let mut room = 4;
@@ -113,26 +113,26 @@ fn memory_of_a_leaf(rt: HostRuntime) -> Result<(), Fail> {
 
 #[test]
 fn memory_of_a_slot_that_makes_a_branch_grow(rt: HostRuntime) -> Result<(), Fail> {
-    // One slot is in the first section of the branch over all the others, and one in its last.
+    // One slot is in the first node of the branch over all the others, and one in its last.
     for (first, second) in [(0, END), (END, 0)] {
-        let heap = Refuser::new(rt.alloc(), 0);
+        let heap = FailingAllocator::new(rt.alloc(), 0);
         let mut map = LineMap::new(&heap);
         asked(&heap, &mut map, first)?;
         assert_eq!(rt;
             asked(&heap, &mut map, second)?,
-            (LEVELS + 1, SECTIONS * BRANCH + chain(LEVELS - 1))
+            (LEVELS + 1, NODES * BRANCH + chain(LEVELS - 1))
         );
     }
     assert_eq!(rt;
-        SECTIONS * BRANCH + chain(LEVELS - 1),
-        2_256 + (SECTIONS + LEVELS - 1) * HANDLE
+        NODES * BRANCH + chain(LEVELS - 1),
+        2_256 + (NODES + LEVELS - 1) * HANDLE
     );
     Ok(())
 }
 
 #[test]
 fn memory_of_what_has_no_slots_is_given_back(rt: HostRuntime) -> Result<(), Fail> {
-    let heap = Refuser::new(rt.alloc(), 0);
+    let heap = FailingAllocator::new(rt.alloc(), 0);
     let mut map = LineMap::new(&heap);
     asked(&heap, &mut map, 0x1000)?;
     asked(&heap, &mut map, 0x2000)?;
@@ -151,7 +151,7 @@ fn memory_of_what_has_no_slots_is_given_back(rt: HostRuntime) -> Result<(), Fail
 #[test]
 fn memory_of_a_refused_slot_is_given_back(rt: HostRuntime) -> Result<(), Fail> {
     for turn in 1..=LEVELS + 1 {
-        let heap = Refuser::new(rt.alloc(), turn);
+        let heap = FailingAllocator::new(rt.alloc(), turn);
         let mut map = LineMap::new(&heap);
         assert!(rt; asked(&heap, &mut map, 0x1000).is_err(), "turn {turn}");
         assert_eq!(rt;
@@ -167,7 +167,7 @@ fn memory_of_a_refused_slot_is_given_back(rt: HostRuntime) -> Result<(), Fail> {
 fn memory_is_given_back_in_any_order(rt: HostRuntime) -> Result<(), Fail> {
     // On both sides of the ends of nodes of each level, taken out from the first on or the last.
     for is_upward in [true, false] {
-        let heap = Refuser::new(rt.alloc(), 0);
+        let heap = FailingAllocator::new(rt.alloc(), 0);
         let mut map = LineMap::new(&heap);
         for width in WIDTHS {
             insert(&mut map, width.saturating_sub(64), live(8))?;
@@ -189,15 +189,15 @@ fn memory_is_given_back_in_any_order(rt: HostRuntime) -> Result<(), Fail> {
 
 #[test]
 fn room_is_kept_round_one_slot(rt: HostRuntime) -> Result<(), Fail> {
-    let heap = Refuser::new(rt.alloc(), 0);
+    let heap = FailingAllocator::new(rt.alloc(), 0);
     let mut map = LineMap::new(&heap);
     asked(&heap, &mut map, 0)?;
     for levels in 1..=LEVELS {
         let last = WIDTHS[(levels + 1) as usize].saturating_sub(64);
-        let section = if levels == 1 { LEAF } else { BRANCH };
+        let node = if levels == 1 { LEAF } else { BRANCH };
         assert_eq!(rt;
             asked(&heap, &mut map, last)?,
-            (levels + 1, SECTIONS * section + chain(levels - 1)),
+            (levels + 1, NODES * node + chain(levels - 1)),
             "levels {levels}"
         );
         remove(&mut map, last);

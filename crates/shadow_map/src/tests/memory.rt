@@ -2,7 +2,7 @@
 ghost use Rattle.std.specs.Prelude.{◌≤◌};
 
 use crate::{FREED, NoMemory, Shadow};
-use refuser::Refuser;
+use failing_allocator::FailingAllocator;
 use std::alloc::{Allocator, Global};
 use std::test::Fail;
 
@@ -13,14 +13,14 @@ const LARGEST: u64 = 1 << 28;
 /// over it.
 const END: u64 = 1 << 43;
 
-/// What was asked for: the memory of a number of branches, and of a number of groups of pages.
+/// What was asked for: the memory of a number of branches, and of a number of leaves of pages.
 type Asked = (u8, u8);
 
-/// How many bytes a branch asks for, 32 for each of its 128 sections, and a group, 512 for each of
+/// How many bytes a branch asks for, 32 for each of its 128 nodes, and a leaf, 512 for each of
 /// its 8 pages.
 const BYTES: u64 = 4096;
 
-/// How many bytes a branch asks for besides, in these tests: for each of its sections the 8 bytes
+/// How many bytes a branch asks for besides, in these tests: for each of its nodes the 8 bytes
 /// of a handle on the test's allocator. The handle on the program's has none.
 const HANDLES: u64 = 128 * 8;
 
@@ -85,7 +85,7 @@ fn mark_record<A: Allocator + Copy>(shadow: &mut Shadow<A>, record: usize) -> Re
 
 /// How many requests for memory a record makes, and for how many bytes.
 fn asked(alloc: Global, record: usize) -> Result<(u64, u64), NoMemory> {
-    let heap = Refuser::new(alloc, 0);
+    let heap = FailingAllocator::new(alloc, 0);
     let mut shadow = Shadow::new(&heap);
     prepare(&mut shadow, record)?;
     let (requests, bytes) = (heap.requests_made(), heap.bytes_asked());
@@ -98,12 +98,12 @@ fn asked(alloc: Global, record: usize) -> Result<(u64, u64), NoMemory> {
 
 #[test]
 fn memory_of_a_record(rt: HostRuntime) -> Result<(), Fail> {
-    for (record, (branches, groups)) in RECORDS.iter().enumerate() {
-        let (branches, groups) = (*branches as u64, *groups as u64);
-        let bytes = (branches + groups) * BYTES;
+    for (record, (branches, leaves)) in RECORDS.iter().enumerate() {
+        let (branches, leaves) = (*branches as u64, *leaves as u64);
+        let bytes = (branches + leaves) * BYTES;
         assert_eq!(rt;
             asked(rt.alloc(), record)?,
-            (branches + groups, bytes + branches * HANDLES),
+            (branches + leaves, bytes + branches * HANDLES),
             "record {record}"
         );
         assert!(rt; bytes <= 64 * 1024, "record {record}");
@@ -113,7 +113,7 @@ fn memory_of_a_record(rt: HostRuntime) -> Result<(), Fail> {
 
 /// Whether a request of a poison of whole branches is refused, by its number.
 fn poison_is_refused_at(alloc: Global, turn: u64) -> bool {
-    let heap = Refuser::new(alloc, turn);
+    let heap = FailingAllocator::new(alloc, turn);
     let mut shadow = Shadow::new(&heap);
     shadow.poison(0x4000_0000, LARGEST).is_err()
 }
@@ -128,7 +128,7 @@ fn no_poison_makes_many_requests(rt: HostRuntime) {
 fn asked_after(alloc: Global, size: u64) -> Result<u64, NoMemory>
     requires { size ≤ 0x1000_0000 }
 {
-    let heap = Refuser::new(alloc, 0);
+    let heap = FailingAllocator::new(alloc, 0);
     let mut shadow = Shadow::new(&heap);
     shadow.poison(0x4000_0008, 8)?;
     shadow.unpoison(0x4000_0000, size)?;
@@ -139,7 +139,7 @@ fn asked_after(alloc: Global, size: u64) -> Result<u64, NoMemory>
 
 #[test]
 fn memory_of_what_was_filled_whole_is_given_back(rt: HostRuntime) -> Result<(), Fail> {
-    // A page stays in its group's box; a group gives back its box; a branch gives back its sections
+    // A page stays in its leaf's box; a leaf gives back its box; a branch gives back its nodes
     // too.
     assert_eq!(rt;
         [

@@ -7,7 +7,7 @@ use crate::{FREED, HEAP_REDZONE, NoMemory, Shadow, USER_POISON};
 use std::alloc::Global;
 use std::test::Fail;
 
-/// How many granules a page has, a group of pages, a branch of each level over the groups, and the
+/// How many granules a page has, a leaf of pages, a branch of each level over the leaves, and the
 /// whole memory.
 const WIDTHS: [u64; 7] = [1 << 9, 1 << 12, 1 << 19, 1 << 26, 1 << 33, 1 << 40, 1 << 44];
 

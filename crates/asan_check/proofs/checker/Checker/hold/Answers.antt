@@ -2,7 +2,7 @@ use Rattle.std.proofs.Common.{◌≡◌, ◌<◌, ◌≤◌, ◌+◌, ◌-◌, L
 use Rattle.shadow_map.specs.States.{Freed, HeapRedzone}
 use Rattle.std.specs.Prelude.{sum_by}
 use Rattle.heap_book.specs.Spans.{Extent, span_bytes}
-use Rattle.asan_units.specs.Units.{rounded}
+use Rattle.asan_units.specs.Units.{round_up}
 use Rattle.asan_check.specs.History.{marks, freed_mark, released_mark}
 use Rattle.asan_check.proofs.Frees.{releasing_starts, releasing_goes_on, releasing_ends, marked_push}
 use Rattle.asan_check.proofs.checker.Checker.hold.Goals as goal
@@ -13,7 +13,7 @@ loop-oldest-init g c = record {
   releasing = λ bound past p f. (
     [],
     rw f.queue (releasing_starts bound past p c.args.block.now f.was_live f.here),
-    (let end : c.to.result - 32 ≡ c.args.block.now.at + rounded c.args.block.now.size = let e = c.to.ensures.to in omega arith in
+    (let end : c.to.result - 32 ≡ c.args.block.now.at + round_up c.args.block.now.size = let e = c.to.ensures.to in omega arith in
         rw (c.at.ensures.at, end) at (c.in_ok-mark.ensures.ok Freed refl (marks bound past) f.shadow)),
     f.live_blocks,
   );

@@ -3,16 +3,16 @@ use Rattle.std.proofs.lemmas.Bool.{cases_lt}
 use Rattle.line_map.proofs.Branches.{kept_mark}
 use Rattle.line_map.proofs.branch.Branch.are_empty.Goals as goal
 
-pub loop-section-preserved : goal.loop-section-preserved
-loop-section-preserved g c = λ line lt.
-    let width = g.S.Section.width in
+pub loop-node-preserved : goal.loop-node-preserved
+loop-node-preserved g c = λ line lt.
+    let width = g.S.Node.width in
     let branch = c.args.self.now in
-    let place = c.loop-section.section-index in
-    let items = c.deref-section-items.ensures.value in
+    let place = c.loop-node.node-index in
+    let items = c.deref-node-items.ensures.value in
     elim (cases_lt (line / width) (branch.first + place)) [
-      | inl below ↦ c.loop-section.invariant line below
+      | inl below ↦ c.loop-node.invariant line below
       | inr above ↦
-          kept_mark g.S.Section.mark_at width branch.first branch.kept.items place line c.section-item.result
-          (rw items at c.loop-section-test.true) (rw items at c.section-item.is) (omega arith)
+          kept_mark g.S.Node.mark_at width branch.first branch.kept.items place line c.node-item.result
+          (rw items at c.loop-node-test.true) (rw items at c.node-item.is) (omega arith)
           ∙ c.is_empty.ensures c.if-not-is_empty.false (line % width)
     ]

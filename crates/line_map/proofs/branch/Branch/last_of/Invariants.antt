@@ -2,13 +2,13 @@ use Rattle.std.proofs.Common.{◌≡◌, ℕ, ◌+◌, ◌*◌, ◌<◌, ◌≤�
 use Rattle.line_map.specs.Branches.{branch_mark}
 use Rattle.line_map.proofs.branch.Branch.last_of.Given as goal
 
--- the lines from this section on have no marks
+-- the lines from this node on have no marks
 abbrev pub invariant-loop-place : goal.invariant-loop-place
 invariant-loop-place g l = record {
-  width : l.width ≡ g.S.Section.width;
+  width : l.width ≡ g.S.Node.width;
   below : 0 < l.place → l.self.first + l.place ≤ l.end;
   kept : l.place ≤ length l.self.kept.items;
-  none : (line : ℕ) → (l.self.first + l.place) * g.S.Section.width ≤ line → line < l.end * g.S.Section.width → branch_mark g.S.Section.mark_at g.S.Section.width l.self line ≡ None;
+  none : (line : ℕ) → (l.self.first + l.place) * g.S.Node.width ≤ line → line < l.end * g.S.Node.width → branch_mark g.S.Node.mark_at g.S.Node.width l.self line ≡ None;
 }
 
 abbrev pub decreases-loop-place : goal.decreases-loop-place

@@ -1,0 +1,8 @@
+use Rattle.std.proofs.Common.{sym, ◌∙◌}
+use Rattle.asan_check.proofs.Pieces.{may_be_cut_back}
+use Rattle.asan_check.proofs.lines.end_text.Goals as goal
+
+pub truncate-requires : goal.truncate-requires
+truncate-requires g c = λ _. rw c.len-before.ensures (
+    may_be_cut_back _ c.args.text.now c.push_end-answer.new.text c.push_end-answer.result c.push_end-answer.ensures.appends (sym c.is_err.ensures.value ∙ c.if-is_err.true)
+    )
