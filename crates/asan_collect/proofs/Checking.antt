@@ -1,9 +1,9 @@
 -- What one more item does to where a checker stands after the items of a lane.
-use Rattle.std.proofs.Common.{◌≡◌, ℕ, ◌+◌, ◌-◌, ◌<◌, ◌≤◌, ◌^◌, List, [], ◌∷◌, ◌++◌, length, take, drop, Option, Result, Ok, Err, refl, sym, ap, subst, ◌∙◌, inl, inr, arith, length-append, true}
-use Rattle.std.specs.Prelude.{IfOk, OnErr, IsErr, reverse, option_to_list}
+use Rattle.std.proofs.Common.{◌≡◌, ℕ, ◌+◌, ◌-◌, ◌<◌, ◌≤◌, ◌^◌, List, [], ◌∷◌, ◌++◌, length, take, drop, Option, Result, Ok, Err, refl, sym, ap, subst, ◌∙◌, inl, inr, arith, length-append, true, false}
+use Rattle.std.specs.Prelude.{Bool, ◌||◌, IfOk, OnErr, IsErr, reverse, option_to_list}
 use Rattle.std.specs.Coded.{Coded-set, coded_list, le_prop}
 use Rattle.std.proofs.Math.Logic.{∥∥₁_map, ∥∥₁_elim}
-use Rattle.std.proofs.lemmas.List.{length-reverse, length-drop, take_all, take-append-le, length-take-le, append-nil}
+use Rattle.std.proofs.lemmas.List.{length-reverse, length-drop, take_all, take-append-le, length-take-le, append-nil, reverse-append}
 use Rattle.std.proofs.lemmas.Bool.{cases_lt, false≢true}
 use Rattle.trace_record.specs.declared.event.Event.{Event}
 use Rattle.trace_record.specs.declared.end.End.{End}
@@ -44,6 +44,21 @@ pub has_end-end : (items : List Item) (end : End) → has_end (items ++ item.End
 has_end-end [] end = refl
 has_end-end (item.Event first ∷ items) end = has_end-end items end
 has_end-end (item.End other ∷ items) end = refl
+
+pub events_of-append : (items more : List Item) → events_of (items ++ more) ≡ events_of items ++ events_of more
+events_of-append [] more = refl
+events_of-append (item.Event first ∷ items) more = ap (λ events. first ∷ events) (events_of-append items more)
+events_of-append (item.End end ∷ items) more = events_of-append items more
+
+-- the end is among more items, where it was not among those before them
+pub has_end-append : (items more : List Item) → has_end items ≡ false → has_end (items ++ more) ≡ has_end more
+has_end-append [] more none = refl
+has_end-append (item.Event first ∷ items) more none = has_end-append items more none
+has_end-append (item.End end ∷ items) more none = absurd (false≢true (sym none))
+
+pub not_ended : (ended full : Bool) → (ended || full) ≡ false → ended ≡ false
+not_ended false full e = refl
+not_ended true full e = e
 
 -- what a step may answer where it keeps to its contract
 module _ {A : Type 0} where
@@ -189,6 +204,22 @@ module _ {A : Type 0} where
   pub stands_end : (c : Checker A) (items more : List Item) (end : End) → more ≡ items ++ item.End end ∷ [] → StandsAfter c items → StandsAfter c more
   stands_end c items more end taken stands =
       subst (λ es. ∥ StandsOrFailed (bound_of c) c (reverse es) ∥₁) (sym (ap events_of taken ∙ events_of-end items end)) stands
+
+  -- a bench whose lane gave more items, whose events its checker was handed
+  pub stands_batch : (old new : Checker A) (items more : List Item) (events : List Event) → events ≡ events_of more
+      → ((bound : ℕ) (past : List Event) → StandsOrFailed bound old past → StandsOrFailed bound new (reverse events ++ past))
+      → bound_of new ≡ bound_of old → StandsAfter old items → StandsAfter new (items ++ more)
+  stands_batch old new items more events are handed same stands =
+      let all : reverse (events_of (items ++ more)) ≡ reverse events ++ reverse (events_of items) =
+      ap reverse (events_of-append items more ∙ ap (λ es. events_of items ++ es) (sym are)) ∙ reverse-append (events_of items) events in
+      subst (λ b. ∥ StandsOrFailed b new (reverse (events_of (items ++ more))) ∥₁) (sym same)
+      (subst (λ es. ∥ StandsOrFailed (bound_of old) new es ∥₁) (sym all)
+      (∥∥₁_map stands (λ s. handed (bound_of old) (reverse (events_of items)) s)))
+
+  -- a checker that was handed few events has room for more
+  pub room_for : (bound : ℕ) (c : Checker A) (events : List Event) (n count : ℕ) → ∥ StandsOrFailed bound c (reverse events) ∥₁ → n ≡ length events
+      → n + count ≤ most_events → checked_of c + count < 2 ^ 64
+  room_for bound c events n count stands counted few = let most = checked_few bound c events stands in omega arith
 
   -- a checker that was handed few events has room for one more
   pub room_for_one : (bound : ℕ) (c : Checker A) (events : List Event) (n : ℕ) → ∥ StandsOrFailed bound c (reverse events) ∥₁ → n ≡ length events → n < most_events → checked_of c + 1 < 2 ^ 64

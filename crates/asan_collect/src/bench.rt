@@ -6,10 +6,13 @@ ghost use Rattle.asan_collect.specs.Items.{events_of, has_end};
 ghost use Rattle.asan_collect.specs.Ranges.{most_events};
 ghost use Rattle.asan_collect.specs.Checking.{StandsAfter};
 
+use crate::check::check_each;
 use crate::drain::{Drained, drain};
 use crate::gate::Gate;
 use crate::item::Item;
 use crate::options::MOST_EVENTS;
+use crate::room::{Room, pick_events};
+use crate::source::BATCH_SIZE;
 use asan_check::Checker;
 use std::alloc::{Allocator, Global};
 use trace_lane::{LaneEnd, LaneOut};
@@ -46,8 +49,8 @@ pub enum Turn {
 /// What a bench found to do.
 #[derive(Clone, Copy, Debug, PartialEq, Eq)]
 pub(crate) enum Found {
-    /// It took an item.
-    Item,
+    /// It took some items.
+    Items,
     /// It has to wait for one.
     None,
     /// It takes no more.
@@ -82,6 +85,13 @@ impl<A: Allocator + Copy> Bench<A> {
         }
     }
 
+    /// Whether the end or 2^24 events were taken.
+    fn is_done(&self) -> bool
+        ensures { result ≡ is_over (taken_of self.now) }
+    {
+        self.ended || self.events >= MOST_EVENTS
+    }
+
     /// Takes one item, if there is one, and checks it if it is an event. Then it calls the gate,
     /// unless the checker has failed: a checker that has failed stays so, and its events are taken
     /// and dropped.
@@ -91,7 +101,7 @@ impl<A: Allocator + Copy> Bench<A> {
         ensures turns { Turns self.old result self.new }
         ensures over { result ≡ Turn.Over ↔ IsTrue (is_over (taken_of self.old)) }
     {
-        if self.ended || self.events >= MOST_EVENTS {
+        if self.is_done() {
             return Turn::Over;
         }
         let Some(item) = self.lane.take() else {
@@ -108,20 +118,45 @@ impl<A: Allocator + Copy> Bench<A> {
         Turn::Took
     }
 
-    /// A turn, and whether there may be another: not once it is over, or once its lane was left and
-    /// is empty.
-    pub(crate) fn work<G: Gate>(&mut self, gate: &G) -> Found
+    /// Takes the items at hand, as many as there is room for, checks the events among them, and then
+    /// calls the gate for each that was checked. It takes none once the end or 2^24 events were
+    /// taken.
+    fn take_batch<G: Gate>(&mut self, gate: &G, room: &mut Room) -> Found
         ensures { Later self.old self.new }
     {
-        match self.turn(gate) {
-            Turn::Took => Found::Item,
-            Turn::Over => Found::End,
-            Turn::Empty if !self.lane.is_left() => Found::None,
-            // It may have been left only after the turn: what was put until then is taken first.
-            Turn::Empty => match self.turn(gate) {
-                Turn::Took => Found::Item,
-                Turn::Empty | Turn::Over => Found::End,
+        if self.is_done() {
+            return Found::End;
+        }
+        let most = BATCH_SIZE.min((MOST_EVENTS - self.events) as usize);
+        let count = self.lane.take_some(&mut room.items[..most]);
+        if count == 0 {
+            return Found::None;
+        }
+        let among = pick_events(&room.items[..count], &mut room.events);
+        self.ended = among.has_end;
+        self.events += among.events as u32;
+        let checked = self.checker.checked();
+        check_each(&mut self.checker, &room.events[..among.events]);
+        // A checker that has failed has checked no more.
+        for before in checked..self.checker.checked() {
+            gate.checked(self.process, before + 1);
+        }
+        Found::Items
+    }
+
+    /// Takes and checks a batch of items, and answers whether there may be more: not once it is
+    /// over, or once its lane was left and is empty.
+    pub(crate) fn work<G: Gate>(&mut self, gate: &G, room: &mut Room) -> Found
+        ensures { Later self.old self.new }
+    {
+        match self.take_batch(gate, room) {
+            // It may have been left only after the first look: what was put until then is taken
+            // first.
+            Found::None if self.lane.is_left() => match self.take_batch(gate, room) {
+                Found::None => Found::End,
+                found => found,
             },
+            found => found,
         }
     }
 

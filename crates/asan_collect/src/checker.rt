@@ -6,6 +6,7 @@ use crate::bench::{Bench, Found};
 use crate::foreground::Foreground;
 use crate::gate::Gate;
 use crate::pause::Pause;
+use crate::room::Room;
 use std::alloc::Allocator;
 use std::sync::Wait;
 use std::time::Clock;
@@ -13,7 +14,7 @@ use std::time::Clock;
 /// What a round of turns found.
 #[derive(Drop)]
 struct Round {
-    /// Whether an item was taken.
+    /// Whether items were taken.
     took: bool,
     /// Whether each bench is over, or its lane was left and is empty.
     ended: bool,
@@ -42,8 +43,9 @@ fn check_to_the_end<A: Allocator + Copy, G: Gate, R: Wait + Clock>(
     ensures { EachLater benches.old.items benches.new.items }
 {
     let mut pause = Pause::new();
+    let mut room = Room::new();
     for _ in rt.forever() {
-        let round = go_round(benches, gate);
+        let round = go_round(benches, gate, &mut room);
         if round.ended {
             return;
         }
@@ -57,7 +59,11 @@ fn check_to_the_end<A: Allocator + Copy, G: Gate, R: Wait + Clock>(
 }
 
 /// Gives each bench a turn.
-fn go_round<A: Allocator + Copy, G: Gate>(benches: &mut Vec<Bench<A>, A>, gate: &G) -> Round
+fn go_round<A: Allocator + Copy, G: Gate>(
+    benches: &mut Vec<Bench<A>, A>,
+    gate: &G,
+    room: &mut Room,
+) -> Round
     ensures { EachLater benches.old.items benches.new.items }
 {
     let mut round = Round {
@@ -66,8 +72,8 @@ fn go_round<A: Allocator + Copy, G: Gate>(benches: &mut Vec<Bench<A>, A>, gate: 
     };
     for i in 0..benches.len() {
         let bench = &mut benches[i];
-        match bench.work(gate) {
-            Found::Item => {
+        match bench.work(gate, room) {
+            Found::Items => {
                 round.took = true;
                 round.ended = false;
             }

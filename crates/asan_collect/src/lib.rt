@@ -23,6 +23,7 @@ mod reader;
 mod reader_threads;
 mod replay;
 mod returns;
+mod room;
 mod sender;
 mod settlement;
 mod source;

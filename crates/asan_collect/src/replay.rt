@@ -3,7 +3,7 @@
 ghost use Rattle.std.specs.Prelude.{◌≡◌, ◌+◌, ◌<◌, ◌≤◌, ◌^◌, ◌++◌, ℕ, IsTrue, List, length};
 ghost use Rattle.std.specs.Prelude.{reverse};
 ghost use Rattle.trace_record.specs.declared.event.Event.{Event as AnEvent};
-ghost use Rattle.asan_check.specs.Standing.{StandsOrFailed, checked_of};
+ghost use Rattle.asan_check.specs.Standing.{StandsOrFailed, bound_of, checked_of};
 ghost use Rattle.asan_check.specs.Standing.{reports_of as checker_reports};
 ghost use Rattle.asan_collect.specs.Outcomes.{IsOutcomeOf, StopsSoon, Tells, is_read};
 ghost use Rattle.asan_collect.specs.Ranges.{most_reports};
@@ -55,8 +55,9 @@ const AHEAD: usize = 8;
 /// the end.
 pub(crate) fn check_each<A: Allocator + Copy>(checker: &mut Checker<A>, events: &[Event])
     requires room { checked_of checker.old + length events.now < 2 ^ 64 }
-    ensures { (bound : ℕ) (past : List AnEvent) → StandsOrFailed bound checker.old past →
+    ensures stands { (bound : ℕ) (past : List AnEvent) → StandsOrFailed bound checker.old past →
         StandsOrFailed bound checker.new (reverse events.now ++ past) }
+    ensures bound { bound_of checker.new ≡ bound_of checker.old }
 {
     let (mut from, mut fetched) = (0, 0_usize);
     while from < events.len() {

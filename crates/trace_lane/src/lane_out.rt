@@ -27,7 +27,7 @@ pub struct LaneOut<T: Copy + Send, A: Allocator + Copy = Global> {
 }
 
 impl<T: Copy + Send, A: Allocator + Copy> LaneOut<T, A> {
-    ghost use Rattle.std.specs.Prelude.{◌≡◌, ◌<◌, List, [], ◌∷◌, ◌++◌, length};
+    ghost use Rattle.std.specs.Prelude.{◌≡◌, ◌<◌, ◌≤◌, List, [], ◌∷◌, ◌++◌, length, take};
     ghost use Rattle.std.specs.Prelude.{IfSome, IfNone, IsSome, true, false};
     ghost use Rattle.rtrb.specs.Ring.{received};
     ghost use Rattle.trace_lane.specs.Lanes.{out_lane, end_lane, taken_list, waiting, end_list};
@@ -68,6 +68,44 @@ impl<T: Copy + Send, A: Allocator + Copy> LaneOut<T, A> {
             self.take_known()
         } else {
             self.refill()
+        }
+    }
+
+    /// Takes the oldest items that it finds, at most as many as there is room for, and returns how
+    /// many. They stand at the front of `room`, in order.
+    ///
+    /// It does what as many calls of `take` do, and takes less time. 0 says that it finds none, or
+    /// that there is no room. Where items are known to wait, it takes none but these.
+    pub fn take_some(&mut self, room: &mut [T]) -> usize
+        ensures lane { out_lane self.new ≡ out_lane self.old }
+        ensures room { length room.new ≡ length room.old }
+        ensures most { result ≤ length room.old }
+        ensures some { taken_list self.new ≡ taken_list self.old ++ take result room.new }
+        ensures none { result ≡ 0 → 0 < length room.old
+            → (waiting self.old ≡ []) × (waiting self.new ≡ []) }
+        ensures known { 0 < length (waiting self.old)
+            → waiting self.old ≡ take result room.new ++ waiting self.new }
+    {
+        let known = self.known();
+        if known == 0 && !self.settled {
+            return self.ring.pop_partial_slice(room);
+        }
+        let count = known.min(room.len());
+        for i in 0..count {
+            room[i] = self.take().unwrap();
+        }
+        count
+    }
+
+    /// How many items are known to wait.
+    fn known(&self) -> usize
+        ensures { result ≡ length (waiting self.now) }
+    {
+        let buffered = self.to - self.from;
+        if self.settled {
+            buffered + self.ring.cached_slots()
+        } else {
+            buffered
         }
     }
 

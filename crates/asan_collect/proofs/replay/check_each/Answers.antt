@@ -1,6 +1,6 @@
-use Rattle.std.proofs.Common.{◌≡◌, ◌≤◌, ◌+◌, ap, sym, arith}
+use Rattle.std.proofs.Common.{◌≡◌, ◌≤◌, ◌+◌, ◌∙◌, ap, sym, arith}
 use Rattle.std.proofs.lemmas.List.{take_rest, length-drop, take_all}
-use Rattle.asan_check.specs.Standing.{checked_of}
+use Rattle.asan_check.specs.Standing.{bound_of, checked_of}
 use Rattle.asan_collect.proofs.Stepping.{passed_on, one_on, stepped, counted}
 use Rattle.asan_collect.proofs.replay.check_each.Goals as goal
 
@@ -13,6 +13,7 @@ loop-from-preserved g c =
     let most = rw rest at c.pass-from.ensures.most in
     record {
       within = (let within = c.loop-from.invariant.within in omega (arith, length-drop from events));
+      bound = c.pass-from.ensures.bound ∙ c.loop-from.invariant.bound;
       counted = (let was = c.loop-from.invariant.counted in let now = c.pass-from.ensures.count in omega arith);
       stands = λ bound past at.
           passed_on bound _ _ from n events past (rw rest at c.pass-from.ensures.stands) c.pass-from.ensures.stays (c.loop-from.invariant.stands bound past at);
@@ -28,12 +29,13 @@ loop-from-preserved-then-from-events g c =
     let same : c.fetch_ahead-ahead.new.checker ≡ c.pass-from.new.self = c.fetch_ahead-ahead.ensures.same in
     record {
       within = omega arith;
+      bound = c.step.ensures.bound ∙ ap bound_of same ∙ c.pass-from.ensures.bound ∙ c.loop-from.invariant.bound;
       counted = (let was = c.loop-from.invariant.counted in let now = c.pass-from.ensures.count in let more : checked_of c.step.new.self ≤ checked_of c.fetch_ahead-ahead.new.checker + 1 = counted c.fetch_ahead-ahead.new.checker c.step.new.self c.step.result c.step.ensures.count c.step.ensures.kept in let fetched = ap checked_of same in omega arith);
       stands = λ bound past at.
           let before = passed_on bound _ _ from n events past (rw rest at c.pass-from.ensures.stands) c.pass-from.ensures.stays (c.loop-from.invariant.stands bound past at) in
           one_on bound _ events past (from + n) e (omega arith) (sym c.index-events-from.is) (stepped bound _ _ c.step.result e _ c.step.ensures.checked c.step.ensures.failed c.step.ensures.stays (rw same before));
     }
 
-pub returns : goal.returns
-returns g c bound past at =
+pub returns-clause-stands : goal.returns-clause-stands
+returns-clause-stands g c bound past at =
     rw (take_all c.loop-from.from c.args.events.now (omega arith)) at c.loop-from.invariant.stands bound past at

@@ -1,13 +1,14 @@
-use Rattle.std.proofs.Common.{length, ◌-◌, ◌+◌, ◌≤◌, ℕ, List, ◌++◌, take}
+use Rattle.std.proofs.Common.{◌≡◌, length, ◌-◌, ◌+◌, ◌≤◌, ℕ, List, ◌++◌, take}
 use Rattle.std.specs.Prelude.{reverse}
 use Rattle.trace_record.specs.declared.event.Event.{Event}
-use Rattle.asan_check.specs.Standing.{StandsOrFailed, checked_of}
+use Rattle.asan_check.specs.Standing.{StandsOrFailed, bound_of, checked_of}
 use Rattle.asan_collect.proofs.replay.check_each.Given as goal
 
 abbrev pub invariant-loop-from : goal.invariant-loop-from
 invariant-loop-from g l = record {
   within : l.from ≤ length l.events;
   counted : checked_of l.checker ≤ checked_of l.fn.checker + l.from;
+  bound : bound_of l.checker ≡ bound_of l.fn.checker;
   stands : (bound : ℕ) (past : List Event) → StandsOrFailed bound l.fn.checker past → StandsOrFailed bound l.checker (reverse (take l.from l.events) ++ past);
 }
 

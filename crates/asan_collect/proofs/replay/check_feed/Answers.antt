@@ -35,7 +35,7 @@ returns-then-batch-clause-outcome g c =
     let end = c.into_end-feed.result.1 in
     let ended : HasEnded seen limit c.args.feed batch.new.self events = rw c.if-batch.true at (batch.ensures.read limit c.args.feed read.0 read.1 read.2) in
     let is_end : IsEndOf seen limit c.args.feed feed events end = c.into_end-feed.ensures limit c.args.feed events ended in
-    let stands : StandsOrFailed bound c.check_each.new.checker (reverse events) = rw (reverse-append read.1 more) (c.check_each.ensures bound (reverse read.1) read.3) in
+    let stands : StandsOrFailed bound c.check_each.new.checker (reverse events) = rw (reverse-append read.1 more) (c.check_each.ensures.stands bound (reverse read.1) read.3) in
     (feed, events, end, is_end.spelled, c.outcome_of.ensures.tells bound events ∣ stands ∣₁ is_end.spelled.spells.count)
 
 pub returns-then-batch-clause-soon : goal.returns-then-batch-clause-soon
@@ -70,7 +70,7 @@ loop-events-preserved g c =
         read.0 ++ after.0,
         read.1 ++ more,
         after.2,
-        rw (reverse-append read.1 more) (c.check_each.ensures c.args.options.quarantine (reverse read.1) read.3),
+        rw (reverse-append read.1 more) (c.check_each.ensures.stands c.args.options.quarantine (reverse read.1) read.3),
       );
     }
 
