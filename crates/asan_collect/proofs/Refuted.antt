@@ -1,16 +1,21 @@
 -- Outcomes, lists, texts and statuses that the contracts refuse.
 -- Each lemma is named for what would have gone wrong.
 use Rattle.std.proofs.Common.{◌≡◌, ◌⊎◌, inl, inr, ℕ, true, false, List, [], ◌∷◌, Some, refl, sym, ap, ◌∙◌, arith}
-use Rattle.std.specs.Prelude.{◌≢◌, IsTrue, length, take, Vec}
+use Rattle.std.specs.Prelude.{◌≢◌, ◌≤◌, IsTrue, length, take, Vec}
+use Rattle.std.specs.Coded.{le_prop}
 use Rattle.std.specs.Io.KnownBytes.{Appends}
+use Rattle.std.proofs.Math.Logic.{∥∥₁_elim}
+use Rattle.std.proofs.lemmas.Bool.{false≢true}
 use Rattle.trace_record.specs.declared.event.Event.{Event}
 use Rattle.trace_record.specs.declared.end.End.{End}
 use Rattle.trace_record.specs.declared.end.Fate.{Fate}
 use Rattle.trace_record.specs.declared.end.Fate.TheVariants as fate
 use Rattle.trace_feed.specs.Feeds.{FeedState}
 use Rattle.trace_feed.specs.declared.door.Arrival.TheVariants as arrival
+use Rattle.asan_check.specs.declared.checker.Checker.{Checker}
 use Rattle.asan_check.specs.declared.report.Fault.TheVariants as fault
 use Rattle.asan_check.specs.declared.report.Report.{Report}
+use Rattle.asan_check.specs.Standing.{Stands}
 use Rattle.asan_check.proofs.Examples.{malloc, store, free, report, usual}
 use Rattle.asan_check.proofs.Refuted.{differ, bad_access_is_passed_over}
 use Rattle.asan_collect.specs.declared.item.Item.{Item}
@@ -20,6 +25,7 @@ use Rattle.asan_collect.specs.declared.options.Options.{Options}
 use Rattle.asan_collect.specs.declared.outcome.Outcome.TheVariants as outcome
 use Rattle.asan_collect.specs.Arrivals.{IsAnswerTo}
 use Rattle.asan_collect.specs.Benches.{Takes}
+use Rattle.asan_collect.specs.Checking.{StandsAfter}
 use Rattle.asan_collect.specs.Items.{items_of}
 use Rattle.asan_collect.specs.Outcomes.{IsSpelled, Tells, faults_of, is_read}
 use Rattle.asan_collect.specs.Ranges.{most_senders}
@@ -127,6 +133,32 @@ puts_record_after_close e end other (first ∷ events) same = absurd cc
 turn_takes_two : (x y : Item) → ¬ Takes turn.Took [] (x ∷ y ∷ [])
 turn_takes_two x y took =
     let two_is_one : ◌≡◌ {A = ℕ} 2 1 = ap length took.1 in absurd (omega arith)
+
+-- ---- benches
+
+module _ {A : Type 0} (c : Checker A) (bound : ℕ) (e : Event) where
+  other_number_was_checked :
+      (past : List Event) → length past ≢ 1 → Stands bound c past →
+      ¬ StandsAfter c (item.Event e ∷ [])
+  other_number_was_checked past other stands after =
+      let wrong : 2 ≤ 1 = ∥∥₁_elim after le_prop (λ s. elim s [
+        | inl one ↦ absurd (other (sym stands.count ∙ one.count))
+        | inr failed ↦ absurd (false≢true (sym stands.running ∙ failed.failed))
+      ])
+      in absurd (omega arith)
+
+  -- the only event of a batch is checked twice
+  batch_is_checked_twice :
+      Stands bound c (e ∷ e ∷ []) → ¬ StandsAfter c (item.Event e ∷ [])
+  batch_is_checked_twice =
+      other_number_was_checked (e ∷ e ∷ [])
+      (λ same. let two_is_one : ◌≡◌ {A = ℕ} 2 1 = same in absurd (omega arith))
+
+  -- the last event of a batch is not handed on
+  last_event_is_not_handed_on : Stands bound c [] → ¬ StandsAfter c (item.Event e ∷ [])
+  last_event_is_not_handed_on =
+      other_number_was_checked []
+      (λ same. let none_is_one : ◌≡◌ {A = ℕ} 0 1 = same in absurd (omega arith))
 
 -- ---- texts
 

@@ -6,8 +6,8 @@ pub trait Gate {
     /// out of memory calls no more.
     ///
     /// It is called on the thread that checked the event, which goes on when the call returns: a
-    /// gate that waits holds up all processes of that checker. The events that `settle` still
-    /// checks are not announced.
+    /// gate that waits holds up all processes of that checker. Some of the events after this one
+    /// may have been checked by then. The events that `settle` still checks are not announced.
     fn checked(&self, process: u32, event: u64);
 }
 

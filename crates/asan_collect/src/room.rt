@@ -1,8 +1,7 @@
 //! Room for the items that a checker takes at a time.
 
 ghost use Rattle.std.specs.Prelude.{◌≡◌, ◌≤◌, length, take};
-ghost use Rattle.asan_collect.specs.Items.{events_of};
-ghost use Rattle.asan_collect.specs.Items.{has_end as has_the_end};
+ghost use Rattle.asan_collect.specs.Items.{events_of, has_end};
 
 use crate::item::Item;
 use crate::source::{BATCH_SIZE, batch_room};
@@ -16,6 +15,7 @@ pub(crate) struct Room {
 }
 
 impl Room {
+    /// Room that holds nothing of use.
     pub(crate) fn new() -> Room {
         let events = batch_room();
         Room {
@@ -40,21 +40,20 @@ pub(crate) fn pick_events(items: &[Item], events: &mut [Event]) -> Among
     ensures same_room { length events.new ≡ length events.old }
     ensures few { result.events ≤ length items.now }
     ensures events { take result.events events.new ≡ events_of items.now }
-    ensures ended { result.has_end ≡ has_the_end items.now }
+    ensures ended { result.has_end ≡ has_end items.now }
 {
-    let mut count = 0;
-    let mut has_end = false;
+    let (mut count, mut ended) = (0, false);
     for i in 0..items.len() {
         match items[i] {
             Item::Event(event) => {
                 events[count] = event;
                 count += 1;
             }
-            Item::End(_) => has_end = true,
+            Item::End(_) => ended = true,
         }
     }
     Among {
         events: count,
-        has_end,
+        has_end: ended,
     }
 }

@@ -8,7 +8,7 @@
 //! - **Only `lane` takes memory**, for the ring and for the buffer of the taking end.
 //! - **Where items are.** A put moves an item into the ring. Where its buffer is empty, a take
 //!   moves items out of the ring into the buffer, up to 64 of them, so that the next takes touch
-//!   nothing that the threads share.
+//!   nothing that the threads share. `take_some` moves items to where the caller wants them.
 //! - **The end.** `finish` drops the putting end and gives a `LaneEnd`, which knows all that was
 //!   put. With it `settle` says how many items are left, and that many takes then succeed: every
 //!   item that was put is taken.

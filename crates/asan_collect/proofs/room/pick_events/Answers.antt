@@ -1,4 +1,4 @@
-use Rattle.std.proofs.Common.{rules, ◌≡◌, ◌≤◌, ◌<◌, ◌++◌, ◌∷◌, [], length, take, ◌+◌, sym, ap, ◌∙◌, arith}
+use Rattle.std.proofs.Common.{◌≡◌, ◌<◌, ◌++◌, ◌∷◌, [], length, take, ◌+◌, sym, ap, ◌∙◌, arith}
 use Rattle.std.proofs.lemmas.List.{length-set, take_more, take_more_set}
 use Rattle.asan_collect.specs.declared.item.Item.TheVariants as item
 use Rattle.asan_collect.specs.Items.{events_of, has_end}
@@ -20,7 +20,7 @@ loop-i-preserved c =
           let event = w.in-Event.event in
           let more : take (i + 1) items ≡ before ++ item.Event event ∷ [] = take_more items i _ low ∙ ap (λ x. before ++ x ∷ []) w.in-Event.is in
           let fits : count < length events = (let few = was.few in let room = was.room in let enough = c.requires.room in omega arith) in
-          rw (w.events-is, w.count-is, w.has_end-is) (record {
+          rw (w.events-is, w.count-is, w.ended-is) (record {
             room = length-set events count event ∙ was.room;
             few = (let few = was.few in omega arith);
             events = take_more_set events count event fits ∙ ap (λ es. es ++ event ∷ []) was.events ∙ sym (ap events_of more ∙ events_of-event before event);
@@ -29,7 +29,7 @@ loop-i-preserved c =
       | in-End w ↦
           let end = w.in-End.field-0 in
           let more : take (i + 1) items ≡ before ++ item.End end ∷ [] = take_more items i _ low ∙ ap (λ x. before ++ x ∷ []) w.in-End.is in
-          rw (w.events-is, w.count-is, w.has_end-is) (record {
+          rw (w.events-is, w.count-is, w.ended-is) (record {
             room = was.room;
             few = (let few = was.few in omega arith);
             events = was.events ∙ sym (ap events_of more ∙ events_of-end before end);

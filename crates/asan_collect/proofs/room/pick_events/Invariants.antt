@@ -7,5 +7,5 @@ invariant-loop-i l = record {
   room : length l.events ≡ length l.fn.events;
   few : l.count ≤ l.i;
   events : take l.count l.events ≡ events_of (take l.i l.items);
-  ended : l.has_end ≡ has_end (take l.i l.items);
+  ended : l.ended ≡ has_end (take l.i l.items);
 }
