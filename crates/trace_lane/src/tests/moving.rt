@@ -5,6 +5,8 @@ ghost use Rattle.trace_lane.specs.Lanes.{in_lane, out_lane};
 use super::{put_numbers, take_numbers};
 use crate::{LaneIn, LaneOut, lane};
 use std::alloc::{AllocError, Global};
+use std::ops::Range;
+use std::process::Abort;
 use std::test::Fail;
 
 /// The numbers from 0 on.
@@ -115,6 +117,52 @@ fn buffer_and_ring_are_left_in_order(rt: HostRuntime) -> Result<(), Fail> {
         assert_eq!(rt; out.take(), None, "{capacity}");
         assert_eq!(rt; out.take(), None, "{capacity}");
     }
+    Ok(())
+}
+
+/// Takes these numbers together, at most 100 of them.
+fn take_together(rt: &impl Abort, out: &mut LaneOut<u32>, numbers: Range<u32>)
+    ensures { out_lane out.new ≡ out_lane out.old }
+{
+    let mut room = [0; 100];
+    assert_eq!(rt; out.take_some(&mut room), numbers.len());
+    for (&item, number) in room.iter().zip(numbers) {
+        assert_eq!(rt; item, number);
+    }
+}
+
+#[test]
+fn some_are_taken_in_order(rt: HostRuntime) -> Result<(), Fail> {
+    for capacity in [1, 64, 200u32] {
+        let (mut into, mut out) = lane(rt.alloc(), capacity as usize)?;
+        take_together(&rt, &mut out, 0..0);
+        put_numbers(&rt, &mut into, 0..capacity);
+        assert_eq!(rt; out.take_some(&mut []), 0, "{capacity}");
+        let mut few = [0; 30];
+        let taken = out.take_some(&mut few);
+        assert_eq!(rt; taken, capacity.min(30) as usize, "{capacity}");
+        for (&item, number) in few.iter().zip(0..capacity) {
+            assert_eq!(rt; item, number, "{capacity}");
+        }
+        take_together(&rt, &mut out, capacity.min(30)..capacity.min(130));
+    }
+    Ok(())
+}
+
+#[test]
+fn what_waits_is_taken_first(rt: HostRuntime) -> Result<(), Fail> {
+    let (mut into, mut out) = lane(rt.alloc(), 200)?;
+    put_numbers(&rt, &mut into, 0..200);
+    // The take leaves 64 in the buffer, which are taken alone.
+    take_numbers(&rt, &mut out, 0..1);
+    take_together(&rt, &mut out, 1..65);
+    take_numbers(&rt, &mut out, 65..66);
+    let end = into.finish().expect(&rt, "the taking end is there");
+    assert_eq!(rt; out.settle(end), 134);
+    take_together(&rt, &mut out, 66..166);
+    take_together(&rt, &mut out, 166..200);
+    take_together(&rt, &mut out, 200..200);
+    assert_eq!(rt; out.take(), None);
     Ok(())
 }
 
