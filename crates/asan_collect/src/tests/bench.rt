@@ -7,7 +7,8 @@ ghost use Rattle.asan_collect.specs.Texts.{reports_of};
 
 use super::{STREAM, THREE_TEXTS, feed_of};
 use crate::{
-    Bench, Gate, Item, Outcome, ReaderDone, Turn, exit_status, run_reader, settle, write_outcomes,
+    Bench, Gate, Item, Outcome, ReaderDone, Turn, exit_status, run_checker, run_reader, settle,
+    write_outcomes,
 };
 use asan_check::Checker;
 use failing_allocator::FailingAllocator;
@@ -93,6 +94,54 @@ fn a_failed_checker_takes_and_drops(rt: HostRuntime) -> Result<(), Fail> {
             return Ok(());
         }
         assert_eq!(rt; heard, 1, "turn {turn}");
+    }
+    panic!(rt; "always refused")
+}
+
+#[test]
+fn each_event_of_a_batch_is_announced_in_order(rt: HostRuntime) -> Result<(), Fail> {
+    let load = Item::Event(Event::Load(Access::new(0x1000, 1)?));
+    for count in [0, 1, 63, 64, 65, 200u64] {
+        let (mut into, out) = lane(rt.alloc(), 256)?;
+        for _ in 0..count {
+            assert!(rt; into.put(load).is_ok());
+        }
+        assert!(rt; into.put(Item::End(CLOSED)).is_ok());
+        let gate = new_counter();
+        let mut benches = Vec::new(rt.alloc());
+        benches.push(Bench::new(7, out, Checker::new(rt.alloc(), 0)?))?;
+        let mut benches = run_checker(&rt, benches, &gate);
+        assert_eq!(rt; gate.heard.load(Ordering::SeqCst), count);
+        assert_eq!(rt; benches[0].turn(&gate), Turn::Over);
+    }
+    Ok(())
+}
+
+#[test]
+fn a_checker_that_fails_within_a_batch_announces_no_more(rt: HostRuntime) -> Result<(), Fail> {
+    let load = Item::Event(Event::Load(Access::new(0x1000, 1)?));
+    let malloc = Item::Event(Event::Malloc(Region::new(0x1000, 8)?));
+    for turn in 1..100u64 {
+        let heap = Refuser::new(rt.alloc(), turn);
+        let Ok((mut into, out)) = lane(&heap, 8) else {
+            continue;
+        };
+        let Ok(mut benches) = Vec::with_capacity(&heap, 1) else {
+            continue;
+        };
+        for item in [load, load, malloc, load, Item::End(CLOSED)] {
+            assert!(rt; into.put(item).is_ok());
+        }
+        let gate = new_counter();
+        benches.push(Bench::new(7, out, Checker::new(&heap, 0)?))?;
+        let mut benches = run_checker(&rt, benches, &gate);
+        assert_eq!(rt; benches[0].turn(&gate), Turn::Over);
+        let heard = gate.heard.load(Ordering::SeqCst);
+        if !heap.has_refused() {
+            assert_eq!(rt; heard, 4);
+            return Ok(());
+        }
+        assert_eq!(rt; heard, 2, "turn {turn}");
     }
     panic!(rt; "always refused")
 }
