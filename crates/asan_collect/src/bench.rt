@@ -6,11 +6,11 @@ ghost use Rattle.asan_collect.specs.Items.{events_of, has_end};
 ghost use Rattle.asan_collect.specs.Ranges.{most_events};
 ghost use Rattle.asan_collect.specs.Checking.{StandsAfter};
 
-use crate::check::check_each;
 use crate::drain::{Drained, drain};
 use crate::gate::Gate;
 use crate::item::Item;
 use crate::options::MOST_EVENTS;
+use crate::replay::check_each;
 use crate::room::{Room, pick_events};
 use crate::source::BATCH_SIZE;
 use asan_check::Checker;
@@ -118,9 +118,9 @@ impl<A: Allocator + Copy> Bench<A> {
         Turn::Took
     }
 
-    /// Takes the items at hand, as many as there is room for, checks the events among them, and then
-    /// calls the gate for each that was checked. It takes none once the end or 2^24 events were
-    /// taken.
+    /// Takes the items at hand, as many as there is room for, checks the events among them, and
+    /// then calls the gate for each that was checked. It takes none once the end or 2^24 events
+    /// were taken.
     fn take_batch<G: Gate>(&mut self, gate: &G, room: &mut Room) -> Found
         ensures { Later self.old self.new }
     {

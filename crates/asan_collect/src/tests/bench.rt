@@ -122,7 +122,7 @@ fn a_checker_that_fails_within_a_batch_announces_no_more(rt: HostRuntime) -> Res
     let load = Item::Event(Event::Load(Access::new(0x1000, 1)?));
     let malloc = Item::Event(Event::Malloc(Region::new(0x1000, 8)?));
     for turn in 1..100u64 {
-        let heap = Refuser::new(rt.alloc(), turn);
+        let heap = FailingAllocator::new(rt.alloc(), turn);
         let Ok((mut into, out)) = lane(&heap, 8) else {
             continue;
         };
