@@ -133,11 +133,11 @@ class Program:
         with the hint only where it is one of them."""
         status, output, faults = self.run(words)
         same(words, (status, output), (2, b""))
-        told(words, faults.endswith(HINT.encode()) == (HINT in parts), faults)
-        told(words, faults.count(b"error: ") == 1, faults)
-        told(words, faults.startswith(b"error: ") and faults.endswith(b"\n"), faults)
+        holds(words, faults.endswith(HINT.encode()) == (HINT in parts), faults)
+        holds(words, faults.count(b"error: ") == 1, faults)
+        holds(words, faults.startswith(b"error: ") and faults.endswith(b"\n"), faults)
         for part in parts:
-            told(words, part.encode() in faults, faults)
+            holds(words, part.encode() in faults, faults)
 
     def expect_unwritten(self, words, **how):
         """Expects status 4, and nothing on standard error, where the output takes nothing."""
@@ -147,11 +147,11 @@ class Program:
 
 
 def same(what, got, wanted):
-    told(what, got == wanted, f"got    {got}\nwanted {wanted}")
+    holds(what, got == wanted, f"got    {got}\nwanted {wanted}")
 
 
-def told(what, holds, text):
-    if not holds:
+def holds(what, is_so, text):
+    if not is_so:
         raise AssertionError(f"{what}\n{text}")
 
 
@@ -481,7 +481,7 @@ def refused_words(program):
         program.expect_refused(words, *([HINT] if words == [""] else []))
         with open("/dev/full", "wb") as full:
             same(words, program.run(words, stderr=full), (2, b"", None))
-    told("socket", not os.path.exists("socket"), "it is there")
+    holds("socket", not os.path.exists("socket"), "it is there")
 
 
 def word_that_is_no_text(program):
@@ -492,7 +492,8 @@ def word_that_is_no_text(program):
         ([b"\xff"], r"\xff"),
         ([b"check", b"trace", b"\xc3", b"\xc4"], r"\xc3"),
         ([b"check", b"caf\xe9" * 1000], r"caf\xe9" * 1000),
-        ([b"check", b"\xff" * 5000], ""),
+        ([b"check", b"\xff" * 4096], r"\xff" * 4096),
+        ([b"check", b"\xff" * 4097], ""),
     ]:
         program.expect(words, 2, "", said.format(named))
     with open(b"caf\xe9", "rb") as file:
@@ -521,6 +522,8 @@ def help_texts(program):
         (["check", "--help"], "\n\nThe status is 0 if there is nothing to report"),
         (["serve", "--help"], "\n\nThe status is 0 if there is nothing to report"),
         (["check", "--help"], "Usage: asancol check [OPTIONS] <FILE>...\n"),
+        (["check", "--help"], "The traces, 1 to 256 of them: "),
+        (["serve", "--help"], "before the first is read, 1 to 256: "),
         (["check", "--help"], "0 to 1099511627776 [default: 268435456]\n"),
         (["check", "--help"], "1 to 65536 [default: 1024]\n"),
         (["check", "--help"], "1 to 64 [default: 2]\n"),
@@ -529,14 +532,14 @@ def help_texts(program):
     ]:
         status, output, faults = program.run(words)
         same(words, (status, faults), (0, b""))
-        told(words, part.encode() in output, output.decode())
+        holds(words, part.encode() in output, output.decode())
         program.expect_unwritten(words)
 
 
 def release(program):
     status, output, faults = program.run(["--version"])
     same("--version", (status, faults), (0, b""))
-    told("--version", re.fullmatch(rb"asancol \d+\.\d+\.\d+\n", output), output)
+    holds("--version", re.fullmatch(rb"asancol \d+\.\d+\.\d+\n", output), output)
     program.expect_unwritten(["--version"])
 
 
@@ -614,9 +617,12 @@ def what_became_of_each_file(program):
         past_the_end(),
         "p0 past: closed events 2 offset 36 reports 1\n",
     )
+    name = put("é \"q\" \\ '\t", SOUND)
+    line = "p0 é \\\"q\\\" \\\\ \\'\\t: closed events 2 offset 36 reports 0\n"
+    program.expect(["check", "--verbose", name], 0, sound(), line)
     program.expect(["check", "--", "--verbose"], 3, "p0 end not-opened\n")
     status, both, _ = program.run(["check", "--verbose", "past"], stderr=subprocess.STDOUT)
-    told("check --verbose", both.startswith(past_the_end().encode()), both)
+    holds("check --verbose", both.startswith(past_the_end().encode()), both)
 
 
 # ---- what runs out
@@ -655,9 +661,9 @@ def no_memory_to_begin(program):
             if ran == (3, b"", b"no memory\n"):
                 break
             # With less than that it does not even start.
-            told(words, ran[0] == 127 or ran[0] < 0, ran)
+            holds(words, ran[0] == 127 or ran[0] < 0, ran)
         else:
-            told(words, False, ended)
+            holds(words, False, ended)
 
 
 # ---- a socket
@@ -766,10 +772,13 @@ def checkers_that_work(program):
 def paths_that_cannot_be_served(program):
     put("there", SOUND)
     os.mkdir("folder")
+    with socket.socket(socket.AF_UNIX) as left:
+        left.bind("left")
     words = ["serve", "--count", "1", "--ready", "ready"]
-    for path in ["there", "folder", "", "missing/socket"]:
+    for path in ["there", "folder", "left", "", "missing/socket"]:
         program.expect([*words, path], 3, "", "cannot serve\n")
-    told(words, not os.path.exists("ready"), "the file of --ready is there")
+    holds(words, os.path.exists("left"), "the socket of another run is gone")
+    holds(words, not os.path.exists("ready"), "the file of --ready is there")
     program.expect(["check", "there"], 0, sound())
     for ready in ["missing/ready", "folder"]:
         words = ["serve", "--count", "1", "--ready", ready, "socket"]
@@ -787,7 +796,7 @@ def file_that_says_ready(program):
                 break
             time.sleep(0.01)
         else:
-            told("--ready", False, "there is no empty file")
+            holds("--ready", False, "there is no empty file")
         peer = socket.socket(socket.AF_UNIX)
         peer.connect("socket")
         peer.sendall(PAST_THE_END)

@@ -200,7 +200,8 @@ class Stress:
     def check(self, options, chosen):
         """What `check` answers of the files of these traces."""
         names = [f"{trace.number}.trace" for trace in chosen]
-        return finished(start(self.program, self.folder, ["check", *options, *names]), self.patience)
+        words = ["check", *options, *names]
+        return finished(start(self.program, self.folder, words), self.patience)
 
     def serve(self, options, chosen, draw):
         """What `serve` answers of peers that send these traces, all at the same time."""

@@ -59,7 +59,8 @@ abbrev pub admitted_blocks : ℕ → List Event → List Admitted
 admitted_blocks bound [] = []
 admitted_blocks bound (event.Malloc r ∷ past) =
     if admits_among bound past (admitted_blocks bound past) (block_of r)
-    then admitted_blocks bound past ++ (record { number = length past + 1; block = block_of r }) ∷ []
+    then admitted_blocks bound past
+    ++ (record { number = length past + 1; block = block_of r }) ∷ []
     else admitted_blocks bound past
 admitted_blocks bound (e ∷ past) = admitted_blocks bound past
 
@@ -108,7 +109,8 @@ marks bound (event.Malloc r ∷ past) =
     else marks bound past
 marks bound (event.Free p ∷ past) =
     let freed_now = filter (starts_at p.at) (live bound past)
-    in with_marks released_mark (released_from (held bound past ++ freed_now) (held bound (event.Free p ∷ past)))
+    in with_marks released_mark
+    (released_from (held bound past ++ freed_now) (held bound (event.Free p ∷ past)))
     (with_marks freed_mark freed_now (marks bound past))
 marks bound (event.Poison r ∷ past) = Poison r.at r.size ∷ marks bound past
 marks bound (event.Unpoison r ∷ past) = Unpoison r.at r.size ∷ marks bound past

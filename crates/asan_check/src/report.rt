@@ -1,4 +1,5 @@
 //! What is reported of a bad event.
+
 /// What kind of memory a bad access met, by the state of the first byte of its granule, or of the
 /// next granule where some byte of its own is addressable.
 #[derive(Clone, Copy, Debug, PartialEq, Eq)]

@@ -87,8 +87,7 @@ impl HelpTexts {
                 MOST_RING, usual.ring
             )?,
             workers: format!(in alloc;
-                "Checkers that share the processes, each on a thread of its own, 1 to {} \
-                 [default: {}]",
+                "Checkers that share the processes and work side by side, 1 to {} [default: {}]",
                 MOST_WORKERS, usual.workers
             )?,
             limit: format!(in alloc;

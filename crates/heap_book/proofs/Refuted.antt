@@ -89,9 +89,9 @@ freed_block_is_first_in_queue after = first_differs (ap first_at after.queue)
     first_differs same = absurd (omega arith)
 
 -- memory is said to be missing for a free that takes none
-free_of_no_block_wants_memory :
+free_of_no_block_runs_out_of_memory :
     ¬ ((0 < 0x3000) × (list_any (starts_at 0x3000) one_live.live ≡ true))
-free_of_no_block_wants_memory told = false≢true told.1
+free_of_no_block_runs_out_of_memory told = false≢true told.1
 
 -- ---- releases
 

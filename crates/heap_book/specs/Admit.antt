@@ -11,7 +11,8 @@ abbrev pub IsAdmitAnswer : Blocks → Extent → Admit → Type 0
 IsAdmitAnswer book block Ignored = block.at ≡ 0
 IsAdmitAnswer book block (Admitted admitted) =
     (admitted ≡ block) × (0 < block.at) × (may_be_admitted (taken_blocks book) block ≡ true)
-IsAdmitAnswer book block Refused = (0 < block.at) × (may_be_admitted (taken_blocks book) block ≡ false)
+IsAdmitAnswer book block Refused =
+    (0 < block.at) × (may_be_admitted (taken_blocks book) block ≡ false)
 
 -- the book after the answer: only an admission changes it
 abbrev pub AfterAdmit : Blocks → Admit → Blocks → Type 0

@@ -4,7 +4,7 @@ use Rattle.std.specs.Prelude.{List, [], ◌∷◌, Option, Some, None}
 use Rattle.line_map.specs.declared.mark.Slot.{Slot}
 use Rattle.line_map.specs.declared.mark.Mark.{Mark}
 
--- how many bytes a line has: a span has no fewer, so that no two spans start in one line (profile)
+-- how many bytes a line has
 abbrev pub line_size : ℕ
 line_size = 64
 

@@ -99,6 +99,18 @@ fn map_calls(rt: HostRuntime) -> Result<(), Fail> {
 }
 
 #[test]
+fn freed_slot_is_put(rt: HostRuntime) -> Result<(), Fail> {
+    let freed = Slot {
+        size: 8,
+        live: false,
+    };
+    let mut map = LineMap::new(rt.alloc());
+    map.insert(0x1038, freed)?;
+    assert_eq!(rt; map.get(0x1038), Some(freed));
+    Ok(())
+}
+
+#[test]
 fn fetching_changes_nothing(rt: HostRuntime) -> Result<(), Fail> {
     let mut map = LineMap::new(rt.alloc());
     map.fetch(0x1038);

@@ -43,9 +43,9 @@ module _ {A : Type 0} where
         lift (state_of (mark ∷ marks)) (granule_of byte) ≢ lift (state_of marks) (granule_of byte)
     pub some_marks : (marks : List Mark) → Shows old marks → (now : List Mark) × Shows new now
 
-  -- a call that makes this of each granule's shadow byte, and changes none outside a range, was
-  -- broken off at a byte of the range: below its granule it was done, and from it on nothing has
-  -- changed; that granule had still to change
+  -- a call that makes this of each granule's shadow byte was broken off at a byte of this range:
+  -- below its granule it was done, and from it on nothing has changed; that granule had still to
+  -- change
   pub record IsBrokenOff (from to : ℕ) (made : ℕ → ℕ → ℕ) (old new : Shadow A) : Type 0 where
     pub byte : ℕ
     pub in_range : (from ≤ byte) × (byte < to)

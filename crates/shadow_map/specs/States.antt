@@ -85,7 +85,8 @@ state_given before (Unpoison at size) byte =
 -- the state of a byte: what the last mark that covers it gives to it, and addressable if none does
 abbrev pub state_of : List Mark → ℕ → State
 state_of [] byte = Addressable
-state_of (mark ∷ marks) byte = unwrap_or (state_given (state_of marks) mark byte) (state_of marks byte)
+state_of (mark ∷ marks) byte =
+    unwrap_or (state_given (state_of marks) mark byte) (state_of marks byte)
 
 -- of a number of bytes from a byte on, how many are addressable before one is not
 abbrev pub addressable_front : (ℕ → State) → ℕ → ℕ → ℕ

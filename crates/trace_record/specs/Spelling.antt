@@ -58,8 +58,8 @@ fields_of (event.Unpoison r) = record { code = 6; numbers = numbers.Region r.at 
 abbrev pub bytes_of : Fields → List ℕ
 bytes_of x = record_bytes x.code x.numbers
 
--- these can be the fields of a record: it has as many bytes as its code says, and each number fits
--- in its bytes
+-- these can be the fields of a record: it has as many bytes as its code says, which also says which
+-- numbers these are, and each number fits in its bytes
 abbrev pub Fit : Fields → Type 0
 Fit x = (length (bytes_of x) ≡ record_length x.code) × FitBytes x.numbers
 
