@@ -58,13 +58,12 @@ impl<A: Allocator + Copy> Node<A> for Leaf<A> {
     #[inline]
     fn byte(&self, index: u64) -> u8 {
         let index = index as usize;
-        match self.same[index / PAGE] {
-            Some(byte) => byte,
-            None => match &self.each {
-                Some(bytes) => bytes[index],
-                None => 0,
-            },
-        }
+        // Both are looked up, so that no branch depends on the page.
+        let own = match &self.each {
+            Some(bytes) => bytes[index],
+            None => 0,
+        };
+        self.same[index / PAGE].unwrap_or(own)
     }
 
     fn first_nonzero(&self, from: u64, to: u64) -> Option<u64> {
