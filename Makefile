@@ -5,7 +5,7 @@ PREFIX ?= /usr/local
 SOURCES := crates.txt HANDLES $(shell find crates -name out -prune -o -type f \( -name '*.rt' -o -name '*.antt' \) -print)
 EXAMPLE := examples/one_byte_past_the_end.trace
 
-.PHONY: all demo check stress install clean
+.PHONY: all demo check stress install clean recorder check-recorder install-recorder
 
 # The program, proved.
 all: asancol
@@ -30,6 +30,17 @@ MINUTES := 10
 
 stress: asancol
 	tests/stress.py --minutes $(MINUTES) ./asancol
+
+# The recorder: plain C, built with cc, gcc or clang (CC=..). It needs no asancol.
+recorder:
+	$(MAKE) -C recorder
+
+# Small programs under each compiler that is there, recorded and checked.
+check-recorder: asancol recorder
+	recorder/tests/check.py ./asancol
+
+install-recorder:
+	$(MAKE) -C recorder install PREFIX=$(PREFIX) DESTDIR=$(DESTDIR)
 
 install: asancol
 	install -D asancol $(DESTDIR)$(PREFIX)/bin/asancol

@@ -1,0 +1,349 @@
+/* Reads reports on standard input, and writes each with function, file and line after it. Its arguments are the traces,
+   in the order in which they were checked. Beside each lies its side file, TRACE.where. */
+#define _GNU_SOURCE
+#include <elf.h>
+#include <fcntl.h>
+#include <inttypes.h>
+#include <stdbool.h>
+#include <stdio.h>
+#include <stdlib.h>
+#include <string.h>
+#include <sys/mman.h>
+#include <sys/stat.h>
+#include <sys/wait.h>
+#include <unistd.h>
+
+#include "format.h"
+
+/* A file that is mapped to read; no bytes where it can't be. */
+struct view {
+    const unsigned char *bytes;
+    size_t size;
+};
+
+static struct view map_file(const char *path)
+{
+    struct view view = {NULL, 0};
+    struct stat seen;
+    int descriptor = open(path, O_RDONLY | O_CLOEXEC);
+    if (descriptor < 0)
+        return view;
+    if (fstat(descriptor, &seen) == 0 && S_ISREG(seen.st_mode) && seen.st_size > 0) {
+        void *bytes = mmap(NULL, (size_t)seen.st_size, PROT_READ, MAP_PRIVATE, descriptor, 0);
+        if (bytes != MAP_FAILED)
+            view = (struct view){bytes, (size_t)seen.st_size};
+    }
+    close(descriptor);
+    return view;
+}
+
+static uint64_t number_at(const unsigned char *bytes)
+{
+    uint64_t number = 0;
+    for (int i = 8; i-- > 0;)
+        number = number << 8 | bytes[i];
+    return number;
+}
+
+struct record {
+    enum code code;
+    uint64_t address, size;
+    uint64_t event; /* its number, from 1 */
+};
+
+struct trace {
+    const char *path;
+    struct view stream;
+    struct view where;
+};
+
+/* Reads the record at `*offset`, and moves on. False at the end of what is sound. */
+static bool next_record(const struct trace *trace, size_t *offset, struct record *record)
+{
+    const unsigned char *at = trace->stream.bytes + *offset;
+    unsigned length = *offset < trace->stream.size ? record_length(*at) : 0;
+    if (length == 0 || length > trace->stream.size - *offset)
+        return false;
+    record->code = (enum code)*at;
+    if (length == ACCESS_LENGTH) {
+        record->size = at[1];
+        record->address = number_at(at + 2);
+    } else {
+        record->address = number_at(at + 1);
+        record->size = length == REGION_LENGTH ? number_at(at + 9) : 0;
+    }
+    record->event++;
+    *offset += length;
+    return true;
+}
+
+/* The program counter of an event; 0 where it is not known. */
+static uint64_t place_of(const struct trace *trace, uint64_t event)
+{
+    uint64_t at = PLACES_OFFSET + (event - 1) * PLACE_BYTES;
+    if (event == 0 || event > EVENT_LIMIT || at + PLACE_BYTES > trace->where.size)
+        return 0;
+    return number_at(trace->where.bytes + at);
+}
+
+/* Modules and source lines. */
+
+/* A line of the map that covers the address: the module's file, and how far into it. */
+static bool find_module(const struct trace *trace, uint64_t address, char *path, size_t room, uint64_t *offset)
+{
+    const char *line = (const char *)trace->where.bytes + WHERE_HEADER_LENGTH;
+    const char *end = (const char *)trace->where.bytes + PLACES_OFFSET;
+    while (line < end && *line != 0) {
+        uint64_t from, to, file_offset;
+        int name = 0;
+        const char *next = memchr(line, '\n', (size_t)(end - line));
+        if (next == NULL)
+            return false;
+        if (sscanf(line, "%" SCNx64 "-%" SCNx64 " %*s %" SCNx64 " %*s %*s %n", &from, &to, &file_offset, &name) == 3
+            && from <= address && address < to && name > 0 && line[name] == '/') {
+            snprintf(path, room, "%.*s", (int)(next - line - name), line + name);
+            *offset = address - from + file_offset;
+            return true;
+        }
+        line = next + 1;
+    }
+    return false;
+}
+
+/* The address that the symbols of a file use for this place in it. */
+static uint64_t linked_address(const char *path, uint64_t offset)
+{
+    struct view file = map_file(path);
+    uint64_t address = offset;
+    const Elf64_Ehdr *header = (const Elf64_Ehdr *)file.bytes;
+    if (file.size >= sizeof *header && memcmp(header->e_ident, ELFMAG, SELFMAG) == 0
+        && header->e_phoff + (uint64_t)header->e_phnum * sizeof(Elf64_Phdr) <= file.size) {
+        const Elf64_Phdr *parts = (const Elf64_Phdr *)(file.bytes + header->e_phoff);
+        for (unsigned i = 0; i < header->e_phnum; i++)
+            if (parts[i].p_type == PT_LOAD && parts[i].p_offset <= offset
+                && offset < parts[i].p_offset + parts[i].p_filesz)
+                address = offset - parts[i].p_offset + parts[i].p_vaddr;
+    }
+    if (file.bytes != NULL)
+        munmap((void *)file.bytes, file.size);
+    return address;
+}
+
+static const char *symbolizer(void)
+{
+    const char *named = getenv("ASANCOL_SYMBOLIZER");
+    return named != NULL && *named != 0 ? named : "addr2line";
+}
+
+/* Runs the symbolizer on one address and gives its answer: lines of functions and places, inner ones first. */
+static void ask(const char *path, uint64_t address, char *answer, size_t room)
+{
+    const char *program = symbolizer();
+    bool is_llvm = strstr(program, "llvm-symbolizer") != NULL;
+    int ends[2];
+    char digits[24], named[4096 + 8];
+    size_t length = 0;
+    snprintf(digits, sizeof digits, "0x%" PRIx64, address);
+    snprintf(named, sizeof named, "--obj=%s", path);
+    answer[0] = 0;
+    if (pipe2(ends, O_CLOEXEC) != 0)
+        return;
+    pid_t child = fork();
+    if (child == 0) {
+        int nothing = open("/dev/null", O_RDWR);
+        dup2(ends[1], STDOUT_FILENO);
+        dup2(nothing, STDERR_FILENO);
+        dup2(nothing, STDIN_FILENO);
+        if (is_llvm)
+            execlp(program, program, named, "--demangle", "--inlining", "--functions", digits, (char *)NULL);
+        else
+            execlp(program, program, "-e", path, "-f", "-C", "-i", digits, (char *)NULL);
+        _exit(127);
+    }
+    close(ends[1]);
+    for (ssize_t count; length < room - 1; length += (size_t)count)
+        if ((count = read(ends[0], answer + length, room - 1 - length)) <= 0)
+            break;
+    answer[length] = 0;
+    close(ends[0]);
+    if (child > 0)
+        waitpid(child, NULL, 0);
+}
+
+/* Answers that were given already: a loop has few places and many events. */
+struct known {
+    char *path;
+    uint64_t address;
+    char *text;
+    struct known *next;
+};
+
+static struct known *known_places[4096];
+
+static void *must(void *memory)
+{
+    if (memory == NULL) {
+        fputs("asancol-where: no memory\n", stderr);
+        exit(3);
+    }
+    return memory;
+}
+
+/* "function file:line", and for an inlined call " in function file:line". */
+static char *told(const char *answer)
+{
+    char *text = must(calloc(1, 2 * strlen(answer) + 32));
+    const char *line = answer;
+    while (*line != 0 && *line != '\n') {
+        size_t function = strcspn(line, "\n");
+        const char *place = line + function + (line[function] == '\n');
+        size_t length = strcspn(place, "\n");
+        const char *note = memmem(place, length, " (discriminator", 15);
+        size_t shown = note != NULL ? (size_t)(note - place) : length;
+        sprintf(text + strlen(text), "%s%.*s %.*s", *text != 0 ? ", in " : "", (int)function, line, (int)shown, place);
+        line = place + length + (place[length] == '\n');
+    }
+    return text;
+}
+
+static const char *place_text(const char *path, uint64_t address)
+{
+    struct known **bucket = &known_places[(address ^ (uintptr_t)path[strlen(path) / 2]) % 4096];
+    for (struct known *known = *bucket; known != NULL; known = known->next)
+        if (known->address == address && strcmp(known->path, path) == 0)
+            return known->text;
+    char answer[1 << 14];
+    ask(path, address, answer, sizeof answer);
+    struct known *known = must(malloc(sizeof *known));
+    *known = (struct known){must(strdup(path)), address, told(answer), *bucket};
+    *bucket = known;
+    return known->text;
+}
+
+/* Writes where an event was, after some words. */
+static void write_place(const struct trace *trace, const char *words, uint64_t event)
+{
+    char path[4096];
+    uint64_t offset, after_call = place_of(trace, event);
+    if (after_call == 0) {
+        printf("%s ?", words);
+        return;
+    }
+    /* The program counter is that after the call, so one less lies in it. */
+    if (!find_module(trace, after_call - 1, path, sizeof path, &offset)) {
+        printf("%s %" PRIx64, words, after_call - 1);
+        return;
+    }
+    const char *text = place_text(path, linked_address(path, offset));
+    if (*text == 0 || strncmp(text, "?? ??", 5) == 0)
+        printf("%s %s+%" PRIx64, words, path, offset);
+    else
+        printf("%s %s", words, text);
+}
+
+/* Blocks. */
+
+struct block {
+    uint64_t address, size;
+    uint64_t malloc_event, free_event; /* 0: not freed */
+};
+
+/* The block that a report on `address` at `event` speaks of: of those whose span has it, the last that was made. */
+static struct block find_block(const struct trace *trace, uint64_t address, uint64_t event)
+{
+    struct block found = {0};
+    struct record record = {0};
+    size_t offset = HEADER_LENGTH;
+    while (next_record(trace, &offset, &record) && record.event < event) {
+        if (record.code == CODE_MALLOC && record.address != 0
+            && address - (record.address - REDZONE) < span_bytes(record.size)) {
+            /* Spans share no byte while both are held: a later block has taken the place of an earlier one. */
+            found = (struct block){record.address, record.size, record.event, 0};
+        } else if (record.code == CODE_FREE && record.address == found.address && found.free_event == 0) {
+            found.free_event = record.event;
+        }
+    }
+    return found;
+}
+
+static void write_block(const struct trace *trace, uint64_t address, uint64_t event)
+{
+    struct block block = find_block(trace, address, event);
+    if (block.malloc_event == 0)
+        return;
+    int64_t from_start = (int64_t)(address - block.address);
+    if (from_start < 0)
+        printf("; %" PRId64 " bytes before a block of %" PRIu64, -from_start, block.size);
+    else if ((uint64_t)from_start >= block.size)
+        printf("; %" PRIu64 " bytes past a block of %" PRIu64, (uint64_t)from_start - block.size, block.size);
+    else
+        printf("; byte %" PRId64 " of a block of %" PRIu64, from_start, block.size);
+    write_place(trace, ", allocated at", block.malloc_event);
+    if (block.free_event != 0)
+        write_place(trace, ", freed at", block.free_event);
+}
+
+/* Reports. */
+
+struct report {
+    uint64_t process, event, address;
+};
+
+/* Reads what a line says: "pI #N kind .. at A ..", and the bad byte where one is named. */
+static bool read_report(const char *line, struct report *report)
+{
+    int used = 0;
+    if (sscanf(line, "p%" SCNu64 " #%" SCNu64 " %n", &report->process, &report->event, &used) != 2 || used == 0)
+        return false;
+    const char *at = strstr(line + used, " at ");
+    const char *bad = strstr(line + used, " bad ");
+    const char *digits = bad != NULL ? bad + 5 : at != NULL ? at + 4 : NULL;
+    return digits != NULL && sscanf(digits, "%" SCNx64, &report->address) == 1;
+}
+
+static void write_report(const struct trace *traces, size_t count, const char *line)
+{
+    struct report report;
+    fputs(line, stdout);
+    if (read_report(line, &report) && report.process < count) {
+        const struct trace *trace = &traces[report.process];
+        write_place(trace, " at", report.event);
+        write_block(trace, report.address, report.event);
+    }
+    putchar('\n');
+}
+
+static struct trace open_trace(const char *path)
+{
+    struct trace trace = {path, map_file(path), {NULL, 0}};
+    size_t length = strlen(path);
+    char *side = must(malloc(length + 8));
+    sprintf(side, "%s.where", path);
+    trace.where = map_file(side);
+    if (trace.where.size < PLACES_OFFSET || memcmp(trace.where.bytes, WHERE_HEADER, WHERE_HEADER_LENGTH) != 0) {
+        fprintf(stderr, "asancol-where: there is no side file %s: record with ASANCOL_WHERE=1\n", side);
+        trace.where.size = 0;
+    }
+    free(side);
+    return trace;
+}
+
+int main(int count, char **words)
+{
+    char *line = NULL;
+    size_t room = 0;
+    ssize_t length;
+    if (count < 2 || words[1][0] == '-') {
+        fputs("usage: asancol-where TRACE... < REPORTS\n", count == 2 && strcmp(words[1], "--help") == 0 ? stdout : stderr);
+        return count == 2 && strcmp(words[1], "--help") == 0 ? 0 : 2;
+    }
+    struct trace *traces = must(calloc((size_t)count, sizeof *traces));
+    for (int i = 1; i < count; i++)
+        traces[i - 1] = open_trace(words[i]);
+    while ((length = getline(&line, &room, stdin)) > 0) {
+        if (line[length - 1] == '\n')
+            line[length - 1] = 0;
+        write_report(traces, (size_t)count - 1, line);
+    }
+    return fflush(stdout) == 0 && !ferror(stdout) ? 0 : 4;
+}

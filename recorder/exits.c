@@ -1,0 +1,107 @@
+/* The ways out of a process that run none of its exit handlers, and those into another program. */
+#define _GNU_SOURCE
+#include <dlfcn.h>
+#include <errno.h>
+#include <stdarg.h>
+#include <stdlib.h>
+#include <unistd.h>
+
+#include "hooks.h"
+
+_Noreturn void __wrap__exit(int status)
+{
+    if (HAS_HOOKS)
+        asancol_hooks.finish(FINISH_CLOSED);
+    _exit(status);
+}
+
+_Noreturn void __wrap__Exit(int status)
+{
+    __wrap__exit(status);
+}
+
+static bool before_exec(void)
+{
+    return HAS_HOOKS && asancol_hooks.before_exec();
+}
+
+static int failed(bool was_recorded)
+{
+    if (was_recorded)
+        asancol_hooks.exec_failed();
+    return -1;
+}
+
+int __wrap_execve(const char *path, char *const words[], char *const environment[])
+{
+    bool recorded = before_exec();
+    execve(path, words, environment);
+    return failed(recorded);
+}
+
+int __wrap_execv(const char *path, char *const words[])
+{
+    return __wrap_execve(path, words, environ);
+}
+
+int __wrap_execvpe(const char *file, char *const words[], char *const environment[])
+{
+    bool recorded = before_exec();
+    execvpe(file, words, environment);
+    return failed(recorded);
+}
+
+int __wrap_execvp(const char *file, char *const words[])
+{
+    return __wrap_execvpe(file, words, environ);
+}
+
+int __wrap_fexecve(int descriptor, char *const words[], char *const environment[])
+{
+    bool recorded = before_exec();
+    fexecve(descriptor, words, environment);
+    return failed(recorded);
+}
+
+/* How many words there are, with the null at their end. */
+static size_t count_words(va_list rest)
+{
+    size_t count = 2;
+    while (va_arg(rest, char *) != NULL)
+        count++;
+    return count;
+}
+
+static void take_words(char **words, size_t count, const char *first, va_list rest)
+{
+    words[0] = (char *)first;
+    for (size_t i = 1; i < count; i++)
+        words[i] = va_arg(rest, char *);
+}
+
+#define WITH_WORDS(first, call)                                                                                        \
+    va_list rest, again;                                                                                               \
+    va_start(rest, first);                                                                                             \
+    va_copy(again, rest);                                                                                              \
+    size_t count = count_words(rest);                                                                                  \
+    char *words[count];                                                                                                \
+    take_words(words, count, first, again);                                                                            \
+    int result = call;                                                                                                 \
+    va_end(again);                                                                                                     \
+    va_end(rest);                                                                                                      \
+    return result
+
+int __wrap_execl(const char *path, const char *first, ...)
+{
+    WITH_WORDS(first, __wrap_execve(path, words, environ));
+}
+
+int __wrap_execlp(const char *file, const char *first, ...)
+{
+    WITH_WORDS(first, __wrap_execvpe(file, words, environ));
+}
+
+int __wrap_execle(const char *path, const char *first, ...)
+{
+    WITH_WORDS(first, __wrap_execve(path, words, va_arg(again, char **)));
+}

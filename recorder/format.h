@@ -1,0 +1,66 @@
+/* The trace format, version 1: the one place of its numbers on the recorder's side. docs/FORMAT.md says what they
+   mean. */
+#ifndef ASANCOL_FORMAT_H
+#define ASANCOL_FORMAT_H
+
+#include <stddef.h>
+#include <stdint.h>
+
+enum code {
+    CODE_NONE, /* no record begins with a zero */
+    CODE_LOAD,
+    CODE_STORE,
+    CODE_MALLOC,
+    CODE_FREE,
+    CODE_POISON,
+    CODE_UNPOISON,
+    CODE_CLOSE
+};
+
+#define HEADER "ASTR\1\0\0\0"
+
+/* How many bytes each part of a stream has, codes included. */
+enum { HEADER_LENGTH = 8, ACCESS_LENGTH = 10, REGION_LENGTH = 17, PLACE_LENGTH = 9, CLOSE_LENGTH = 1 };
+
+#define EVENT_LIMIT ((uint64_t)1 << 24)
+#define LARGEST_REGION ((uint64_t)1 << 28)
+#define ADDRESS_END ((uint64_t)1 << 47)
+
+/* No stream is longer: each event a region, and the close. */
+#define LARGEST_STREAM (HEADER_LENGTH + EVENT_LIMIT * REGION_LENGTH + CLOSE_LENGTH)
+
+/* What the checker demands round each block, and how many bytes of freed spans it holds. */
+#define REDZONE 32
+#define GRANULE 8
+#define QUARANTINE_BOUND ((uint64_t)1 << 28)
+
+/* How many bytes the record has that begins with this byte; 0 where none does. */
+static inline unsigned record_length(unsigned char code)
+{
+    switch (code) {
+    case CODE_LOAD:
+    case CODE_STORE:
+        return ACCESS_LENGTH;
+    case CODE_MALLOC:
+    case CODE_POISON:
+    case CODE_UNPOISON:
+        return REGION_LENGTH;
+    case CODE_FREE:
+        return PLACE_LENGTH;
+    default:
+        return 0;
+    }
+}
+
+/* How many bytes the checker counts for a block of this size: rounded up, with both redzones. */
+static inline uint64_t span_bytes(uint64_t size)
+{
+    return (size + GRANULE - 1) / GRANULE * GRANULE + 2 * REDZONE;
+}
+
+/* The side file: its first bytes, then the map of modules as text up to PLACES_OFFSET, then 8 bytes for each event. */
+#define WHERE_HEADER "ASWH\1\0\0\0"
+enum { WHERE_HEADER_LENGTH = 8, PLACES_OFFSET = 1 << 18, PLACE_BYTES = 8 };
+#define LARGEST_WHERE (PLACES_OFFSET + EVENT_LIMIT * PLACE_BYTES)
+
+#endif

@@ -1,0 +1,255 @@
+#define _GNU_SOURCE
+#include "output.h"
+
+#include <errno.h>
+#include <fcntl.h>
+#include <poll.h>
+#include <signal.h>
+#include <string.h>
+#include <sys/mman.h>
+#include <sys/resource.h>
+#include <sys/socket.h>
+#include <sys/stat.h>
+#include <sys/un.h>
+#include <unistd.h>
+
+/* The name gets a number before its last dot, or at its end: run.trace, run.1.trace, run.2.trace. */
+static bool numbered(char *name, const char *path, unsigned number)
+{
+    size_t length = strlen(path);
+    const char *slash = strrchr(path, '/');
+    const char *dot = strrchr(slash ? slash : path, '.');
+    size_t front = dot && dot != path ? (size_t)(dot - path) : length;
+    char digits[12];
+    size_t first = sizeof digits;
+    for (unsigned rest = number; rest != 0; rest /= 10)
+        digits[--first] = (char)('0' + rest % 10);
+    if (number != 0)
+        digits[--first] = '.';
+    size_t count = sizeof digits - first;
+    if (length + count >= PATH_MAX)
+        return false;
+    memcpy(name, path, front);
+    memcpy(name + front, digits + first, count);
+    memcpy(name + front + count, path + front, length - front + 1);
+    return true;
+}
+
+/* A call that failed for a limit or a closed pipe has raised a signal, which is blocked: takes it away again. */
+static void drain(int number)
+{
+    sigset_t set;
+    struct timespec none = {0, 0};
+    sigemptyset(&set);
+    sigaddset(&set, number);
+    while (sigtimedwait(&set, NULL, &none) < 0 && errno == EINTR)
+        ;
+}
+
+static const char *reason(void)
+{
+    int error = errno;
+    if (error == EPIPE)
+        drain(SIGPIPE);
+    if (error == EFBIG)
+        drain(SIGXFSZ);
+    return strerrordesc_np(error);
+}
+
+/* Moves a descriptor that is kept out of the way of those that the process opens. */
+static int moved_up(int descriptor)
+{
+    struct rlimit limit;
+    int least = 512;
+    if (getrlimit(RLIMIT_NOFILE, &limit) == 0 && limit.rlim_cur <= 1024)
+        least = (int)(limit.rlim_cur / 4 * 3);
+    int moved = fcntl(descriptor, F_DUPFD_CLOEXEC, least);
+    if (moved < 0)
+        return descriptor;
+    close(descriptor);
+    return moved;
+}
+
+static bool is_still(const struct output *output, int descriptor)
+{
+    struct stat seen;
+    return fstat(descriptor, &seen) == 0 && seen.st_dev == output->device && seen.st_ino == output->node;
+}
+
+static const char *take_pieces(struct output *output, int descriptor, uint64_t room)
+{
+    struct stat seen;
+    output->descriptor = moved_up(descriptor);
+    output->is_mapped = false;
+    if (fstat(output->descriptor, &seen) != 0)
+        return reason();
+    output->device = seen.st_dev;
+    output->node = seen.st_ino;
+    output->bytes = mmap(NULL, room, PROT_READ | PROT_WRITE, MAP_PRIVATE | MAP_ANONYMOUS | MAP_NORESERVE, -1, 0);
+    return output->bytes == MAP_FAILED ? reason() : NULL;
+}
+
+/* A new file of this name, or of the next one that is free; or what is there, if it is no file. */
+static int open_new(struct output *output, const char *path)
+{
+    for (unsigned number = 0; number < 1000000; number++) {
+        if (!numbered(output->path, path, number)) {
+            errno = ENAMETOOLONG;
+            return -1;
+        }
+        int descriptor = open(output->path, O_RDWR | O_CREAT | O_EXCL | O_CLOEXEC, 0666);
+        if (descriptor >= 0 || errno != EEXIST)
+            return descriptor;
+        struct stat seen;
+        if (number == 0 && stat(output->path, &seen) == 0 && !S_ISREG(seen.st_mode)) {
+            descriptor = open(output->path, O_WRONLY | O_NONBLOCK | O_NOCTTY | O_CLOEXEC);
+            if (descriptor >= 0)
+                fcntl(descriptor, F_SETFL, fcntl(descriptor, F_GETFL) & ~O_NONBLOCK);
+            return descriptor;
+        }
+    }
+    errno = EEXIST;
+    return -1;
+}
+
+const char *output_open_file(struct output *output, const char *path, uint64_t room, uint64_t backed)
+{
+    struct stat seen;
+    output->descriptor = -1;
+    output->is_socket = false;
+    output->sent = 0;
+    output->room = room;
+    output->backed = backed;
+    int descriptor = open_new(output, path);
+    if (descriptor < 0 || fstat(descriptor, &seen) != 0)
+        return reason();
+    if (!S_ISREG(seen.st_mode))
+        return take_pieces(output, descriptor, room);
+    if (fallocate(descriptor, 0, 0, (off_t)backed) != 0) {
+        if (errno == EOPNOTSUPP)
+            return take_pieces(output, descriptor, room);
+        const char *why = reason();
+        unlink(output->path);
+        close(descriptor);
+        return why;
+    }
+    output->bytes = mmap(NULL, room, PROT_READ | PROT_WRITE, MAP_SHARED | MAP_NORESERVE, descriptor, 0);
+    if (output->bytes == MAP_FAILED)
+        return errno == ENODEV ? take_pieces(output, descriptor, room) : reason();
+    output->is_mapped = true;
+    output->device = seen.st_dev;
+    output->node = seen.st_ino;
+    close(descriptor);
+    return NULL;
+}
+
+const char *output_connect(struct output *output, const char *path, uint64_t room, int patience_ms)
+{
+    struct sockaddr_un address = {.sun_family = AF_UNIX};
+    output->is_socket = true;
+    output->sent = 0;
+    output->room = room;
+    output->descriptor = -1;
+    if (strlen(path) >= sizeof address.sun_path)
+        return strerrordesc_np(ENAMETOOLONG);
+    strcpy(address.sun_path, path);
+    strcpy(output->path, path);
+    int descriptor = socket(AF_UNIX, SOCK_STREAM | SOCK_CLOEXEC | SOCK_NONBLOCK, 0);
+    if (descriptor < 0)
+        return reason();
+    /* EAGAIN: too many wait to be accepted. */
+    while (connect(descriptor, (struct sockaddr *)&address, sizeof address) != 0) {
+        if (errno != EAGAIN || patience_ms <= 0) {
+            const char *why = reason();
+            close(descriptor);
+            return why;
+        }
+        patience_ms -= 10;
+        poll(NULL, 0, 10);
+    }
+    return take_pieces(output, descriptor, room);
+}
+
+static int reopen(const struct output *output)
+{
+    int descriptor = open(output->path, O_RDWR | O_CLOEXEC);
+    if (descriptor >= 0 && is_still(output, descriptor))
+        return descriptor;
+    if (descriptor >= 0)
+        close(descriptor);
+    errno = ESTALE;
+    return -1;
+}
+
+const char *output_extend(struct output *output, uint64_t length)
+{
+    if (!output->is_mapped || length <= output->backed)
+        return NULL;
+    int descriptor = reopen(output);
+    if (descriptor < 0)
+        return reason();
+    int failed = fallocate(descriptor, 0, (off_t)output->backed, (off_t)(length - output->backed));
+    const char *why = failed ? reason() : NULL;
+    close(descriptor);
+    if (!failed)
+        output->backed = length;
+    return why;
+}
+
+void output_trim(struct output *output, uint64_t length)
+{
+    if (!output->is_mapped)
+        return;
+    int descriptor = reopen(output);
+    if (descriptor < 0)
+        return; /* what stands after the last record is zeros: no harm */
+    if (ftruncate(descriptor, (off_t)length) == 0)
+        output->backed = length;
+    close(descriptor);
+}
+
+/* Gives whole pages that were sent back to the system. */
+static void release_sent(struct output *output, uint64_t from)
+{
+    uint64_t page = 4096;
+    uint64_t first = from / page * page, end = output->sent / page * page;
+    if (end > first)
+        madvise(output->bytes + first, end - first, MADV_DONTNEED);
+}
+
+const char *output_send(struct output *output, uint64_t length, bool all, int patience_ms)
+{
+    uint64_t from = output->sent;
+    const char *why = NULL;
+    if (!is_still(output, output->descriptor))
+        return "the process has closed the descriptor";
+    while (output->sent < length && why == NULL) {
+        const unsigned char *next = output->bytes + output->sent;
+        size_t rest = length - output->sent;
+        ssize_t count = output->is_socket ? send(output->descriptor, next, rest, MSG_NOSIGNAL | MSG_DONTWAIT)
+                                          : write(output->descriptor, next, rest);
+        if (count >= 0) {
+            output->sent += (uint64_t)count;
+        } else if (errno == EAGAIN) {
+            struct pollfd wait = {output->descriptor, POLLOUT, 0};
+            if (!all)
+                break; /* the rest stays in memory, and the process need not wait */
+            if (poll(&wait, 1, patience_ms) == 0)
+                why = "the collector does not read";
+        } else if (errno != EINTR) {
+            why = reason();
+        }
+    }
+    release_sent(output, from);
+    return why;
+}
+
+void output_drop(struct output *output)
+{
+    if (output->bytes != NULL && output->bytes != MAP_FAILED)
+        munmap(output->bytes, output->room);
+    if (output->descriptor >= 0 && is_still(output, output->descriptor))
+        close(output->descriptor);
+    output->bytes = NULL;
+    output->descriptor = -1;
+}

@@ -1,0 +1,35 @@
+/* Where bytes go: a file that is mapped, or a descriptor that takes pieces. */
+#ifndef ASANCOL_OUTPUT_H
+#define ASANCOL_OUTPUT_H
+
+#include <limits.h>
+#include <stdbool.h>
+#include <stdint.h>
+#include <sys/types.h>
+
+struct output {
+    bool is_mapped;
+    bool is_socket;
+    int descriptor; /* of a mapped file none is held: the process may close all that it finds */
+    dev_t device;   /* what was opened, to know it again */
+    ino_t node;
+    uint64_t backed; /* a mapped file has this many bytes */
+    uint64_t sent;   /* a descriptor was given this many */
+    uint64_t room;
+    unsigned char *bytes;
+    char path[PATH_MAX];
+};
+
+/* Each answers null, or what went wrong. */
+const char *output_open_file(struct output *output, const char *path, uint64_t room, uint64_t backed);
+const char *output_connect(struct output *output, const char *path, uint64_t room, int patience_ms);
+/* Backs a mapped file up to this length. */
+const char *output_extend(struct output *output, uint64_t length);
+/* Cuts a mapped file to this length. */
+void output_trim(struct output *output, uint64_t length);
+/* Sends what is not sent yet of the first bytes: at once what a socket takes, or all of it, with patience. */
+const char *output_send(struct output *output, uint64_t length, bool all, int patience_ms);
+/* Forgets a parent's output in its child. */
+void output_drop(struct output *output);
+
+#endif

@@ -1,0 +1,157 @@
+/* What the parts of the recorder know of each other. */
+#ifndef ASANCOL_RECORDER_H
+#define ASANCOL_RECORDER_H
+
+#include <stdatomic.h>
+#include <stdbool.h>
+#include <stddef.h>
+#include <stdint.h>
+#include <sys/single_threaded.h>
+
+#include "format.h"
+
+#define LIKELY(x) __builtin_expect(!!(x), 1)
+#define UNLIKELY(x) __builtin_expect(!!(x), 0)
+#define CALLER() ((uintptr_t)__builtin_return_address(0))
+
+/* Symbols that the program, or a shared object of it, finds in the recorder. All others are hidden. */
+#define VISIBLE __attribute__((visibility("default")))
+
+/* stream.c: the stream and how a record gets into it.
+
+   A record is written in two steps. First its place is taken: one addition to the cursor, which holds the number of
+   events and the offset of the next record. The order of these additions is the order of the stream, for all threads.
+   Then the bytes are stored, the code last: a zero where a code should be is a record that is not written yet.
+
+   So there is no lock that a signal handler could meet, and a handler that comes between the two steps records what it
+   does in places of its own. */
+
+#define CURSOR_ON ((uint64_t)1 << 63)
+#define CURSOR_EVENT ((uint64_t)1 << 32)
+
+struct stream {
+    _Atomic uint64_t cursor; /* CURSOR_ON, the number of events, the offset; or without CURSOR_ON: off */
+    uint64_t events_end;     /* the limit of events, as a part of the cursor */
+    _Atomic uint64_t ready;  /* below this offset bytes can be stored */
+    unsigned char *bytes;    /* room for LARGEST_STREAM bytes, backed up to `ready` */
+    uint64_t *places;        /* the program counter of each event, or null */
+};
+
+/* Alone in its page, which is all zeros in a child after any kind of fork: there it is off. */
+extern union stream_page {
+    struct stream stream;
+    unsigned char page[4096];
+} stream_page;
+
+/* Whether the stream is on, after a start where it had not been started. */
+bool stream_wake(void);
+/* Whether the place that was taken can be written. */
+bool stream_room(uint64_t place, unsigned length);
+
+/* Adds to the cursor, and says what it was. */
+static inline uint64_t stream_take(_Atomic uint64_t *cursor, uint64_t step)
+{
+#if defined __x86_64__
+    /* With one thread only a signal handler can come between, and none comes between the halves of an instruction. */
+    if (LIKELY(__libc_single_threaded)) {
+        __asm__ volatile("xaddq %0, %1" : "+r"(step), "+m"(*(uint64_t *)cursor) : : "memory", "cc");
+        return step;
+    }
+#endif
+    return atomic_fetch_add(cursor, step);
+}
+
+/* The place of a record of `length` bytes, or null where it is not recorded. */
+static inline unsigned char *stream_reserve(unsigned length, uintptr_t caller)
+{
+    struct stream *stream = &stream_page.stream;
+    uint64_t now = atomic_load_explicit(&stream->cursor, memory_order_relaxed);
+    if (UNLIKELY(!(now & CURSOR_ON)) && !stream_wake())
+        return NULL;
+    uint64_t place = stream_take(&stream->cursor, CURSOR_EVENT + length);
+    uint32_t offset = (uint32_t)place;
+    /* Off is below CURSOR_ON, and so past every limit in this subtraction. */
+    if (UNLIKELY(place - CURSOR_ON >= stream->events_end
+                 || offset + length > atomic_load_explicit(&stream->ready, memory_order_acquire))
+        && !stream_room(place, length))
+        return NULL;
+    if (UNLIKELY(stream->places != NULL))
+        stream->places[(place - CURSOR_ON) >> 32] = caller;
+    return stream->bytes + offset;
+}
+
+static inline void put_number(unsigned char *at, uint64_t number)
+{
+    __builtin_memcpy(at, &number, sizeof number);
+}
+
+/* The code goes last: it says that the record is whole. */
+static inline void put_code(unsigned char *at, enum code code)
+{
+    atomic_store_explicit((_Atomic unsigned char *)at, (unsigned char)code, memory_order_release);
+}
+
+static inline void record_access(enum code code, unsigned width, uint64_t address, uintptr_t caller)
+{
+    if (UNLIKELY(address > ADDRESS_END - width))
+        return; /* it can't be spelled, and would end the stream */
+    unsigned char *at = stream_reserve(ACCESS_LENGTH, caller);
+    if (UNLIKELY(at == NULL))
+        return;
+    put_number(at + 2, address);
+    uint16_t code_and_width = (uint16_t)(code | width << 8);
+    atomic_signal_fence(memory_order_release);
+    __builtin_memcpy(at, &code_and_width, sizeof code_and_width);
+}
+
+/* An access of any width, in pieces of 1, 2, 4 and 8 bytes at multiples of them. */
+void record_range(enum code code, uint64_t address, uint64_t size, uintptr_t caller);
+/* A malloc, a poison or an unpoison. A region that can't be spelled is left out. */
+void record_region(enum code code, uint64_t address, uint64_t size, uintptr_t caller);
+/* A poison or an unpoison of any size, in pieces. */
+void record_regions(enum code code, uint64_t address, uint64_t size, uintptr_t caller);
+void record_free(uint64_t address, uintptr_t caller);
+
+/* Ends the recording where it is, without a close, and says why. */
+void stream_stop(const char *why);
+
+/* process.c: what becomes of the stream when the process starts, forks, and ends. */
+
+enum finish { FINISH_CLOSED, FINISH_OPEN };
+
+void recorder_start(void);
+void recorder_finish(enum finish finish);
+/* Before an exec. False: there is nothing to take back. */
+bool recorder_before_exec(void);
+void recorder_exec_failed(void);
+/* Says one line on standard error, if that is still what it was at the start. */
+void recorder_say(const char *what, const char *of, const char *why);
+
+/* heap.c: the allocator. */
+
+/* How many bytes of freed spans are held from now on. */
+void heap_set_bound(uint64_t bytes);
+/* No other thread is in the allocator between these two. */
+void heap_lock(void);
+void heap_unlock(void);
+/* Whether this thread is in the allocator. */
+bool heap_is_entered(void);
+/* Records a malloc for each block that is live or held, and a free for each that is held. The heap is locked. */
+void heap_record_all(void);
+/* The next malloc of this thread is recorded with this place, and not with that of libc's code which calls it. */
+void heap_called_from(uintptr_t caller);
+
+/* What shared objects find in the program. They are built with the small libasancol_shared.a, whose functions do
+   nothing where no recorder is there. */
+struct asancol_hooks {
+    void (*access)(enum code code, unsigned width, uint64_t address, uintptr_t caller);
+    void (*range)(enum code code, uint64_t address, uint64_t size, uintptr_t caller);
+    void (*regions)(enum code code, uint64_t address, uint64_t size, uintptr_t caller);
+    void (*called_from)(uintptr_t caller);
+    void (*finish)(enum finish finish);
+    bool (*before_exec)(void);
+    void (*exec_failed)(void);
+    void (*modules_changed)(void);
+};
+
+#endif

@@ -1,0 +1,476 @@
+#define _GNU_SOURCE
+#include "stream.h"
+
+#include <fcntl.h>
+#include <pthread.h>
+#include <sched.h>
+#include <signal.h>
+#include <string.h>
+#include <sys/mman.h>
+#include <unistd.h>
+
+#include "output.h"
+
+union stream_page stream_page __attribute__((aligned(4096)));
+_Atomic enum state recorder_state;
+
+/* By how much a file grows, and after how many bytes a socket is given what there is. */
+enum { FILE_STEP = 1 << 20, PIECES_STEP = 1 << 16 };
+/* How often to look again at a record that another thread has not written yet. */
+enum { LOOKS = 1000 };
+
+static struct {
+    pthread_mutex_t lock;  /* of all below; with it held signals are blocked */
+    sigset_t mask;         /* what was blocked before */
+    struct output trace;
+    struct output where;
+    bool has_where;
+    int patience_ms;
+    uint64_t checked;      /* up to here the records were seen to be whole */
+    uint64_t checked_events;
+    uint64_t suspended;    /* the cursor, while an exec is tried */
+    _Atomic uint64_t left_out;
+} keeper = {.lock = PTHREAD_MUTEX_INITIALIZER};
+
+#define STREAM (&stream_page.stream)
+
+void stream_lock(void)
+{
+    sigset_t all, before;
+    sigfillset(&all);
+    pthread_sigmask(SIG_SETMASK, &all, &before);
+    pthread_mutex_lock(&keeper.lock);
+    keeper.mask = before;
+}
+
+void stream_unlock(void)
+{
+    sigset_t before = keeper.mask;
+    pthread_mutex_unlock(&keeper.lock);
+    pthread_sigmask(SIG_SETMASK, &before, NULL);
+}
+
+static bool try_lock(bool certain)
+{
+    if (certain) {
+        stream_lock();
+        return true;
+    }
+    sigset_t all, before;
+    sigfillset(&all);
+    pthread_sigmask(SIG_SETMASK, &all, &before);
+    for (int tries = 0; tries < LOOKS; tries++) {
+        if (pthread_mutex_trylock(&keeper.lock) == 0) {
+            keeper.mask = before;
+            return true;
+        }
+        sched_yield();
+    }
+    pthread_sigmask(SIG_SETMASK, &before, NULL);
+    return false;
+}
+
+static unsigned char code_at(uint64_t offset)
+{
+    return atomic_load_explicit((_Atomic unsigned char *)(STREAM->bytes + offset), memory_order_acquire);
+}
+
+/* Whether whole records begin here, as far as a few of them can say. */
+static bool looks_sound(uint64_t offset, uint64_t end)
+{
+    for (int seen = 0; offset < end && seen < 8; seen++) {
+        unsigned length = record_length(code_at(offset));
+        const unsigned char *width = STREAM->bytes + offset + 1;
+        if (length == 0)
+            return seen > 0;
+        if (length == ACCESS_LENGTH && *width != 1 && *width != 2 && *width != 4 && *width != 8)
+            return false;
+        offset += length;
+    }
+    return offset <= end || end == 0;
+}
+
+/* A record that was begun and will never be written, as when a signal handler left by a jump: puts one there that says
+   nothing. Answers its length, 0 where that can't be known. */
+static unsigned fill_hole(uint64_t offset, uint64_t end)
+{
+    static const struct {
+        enum code code;
+        unsigned length;
+    } fillers[] = {{CODE_LOAD, ACCESS_LENGTH}, {CODE_UNPOISON, REGION_LENGTH}, {CODE_FREE, PLACE_LENGTH}};
+    for (unsigned i = 0; i < sizeof fillers / sizeof *fillers; i++) {
+        unsigned length = fillers[i].length;
+        if (offset + length > end || !looks_sound(offset + length, end))
+            continue;
+        unsigned char *at = STREAM->bytes + offset;
+        memset(at, 0, length);
+        if (fillers[i].code == CODE_LOAD)
+            at[1] = 1;
+        put_code(at, fillers[i].code);
+        return length;
+    }
+    return 0;
+}
+
+/* Goes on over the records that are whole, up to `end`, which is a border. With `patience` it waits for others to
+   finish theirs, and then fills holes. */
+static void check_records(uint64_t end, uint64_t limit, bool patience)
+{
+    int looks = 0;
+    while (keeper.checked < end && keeper.checked_events < limit) {
+        unsigned length = record_length(code_at(keeper.checked));
+        if (length == 0) {
+            if (!patience)
+                return;
+            if (++looks < LOOKS) {
+                sched_yield();
+                continue;
+            }
+            length = fill_hole(keeper.checked, end);
+            if (length == 0)
+                return;
+        }
+        looks = 0;
+        keeper.checked += length;
+        keeper.checked_events++;
+    }
+}
+
+/* No more is recorded. The stream ends after its last whole record, without a close. */
+static void give_up(const char *why)
+{
+    uint64_t cursor = atomic_exchange(&STREAM->cursor, 0);
+    uint64_t end = (uint32_t)cursor, ready = atomic_load(&STREAM->ready);
+    atomic_store(&recorder_state, STATE_OFF);
+    heap_set_bound(0);
+    if (cursor & CURSOR_ON) {
+        check_records(end < ready ? end : ready, STREAM->events_end >> 32, true);
+        output_trim(&keeper.trace, keeper.checked);
+    }
+    recorder_say("recording ends: ", keeper.trace.path, why);
+}
+
+void stream_stop(const char *why)
+{
+    if (atomic_load(&recorder_state) != STATE_RECORDING)
+        return;
+    stream_lock();
+    give_up(why);
+    stream_unlock();
+}
+
+static const char *grow(void)
+{
+    uint64_t ready = atomic_load(&STREAM->ready);
+    uint64_t next = ready + (keeper.trace.is_mapped ? FILE_STEP : PIECES_STEP);
+    const char *why = NULL;
+    if (keeper.trace.is_mapped) {
+        why = output_extend(&keeper.trace, next);
+        /* Records have at least PLACE_LENGTH bytes, and each has its program counter. */
+        if (why == NULL && keeper.has_where)
+            why = output_extend(&keeper.where, PLACES_OFFSET + (next / PLACE_LENGTH + 1) * PLACE_BYTES);
+    } else {
+        uint64_t reserved = (uint32_t)atomic_load(&STREAM->cursor);
+        check_records(reserved < ready ? reserved : ready, EVENT_LIMIT, false);
+        why = output_send(&keeper.trace, keeper.checked, false, 0);
+    }
+    if (why == NULL)
+        atomic_store_explicit(&STREAM->ready, next, memory_order_release);
+    return why;
+}
+
+static bool grow_to(uint64_t end)
+{
+    while (atomic_load(&STREAM->ready) < end) {
+        const char *why = grow();
+        if (why != NULL) {
+            give_up(why);
+            return false;
+        }
+    }
+    return true;
+}
+
+/* Writes the close, if there shall be one, and leaves nothing after it. The lock is held and the cursor off. */
+static void finish_at(uint64_t end, uint64_t limit, enum finish finish)
+{
+    uint64_t ready = atomic_load(&STREAM->ready);
+    check_records(end < ready ? end : ready, limit, true);
+    bool whole = keeper.checked == end || keeper.checked_events == limit;
+    uint64_t length = keeper.checked;
+    if (finish == FINISH_CLOSED && whole && grow_to(length + CLOSE_LENGTH))
+        put_code(STREAM->bytes + length++, CODE_CLOSE);
+    if (keeper.trace.is_mapped) {
+        output_trim(&keeper.trace, length);
+        if (keeper.has_where) {
+            stream_write_modules();
+            output_trim(&keeper.where, PLACES_OFFSET + keeper.checked_events * PLACE_BYTES);
+        }
+    } else {
+        const char *why = output_send(&keeper.trace, length, true, keeper.patience_ms);
+        if (why != NULL)
+            recorder_say("the end of the recording is lost: ", keeper.trace.path, why);
+    }
+}
+
+static uint64_t limit_of_stream(void)
+{
+    return STREAM->events_end >> 32;
+}
+
+/* The event that takes this place is one too many. */
+static void end_at_limit(uint64_t place)
+{
+    stream_lock();
+    if (atomic_exchange(&STREAM->cursor, 0) & CURSOR_ON) {
+        atomic_store(&recorder_state, STATE_AT_LIMIT);
+        finish_at((uint32_t)place, limit_of_stream(), FINISH_CLOSED);
+        heap_set_bound(0);
+    }
+    stream_unlock();
+}
+
+bool stream_room(uint64_t place, unsigned length)
+{
+    if (!(place & CURSOR_ON))
+        return false; /* it was turned off just now */
+    uint64_t count = (place - CURSOR_ON) >> 32;
+    if (count >= limit_of_stream()) {
+        if (count == limit_of_stream())
+            end_at_limit(place);
+        atomic_fetch_add_explicit(&keeper.left_out, 1, memory_order_relaxed);
+        return false;
+    }
+    stream_lock();
+    bool fits = (atomic_load(&STREAM->cursor) & CURSOR_ON) && grow_to((uint32_t)place + length);
+    stream_unlock();
+    return fits;
+}
+
+bool stream_wake(void)
+{
+    switch (atomic_load_explicit(&recorder_state, memory_order_relaxed)) {
+    case STATE_UNSTARTED:
+        /* Too early; and in the allocator the start would record a block that its malloc then records again. */
+        if (environ == NULL || heap_is_entered())
+            return false;
+        recorder_start();
+        return (atomic_load(&STREAM->cursor) & CURSOR_ON) != 0;
+    case STATE_AT_LIMIT:
+        atomic_fetch_add_explicit(&keeper.left_out, 1, memory_order_relaxed);
+        return false;
+    default:
+        return false;
+    }
+}
+
+static const char *open_where(void)
+{
+    char path[PATH_MAX + 8];
+    size_t length = strlen(keeper.trace.path);
+    memcpy(path, keeper.trace.path, length);
+    strcpy(path + length, ".where");
+    const char *why = output_open_file(&keeper.where, path, LARGEST_WHERE,
+                                       PLACES_OFFSET + (FILE_STEP / PLACE_LENGTH + 1) * PLACE_BYTES);
+    if (why == NULL && !keeper.where.is_mapped)
+        why = "it can't be mapped";
+    return why;
+}
+
+static const char *open_output(const struct settings *settings)
+{
+    const char *why;
+    keeper.has_where = false;
+    if (settings->trace != NULL)
+        why = output_open_file(&keeper.trace, settings->trace, LARGEST_STREAM + FILE_STEP, FILE_STEP);
+    else
+        why = output_connect(&keeper.trace, settings->socket, LARGEST_STREAM + FILE_STEP, settings->patience_ms);
+    if (why != NULL || !settings->with_places)
+        return why;
+    if (!keeper.trace.is_mapped) {
+        recorder_say("no program counters are kept: ", keeper.trace.path, "it is no file");
+        return NULL;
+    }
+    const char *why_not = open_where();
+    keeper.has_where = why_not == NULL;
+    if (why_not != NULL)
+        recorder_say("no program counters are kept: ", keeper.where.path, why_not);
+    return NULL;
+}
+
+bool stream_begin(const struct settings *settings)
+{
+    const char *why = open_output(settings);
+    if (why != NULL) {
+        recorder_say("nothing is recorded: ", settings->trace ? settings->trace : settings->socket, why);
+        return false;
+    }
+    madvise(&stream_page, sizeof stream_page, MADV_WIPEONFORK);
+    keeper.patience_ms = settings->patience_ms;
+    keeper.checked = HEADER_LENGTH;
+    keeper.checked_events = 0;
+    atomic_store(&keeper.left_out, 0);
+    STREAM->bytes = keeper.trace.bytes;
+    STREAM->events_end = settings->limit << 32;
+    STREAM->places = NULL;
+    memcpy(STREAM->bytes, HEADER, HEADER_LENGTH);
+    if (keeper.has_where) {
+        memcpy(keeper.where.bytes, WHERE_HEADER, WHERE_HEADER_LENGTH);
+        stream_write_modules();
+        STREAM->places = (uint64_t *)(keeper.where.bytes + PLACES_OFFSET);
+    }
+    atomic_store(&STREAM->ready, keeper.trace.is_mapped ? FILE_STEP : PIECES_STEP);
+    atomic_store(&recorder_state, STATE_RECORDING);
+    atomic_store(&STREAM->cursor, CURSOR_ON | HEADER_LENGTH);
+    return true;
+}
+
+void stream_end(enum finish finish, bool certain)
+{
+    uint64_t cursor = atomic_exchange(&STREAM->cursor, 0);
+    if (!(cursor & CURSOR_ON))
+        return;
+    atomic_store(&recorder_state, STATE_OFF);
+    if (!try_lock(certain))
+        return;
+    finish_at((uint32_t)cursor, limit_of_stream(), finish);
+    stream_unlock();
+}
+
+bool stream_suspend(void)
+{
+    uint64_t cursor = atomic_exchange(&STREAM->cursor, 0);
+    if (!(cursor & CURSOR_ON))
+        return false;
+    stream_lock();
+    keeper.suspended = cursor;
+    finish_at((uint32_t)cursor, limit_of_stream(), keeper.trace.is_mapped ? FINISH_CLOSED : FINISH_OPEN);
+    stream_unlock();
+    return true;
+}
+
+void stream_resume(void)
+{
+    stream_lock();
+    bool is_file = keeper.trace.is_mapped;
+    const char *why = is_file ? output_extend(&keeper.trace, atomic_load(&STREAM->ready)) : NULL;
+    if (why == NULL && keeper.has_where)
+        why = output_extend(&keeper.where,
+                            PLACES_OFFSET + (atomic_load(&STREAM->ready) / PLACE_LENGTH + 1) * PLACE_BYTES);
+    if (why != NULL) {
+        give_up(why);
+    } else {
+        if (is_file)
+            STREAM->bytes[keeper.checked] = 0; /* no close after all */
+        atomic_store(&STREAM->cursor, CURSOR_ON | keeper.checked_events << 32 | keeper.checked);
+    }
+    stream_unlock();
+}
+
+void stream_forget(void)
+{
+    pthread_mutex_init(&keeper.lock, NULL);
+    atomic_store(&STREAM->cursor, 0);
+    output_drop(&keeper.trace);
+    if (keeper.has_where)
+        output_drop(&keeper.where);
+    keeper.has_where = false;
+}
+
+bool stream_has_lost(const void *address)
+{
+    const struct output *outputs[] = {&keeper.trace, &keeper.where};
+    for (int i = 0; i < 2; i++) {
+        const struct output *output = outputs[i];
+        const unsigned char *at = address;
+        if (output->bytes == NULL || at < output->bytes || at >= output->bytes + output->room)
+            continue;
+        /* The bytes of the record have to go somewhere. */
+        if (mmap(output->bytes, output->room, PROT_READ | PROT_WRITE,
+                 MAP_PRIVATE | MAP_ANONYMOUS | MAP_NORESERVE | MAP_FIXED, -1, 0) == MAP_FAILED)
+            return false;
+        give_up("the file was cut");
+        return true;
+    }
+    return false;
+}
+
+/* Copies the map of modules from the system: each line as it is, for as many as there is room. */
+void stream_write_modules(void)
+{
+    if (!keeper.has_where || keeper.where.bytes == NULL)
+        return;
+    int maps = open("/proc/self/maps", O_RDONLY | O_CLOEXEC);
+    if (maps < 0)
+        return;
+    unsigned char *next = keeper.where.bytes + WHERE_HEADER_LENGTH;
+    unsigned char *end = keeper.where.bytes + PLACES_OFFSET - 1;
+    ssize_t count;
+    while (next < end && (count = read(maps, next, (size_t)(end - next))) > 0)
+        next += count;
+    *next = 0;
+    close(maps);
+}
+
+void stream_say_left_out(void)
+{
+    uint64_t left_out = atomic_exchange(&keeper.left_out, 0);
+    char digits[24];
+    size_t first = sizeof digits;
+    if (left_out == 0)
+        return;
+    digits[--first] = 0;
+    for (; left_out != 0; left_out /= 10)
+        digits[--first] = (char)('0' + left_out % 10);
+    recorder_say("at the limit, further events left out of ", keeper.trace.path, digits + first);
+}
+
+void record_range(enum code code, uint64_t address, uint64_t size, uintptr_t caller)
+{
+    while (size > 0) {
+        unsigned width = 8;
+        while (width > size || (address & (width - 1)) != 0)
+            width /= 2;
+        if (address > ADDRESS_END - width)
+            return;
+        record_access(code, width, address, caller);
+        address += width;
+        size -= width;
+    }
+}
+
+void record_region(enum code code, uint64_t address, uint64_t size, uintptr_t caller)
+{
+    if (size > LARGEST_REGION || address > ADDRESS_END - size)
+        return;
+    unsigned char *at = stream_reserve(REGION_LENGTH, caller);
+    if (at == NULL)
+        return;
+    put_number(at + 1, address);
+    put_number(at + 9, size);
+    put_code(at, code);
+}
+
+void record_regions(enum code code, uint64_t address, uint64_t size, uintptr_t caller)
+{
+    /* Cut at granules: elsewhere one granule would be treated twice, in part. */
+    while (size > LARGEST_REGION) {
+        uint64_t piece = LARGEST_REGION - address % GRANULE;
+        record_region(code, address, piece, caller);
+        address += piece;
+        size -= piece;
+    }
+    if (size > 0)
+        record_region(code, address, size, caller);
+}
+
+void record_free(uint64_t address, uintptr_t caller)
+{
+    if (address >= ADDRESS_END)
+        return;
+    unsigned char *at = stream_reserve(PLACE_LENGTH, caller);
+    if (at == NULL)
+        return;
+    put_number(at + 1, address);
+    put_code(at, CODE_FREE);
+}

@@ -1,0 +1,39 @@
+/* The stream from its header to its end. The functions of recorder.h write into it. */
+#ifndef ASANCOL_STREAM_H
+#define ASANCOL_STREAM_H
+
+#include "recorder.h"
+
+/* The ways a stream can have ended, so that events are not recorded. */
+enum state { STATE_UNSTARTED, STATE_STARTING, STATE_RECORDING, STATE_AT_LIMIT, STATE_OFF };
+
+struct settings {
+    const char *trace;  /* a name with %p, or null */
+    const char *socket; /* or null */
+    uint64_t limit;
+    uint64_t quarantine;
+    int patience_ms;
+    bool with_places;
+};
+
+extern _Atomic enum state recorder_state;
+
+/* Opens the output, writes the header, and turns the stream on. False: one line said why not. */
+bool stream_begin(const struct settings *settings);
+/* Turns it off and ends it, with or without a close. `certain` is false in a handler of a signal, which does not wait
+   for the lock for ever. */
+void stream_end(enum finish finish, bool certain);
+/* Ends it with a close, keeping what is needed to go on. */
+bool stream_suspend(void);
+void stream_resume(void);
+/* In a child: forgets the parent's stream. */
+void stream_forget(void);
+void stream_lock(void);
+void stream_unlock(void);
+/* Whether this address is in the mapped trace, and what to do if the file under it is gone. */
+bool stream_has_lost(const void *address);
+void stream_write_modules(void);
+/* Says how much was left out, if anything was. */
+void stream_say_left_out(void);
+
+#endif
