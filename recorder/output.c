@@ -191,8 +191,11 @@ const char *output_extend(struct output *output, uint64_t length)
     int failed = fallocate(descriptor, 0, (off_t)output->backed, (off_t)(length - output->backed));
     const char *why = failed ? reason() : NULL;
     close(descriptor);
-    if (!failed)
+    if (!failed) {
+        /* All at once is quicker than a fault for each page. Where the system can't, the faults come. */
+        madvise(output->bytes + output->backed, length - output->backed, MADV_POPULATE_WRITE);
         output->backed = length;
+    }
     return why;
 }
 

@@ -118,8 +118,10 @@ static void check_records(uint64_t end, uint64_t limit, bool patience)
 {
     int looks = 0;
     while (keeper.checked < end && keeper.checked_events < limit) {
-        unsigned length = record_length(code_at(keeper.checked));
-        if (length == 0) {
+        unsigned char code = code_at(keeper.checked);
+        /* The common case is a branch of its own: the processor then need not wait for one record to find the next. */
+        unsigned length = LIKELY(code == CODE_LOAD || code == CODE_STORE) ? ACCESS_LENGTH : record_length(code);
+        if (UNLIKELY(length == 0)) {
             if (!patience)
                 return;
             if (++looks < LOOKS) {
