@@ -26,6 +26,8 @@ enum { LARGEST_SLOT = 1 << 14, FINE_STEP = 16, FINE_END = 1024, CLASSES = 64 + 1
 enum { BINS = 64 };
 /* By how many units the arena grows at once. */
 enum { COMMIT_STEP = 256 };
+/* A stream that begins with what is there has the newest of the blocks in quarantine, and no more of them. */
+enum { HELD_RECORDED = 4096 };
 
 enum block_state { BLOCK_FREE, BLOCK_LIVE, BLOCK_HELD, BLOCK_UNRECORDED };
 
@@ -73,7 +75,7 @@ static struct {
     uint32_t bins[BINS + 1];
     struct class classes[CLASSES];
     struct block *oldest, *newest; /* the quarantine */
-    uint64_t held_bytes;
+    uint64_t held_bytes, held_count;
     _Atomic uint64_t bound;
     /* What a signal handler freed while its thread was in here. */
     void *_Atomic deferred[64];
@@ -348,6 +350,7 @@ static void release_down_to(uint64_t bound)
         if (heap.oldest == NULL)
             heap.newest = NULL;
         heap.held_bytes -= span_bytes(block->size);
+        heap.held_count--;
         release(block);
     }
 }
@@ -362,6 +365,7 @@ static void hold(struct block *block)
         heap.oldest = block;
     heap.newest = block;
     heap.held_bytes += span_bytes(block->size);
+    heap.held_count++;
     release_down_to(atomic_load_explicit(&heap.bound, memory_order_relaxed));
 }
 
@@ -570,9 +574,12 @@ static void *move(void *old, size_t size, uintptr_t caller)
 
 void heap_record_all(void)
 {
-    for (const struct block *block = heap.oldest; block != NULL; block = block->next)
+    const struct block *first = heap.oldest;
+    for (uint64_t rest = heap.held_count; rest > HELD_RECORDED; rest--)
+        first = first->next;
+    for (const struct block *block = first; block != NULL; block = block->next)
         record_region(CODE_MALLOC, (uintptr_t)block_start(block), block->size, 0);
-    for (const struct block *block = heap.oldest; block != NULL; block = block->next)
+    for (const struct block *block = first; block != NULL; block = block->next)
         record_free((uintptr_t)block_start(block), 0);
     for (uint32_t unit = 1; unit < heap.top; unit++) {
         const struct unit *at = &heap.units[unit];

@@ -43,11 +43,6 @@ extern union stream_page {
     unsigned char page[4096];
 } stream_page;
 
-/* Whether the stream is on, after a start where it had not been started. */
-bool stream_wake(void);
-/* Whether the place that was taken can be written. */
-bool stream_room(uint64_t place, unsigned length);
-
 /* Adds to the cursor, and says what it was. */
 static inline uint64_t stream_take(_Atomic uint64_t *cursor, uint64_t step)
 {
@@ -61,23 +56,14 @@ static inline uint64_t stream_take(_Atomic uint64_t *cursor, uint64_t step)
     return atomic_fetch_add(cursor, step);
 }
 
-/* The place of a record of `length` bytes, or null where it is not recorded. */
-static inline unsigned char *stream_reserve(unsigned length, uintptr_t caller)
+/* Whether the place that was taken is past a limit, or the program counter is wanted too. Off is below CURSOR_ON, and
+   so past every limit in this subtraction. */
+static inline bool stream_is_unusual(uint64_t place, unsigned length)
 {
-    struct stream *stream = &stream_page.stream;
-    uint64_t now = atomic_load_explicit(&stream->cursor, memory_order_relaxed);
-    if (UNLIKELY(!(now & CURSOR_ON)) && !stream_wake())
-        return NULL;
-    uint64_t place = stream_take(&stream->cursor, CURSOR_EVENT + length);
-    uint32_t offset = (uint32_t)place;
-    /* Off is below CURSOR_ON, and so past every limit in this subtraction. */
-    if (UNLIKELY(place - CURSOR_ON >= stream->events_end
-                 || offset + length > atomic_load_explicit(&stream->ready, memory_order_acquire))
-        && !stream_room(place, length))
-        return NULL;
-    if (UNLIKELY(stream->places != NULL))
-        stream->places[(place - CURSOR_ON) >> 32] = caller;
-    return stream->bytes + offset;
+    const struct stream *stream = &stream_page.stream;
+    return place - CURSOR_ON >= stream->events_end
+           || (uint32_t)place + length > atomic_load_explicit(&stream->ready, memory_order_acquire)
+           || stream->places != NULL;
 }
 
 static inline void put_number(unsigned char *at, uint64_t number)
@@ -91,17 +77,33 @@ static inline void put_code(unsigned char *at, enum code code)
     atomic_store_explicit((_Atomic unsigned char *)at, (unsigned char)code, memory_order_release);
 }
 
+/* What remains to be done for an access where something is unusual. `place` is 0 where none was taken. */
+void record_access_slowly(uint64_t place, unsigned code_and_width, uint64_t address, uintptr_t caller);
+
+static inline void put_access(unsigned char *at, unsigned code_and_width, uint64_t address)
+{
+    uint16_t first = (uint16_t)code_and_width;
+    put_number(at + 2, address);
+    atomic_signal_fence(memory_order_release);
+    __builtin_memcpy(at, &first, sizeof first);
+}
+
 static inline void record_access(enum code code, unsigned width, uint64_t address, uintptr_t caller)
 {
+    struct stream *stream = &stream_page.stream;
+    unsigned code_and_width = code | width << 8;
     if (UNLIKELY(address > ADDRESS_END - width))
         return; /* it can't be spelled, and would end the stream */
-    unsigned char *at = stream_reserve(ACCESS_LENGTH, caller);
-    if (UNLIKELY(at == NULL))
+    if (UNLIKELY(!(atomic_load_explicit(&stream->cursor, memory_order_relaxed) & CURSOR_ON))) {
+        record_access_slowly(0, code_and_width, address, caller);
         return;
-    put_number(at + 2, address);
-    uint16_t code_and_width = (uint16_t)(code | width << 8);
-    atomic_signal_fence(memory_order_release);
-    __builtin_memcpy(at, &code_and_width, sizeof code_and_width);
+    }
+    uint64_t place = stream_take(&stream->cursor, CURSOR_EVENT + ACCESS_LENGTH);
+    uint32_t offset = (uint32_t)place;
+    if (UNLIKELY(stream_is_unusual(place, ACCESS_LENGTH)))
+        record_access_slowly(place, code_and_width, address, caller);
+    else
+        put_access(stream->bytes + offset, code_and_width, address);
 }
 
 /* An access of any width, in pieces of 1, 2, 4 and 8 bytes at multiples of them. */
@@ -136,7 +138,8 @@ void heap_lock(void);
 void heap_unlock(void);
 /* Whether this thread is in the allocator. */
 bool heap_is_entered(void);
-/* Records a malloc for each block that is live or held, and a free for each that is held. The heap is locked. */
+/* Records a malloc for each block that is live, and a malloc and a free for the newest of those that are held. The heap
+   is locked. */
 void heap_record_all(void);
 /* The next malloc of this thread is recorded with this place, and not with that of libc's code which calls it. */
 void heap_called_from(uintptr_t caller);

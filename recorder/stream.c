@@ -232,7 +232,8 @@ static void end_at_limit(uint64_t place)
     stream_unlock();
 }
 
-bool stream_room(uint64_t place, unsigned length)
+/* Whether the place that was taken can be written. */
+static bool make_room(uint64_t place, unsigned length)
 {
     if (!(place & CURSOR_ON))
         return false; /* it was turned off just now */
@@ -249,7 +250,8 @@ bool stream_room(uint64_t place, unsigned length)
     return fits;
 }
 
-bool stream_wake(void)
+/* Whether the stream is on, after a start where it had not been started. */
+static bool wake(void)
 {
     switch (atomic_load_explicit(&recorder_state, memory_order_relaxed)) {
     case STATE_UNSTARTED:
@@ -427,6 +429,36 @@ void stream_say_left_out(void)
     recorder_say("at the limit, further events left out of ", keeper.trace.path, digits + first);
 }
 
+/* Where the record of a place goes, or null where it is not recorded. */
+static unsigned char *open_place(uint64_t place, unsigned length, uintptr_t caller)
+{
+    uint64_t event = place - CURSOR_ON;
+    bool fits = event < STREAM->events_end && (uint32_t)place + length <= atomic_load(&STREAM->ready);
+    if (!fits && !make_room(place, length))
+        return NULL;
+    if (STREAM->places != NULL)
+        STREAM->places[event >> 32] = caller;
+    return STREAM->bytes + (uint32_t)place;
+}
+
+/* The place of a record of `length` bytes, or null. */
+static unsigned char *reserve(unsigned length, uintptr_t caller)
+{
+    if (!(atomic_load_explicit(&STREAM->cursor, memory_order_relaxed) & CURSOR_ON) && !wake())
+        return NULL;
+    uint64_t place = stream_take(&STREAM->cursor, CURSOR_EVENT + length);
+    if (LIKELY(!stream_is_unusual(place, length)))
+        return STREAM->bytes + (uint32_t)place;
+    return open_place(place, length, caller);
+}
+
+void record_access_slowly(uint64_t place, unsigned code_and_width, uint64_t address, uintptr_t caller)
+{
+    unsigned char *at = place == 0 ? reserve(ACCESS_LENGTH, caller) : open_place(place, ACCESS_LENGTH, caller);
+    if (at != NULL)
+        put_access(at, code_and_width, address);
+}
+
 void record_range(enum code code, uint64_t address, uint64_t size, uintptr_t caller)
 {
     while (size > 0) {
@@ -445,7 +477,7 @@ void record_region(enum code code, uint64_t address, uint64_t size, uintptr_t ca
 {
     if (size > LARGEST_REGION || address > ADDRESS_END - size)
         return;
-    unsigned char *at = stream_reserve(REGION_LENGTH, caller);
+    unsigned char *at = reserve(REGION_LENGTH, caller);
     if (at == NULL)
         return;
     put_number(at + 1, address);
@@ -470,7 +502,7 @@ void record_free(uint64_t address, uintptr_t caller)
 {
     if (address >= ADDRESS_END)
         return;
-    unsigned char *at = stream_reserve(PLACE_LENGTH, caller);
+    unsigned char *at = reserve(PLACE_LENGTH, caller);
     if (at == NULL)
         return;
     put_number(at + 1, address);

@@ -11,9 +11,11 @@ said in a line, and left out.
 import os
 import re
 import shutil
+import socket
 import subprocess
 import sys
 import tempfile
+import time
 
 TESTS = os.path.dirname(os.path.abspath(__file__))
 RECORDER = os.path.dirname(TESTS)
@@ -169,7 +171,7 @@ class Suite:
         self.failed = 0
 
     def test(self, name, run_it, *arguments):
-        if self.words and not any(word in name for word in self.words):
+        if self.words and "lives" not in self.words and not any(word in name for word in self.words):
             return
         folder = tempfile.mkdtemp(prefix="asancol.")
         try:
@@ -255,6 +257,288 @@ def fault_tests(suite, compiler, folder):
             )
 
 
+# What becomes of processes: the status (or minus the signal), the fate of the trace, and its reports.
+MARK = "store 1 +8 heap-buffer-overflow"
+LIVES = {
+    "ends_normally": (0, "closed", [MARK]),
+    "ends_by__exit": (7, "closed", [MARK]),
+    "ends_by_quick_exit": (7, "closed", [MARK]),
+    "exits_in_a_thread": (7, "closed", [MARK]),
+    "leaves_its_first_thread": (7, "closed", [MARK]),
+    "segfaults": (-11, "no-close", [MARK]),
+    "aborts": (-6, "no-close", [MARK]),
+    "is_killed": (-9, "malformed code", [MARK]),
+    "is_terminated": (-15, "no-close", [MARK]),
+    "asks_for_handlers": (0, "closed", []),
+    "recovers_from_a_fault": (0, "closed", [MARK]),
+    "handlers_allocate": (0, "closed", [MARK]),
+    "handlers_jump": (0, "closed", [MARK]),
+    "threads_exchange": (0, "closed", [MARK]),
+    "many_threads": (0, "closed", [MARK]),
+    "ends_with_threads": (0, "closed", [MARK]),
+    "forks_by_the_system": (0, "closed", [MARK]),
+    "vforks": (0, "closed", [MARK]),
+    "execs_in_vain": (0, "closed", [MARK, MARK]),
+    "spawns": (0, "closed", [MARK]),
+    "closes_all": (0, "closed", [MARK]),
+    "counts_descriptors": (0, "closed", []),
+    "closes_errors": (0, "closed", [MARK] * 100),
+    "fills_its_memory": (0, "closed", []),
+    "many_events": (0, "closed", [MARK]),
+    "many_frees": (0, "closed", [MARK]),
+    "uses_exit_handlers": (0, "closed", [MARK]),
+    "loads_a_library": (0, "closed", [MARK]),
+}
+
+
+def check_life(suite, folder, program, name, status, fate, wanted):
+    shutil.copy(f"{os.path.dirname(program)}/libplugin.so", folder)
+    trace = f"{folder}/t.trace"
+    ran = run([program, name], folder, ASANCOL_TRACE="t.trace")
+    expect(ran.returncode, status, "status of the program")
+    expect(ran.stderr, b"", "standard error of the program")
+    checked, texts, end = reports(suite.asancol, trace)
+    expect(texts, wanted, "reports")
+    expect(end.split(" events ")[0], fate, "fate")
+    expect(checked, 3 if fate != "closed" else 1 if wanted else 0, "status")
+    if os.path.exists(f"{folder}/victim"):
+        expect(os.path.getsize(f"{folder}/victim"), 0, "what was written to another file")
+
+
+def traces(folder):
+    return sorted(name for name in os.listdir(folder) if name.endswith(".trace"))
+
+
+def check_fork(suite, folder, program):
+    ran = run([program, "forks"], folder, ASANCOL_TRACE="%p.trace")
+    expect((ran.returncode, ran.stderr), (0, b""))
+    seen = sorted(tuple(reports(suite.asancol, f"{folder}/{name}")[1]) for name in traces(folder))
+    expect(seen, [(), ("load 1 +1 heap-use-after-free",)], "reports of parent and child")
+    for name in traces(folder):
+        expect(Trace(f"{folder}/{name}").is_closed, True, name)
+
+
+def check_fork_in_a_thread(suite, folder, program):
+    ran = run([program, "forks_in_a_thread"], folder, ASANCOL_TRACE="%p.trace")
+    expect((ran.returncode, ran.stderr), (0, b""))
+    seen = sorted(reports(suite.asancol, f"{folder}/{name}")[1] for name in traces(folder))
+    expect(seen, [[]] * 10 + [[MARK]], "reports")
+
+
+def check_exec(suite, folder, program):
+    ran = run([program, "execs"], folder, ASANCOL_TRACE="run.trace")
+    expect((ran.returncode, ran.stderr), (0, b""))
+    expect(traces(folder), ["run.1.trace", "run.trace"], "traces")
+    for name in traces(folder):
+        status, texts, end = reports(suite.asancol, f"{folder}/{name}")
+        expect((status, texts, end.split()[0]), (1, [MARK], "closed"), name)
+
+
+def check_limit(suite, folder, program):
+    ran = run([program, "many_events"], folder, ASANCOL_TRACE="t.trace", ASANCOL_LIMIT="50000")
+    trace = Trace(f"{folder}/t.trace")
+    expect(ran.returncode, 0, "status of the program")
+    expect((len(trace.events), trace.is_closed), (50000, True), "events")
+    said = ran.stderr.decode()
+    whole = run([program, "many_events"], folder, ASANCOL_TRACE="whole.trace")
+    left_out = len(Trace(f"{folder}/whole.trace").events) - 50000
+    expect(said.count("\n"), 1, said)
+    if not said.startswith("asancol: ") or not said.endswith(f": {left_out}\n"):
+        raise Failure(f"said {said!r}, left out {left_out}")
+    expect(whole.stderr, b"", "standard error without a limit")
+    # One event fewer, and as many as there are.
+    for limit, said in ((left_out + 49999, 1), (left_out + 50000, 0)):
+        ran = run([program, "many_events"], folder, ASANCOL_TRACE=f"l{limit}.trace", ASANCOL_LIMIT=str(limit))
+        expect(ran.stderr.decode().count("\n"), said, f"lines with a limit of {limit}")
+        trace = Trace(f"{folder}/l{limit}.trace")
+        expect((len(trace.events), trace.is_closed), (limit, True), f"events with a limit of {limit}")
+
+
+def check_nowhere(suite, folder, program, settings, status=0):
+    """The program runs as ever, and one line says that nothing is recorded."""
+    ran = run([program, "many_events"], folder, **settings)
+    expect(ran.returncode, status, "status of the program")
+    lines = ran.stderr.decode().splitlines()
+    expect(len(lines), 1, f"lines {lines}")
+    expect(lines[0].startswith("asancol: "), True, lines[0])
+
+
+def check_unset(suite, folder, program):
+    ran = run([program, "many_events"], folder)
+    expect((ran.returncode, ran.stderr), (0, b""))
+    expect(os.listdir(folder), [], "files")
+
+
+def check_quarantine(suite, folder, program):
+    ran = run([program, "many_frees"], folder, ASANCOL_TRACE="t.trace", ASANCOL_QUARANTINE="5000")
+    expect((ran.returncode, ran.stderr), (0, b""))
+    status, texts, _ = reports(suite.asancol, f"{folder}/t.trace", ["--quarantine", "5000"])
+    expect((status, texts), (1, [MARK]), "with the same bound")
+    _, texts, _ = reports(suite.asancol, f"{folder}/t.trace")
+    expect(any("bad-malloc" in text for text in texts), True, "bad mallocs with a greater bound")
+
+
+def check_wrong_numbers(suite, folder, program):
+    ran = run([program, "ends_normally"], folder, ASANCOL_TRACE="t.trace", ASANCOL_LIMIT="0", ASANCOL_QUARANTINE="x")
+    expect(ran.returncode, 0)
+    expect(len(ran.stderr.decode().splitlines()), 2, "lines")
+    expect(Trace(f"{folder}/t.trace").is_closed, True)
+
+
+def check_file_limit(suite, folder, program):
+    ran = run([program, "writes_past_a_limit"], folder, ASANCOL_TRACE="t.trace")
+    expect((ran.returncode, len(ran.stderr.decode().splitlines())), (0, 1), ran.stderr)
+    status, texts, end = reports(suite.asancol, f"{folder}/t.trace")
+    expect((status, texts, end.split()[0]), (3, [MARK], "no-close"))
+
+
+def check_little_memory(suite, folder, program):
+    """Under a limit of address space that the program alone keeps, it runs on."""
+    words = ["sh", "-c", f"ulimit -v 1000000; exec {program} fills_its_memory"]
+    ran = run(words, folder, ASANCOL_TRACE="t.trace")
+    expect(ran.returncode, 0, ran.stderr)
+
+
+def serve(suite, folder, count):
+    ready = f"{folder}/ready"
+    words = [suite.asancol, "serve", "--count", str(count), "--ready", ready, "t.sock"]
+    server = subprocess.Popen(words, cwd=folder, stdout=subprocess.PIPE, env=environment())
+    while not os.path.exists(ready):
+        if server.poll() is not None:
+            raise Failure("the collector ended")
+        time.sleep(0.01)
+    return server
+
+
+def check_socket(suite, folder, program, name, status, fate, lines):
+    """Over a socket: `lines` reports of process 0 are wanted."""
+    server = serve(suite, folder, 1)
+    ran = run([program, name], folder, ASANCOL_SOCKET="t.sock")
+    expect(ran.returncode, status, "status of the program")
+    said, _ = server.communicate(timeout=PATIENCE)
+    text = said.decode().splitlines()
+    expect(len(text) - 1, lines, "reports")
+    expect(text[-1].split(" events ")[0], f"p0 end {fate}", "fate")
+    wanted_lines = 1 if name.startswith("forks") else 0
+    expect(len(ran.stderr.decode().splitlines()), wanted_lines, ran.stderr)
+
+
+def check_two_at_a_socket(suite, folder, program):
+    """The first sends more than a socket holds before the second is there, and is not held up."""
+    server = serve(suite, folder, 2)
+    first = subprocess.Popen([program, "many_events"], cwd=folder, env=environment(ASANCOL_SOCKET="t.sock"))
+    second = run([program, "ends_normally"], folder, ASANCOL_SOCKET="t.sock")
+    expect((first.wait(timeout=PATIENCE), second.returncode), (0, 0))
+    said, _ = server.communicate(timeout=PATIENCE)
+    ends = [line.split()[:3] for line in said.decode().splitlines() if " end " in line]
+    expect(ends, [["p0", "end", "closed"], ["p1", "end", "closed"]])
+
+
+def check_stranger(suite, folder, program, closes):
+    """A peer that never reads, and one that leaves at once."""
+    listening = socket.socket(socket.AF_UNIX)
+    listening.bind(f"{folder}/t.sock")
+    listening.listen(1)
+    ran = subprocess.Popen(
+        [program, "many_events"],
+        cwd=folder,
+        stderr=subprocess.PIPE,
+        env=environment(ASANCOL_SOCKET="t.sock", ASANCOL_PATIENCE="1"),
+    )
+    if closes:
+        listening.accept()[0].close()
+    _, said = ran.communicate(timeout=PATIENCE)
+    listening.close()
+    expect(ran.returncode, 0, "status of the program")
+    expect(len(said.decode().splitlines()), 1, said)
+
+
+def check_pipe(suite, folder, program):
+    words = ["sh", "-c", f"ASANCOL_TRACE=/dev/fd/3 {program} many_events 3>&1 | {suite.asancol}"]
+    ran = run(words, folder)
+    lines = ran.stdout.decode().splitlines()
+    expect((ran.stderr, len(lines), lines[-1].split()[:3]), (b"", 2, ["p0", "end", "closed"]))
+
+
+def check_where(suite, folder, compiler, level):
+    """The report has the line of its place, and those where the block was made and freed."""
+    source = [
+        "#include <stdlib.h>",
+        "#include <string.h>",
+        "static char *make(void) {",
+        "    return strdup(\"Alice\"); }",
+        "static void give_back(char *p) {",
+        "    free(p); }",
+        "int main(void) {",
+        "    char *volatile p = make();",
+        "    give_back(p);",
+        "    ((volatile char *)p)[2] = 1;",
+        "    return 0; }",
+    ]
+    with open(f"{folder}/w.c", "w") as file:
+        file.write("\n".join(source) + "\n")
+    compiler.c(folder, ["w.c"], f"{folder}/w", level, "-w")
+    ran = run(["./w"], folder, ASANCOL_TRACE="w.trace", ASANCOL_WHERE="1")
+    expect((ran.returncode, ran.stderr), (0, b""))
+    verdicts = run([suite.asancol, "check", "w.trace"], folder).stdout
+    for symbolizer in ("addr2line", "llvm-symbolizer"):
+        if not shutil.which(symbolizer):
+            print(f"left out: {symbolizer} is not there")
+            continue
+        said = run([WHERE, "w.trace"], folder, stdin=verdicts, ASANCOL_SYMBOLIZER=symbolizer)
+        lines = said.stdout.decode().splitlines()
+        plain = verdicts.decode().splitlines()
+        expect(len(lines), len(plain), "lines")
+        expect([line.startswith(old) for line, old in zip(lines, plain)], [True] * len(lines))
+        expect(re.findall(r"w\.c:(\d+)", lines[0])[0], "10", lines[0])
+        allocated, freed = lines[0].split("allocated at ")[1].split("freed at ")
+        expect(re.findall(r"w\.c:(\d+)", allocated)[0], "4", lines[0])
+        expect(re.findall(r"w\.c:(\d+)", freed)[0], "6", lines[0])
+
+
+def life_tests(suite, compiler, folder):
+    program = f"{folder}/lives-{compiler}"
+    compiler.c(folder, [f"{TESTS}/lives.c"], program, "-O1", "-w", "-pthread")
+    compiler.c(folder, [f"{TESTS}/plugin.c"], f"{folder}/libplugin.so", "-fPIC", "-shared", "-Wl,-z,defs")
+    for name, (status, fate, wanted) in LIVES.items():
+        suite.test(f"{compiler} {name}", check_life, program, name, status, fate, wanted)
+    suite.test(f"{compiler} fork", check_fork, program)
+    suite.test(f"{compiler} fork in a thread", check_fork_in_a_thread, program)
+    suite.test(f"{compiler} exec", check_exec, program)
+    suite.test(f"{compiler} limit of events", check_limit, program)
+    nowhere = {
+        "no folder": {"ASANCOL_TRACE": "none/t.trace"},
+        "full disk": {"ASANCOL_TRACE": "/dev/full"},
+        "no socket": {"ASANCOL_SOCKET": "none.sock"},
+        "long name": {"ASANCOL_TRACE": "n" * 5000},
+        "long name of a socket": {"ASANCOL_SOCKET": "n" * 500},
+    }
+    for name, settings in nowhere.items():
+        suite.test(f"{compiler} {name}", check_nowhere, program, settings)
+    suite.test(f"{compiler} no trace wanted", check_unset, program)
+    suite.test(f"{compiler} small quarantine", check_quarantine, program)
+    suite.test(f"{compiler} wrong numbers", check_wrong_numbers, program)
+    suite.test(f"{compiler} limit of files", check_file_limit, program)
+    suite.test(f"{compiler} little memory", check_little_memory, program)
+    for name, status, fate, lines in (
+        ("ends_normally", 0, "closed", 1),
+        ("many_events", 0, "closed", 1),
+        ("segfaults", -11, "no-close", 1),
+        ("is_terminated", -15, "no-close", 1),
+        ("ends_by__exit", 7, "closed", 1),
+        ("threads_exchange", 0, "closed", 1),
+        ("forks", 0, "closed", 0),
+        ("execs_in_vain", 0, "closed", 2),
+    ):
+        suite.test(f"{compiler} socket {name}", check_socket, program, name, status, fate, lines)
+    suite.test(f"{compiler} two at a socket", check_two_at_a_socket, program)
+    suite.test(f"{compiler} a peer that leaves", check_stranger, program, True)
+    suite.test(f"{compiler} a peer that never reads", check_stranger, program, False)
+    suite.test(f"{compiler} pipe", check_pipe, program)
+    for level in ("-O0", "-O2"):
+        suite.test(f"{compiler} where {level}", check_where, compiler, level)
+
+
 def main():
     if len(sys.argv) < 2:
         print(__doc__.split("\n\n")[1], file=sys.stderr)
@@ -263,7 +547,8 @@ def main():
     folder = tempfile.mkdtemp(prefix="asancol.")
     try:
         for compiler in compilers():
-            fault_tests(suite, compiler, folder)
+            if "lives" not in suite.words: fault_tests(suite, compiler, folder)
+            life_tests(suite, compiler, folder)
     finally:
         shutil.rmtree(folder, ignore_errors=True)
     print(f"{suite.passed} passed, {suite.failed} failed")

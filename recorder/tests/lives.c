@@ -1,0 +1,545 @@
+/* What processes do besides touching memory, one a run: `lives NAME [WORD..]`. */
+#define _GNU_SOURCE
+#include <dlfcn.h>
+#include <errno.h>
+#include <fcntl.h>
+#include <pthread.h>
+#include <sched.h>
+#include <setjmp.h>
+#include <signal.h>
+#include <stdatomic.h>
+#include <stdint.h>
+#include <stdio.h>
+#include <stdlib.h>
+#include <string.h>
+#include <sys/mman.h>
+#include <sys/resource.h>
+#include <sys/syscall.h>
+#include <sys/time.h>
+#include <sys/wait.h>
+#include <unistd.h>
+
+static volatile int sink;
+
+static void *hide(void *pointer)
+{
+    __asm__ volatile("" : "+r"(pointer) : : "memory");
+    return pointer;
+}
+
+static void fail(const char *what)
+{
+    perror(what);
+    exit(9);
+}
+
+/* One byte past a block: a mark that the trace shows this place. */
+static void fault(void)
+{
+    char *p = hide(malloc(8));
+    *(volatile char *)hide(p + 8) = 1;
+    free(p);
+}
+
+static void ends_normally(void)
+{
+    fault();
+}
+
+static void ends_by__exit(void)
+{
+    fault();
+    _exit(7);
+}
+
+static void ends_by_quick_exit(void)
+{
+    fault();
+    quick_exit(7);
+}
+
+static void *ends_in_a_thread(void *unused)
+{
+    (void)unused;
+    fault();
+    exit(7);
+}
+
+static void exits_in_a_thread(void)
+{
+    pthread_t thread;
+    pthread_create(&thread, NULL, ends_in_a_thread, NULL);
+    pthread_join(thread, NULL);
+}
+
+static void leaves_its_first_thread(void)
+{
+    pthread_t thread;
+    pthread_create(&thread, NULL, ends_in_a_thread, NULL);
+    pthread_exit(NULL);
+}
+
+static void segfaults(void)
+{
+    fault();
+    *(volatile int *)hide((void *)16) = 1;
+}
+
+static void aborts(void)
+{
+    fault();
+    abort();
+}
+
+static void is_killed(void)
+{
+    fault();
+    kill(getpid(), SIGKILL);
+}
+
+static void is_terminated(void)
+{
+    fault();
+    raise(SIGTERM);
+}
+
+static void on_signal(int number)
+{
+    sink = number;
+}
+
+static sigjmp_buf place;
+
+static void jump_out(int number)
+{
+    siglongjmp(place, number);
+}
+
+/* The program sees the default where it has set nothing. */
+static void asks_for_handlers(void)
+{
+    struct sigaction seen, ours = {.sa_handler = on_signal};
+    if (sigaction(SIGSEGV, NULL, &seen) != 0 || seen.sa_handler != SIG_DFL)
+        exit(1);
+    if (signal(SIGTERM, on_signal) != SIG_DFL || signal(SIGTERM, SIG_DFL) != on_signal)
+        exit(2);
+    if (signal(SIGTERM, SIG_IGN) != SIG_DFL || sigaction(SIGTERM, &ours, &seen) != 0 || seen.sa_handler != SIG_IGN)
+        exit(3);
+    raise(SIGTERM);
+    if (sink != SIGTERM)
+        exit(4);
+}
+
+static void recovers_from_a_fault(void)
+{
+    struct sigaction ours = {.sa_handler = jump_out, .sa_flags = SA_NODEFER};
+    sigaction(SIGSEGV, &ours, NULL);
+    for (int i = 0; i < 10; i++)
+        if (sigsetjmp(place, 1) == 0)
+            *(volatile int *)hide((void *)16) = 1;
+    fault();
+}
+
+/* Handlers that allocate and jump, whatever they interrupt. */
+
+static volatile sig_atomic_t ticks;
+static char *_Atomic last;
+
+static void on_tick(int number)
+{
+    (void)number;
+    ticks++;
+    char *p = hide(malloc(24));
+    if (p != NULL) {
+        p[3] = 1;
+        free(p);
+    }
+}
+
+static void start_ticking(void (*handler)(int))
+{
+    struct itimerval soon = {{0, 50}, {0, 50}};
+    signal(SIGALRM, handler);
+    setitimer(ITIMER_REAL, &soon, NULL);
+}
+
+static void stop_ticking(void)
+{
+    struct itimerval never = {{0, 0}, {0, 0}};
+    setitimer(ITIMER_REAL, &never, NULL);
+}
+
+static void handlers_allocate(void)
+{
+    start_ticking(on_tick);
+    while (ticks < 300) {
+        char *p = hide(malloc(16));
+        for (int i = 0; i < 16; i++)
+            ((volatile char *)p)[i] = 1;
+        free(p);
+    }
+    stop_ticking();
+    fault();
+}
+
+static void handlers_jump(void)
+{
+    static volatile char *p;
+    static volatile int jumps;
+    p = hide(malloc(16));
+    signal(SIGALRM, jump_out);
+    while (jumps < 300) {
+        if (sigsetjmp(place, 1) == 0) {
+            struct itimerval once = {{0, 0}, {0, 50}};
+            setitimer(ITIMER_REAL, &once, NULL);
+            for (;;)
+                p[7] = 1;
+        }
+        jumps++;
+    }
+    fault();
+}
+
+/* Threads. */
+
+enum { THREADS = 8 };
+
+static void *_Atomic mailbox[THREADS];
+
+/* Allocates for another thread, and frees what others allocated. */
+static void *exchange(void *number)
+{
+    unsigned state = (unsigned)(uintptr_t)number * 7919 + 1;
+    for (int i = 0; i < 3000; i++) {
+        state = state * 1103515245 + 12345;
+        char *p = malloc(state / 65536 % 100 + 8);
+        for (int j = 0; j < 8; j++)
+            p[j] = (char)j;
+        p = atomic_exchange(&mailbox[state / 65536 % THREADS], p);
+        if (p != NULL) {
+            sink = p[0] + p[7];
+            free(p);
+        }
+    }
+    return NULL;
+}
+
+static void threads_exchange(void)
+{
+    pthread_t threads[THREADS];
+    for (uintptr_t i = 0; i < THREADS; i++)
+        if (pthread_create(&threads[i], NULL, exchange, (void *)i) != 0)
+            fail("pthread_create");
+    for (int i = 0; i < THREADS; i++)
+        pthread_join(threads[i], NULL);
+    for (int i = 0; i < THREADS; i++)
+        free(mailbox[i]);
+    fault();
+}
+
+static void *allocate_one(void *unused)
+{
+    (void)unused;
+    char *p = hide(malloc(100));
+    p[99] = 1;
+    free(p);
+    return NULL;
+}
+
+static void many_threads(void)
+{
+    static pthread_t threads[4096];
+    pthread_attr_t small;
+    int made = 0;
+    pthread_attr_init(&small);
+    pthread_attr_setstacksize(&small, 65536);
+    while (made < 4096 && pthread_create(&threads[made], &small, allocate_one, NULL) == 0)
+        made++;
+    for (int i = 0; i < made; i++)
+        pthread_join(threads[i], NULL);
+    fault();
+}
+
+static void *works_on(void *unused)
+{
+    for (;;)
+        allocate_one(unused);
+}
+
+/* Its other threads are in the middle of something when it ends. */
+static void ends_with_threads(void)
+{
+    pthread_t thread;
+    for (int i = 0; i < 3; i++)
+        pthread_create(&thread, NULL, works_on, NULL);
+    for (int i = 0; i < 1000; i++)
+        allocate_one(NULL);
+    fault();
+}
+
+/* Processes. */
+
+static void wait_for(pid_t child)
+{
+    int status;
+    if (child < 0 || waitpid(child, &status, 0) != child || status != 0)
+        exit(9);
+}
+
+/* The child frees what its parent allocated, and uses what its parent freed. */
+static void forks(void)
+{
+    char *kept = hide(malloc(10)), *freed = hide(malloc(20)), *large = hide(malloc(100000));
+    free(freed);
+    pid_t child = fork();
+    if (child == 0) {
+        kept[9] = 1;
+        large[99999] = 1;
+        sink = *(volatile char *)hide(freed + 1);
+        free(kept);
+        free(large);
+        exit(0);
+    }
+    wait_for(child);
+    kept[9] = 2;
+    free(kept);
+    free(large);
+}
+
+static void *fork_here(void *unused)
+{
+    (void)unused;
+    for (int i = 0; i < 10; i++) {
+        pid_t child = fork();
+        if (child == 0) {
+            allocate_one(NULL);
+            _exit(0);
+        }
+        wait_for(child);
+    }
+    return NULL;
+}
+
+static void forks_in_a_thread(void)
+{
+    pthread_t busy, forking;
+    for (int i = 0; i < 2; i++) {
+        pthread_create(&busy, NULL, works_on, NULL);
+        pthread_detach(busy);
+    }
+    pthread_create(&forking, NULL, fork_here, NULL);
+    pthread_join(forking, NULL);
+    fault();
+}
+
+static void forks_by_the_system(void)
+{
+    char *p = hide(malloc(8));
+    pid_t child = (pid_t)syscall(SYS_fork);
+    if (child == 0) {
+        p[7] = 1;
+        free(p);
+        _exit(0);
+    }
+    wait_for(child);
+    p[7] = 1;
+    free(p);
+    fault();
+}
+
+static void vforks(void)
+{
+    pid_t child = vfork();
+    if (child == 0)
+        _exit(0);
+    wait_for(child);
+    child = vfork();
+    if (child == 0) {
+        execl("/bin/true", "true", (char *)NULL);
+        _exit(1);
+    }
+    wait_for(child);
+    fault();
+}
+
+static char *own_path;
+
+static void execs(void)
+{
+    fault();
+    execl(own_path, own_path, "ends_normally", (char *)NULL);
+    fail("execl");
+}
+
+static void execs_in_vain(void)
+{
+    char *words[] = {"none", NULL};
+    fault();
+    if (execv("/nowhere/none", words) != -1 || errno != ENOENT)
+        exit(9);
+    if (execlp("asancol-no-such-program", "none", (char *)NULL) != -1 || errno != ENOENT)
+        exit(9);
+    fault();
+}
+
+static void spawns(void)
+{
+    fault();
+    if (system("exit 3") != 3 << 8)
+        exit(9);
+    FILE *pipe = popen("echo word", "r");
+    char line[16];
+    if (pipe == NULL || fgets(line, sizeof line, pipe) == NULL || pclose(pipe) != 0)
+        exit(9);
+}
+
+/* Limits and descriptors. */
+
+static void closes_all(void)
+{
+    for (int i = 3; i < 4096; i++)
+        close(i);
+    /* The numbers are taken again, by files that nobody may touch. */
+    for (int i = 0; i < 600; i++)
+        if (open("victim", O_RDWR | O_CREAT, 0666) < 0)
+            break;
+    fault();
+    for (int i = 0; i < 200000; i++)
+        *(volatile char *)hide(&sink) = 1;
+}
+
+static void counts_descriptors(void)
+{
+    if (open("/dev/null", O_RDONLY) != 3)
+        exit(9);
+}
+
+static void closes_errors(void)
+{
+    close(2);
+    if (open("victim", O_RDWR | O_CREAT, 0666) != 2)
+        exit(9);
+    for (int i = 0; i < 100; i++)
+        fault();
+}
+
+static void set_limit(int what, rlim_t to)
+{
+    struct rlimit limit;
+    getrlimit(what, &limit);
+    limit.rlim_cur = to;
+    if (setrlimit(what, &limit) != 0)
+        fail("setrlimit");
+}
+
+static void writes_past_a_limit(void)
+{
+    set_limit(RLIMIT_FSIZE, 1 << 20);
+    fault();
+    for (int i = 0; i < 400000; i++)
+        *(volatile char *)hide(&sink) = 1;
+}
+
+/* Two thirds of what it may have, again and again: the quarantine must not be in its way. */
+static void fills_its_memory(void)
+{
+    for (int i = 0; i < 40; i++) {
+        char *p = malloc(40 << 20);
+        if (p == NULL)
+            fail("malloc");
+        memset(hide(p), 1, 1000);
+        free(p);
+    }
+}
+
+static void many_events(void)
+{
+    for (int i = 0; i < 100000; i++)
+        *(volatile char *)hide(&sink) = 1;
+    fault();
+}
+
+static void many_frees(void)
+{
+    char *p = hide(malloc(64));
+    for (int i = 0; i < 3000; i++)
+        free(hide(malloc(1000)));
+    free(p);
+    for (int i = 0; i < 10; i++)
+        free(hide(malloc(1000)));
+    fault();
+}
+
+/* Before main, and at the end. */
+
+static char *early;
+
+__attribute__((constructor)) static void before_main(void)
+{
+    early = malloc(8);
+    early[7] = 1;
+}
+
+static void at_the_end(void)
+{
+    early[7] = 2;
+    free(early);
+    early = NULL;
+}
+
+__attribute__((destructor)) static void after_all(void)
+{
+    if (early != NULL)
+        free(early);
+}
+
+static void uses_exit_handlers(void)
+{
+    atexit(at_the_end);
+    fault();
+}
+
+static void loads_a_library(void)
+{
+    void *library = dlopen("./libplugin.so", RTLD_NOW);
+    if (library == NULL) {
+        fprintf(stderr, "%s\n", dlerror());
+        exit(9);
+    }
+    char *(*make)(int) = (char *(*)(int))dlsym(library, "plugin_make");
+    void (*spoil)(char *, int) = (void (*)(char *, int))dlsym(library, "plugin_spoil");
+    char *p = make(8);
+    spoil(p, 8);
+    free(p);
+}
+
+static const struct {
+    const char *name;
+    void (*run)(void);
+} lives[] = {
+#define LIFE(name) {#name, name}
+    LIFE(ends_normally), LIFE(ends_by__exit), LIFE(ends_by_quick_exit), LIFE(exits_in_a_thread),
+    LIFE(leaves_its_first_thread), LIFE(segfaults), LIFE(aborts), LIFE(is_killed), LIFE(is_terminated),
+    LIFE(asks_for_handlers), LIFE(recovers_from_a_fault), LIFE(handlers_allocate), LIFE(handlers_jump),
+    LIFE(threads_exchange), LIFE(many_threads), LIFE(ends_with_threads), LIFE(forks), LIFE(forks_in_a_thread),
+    LIFE(forks_by_the_system), LIFE(vforks), LIFE(execs), LIFE(execs_in_vain), LIFE(spawns), LIFE(closes_all),
+    LIFE(counts_descriptors), LIFE(closes_errors), LIFE(writes_past_a_limit), LIFE(fills_its_memory),
+    LIFE(many_events), LIFE(many_frees), LIFE(uses_exit_handlers), LIFE(loads_a_library),
+};
+
+/* Byte by byte: the events are then as many in each run. */
+static int is_same(const char *one, const char *other)
+{
+    while (*one != 0 && *one == *other)
+        one++, other++;
+    return *one == *other;
+}
+
+int main(int count, char **words)
+{
+    own_path = words[0];
+    for (size_t i = 0; i < sizeof lives / sizeof *lives; i++)
+        if (count > 1 && is_same(words[1], lives[i].name))
+            return lives[i].run(), 0;
+    return 99;
+}
