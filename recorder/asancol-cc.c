@@ -56,10 +56,13 @@ static const char *const program_flags[] = {
 /* What the arguments say. */
 struct wish {
     bool has_input;
+    bool has_source;    /* an input that is compiled */
+    bool names_language;
     bool stops_early;   /* before the link */
     bool is_shared;
     bool is_partial;    /* a link of objects to an object */
     bool is_bare;       /* without the C library */
+    bool is_static;     /* with the C library inside, whose own calls would be wrapped too */
     bool has_sanitizer; /* another one, which brings its own runtime */
     bool skips_next;    /* the next word belongs to the one before */
 };
@@ -88,6 +91,26 @@ static bool is_one_of(const char *word, const char *const *list, size_t count)
 static bool begins(const char *word, const char *front)
 {
     return strncmp(word, front, strlen(front)) == 0;
+}
+
+static bool ends(const char *word, const char *end)
+{
+    size_t length = strlen(word), count = strlen(end);
+    return length >= count && strcmp(word + length - count, end) == 0;
+}
+
+/* Whether the linker takes a file as it is. */
+static bool is_linked(const char *word)
+{
+    return ends(word, ".o") || ends(word, ".a") || ends(word, ".so") || ends(word, ".lo") || ends(word, ".s")
+           || ends(word, ".obj") || strstr(word, ".so.") != NULL || begins(word, "-l");
+}
+
+static void take_input(struct wish *wish, const char *word)
+{
+    wish->has_input = true;
+    if (wish->names_language || !is_linked(word))
+        wish->has_source = true;
 }
 
 static void look_at(struct wish *wish, const char *word);
@@ -148,6 +171,7 @@ static void look_at(struct wish *wish, const char *word)
         "--analyze", "-emit-ast", "-cc1", "-cc1as",
     };
     static const char *const partial[] = {"-r", "-Wl,-r", "-Wl,-i", "-Wl,--relocatable", "-no-link", "-qlink"};
+    static const char *const whole[] = {"-static", "-static-pie", "--static"};
     static const char *const bare[] = {"-nostdlib", "-nodefaultlibs", "-nolibc", "-ffreestanding"};
     if (wish->skips_next) {
         wish->skips_next = false;
@@ -156,16 +180,22 @@ static void look_at(struct wish *wish, const char *word)
         if (stat(word + 1, &seen) == 0)
             look_into(wish, word + 1);
         else
-            wish->has_input = true;
+            take_input(wish, word);
     } else if (word[0] != '-' || word[1] == 0 || begins(word, "-l")) {
-        wish->has_input = wish->has_input || word[0] != 0;
+        if (word[0] != 0)
+            take_input(wish, word);
     } else if (is_one_of(word, with_value, COUNT(with_value))) {
         wish->skips_next = true;
+        wish->names_language |= strcmp(word, "-x") == 0;
+    } else if (begins(word, "-x")) {
+        wish->names_language = strcmp(word, "-xnone") != 0;
     } else if (is_one_of(word, early, COUNT(early)) || begins(word, "-print-") || begins(word, "--print-")
                || begins(word, "--help=")) {
         wish->stops_early = true;
     } else if (is_one_of(word, partial, COUNT(partial))) {
         wish->is_partial = true;
+    } else if (is_one_of(word, whole, COUNT(whole))) {
+        wish->is_static = true;
     } else if (is_one_of(word, bare, COUNT(bare))) {
         wish->is_bare = true;
     } else if (strcmp(word, "-shared") == 0 || strcmp(word, "--shared") == 0) {
@@ -307,6 +337,11 @@ static void add_all(struct line *line, const char *const *words, size_t count)
 
 static void add_link(struct line *line, const struct wish *wish, const char *self)
 {
+    if (wish->is_static && !wish->is_shared) {
+        add_all(line, program_flags, COUNT(program_flags));
+        add(line, archive(self, "libasancol_static.a"));
+        return;
+    }
     add_all(line, wraps, COUNT(wraps));
     if (wish->is_shared) {
         add(line, archive(self, "libasancol_shared.a"));
@@ -332,9 +367,9 @@ int main(int count, char **words)
     command.words[0] = found;
     add_all(&line, (const char *const *)command.words, command.count);
     bool takes_part = wish.has_input && !wish.has_sanitizer;
-    if (takes_part && is_clang(&command))
+    if (takes_part && wish.has_source && is_clang(&command))
         add_all(&line, clang_flags, COUNT(clang_flags));
-    else if (takes_part)
+    else if (takes_part && wish.has_source)
         add_all(&line, gcc_flags, COUNT(gcc_flags));
     add_all(&line, (const char *const *)words + 1, (size_t)count - 1);
     if (takes_part && !wish.stops_early && !wish.is_partial)

@@ -462,8 +462,8 @@ static size_t spare_size(const void *pointer)
 static struct block *take_block(size_t bytes)
 {
     struct block *block = bytes <= LARGEST_SLOT ? take_slot(bytes) : take_large(bytes);
-    if (block == NULL && heap.held_bytes != 0) {
-        /* Without a recorder the process would have this memory: so no more recording, and nothing held back. */
+    if (block == NULL && heap.held_bytes >= bytes) {
+        /* Without a recorder the process might have this memory: so no more recording, and nothing held back. */
         stream_stop("no memory");
         release_down_to(0);
         block = bytes <= LARGEST_SLOT ? take_slot(bytes) : take_large(bytes);

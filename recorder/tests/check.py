@@ -171,7 +171,7 @@ class Suite:
         self.failed = 0
 
     def test(self, name, run_it, *arguments):
-        if self.words and "lives" not in self.words and not any(word in name for word in self.words):
+        if self.words and not any(word in name for word in self.words):
             return
         folder = tempfile.mkdtemp(prefix="asancol.")
         try:
@@ -539,6 +539,204 @@ def life_tests(suite, compiler, folder):
         suite.test(f"{compiler} where {level}", check_where, compiler, level)
 
 
+CPP = {
+    "past_new": ["store 4 +16 heap-buffer-overflow"],
+    "after_delete": ["load 8 +8 heap-use-after-free"],
+    "twice": ["free +0 double-free"],
+    "past_a_vector": ["load 1 +10 heap-buffer-overflow"],
+    "after_growth": ["load 8 +8 heap-use-after-free"],
+    "past_a_string": ["load 1 +41 heap-buffer-overflow"],
+    "clean": [],
+}
+
+
+def check_cpp(suite, folder, program, sanitized, name, wanted):
+    ran = run([program, name], folder, ASANCOL_TRACE="t.trace", ASANCOL_WHERE="1")
+    expect((ran.returncode, ran.stderr), (0, b""))
+    status, texts, end = reports(suite.asancol, f"{folder}/t.trace")
+    expect((status, texts, end.split()[0]), (1 if wanted else 0, wanted, "closed"))
+    if sanitized and wanted:
+        said = by_sanitizer(run([sanitized, name], folder).stderr.decode())
+        if said is None or not same_as_sanitizer(texts[0], said):
+            raise Failure(f"AddressSanitizer says {said}, the trace {texts[0]!r}")
+    verdicts = run([suite.asancol, "check", "t.trace"], folder).stdout
+    told = run([WHERE, "t.trace"], folder, stdin=verdicts).stdout.decode()
+    expect("new.cpp:" in told, bool(wanted), told)
+
+
+def cpp_tests(suite, compiler, folder):
+    for level in ("-O0", "-O2"):
+        program = f"{folder}/new-{compiler}{level}"
+        compiler.cpp(folder, [f"{TESTS}/new.cpp"], program, level, "-w", "-std=c++17")
+        sanitized = None
+        if has_sanitizer(compiler, folder):
+            sanitized = program + "-sanitized"
+            compiler.cpp(
+                folder, [f"{TESTS}/new.cpp"], sanitized, level, "-w", "-std=c++17", "-fsanitize=address", native=True
+            )
+        for name, wanted in CPP.items():
+            suite.test(f"{compiler} {level} c++ {name}", check_cpp, program, sanitized, name, wanted)
+
+
+PAST_THE_END = """
+#include <stdlib.h>
+int helper(char *p);
+int main(void) { char *p = malloc(8); int r = helper(p); free(p); return r; }
+"""
+HELPER = "int helper(char *p) { ((volatile char *)p)[8] = VALUE; return 0; }\n"
+
+
+def write(folder, **files):
+    for name, text in files.items():
+        with open(f"{folder}/{name.replace('_', '.')}", "w") as file:
+            file.write(text)
+
+
+def one_mark(suite, folder, program="./program"):
+    """The program shows its mark, and nothing else."""
+    ran = run([program], folder, ASANCOL_TRACE="mark.trace")
+    expect((ran.returncode, ran.stderr), (0, b""), "the program")
+    expect(reports(suite.asancol, f"{folder}/mark.trace")[1], [MARK], "reports")
+    os.unlink(f"{folder}/mark.trace")
+    ran = run([program], folder)
+    expect((ran.returncode, ran.stderr), (0, b""), "the program alone")
+
+
+def check_builds(suite, folder, compiler):
+    """The ways in which builds call a compiler."""
+    write(folder, main_c=PAST_THE_END, helper_c=HELPER)
+
+    def cc(*words, stdin=None):
+        made = run([CC, *words], folder, stdin=stdin, ASANCOL_CC=compiler.name)
+        if made.returncode != 0:
+            raise Failure(f"{words}: {made.stderr.decode()}")
+        expect(made.stderr if "-v" not in words else b"", b"", f"{words}")
+        return made.stdout
+
+    cc("-c", "main.c")
+    cc("-c", "-DVALUE=1", "-o", "helper.o", "helper.c")
+    cc("main.o", "helper.o", "-o", "program")
+    one_mark(suite, folder)
+    cc("-DVALUE=1", "main.c", "helper.c", "-o", "program")
+    one_mark(suite, folder)
+    expect(b"((volatile char *)p)[8] = 7" in cc("-E", "-DVALUE=7", "helper.c"), True, "-E")
+    expect(b"helper.o: helper.c" in cc("-M", "helper.c"), True, "-M")
+    expect(b"helper.o: helper.c" in cc("-MM", "helper.c"), True, "-MM")
+    cc("-MMD", "-MF", "deps", "-MT", "it", "-DVALUE=1", "-c", "helper.c", "-o", "helper.o")
+    expect(open(f"{folder}/deps").read().startswith("it: helper.c"), True, "-MF")
+    cc("-S", "-DVALUE=1", "helper.c")
+    expect("__asan_store1_noabort" in open(f"{folder}/helper.s").read(), True, "-S")
+    cc("main.c", "helper.s", "-o", "program")
+    one_mark(suite, folder)
+    # The language of what follows, and standard input.
+    shutil.copy(f"{folder}/helper.c", f"{folder}/helper.txt")
+    cc("-DVALUE=1", "-x", "c", "helper.txt", "-x", "none", "main.o", "-o", "program")
+    one_mark(suite, folder)
+    cc("-x", "c", "-", "-c", "-o", "in.o", stdin=HELPER.replace("VALUE", "3").encode())
+    cc("-DVALUE=1", "main.c", "-x", "c", "helper.txt", "-o", "program")
+    one_mark(suite, folder)
+    # Response files, with what they say of the link.
+    write(folder, a_rsp="-c -DVALUE='1' helper.c -o 'helper two.o'\n", b_rsp="main.o \"helper two.o\" -o program\n")
+    cc("@a.rsp")
+    cc("@b.rsp")
+    one_mark(suite, folder)
+    # A shared object, and one that allows nothing undefined and shows one name.
+    write(folder, one_map="{ global: helper; local: *; };\n")
+    cc("-fPIC", "-shared", "-DVALUE=1", "helper.c", "-Wl,-z,defs", "-Wl,--version-script=one.map", "-o", "libhelper.so")
+    cc("main.c", "-L.", "-lhelper", "-Wl,-rpath,$ORIGIN", "-o", "program")
+    one_mark(suite, folder)
+    # It can be used without a recorder too.
+    build([compiler.name, "main.c", "-L.", "-lhelper", "-Wl,-rpath,$ORIGIN", "-o", "plain"], folder)
+    expect(run(["./plain"], folder).returncode, 0, "a plain program with such an object")
+    # A partial link, an archive, a link by steps.
+    cc("-r", "main.o", "helper.o", "-o", "both.o")
+    cc("both.o", "-o", "program")
+    one_mark(suite, folder)
+    build(["ar", "rcs", "libhelper.a", "helper.o"], folder)
+    cc("main.o", "libhelper.a", "-o", "program")
+    one_mark(suite, folder)
+    for flags in (["-no-pie"], ["-static"], ["-O2", "-flto"], ["-O2", "-D_FORTIFY_SOURCE=2"], ["-std=c99", "-pedantic-errors"]):
+        if compiler.name == "clang" and "-flto" in flags and not shutil.which("ld.lld"):
+            continue
+        linker = ["-fuse-ld=lld"] if compiler.name == "clang" and "-flto" in flags else []
+        cc(*flags, *linker, "-DVALUE=1", "main.c", "helper.c", "-o", "program")
+        one_mark(suite, folder)
+    # What compiles nothing is passed on as it is.
+    for words in (["--version"], ["-dumpmachine"], ["-print-prog-name=ld"], ["-print-search-dirs"]):
+        expect(cc(*words), run([compiler.name, *words], folder).stdout, f"{words}")
+    ours = run([CC, "-v"], folder, ASANCOL_CC=compiler.name)
+    theirs = run([compiler.name, "-v"], folder)
+    expect((ours.returncode, ours.stderr.splitlines()[-1]), (0, theirs.stderr.splitlines()[-1]), "-v")
+    # Errors are the compiler's own, with its status.
+    write(folder, bad_c="int main(void) { return nothing; }\n")
+    theirs = run([compiler.name, "-c", "bad.c"], folder)
+    ours = run([CC, "-c", "bad.c"], folder, ASANCOL_CC=compiler.name)
+    expect((ours.returncode, ours.stderr), (theirs.returncode, theirs.stderr), "an error")
+
+
+def check_own_malloc(suite, folder, compiler):
+    """A program with an allocator of its own keeps it: its accesses are recorded, and its blocks are not."""
+    write(
+        folder,
+        own_c="""
+#include <stddef.h>
+static _Alignas(16) char room[1 << 20];
+static size_t used;
+void *malloc(size_t n) { void *p = room + used; used += (n + 31) / 16 * 16; return used < sizeof room ? p : NULL; }
+void free(void *p) { (void)p; }
+void *calloc(size_t n, size_t m) { return malloc(n * m); }
+void *realloc(void *p, size_t n) { (void)p; return malloc(n); }
+int main(void) { char *p = malloc(8); p[7] = 1; free(p); free(p); return p >= room && p < room + sizeof room ? 0 : 9; }
+""",
+    )
+    compiler.c(folder, ["own.c"], "own", "-w")
+    ran = run(["./own"], folder, ASANCOL_TRACE="t.trace")
+    expect((ran.returncode, ran.stderr), (0, b""))
+    trace = Trace(f"{folder}/t.trace")
+    expect((trace.is_closed, trace.count(3), trace.count(4)), (True, 0, 0))
+
+
+def check_make(suite, folder, compiler):
+    """A makefile that knows nothing of the recorder."""
+    write(folder, main_c=PAST_THE_END, helper_c=HELPER)
+    write(folder, Makefile="program: main.o helper.o\nhelper.o: CPPFLAGS += -DVALUE=1\n")
+    shutil.move(f"{folder}/Makefile", f"{folder}/makefile")
+    with open(f"{folder}/makefile", "a") as file:
+        file.write("program:\n\t$(CC) $(LDFLAGS) $^ -o $@\n")
+    build(["make", f"CC={CC}"], folder, ASANCOL_CC=compiler.name)
+    one_mark(suite, folder)
+
+
+def check_install(suite, folder, compiler):
+    build(["make", "-s", "-C", RECORDER, "install", f"PREFIX={folder}/there"], folder)
+    write(folder, main_c=PAST_THE_END, helper_c=HELPER)
+    there = f"{folder}/there/bin"
+    build([f"{there}/asancol-cc", "-DVALUE=1", "main.c", "helper.c", "-o", "program"], folder, ASANCOL_CC=compiler.name)
+    one_mark(suite, folder)
+    expect(run([f"{there}/asancol-where", "--help"], folder).returncode, 0)
+
+
+def check_command(suite, folder, compiler):
+    """ASANCOL_CC of several words; one that is not there; the wrapper itself in the place of cc."""
+    write(folder, main_c=PAST_THE_END, helper_c=HELPER)
+    build([CC, "-DVALUE=1", "main.c", "helper.c", "-o", "program"], folder, ASANCOL_CC=f"env {compiler.name}")
+    one_mark(suite, folder)
+    expect(run([CC, "main.c"], folder, ASANCOL_CC="asancol-no-such-compiler").returncode, 1)
+    os.mkdir(f"{folder}/first")
+    os.symlink(CC, f"{folder}/first/cc")
+    path = f"{folder}/first:{os.environ['PATH']}"
+    build(["cc", "-DVALUE=1", "main.c", "helper.c", "-o", "program"], folder, PATH=path)
+    one_mark(suite, folder)
+
+
+def build_tests(suite, compiler):
+    suite.test(f"{compiler} builds", check_builds, compiler)
+    suite.test(f"{compiler} own malloc", check_own_malloc, compiler)
+    suite.test(f"{compiler} make", check_make, compiler)
+    suite.test(f"{compiler} install", check_install, compiler)
+    suite.test(f"{compiler} command", check_command, compiler)
+
+
 def main():
     if len(sys.argv) < 2:
         print(__doc__.split("\n\n")[1], file=sys.stderr)
@@ -547,7 +745,9 @@ def main():
     folder = tempfile.mkdtemp(prefix="asancol.")
     try:
         for compiler in compilers():
-            if "lives" not in suite.words: fault_tests(suite, compiler, folder)
+            fault_tests(suite, compiler, folder)
+            cpp_tests(suite, compiler, folder)
+            build_tests(suite, compiler)
             life_tests(suite, compiler, folder)
     finally:
         shutil.rmtree(folder, ignore_errors=True)
