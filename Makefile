@@ -1,4 +1,5 @@
-# Proves, builds, shows and installs asancol. The toolchain's command `rt` has to be on the PATH.
+# Proves, builds, shows and installs asancol. The toolchain's command `rt` has to be on the PATH, but not for the
+# recorder, which is C.
 
 PREFIX ?= /usr/local
 
@@ -15,10 +16,22 @@ asancol: $(SOURCES)
 	cd crates/asancol && rt run -- --help > /dev/null
 	cp crates/asancol/out/asancol $@
 
-# A store that ends one byte past its block: the program reports it and ends with status 1.
+# A store that runs past its block: from C to the report with its line where a C compiler is there, and else from a
+# stored trace. The program reports it and ends with status 1.
+CC ?= cc
+ifneq ($(shell command -v $(firstword $(CC)) 2> /dev/null),)
+demo: asancol recorder
+	@rm -f bug.trace bug.trace.where
+	ASANCOL_CC='$(CC)' recorder/asancol-cc -g examples/bug.c -o bug
+	ASANCOL_TRACE=bug.trace ASANCOL_WHERE=1 ./bug Alice
+	@echo './asancol < bug.trace | recorder/asancol-where bug.trace'
+	@./asancol < bug.trace > bug.verdicts; status=$$?; recorder/asancol-where bug.trace < bug.verdicts; \
+	echo "status $$status"; test $$status -eq 1
+else
 demo: asancol
 	@echo './asancol < $(EXAMPLE)'
 	@./asancol < $(EXAMPLE); status=$$?; echo "status $$status"; test $$status -eq 1
+endif
 
 # Proves everything from nothing, tries the wrong bodies, and runs the tests and the program.
 check:
@@ -47,4 +60,5 @@ install: asancol
 
 # Leaves what was proved so far, in crates/*/out, for the next build.
 clean:
-	rm -f asancol
+	rm -f asancol bug bug.trace bug.trace.where bug.verdicts
+	$(MAKE) -C recorder clean
