@@ -106,13 +106,13 @@ LINE = re.compile(
 )
 
 
-def reports(asancol, path, options=()):
-    """The status, the reports as the tests write them, and what comes after `end`."""
+def reports(asancol, path, options=(), most=1000):
+    """The status, the first reports as the tests write them, and what comes after `end`."""
     checked = run([asancol, "check", *options, path], ".")
     lines = checked.stdout.decode().splitlines()
     trace = Trace(path)
     texts = []
-    for line in lines[:-1]:
+    for line in lines[:-1][:most]:
         number, kind, width, at, bad, wrong = LINE.fullmatch(line).groups()
         address = int(at, 16)
         start = trace.block(address, int(number))
@@ -729,7 +729,68 @@ def check_command(suite, folder, compiler):
     one_mark(suite, folder)
 
 
+def store_commands():
+    """What the store is asked, the same each time."""
+    lines = [
+        'set first {"name":"Alice","tags":["a","b","c","d"],"deep":{"x":[1,2,{"y":null}]},"e":"\\u00e9\\ud83d\\ude00"}',
+        "get first name",
+        "get first tags.3",
+        "get first tags.4",
+        "get first deep.x.2.y",
+        "set list []",
+    ]
+    for i in range(40):
+        lines += [f"set key{i * 7 % 40} [{i},{i * i},-{i}.5,true,false]", f'push list "item {i * 13 % 40}"']
+        lines += [f'merge map {{"m{i}":{{"n":{i}}},"again":[{i}]}}', f"get key{i * 7 % 40} 1"]
+    lines += ["sort list", "get list", "sum map", "size", "keys key1", "copy map other", "find item", "find Alice"]
+    lines += ["del key3", "del key3", "set bad {", 'set bad ["a", "b" "c"]', "set bad 1 2", "nothing"]
+    lines += [f'set first "{n}"' for n in range(10)] + ["undo"] * 30 + ["get first", "dump", "# the end"]
+    return ("\n".join(lines) + "\n").encode()
+
+
+# The planted bugs: how the first report ends, and the function it is in.
+PLANTED = {
+    "short-string": ("heap-buffer-overflow", "copy_bytes"),
+    "old-array": ("heap-use-after-free", "array_push"),
+    "twice": ("heap-use-after-free", None),
+    "short-table": ("heap-buffer-overflow", "place_of"),
+    "read-past": ("heap-buffer-overflow", None),
+}
+
+
+def check_store(suite, folder, compiler, level):
+    source, commands = f"{TESTS}/store.c", store_commands()
+    compiler.c(folder, [source], "plain", level, "-w", native=True)
+    compiler.c(folder, [source], "store", level, "-w")
+    plain = run(["./plain"], folder, stdin=commands)
+    ran = run(["./store"], folder, stdin=commands, ASANCOL_TRACE="t.trace")
+    expect((plain.returncode, ran.returncode, ran.stderr), (0, 0, b""))
+    expect(ran.stdout, plain.stdout, "what the store prints")
+    expect(len(plain.stdout.splitlines()) > 200, True, "that it prints something")
+    status, texts, end = reports(suite.asancol, f"{folder}/t.trace")
+    expect((status, texts, end.split()[0]), (0, [], "closed"), "clean")
+    if has_sanitizer(compiler, folder):
+        compiler.c(folder, [source], "sanitized", level, "-w", "-fsanitize=address", native=True)
+    for bug, (wrong, function) in PLANTED.items():
+        trace = f"{folder}/{bug}.trace"
+        run(["./store", "--bug", bug], folder, stdin=commands, ASANCOL_TRACE=trace, ASANCOL_WHERE="1")
+        _, texts, _ = reports(suite.asancol, trace, most=1)
+        expect(texts[0].split()[-1] if texts else None, wrong, bug)
+        verdicts = run([suite.asancol, "check", trace], folder).stdout
+        first = run([WHERE, trace], folder, stdin=verdicts.splitlines(True)[0]).stdout.decode().splitlines()[0]
+        if function:
+            expect(re.search(r" at (\w+)", first.split("shadow")[1]).group(1), function, first)
+        if os.path.exists(f"{folder}/sanitized"):
+            options = "detect_leaks=0"
+            said = run(["./sanitized", "--bug", bug], folder, stdin=commands, ASAN_OPTIONS=options).stderr.decode()
+            said = by_sanitizer(said)
+            if said is None or not same_as_sanitizer(texts[0], said):
+                raise Failure(f"{bug}: AddressSanitizer says {said}, the trace {texts[0]!r}")
+
+
 def build_tests(suite, compiler):
+    for level in ("-O0", "-O2"):
+        suite.test(f"{compiler} store {level}", check_store, compiler, level)
     suite.test(f"{compiler} builds", check_builds, compiler)
     suite.test(f"{compiler} own malloc", check_own_malloc, compiler)
     suite.test(f"{compiler} make", check_make, compiler)
