@@ -2,6 +2,8 @@
 # recorder, which is C.
 
 PREFIX ?= /usr/local
+CC ?= cc
+HAS_CC := $(shell command -v $(firstword $(CC)) 2> /dev/null)
 
 SOURCES := crates.txt HANDLES $(shell find crates -name out -prune -o -type f \( -name '*.rt' -o -name '*.antt' \) -print)
 EXAMPLE := examples/one_byte_past_the_end.trace
@@ -18,8 +20,7 @@ asancol: $(SOURCES)
 
 # A store that runs past its block: from C to the report with its line where a C compiler is there, and else from a
 # stored trace. The program reports it and ends with status 1.
-CC ?= cc
-ifneq ($(shell command -v $(firstword $(CC)) 2> /dev/null),)
+ifneq ($(HAS_CC),)
 demo: asancol recorder
 	@rm -f bug.trace bug.trace.where
 	ASANCOL_CC='$(CC)' recorder/asancol-cc -g examples/bug.c -o bug
@@ -55,7 +56,8 @@ check-recorder: asancol recorder
 install-recorder:
 	$(MAKE) -C recorder install PREFIX=$(PREFIX) DESTDIR=$(DESTDIR)
 
-install: asancol
+# With the recorder, where a C compiler is there.
+install: asancol $(if $(HAS_CC),install-recorder)
 	install -D asancol $(DESTDIR)$(PREFIX)/bin/asancol
 
 # Leaves what was proved so far, in crates/*/out, for the next build.

@@ -334,8 +334,9 @@ int main(int count, char **words)
     size_t room = 0;
     ssize_t length;
     if (count < 2 || words[1][0] == '-') {
-        fputs("usage: asancol-where TRACE... < REPORTS\n", count == 2 && strcmp(words[1], "--help") == 0 ? stdout : stderr);
-        return count == 2 && strcmp(words[1], "--help") == 0 ? 0 : 2;
+        bool asks = count == 2 && strcmp(words[1], "--help") == 0;
+        fputs("usage: asancol-where TRACE... < REPORTS\n", asks ? stdout : stderr);
+        return asks ? 0 : 2;
     }
     struct trace *traces = must(calloc((size_t)count, sizeof *traces));
     for (int i = 1; i < count; i++)

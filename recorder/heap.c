@@ -126,7 +126,8 @@ static bool reserve(void)
             continue;
         heap.blocks = (struct block *)range;
         heap.units = (struct unit *)(range + notes);
-        heap.arena = (unsigned char *)(((uintptr_t)range + notes + units * sizeof(struct unit) + UNIT - 1) / UNIT * UNIT);
+        uintptr_t after_notes = (uintptr_t)(heap.units + units);
+        heap.arena = (unsigned char *)((after_notes + UNIT - 1) / UNIT * UNIT);
         heap.limit = (uint32_t)units;
         heap.top = 1;
         heap.is_reserved = true;

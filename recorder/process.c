@@ -266,8 +266,8 @@ static void on_ending(int number, siginfo_t *info, void *context)
     struct sigaction none = {.sa_handler = SIG_DFL};
     sigaction(number, &none, NULL);
     /* A fault comes again by itself, and with what the kernel says of it. */
-    bool is_fault = info->si_code > 0 && (number == SIGSEGV || number == SIGBUS || number == SIGILL || number == SIGFPE);
-    if (!is_fault)
+    bool may_be_fault = number == SIGSEGV || number == SIGBUS || number == SIGILL || number == SIGFPE;
+    if (!may_be_fault || info->si_code <= 0)
         syscall(SYS_tgkill, getpid(), syscall(SYS_gettid), number);
     errno = before;
 }

@@ -655,7 +655,8 @@ def check_builds(suite, folder, compiler):
     build(["ar", "rcs", "libhelper.a", "helper.o"], folder)
     cc("main.o", "libhelper.a", "-o", "program")
     one_mark(suite, folder)
-    for flags in (["-no-pie"], ["-static"], ["-O2", "-flto"], ["-O2", "-D_FORTIFY_SOURCE=2"], ["-std=c99", "-pedantic-errors"]):
+    fortified = ["-O2", "-D_FORTIFY_SOURCE=2"]
+    for flags in (["-no-pie"], ["-static"], ["-O2", "-flto"], fortified, ["-std=c99", "-pedantic-errors"]):
         if compiler.name == "clang" and "-flto" in flags and not shutil.which("ld.lld"):
             continue
         linker = ["-fuse-ld=lld"] if compiler.name == "clang" and "-flto" in flags else []
