@@ -266,6 +266,16 @@ static struct block find_block(const struct trace *trace, uint64_t address, uint
     return found;
 }
 
+/* As write_place, for a block that the stream of a forked child may have begun with. */
+static void write_fate(const struct trace *trace, const char *verb, uint64_t event)
+{
+    printf(", %s", verb);
+    if (place_of(trace, event) != 0)
+        write_place(trace, " at", event);
+    else
+        fputs(trace->where.size != 0 ? " before the trace began" : " ?", stdout);
+}
+
 static void write_block(const struct trace *trace, uint64_t address, uint64_t event)
 {
     struct block block = find_block(trace, address, event);
@@ -278,9 +288,9 @@ static void write_block(const struct trace *trace, uint64_t address, uint64_t ev
         printf("; %" PRIu64 " bytes past a block of %" PRIu64, (uint64_t)from_start - block.size, block.size);
     else
         printf("; byte %" PRId64 " of a block of %" PRIu64, from_start, block.size);
-    write_place(trace, ", allocated at", block.malloc_event);
+    write_fate(trace, "allocated", block.malloc_event);
     if (block.free_event != 0)
-        write_place(trace, ", freed at", block.free_event);
+        write_fate(trace, "freed", block.free_event);
 }
 
 /* Reports. */

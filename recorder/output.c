@@ -125,17 +125,17 @@ const char *output_open_file(struct output *output, const char *path, uint64_t r
         return reason();
     if (!S_ISREG(seen.st_mode))
         return take_pieces(output, descriptor, room);
-    if (fallocate(descriptor, 0, 0, (off_t)backed) != 0) {
-        if (errno == EOPNOTSUPP)
+    output->bytes = MAP_FAILED;
+    if (fallocate(descriptor, 0, 0, (off_t)backed) == 0)
+        output->bytes = mmap(NULL, room, PROT_READ | PROT_WRITE, MAP_SHARED | MAP_NORESERVE, descriptor, 0);
+    if (output->bytes == MAP_FAILED) {
+        if (errno == EOPNOTSUPP || errno == ENODEV)
             return take_pieces(output, descriptor, room);
         const char *why = reason();
         unlink(output->path);
         close(descriptor);
         return why;
     }
-    output->bytes = mmap(NULL, room, PROT_READ | PROT_WRITE, MAP_SHARED | MAP_NORESERVE, descriptor, 0);
-    if (output->bytes == MAP_FAILED)
-        return errno == ENODEV ? take_pieces(output, descriptor, room) : reason();
     output->is_mapped = true;
     output->device = seen.st_dev;
     output->node = seen.st_ino;

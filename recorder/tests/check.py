@@ -397,6 +397,11 @@ def check_little_memory(suite, folder, program):
     words = ["sh", "-c", f"ulimit -v 1000000; exec {program} fills_its_memory"]
     ran = run(words, folder, ASANCOL_TRACE="t.trace")
     expect(ran.returncode, 0, ran.stderr)
+    # Where there is no room for the stream itself, no file is left.
+    words = ["sh", "-c", f"ulimit -v 100000; exec {program} ends_normally"]
+    ran = run(words, folder, ASANCOL_TRACE="u.trace")
+    expect((ran.returncode, len(ran.stderr.splitlines())), (0, 1), ran.stderr)
+    expect(os.path.exists(f"{folder}/u.trace"), False, "a file")
 
 
 def serve(suite, folder, count):
