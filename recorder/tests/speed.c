@@ -1,0 +1,126 @@
+/* The programs of the table of speed: `speed array|tree|sort|blocks COUNT` says how many milliseconds it took. */
+#define _GNU_SOURCE
+#include <stdint.h>
+#include <stdio.h>
+#include <stdlib.h>
+#include <string.h>
+#include <time.h>
+
+static uint64_t state = 88172645463325252u;
+
+static uint64_t random_number(void)
+{
+    state ^= state << 13;
+    state ^= state >> 7;
+    return state ^= state << 17;
+}
+
+static long array(long count)
+{
+    enum { LENGTH = 1000 };
+    int *numbers = calloc(LENGTH, sizeof *numbers);
+    long sum = 0;
+    for (long round = 0; numbers != NULL && round < count / LENGTH; round++)
+        for (int i = 0; i < LENGTH; i++)
+            sum += numbers[i] ^ round;
+    free(numbers);
+    return sum;
+}
+
+struct node {
+    struct node *left, *right;
+    uint64_t key;
+};
+
+static void insert(struct node **place, uint64_t key)
+{
+    while (*place != NULL)
+        place = key < (*place)->key ? &(*place)->left : &(*place)->right;
+    *place = calloc(1, sizeof **place);
+    if (*place != NULL)
+        (*place)->key = key;
+}
+
+static uint64_t sum_and_free(struct node *node)
+{
+    if (node == NULL)
+        return 0;
+    uint64_t sum = node->key + sum_and_free(node->left) + sum_and_free(node->right);
+    free(node);
+    return sum;
+}
+
+static long tree(long count)
+{
+    struct node *root = NULL;
+    for (long i = 0; i < count; i++)
+        insert(&root, random_number());
+    return (long)sum_and_free(root);
+}
+
+static void quicksort(int *numbers, long count)
+{
+    while (count > 1) {
+        int pivot = numbers[count / 2];
+        long low = 0, high = count - 1;
+        while (low <= high) {
+            while (numbers[low] < pivot)
+                low++;
+            while (pivot < numbers[high])
+                high--;
+            if (low <= high) {
+                int moved = numbers[low];
+                numbers[low++] = numbers[high];
+                numbers[high--] = moved;
+            }
+        }
+        quicksort(numbers + low, count - low);
+        count = high + 1;
+    }
+}
+
+static long sort(long count)
+{
+    int *numbers = malloc((size_t)count * sizeof *numbers);
+    for (long i = 0; numbers != NULL && i < count; i++)
+        numbers[i] = (int)random_number();
+    if (numbers == NULL)
+        return 0;
+    quicksort(numbers, count);
+    long middle = numbers[count / 2];
+    free(numbers);
+    return middle;
+}
+
+static long blocks(long count)
+{
+    for (long i = 0; i < count; i++) {
+        void *volatile block = malloc(24);
+        free(block);
+    }
+    return count;
+}
+
+static double now(void)
+{
+    struct timespec time;
+    clock_gettime(CLOCK_MONOTONIC, &time);
+    return (double)time.tv_sec * 1e3 + (double)time.tv_nsec / 1e6;
+}
+
+int main(int count, char **words)
+{
+    static const struct {
+        const char *name;
+        long (*run)(long);
+    } programs[] = {{"array", array}, {"tree", tree}, {"sort", sort}, {"blocks", blocks}};
+    for (size_t i = 0; count == 3 && i < sizeof programs / sizeof *programs; i++) {
+        if (strcmp(words[1], programs[i].name) != 0)
+            continue;
+        double start = now();
+        long result = programs[i].run(atol(words[2]));
+        printf("%.1f ms (%ld)\n", now() - start, result);
+        return 0;
+    }
+    return 2;
+}
