@@ -190,7 +190,7 @@ static void *must(void *memory)
 }
 
 /* "function file:line", and for an inlined call " in function file:line". */
-static char *told(const char *answer)
+static char *in_words(const char *answer)
 {
     char *text = must(calloc(1, 2 * strlen(answer) + 32));
     const char *line = answer;
@@ -215,7 +215,7 @@ static const char *place_text(const char *path, uint64_t address)
     char answer[1 << 14];
     ask(path, address, answer, sizeof answer);
     struct known *known = must(malloc(sizeof *known));
-    *known = (struct known){must(strdup(path)), address, told(answer), *bucket};
+    *known = (struct known){must(strdup(path)), address, in_words(answer), *bucket};
     *bucket = known;
     return known->text;
 }

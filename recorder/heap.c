@@ -51,7 +51,7 @@ struct unit {
             uint32_t previous, next; /* free runs of a bin; 0 is none, and unit 0 is never used */
         };
         struct {
-            uint32_t slot_size, used; /* of a slab; so many slots were ever used */
+            uint32_t slot_size, used; /* of a slab; and how many were ever used */
         };
     };
 };

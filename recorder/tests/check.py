@@ -565,8 +565,8 @@ def check_cpp(suite, folder, program, sanitized, name, wanted):
         if said is None or not same_as_sanitizer(texts[0], said):
             raise Failure(f"AddressSanitizer says {said}, the trace {texts[0]!r}")
     verdicts = run([suite.asancol, "check", "t.trace"], folder).stdout
-    told = run([WHERE, "t.trace"], folder, stdin=verdicts).stdout.decode()
-    expect("new.cpp:" in told, bool(wanted), told)
+    placed = run([WHERE, "t.trace"], folder, stdin=verdicts).stdout.decode()
+    expect("new.cpp:" in placed, bool(wanted), placed)
 
 
 def cpp_tests(suite, compiler, folder):
