@@ -47,7 +47,8 @@ impl<A: Allocator + Copy> Write for ShortWriter<A> {
         ensures room { IfOk result (λ n. self.new.room + n ≡ self.old.room) }
         ensures kept_room { OnErr result (self.new.room ≡ self.old.room) }
         ensures fails { self.old.room ≡ 0 → self.old.ending ≡ Ending.Fails → IsErr result }
-        ensures takes_none { self.old.room ≡ 0 → self.old.ending ≡ Ending.TakesNone → result ≡ Ok 0 }
+        ensures takes_none { self.old.room ≡ 0 →
+            self.old.ending ≡ Ending.TakesNone → result ≡ Ok 0 }
         ensures step { self.new.step ≡ self.old.step }
         ensures ending { self.new.ending ≡ self.old.ending }
         ensures flushes { self.new.flushes ≡ self.old.flushes }
