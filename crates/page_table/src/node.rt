@@ -50,7 +50,7 @@ pub trait Node<A: Allocator + Copy>: Drop {
             (byte_at self.new) from to byte) };
 
     /// Sets the bytes at the indices from one up to another, run after run, if these are a part of
-    /// one page that has bytes of its own, and says whether it did. Takes no memory.
+    /// one leaf that has bytes of its own, and says whether it did. Takes no memory.
     fn write_runs(&mut self, from: u64, to: u64, runs: &[Run]) -> bool
         requires fits { fits }
         requires length { to ≡ from + length_of runs.now }

@@ -23,8 +23,9 @@ type Level4<A> = Branch<Level3<A>, A>;
 
 type Level5<A> = Branch<Level4<A>, A>;
 
-// What 128 nodes of a branch take: 4,096 bytes, whether they are leaves or branches.
-const _: () = prove!(size_of::<Leaf>() == 32);
+// What 128 nodes of a branch take: 2,048 bytes where they are leaves, and 4,096 where they are
+// branches.
+const _: () = prove!(size_of::<Leaf>() == 16);
 
 const _: () = prove!(size_of::<Level1<Global>>() == 32);
 
@@ -32,8 +33,9 @@ const _: () = prove!(size_of::<Level5<Global>>() == 32);
 
 /// A byte for each granule below 2^44.
 ///
-/// The memory that one fill takes depends on its two ends alone: the 4,096 bytes of a leaf and a
-/// branch of each level for each of them, where these are not there yet.
+/// The memory that one fill takes depends on its two ends alone: for each of them the 4,096 bytes
+/// of a leaf, the 2,048 of the leaves beside it and the 4,096 of a branch of each level above, where
+/// these are not there yet.
 #[derive(Drop)]
 pub struct PageTable<A: Allocator + Copy = Global> {
     root: Level5<A>,
@@ -93,7 +95,7 @@ impl<A: Allocator + Copy> PageTable<A> {
     }
 
     /// Sets the bytes of the granules from one on, run after run. It takes no more memory than a
-    /// fill for each run does, and is faster where all runs lie in one page that has bytes of its
+    /// fill for each run does, and is faster where all runs lie in one leaf that has bytes of its
     /// own. Where memory is refused, the granules below some place are set, and the others are as
     /// they were.
     #[tactic(auto, unfolding(crate::specs::Tables::byte_of))]

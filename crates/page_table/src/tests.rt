@@ -27,7 +27,7 @@ fn difference(one: &PageTable, other: &PageTable, from: u64) -> Option<u64>
 }
 
 /// Fills the same runs from a granule on, from the next and from the one after it: in nothing, and
-/// then in pages that have bytes of their own. Gives the first granule where it is not as if each
+/// then in leaves that have bytes of their own. Gives the first granule where it is not as if each
 /// run had been filled by itself.
 fn first_difference(alloc: Global, first: u64) -> Result<Option<u64>, AllocError>
     requires low { 2 ≤ first }
@@ -51,7 +51,7 @@ fn first_difference(alloc: Global, first: u64) -> Result<Option<u64>, AllocError
 
 #[test]
 fn runs_are_fills(rt: HostRuntime) -> Result<(), Fail> {
-    // Within a page, over the ends of a page, of a leaf and of branches of each level, and before
+    // Within a leaf, over the ends of a leaf and of branches of each level, and before
     // the end of the memory.
     assert_eq!(rt;
         [

@@ -16,9 +16,8 @@
 //!
 //! An access is checked as AddressSanitizer checks it, by the shadow byte of its first byte alone.
 //!
-//! The shadow bytes are kept by pages, and a page or a larger part of the memory that was marked
-//! whole as one byte. So a call takes memory only for the ends of what it marks, however large that
-//! is.
+//! The shadow bytes are kept in a tree, and a leaf or a branch of it that was marked whole as one
+//! byte. So a call takes memory only for the ends of what it marks, however large that is.
 #![tactic(auto)]
 
 mod granule;

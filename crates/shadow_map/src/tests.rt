@@ -1,8 +1,8 @@
 //! The calls of a shadow, and the end of the memory.
 mod granules;
+mod leaves;
 mod memory;
 mod model;
-mod pages;
 mod refusals;
 
 use super::*;

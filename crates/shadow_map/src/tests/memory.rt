@@ -13,12 +13,18 @@ const LARGEST: u64 = 1 << 28;
 /// over it.
 const END: u64 = 1 << 43;
 
-/// What was asked for: the memory of a number of branches, and of a number of leaves of pages.
-type Asked = (u8, u8);
+/// What was asked for: the memory of a number of branches over branches, of a number of branches
+/// over leaves, and of a number of leaves.
+type Asked = (u8, u8, u8);
 
-/// How many bytes a branch asks for, 32 for each of its 128 nodes, and a leaf, 512 for each of
-/// its 8 pages.
-const BYTES: u64 = 4096;
+/// How many bytes a branch over branches asks for: 32 for each of its 128 nodes.
+const BRANCH: u64 = 128 * 32;
+
+/// How many bytes a branch over leaves asks for: 16 for each of its 128 nodes.
+const LOWEST_BRANCH: u64 = 128 * 16;
+
+/// How many bytes a leaf asks for.
+const LEAF: u64 = 4096;
 
 /// How many bytes a branch asks for besides, in these tests: for each of its nodes the 8 bytes
 /// of a handle on the test's allocator. The handle on the program's has none.
@@ -27,26 +33,26 @@ const HANDLES: u64 = 128 * 8;
 /// The states and the records that `prepare` and `mark_record` know, and what the records ask for.
 const RECORDS: [Asked; 10] = [
     // A load, a store.
-    (0, 0),
+    (0, 0, 0),
     // A malloc: one redzone lies over `END`, the other one over an end of branches of the lowest
     // level.
-    (11, 4),
+    (7, 4, 4),
     // A free of a block that was just marked.
-    (0, 0),
+    (0, 0, 0),
     // The most that a free asks for: the block was poisoned since, with all that is round it.
-    (2, 2),
-    // A poison whose ends cut pages in two.
-    (9, 2),
+    (0, 2, 2),
+    // A poison whose ends cut leaves in two.
+    (7, 2, 2),
     // One of whole branches, over `END`.
-    (7, 0),
-    // An unpoison whose ends cut pages in two, where whole branches were poisoned.
-    (2, 2),
+    (7, 0, 0),
+    // An unpoison whose ends cut leaves in two, where whole branches were poisoned.
+    (0, 2, 2),
     // The same where nothing is marked.
-    (0, 0),
-    // A poison of one page, which is kept as one byte.
-    (5, 0),
+    (0, 0, 0),
+    // A poison of one leaf, which is kept as one byte.
+    (4, 1, 0),
     // A poison of a part of it, once more.
-    (0, 0),
+    (0, 0, 0),
 ];
 
 /// Marks what stands before a record.
@@ -61,7 +67,7 @@ fn prepare<A: Allocator + Copy>(shadow: &mut Shadow<A>, record: usize) -> Result
             shadow.poison(END - LARGEST, LARGEST)?;
             shadow.poison(END, LARGEST)
         }
-        9 => shadow.poison(0x4000_1000, 0x1000),
+        9 => shadow.poison(0x4000_8000, 0x8000),
         _ => Ok(()),
     }
 }
@@ -74,8 +80,8 @@ fn mark_record<A: Allocator + Copy>(shadow: &mut Shadow<A>, record: usize) -> Re
         4 => shadow.poison(END - 0x7ff_f7fd, LARGEST),
         5 => shadow.poison(END - 0x800_0000, LARGEST),
         6 | 7 => shadow.unpoison(END - 0x7ff_f7fd, LARGEST),
-        8 => shadow.poison(0x4000_1000, 0x1000),
-        9 => shadow.poison(0x4000_1008, 8),
+        8 => shadow.poison(0x4000_8000, 0x8000),
+        9 => shadow.poison(0x4000_8008, 8),
         _ => {
             let _ = (shadow.bad_byte(END, 8), shadow.value(0));
             Ok(())
@@ -98,12 +104,15 @@ fn asked(alloc: Global, record: usize) -> Result<(u64, u64), NoMemory> {
 
 #[test]
 fn memory_of_a_record(rt: HostRuntime) -> Result<(), Fail> {
-    for (record, (branches, leaves)) in RECORDS.iter().enumerate() {
-        let (branches, leaves) = (*branches as u64, *leaves as u64);
-        let bytes = (branches + leaves) * BYTES;
+    for (record, (branches, lowest, leaves)) in RECORDS.iter().enumerate() {
+        let (branches, lowest, leaves) = (*branches as u64, *lowest as u64, *leaves as u64);
+        let bytes = branches * BRANCH + lowest * LOWEST_BRANCH + leaves * LEAF;
         assert_eq!(rt;
             asked(rt.alloc(), record)?,
-            (branches + leaves, bytes + branches * HANDLES),
+            (
+                branches + lowest + leaves,
+                bytes + (branches + lowest) * HANDLES
+            ),
             "record {record}"
         );
         assert!(rt; bytes <= 64 * 1024, "record {record}");
@@ -124,7 +133,7 @@ fn no_poison_makes_many_requests(rt: HostRuntime) {
     assert!(rt; !poison_is_refused_at(rt.alloc(), 100_000));
 }
 
-/// How many requests a poison of a part of a page makes after a larger region was filled whole.
+/// How many requests a poison of a part of a leaf makes after a larger region was filled whole.
 fn asked_after(alloc: Global, size: u64) -> Result<u64, NoMemory>
     requires { size ≤ 0x1000_0000 }
 {
@@ -139,7 +148,7 @@ fn asked_after(alloc: Global, size: u64) -> Result<u64, NoMemory>
 
 #[test]
 fn memory_of_what_was_filled_whole_is_given_back(rt: HostRuntime) -> Result<(), Fail> {
-    // A page stays in its leaf's box; a leaf gives back its box; a branch gives back its nodes
+    // A part of a leaf stays in its bytes; a leaf gives them back; a branch gives back its nodes
     // too.
     assert_eq!(rt;
         [

@@ -1,4 +1,4 @@
-//! The shadow by pages beside the plain model.
+//! The shadow beside the plain model, at the ends of leaves and branches.
 ghost use Rattle.std.specs.Prelude.{◌^◌, ◌<◌, ◌≤◌};
 
 use super::model::Model;
@@ -7,8 +7,8 @@ use crate::{FREED, HEAP_REDZONE, NoMemory, Shadow, USER_POISON};
 use std::alloc::Global;
 use std::test::Fail;
 
-/// How many granules a page has, a leaf of pages, a branch of each level over the leaves, and the
-/// whole memory.
+/// How many granules an eighth of a leaf has, a leaf, a branch of each level over the leaves, and
+/// the whole memory.
 const WIDTHS: [u64; 7] = [1 << 9, 1 << 12, 1 << 19, 1 << 26, 1 << 33, 1 << 40, 1 << 44];
 
 /// The shadow and the model, and how many fills were made in both.
@@ -61,7 +61,8 @@ impl Both {
     }
 }
 
-/// Places on, one before and one after the ends of three pages.
+/// Granules, counted from one that lies 1,024 before the end of a leaf or a branch: on, one before
+/// and one after that end, and the same 512 granules before it and after it.
 const ENDS: [u64; 9] = [511, 512, 513, 1023, 1024, 1025, 1535, 1536, 1537];
 
 /// Fills from each of the ends up to each later one, counted from a granule, in turn. The first
@@ -87,7 +88,7 @@ fn first_wrong(alloc: Global, low: u64) -> Result<Option<u64>, NoMemory> {
 }
 
 #[test]
-fn ends_of_pages_and_branches(rt: HostRuntime) -> Result<(), Fail> {
+fn ends_of_leaves_and_branches(rt: HostRuntime) -> Result<(), Fail> {
     for width in WIDTHS {
         let wrong = first_wrong(rt.alloc(), width.max(1024) - 1024)?;
         assert_eq!(rt; wrong, None, "width {width}");
@@ -118,7 +119,7 @@ fn first_wrong_of_whole(alloc: Global, low: u64, high: u64) -> Result<Option<u64
 }
 
 #[test]
-fn whole_groups_and_branches(rt: HostRuntime) -> Result<(), Fail> {
+fn whole_leaves_and_branches(rt: HostRuntime) -> Result<(), Fail> {
     for width in [1 << 12, 1 << 19u64] {
         let wrong = first_wrong_of_whole(rt.alloc(), width - 1, width * 2 - 1)?;
         assert_eq!(rt; wrong, None, "width {width}");
@@ -128,7 +129,7 @@ fn whole_groups_and_branches(rt: HostRuntime) -> Result<(), Fail> {
 
 /// The widest poison that a record can ask for.
 #[test]
-fn one_page_wide_poison(rt: HostRuntime) -> Result<(), Fail> {
+fn widest_poison(rt: HostRuntime) -> Result<(), Fail> {
     let mut shadow = Shadow::new(rt.alloc());
     shadow.poison(0x4000_0000, 1 << 28)?;
     assert_eq!(rt; values(&shadow, 0x9ff_ffff), [0xf7, 0]);
