@@ -4,6 +4,7 @@ ghost use Rattle.std.specs.Map.{lookup, set_value, remove_entry};
 ghost use Rattle.std.specs.BTreeMap.{insert_entry, is_at};
 ghost use Rattle.std.specs.Ordering.{nat_cmp};
 ghost use Rattle.asan_units.specs.Units.{address_end};
+ghost use Rattle.line_map.specs.Entries.{line_size};
 ghost use Rattle.line_map.specs.Maps.{slot_at, IsLastBefore};
 
 use crate::mark::{Mark, Slot};
@@ -125,7 +126,7 @@ impl<A: Allocator + Copy> LineMap<A> {
     #[inline]
     pub fn insert(&mut self, at: u64, slot: Slot) -> Result<(), AllocError>
         requires within { at < address_end }
-        requires alone { (other : ℕ) → other / 64 ≡ at / 64 →
+        requires alone { (other : ℕ) → other / line_size ≡ at / line_size →
             slot_at self.old other ≡ None }
         ensures ok { OnOk result (self.new ≡ insert_entry nat_cmp self.old at slot) }
         ensures err { OnErr result (self.new ≡ self.old) }
