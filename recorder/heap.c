@@ -1,11 +1,14 @@
 /* The allocator. Its notes on blocks lie apart from them, so that a program that writes out of bounds does not meet
    them; and a pointer is looked up by arithmetic alone.
 
-   One range of addresses is reserved: the arena. It is cut into units of 64 KiB. A unit is a slab of slots of one size,
+   One range of addresses is the arena. It is cut into units of 64 KiB. A unit is a slab of slots of one size,
    or it is part of a run of units that is one large block, or part of a free run. A slot has 32 bytes of redzone, the
    bytes of the block, and again 32 bytes or more.
 
    A freed block waits in the quarantine, as long as the checker holds it: it counts the same bytes in the same order.
+
+   A signal handler may come at any time. Where its thread is in here already, it gets memory from a spare range, and
+   what it frees is given back by the thread that it interrupted.
 
    The records of a malloc and a free are written with the lock held. So they stand in the stream in the order in which
    the blocks were taken and given back. */
@@ -20,14 +23,21 @@
 
 #include "recorder.h"
 
-enum { UNIT = 1 << 16, SMALLEST_SLOT = 2 * REDZONE, SLOTS = UNIT / SMALLEST_SLOT, ALIGNMENT = 16 };
+enum { UNIT = 1 << 16, SMALLEST_SLOT = 2 * REDZONE, SLOTS = UNIT / SMALLEST_SLOT, ALIGNMENT = 16, PAGE = 4096 };
 enum { LARGEST_SLOT = 1 << 14, FINE_STEP = 16, FINE_END = 1024, CLASSES = 64 + 16 };
 /* Free runs are listed by their number of units, the longer ones together. */
 enum { BINS = 64 };
-/* By how many units the arena grows at once. */
-enum { COMMIT_STEP = 256 };
+/* The arena has 2^38 bytes. Memory for it is asked for by so many units that the notes on them fill whole pages. */
+enum { UNITS = 1 << 22, COMMIT_STEP = 256 };
+/* Memory for signal handlers. */
+#define SPARE_BYTES ((uint64_t)1 << 34)
+/* Where the range may begin. */
+#define FIRST_RANGE ((uint64_t)1 << 44)
+#define LAST_RANGE ((uint64_t)1 << 46)
 /* A stream that begins with what is there has the newest of the blocks in quarantine, and no more of them. */
 enum { HELD_RECORDED = 4096 };
+
+enum { LARGEST_OFFSET = (1 << 30) - 1 };
 
 enum block_state { BLOCK_FREE, BLOCK_LIVE, BLOCK_HELD, BLOCK_UNRECORDED };
 
@@ -63,13 +73,10 @@ struct class {
 
 static struct {
     pthread_mutex_t lock;
-    _Atomic pthread_t owner; /* the thread that is in here, locked or not; 0 is none */
-    bool is_locked;
-    bool is_reserved;
-    unsigned char *arena;
+    bool is_locked; /* by the thread that is in here: one that is alone need not */
+    unsigned char *arena; /* null until the first allocation */
     struct unit *units;
     struct block *blocks; /* SLOTS for each unit */
-    uint32_t limit;       /* units reserved */
     uint32_t committed;   /* units that have memory */
     uint32_t top;         /* units used so far */
     uint32_t bins[BINS + 1];
@@ -77,10 +84,8 @@ static struct {
     struct block *oldest, *newest; /* the quarantine */
     uint64_t held_bytes, held_count;
     _Atomic uint64_t bound;
-    /* What a signal handler freed while its thread was in here. */
-    void *_Atomic deferred[64];
-    uintptr_t deferred_from[64];
-    _Atomic unsigned deferred_count;
+    unsigned char *spare; /* memory for signal handlers */
+    _Atomic size_t spare_used;
 } heap = {.lock = PTHREAD_MUTEX_INITIALIZER};
 
 static _Thread_local uintptr_t borrowed_caller;
@@ -104,58 +109,52 @@ void heap_set_bound(uint64_t bytes)
 
 /* Memory. */
 
-static void *reserve_range(size_t bytes)
+/* Makes whole pages of the range usable, which are zeros. */
+static bool give_memory(void *start, size_t bytes)
 {
-    void *range = mmap(NULL, bytes, PROT_NONE, MAP_PRIVATE | MAP_ANONYMOUS | MAP_NORESERVE, -1, 0);
-    return range == MAP_FAILED ? NULL : range;
-}
-
-/* Reserves as large an arena as the system allows, with its notes: 2^38 bytes, or a half of it, and so on. */
-static bool reserve(void)
-{
-    struct rlimit space;
-    uint64_t most = (uint64_t)1 << 38;
-    if (getrlimit(RLIMIT_AS, &space) == 0 && space.rlim_cur != RLIM_INFINITY)
-        while (most > space.rlim_cur / 2)
-            most /= 2;
-    for (uint64_t bytes = most; bytes >= (uint64_t)1 << 22; bytes /= 2) {
-        uint64_t units = bytes / UNIT, notes = units * SLOTS * sizeof(struct block);
-        uint64_t all = bytes + UNIT + units * sizeof(struct unit) + notes;
-        unsigned char *range = reserve_range(all);
-        if (range == NULL)
-            continue;
-        heap.blocks = (struct block *)range;
-        heap.units = (struct unit *)(range + notes);
-        uintptr_t after_notes = (uintptr_t)(heap.units + units);
-        heap.arena = (unsigned char *)((after_notes + UNIT - 1) / UNIT * UNIT);
-        heap.limit = (uint32_t)units;
-        heap.top = 1;
-        heap.is_reserved = true;
-        return true;
-    }
-    return false;
-}
-
-static bool give_memory(void *start, void *end)
-{
-    uintptr_t from = (uintptr_t)start / 4096 * 4096, to = ((uintptr_t)end + 4095) / 4096 * 4096;
-    return mprotect((void *)from, to - from, PROT_READ | PROT_WRITE) == 0;
+    int flags = MAP_PRIVATE | MAP_ANONYMOUS | MAP_NORESERVE | MAP_FIXED_NOREPLACE;
+    return mmap(start, bytes, PROT_READ | PROT_WRITE, flags, -1, 0) == start;
 }
 
 static bool commit(uint32_t units)
 {
     if (units <= heap.committed)
         return true;
-    if (units > heap.limit)
+    if (units > UNITS)
         return false;
-    uint32_t next = (units + COMMIT_STEP - 1) / COMMIT_STEP * COMMIT_STEP;
-    next = next > heap.limit ? heap.limit : next;
-    if (!give_memory(heap.units + heap.committed, heap.units + next)
-        || !give_memory(heap.blocks + (size_t)heap.committed * SLOTS, heap.blocks + (size_t)next * SLOTS)
-        || !give_memory(heap.arena + (size_t)heap.committed * UNIT, heap.arena + (size_t)next * UNIT))
+    size_t from = heap.committed, count = (units - from + COMMIT_STEP - 1) / COMMIT_STEP * COMMIT_STEP;
+    const struct {
+        void *start;
+        size_t bytes;
+    } parts[] = {{heap.units + from, count * sizeof(struct unit)},
+                 {heap.blocks + from * SLOTS, count * SLOTS * sizeof(struct block)},
+                 {heap.arena + from * UNIT, count * UNIT}};
+    for (int i = 0; i < 3; i++) {
+        if (give_memory(parts[i].start, parts[i].bytes))
+            continue;
+        while (i-- > 0)
+            munmap(parts[i].start, parts[i].bytes);
         return false;
-    heap.committed = next;
+    }
+    heap.committed += (uint32_t)count;
     return true;
+}
+
+/* Finds a range that nothing lies in: far from what the system hands out, so that nothing will. It is mapped as it is
+   used, and what isn't counts towards no limit of the process. */
+static bool find_range(void)
+{
+    for (uint64_t start = FIRST_RANGE; start < LAST_RANGE; start *= 2) {
+        heap.blocks = (struct block *)start;
+        heap.units = (struct unit *)(heap.blocks + (size_t)UNITS * SLOTS);
+        heap.arena = (unsigned char *)(heap.units + UNITS);
+        heap.spare = heap.arena + (size_t)UNITS * UNIT;
+        heap.top = 1;
+        if (commit(1))
+            return true;
+    }
+    heap.arena = NULL;
+    return false;
 }
 
 static unsigned char *unit_start(uint32_t unit)
@@ -206,7 +205,7 @@ static uint32_t take_run(uint32_t count)
             return first;
         }
     }
-    if (count > heap.limit - heap.top || !commit(heap.top + count))
+    if (count > UNITS - heap.top || !commit(heap.top + count))
         return 0;
     heap.top += count;
     return heap.top - count;
@@ -214,7 +213,9 @@ static uint32_t take_run(uint32_t count)
 
 static void give_run(uint32_t first, uint32_t count)
 {
-    madvise(unit_start(first), (size_t)count * UNIT, MADV_DONTNEED);
+    /* Memory that the process has locked can't be given back to the system. */
+    if (madvise(unit_start(first), (size_t)count * UNIT, MADV_DONTNEED) != 0)
+        memset(unit_start(first), 0, (size_t)count * UNIT);
     uint32_t after = first + count;
     if (after < heap.top && heap.units[after].kind == UNIT_FREE) {
         count += heap.units[after].count;
@@ -263,10 +264,10 @@ static struct block *take_slot(size_t bytes)
         heap.units[unit] = (struct unit){.kind = UNIT_SLAB, .count = 1, .slot_size = slot_size};
         class->slab = unit;
     }
-    struct unit *slab = &heap.units[class->slab];
-    block = heap.blocks + (size_t)class->slab * SLOTS + slab->used;
-    slab->used++;
-    if ((slab->used + 1) * slab->slot_size > UNIT)
+    struct unit *unit = &heap.units[class->slab];
+    block = heap.blocks + (size_t)class->slab * SLOTS + unit->used;
+    unit->used++;
+    if ((unit->used + 1) * unit->slot_size > UNIT)
         class->slab = 0;
     return block;
 }
@@ -274,7 +275,7 @@ static struct block *take_slot(size_t bytes)
 static struct block *take_large(size_t bytes)
 {
     size_t count = (bytes + UNIT - 1) / UNIT;
-    if (count > heap.limit)
+    if (count > UNITS)
         return NULL;
     uint32_t first = take_run((uint32_t)count);
     if (first == 0)
@@ -307,7 +308,7 @@ static unsigned char *block_start(const struct block *block)
 static struct block *find(const void *pointer)
 {
     uintptr_t distance = (uintptr_t)pointer - (uintptr_t)heap.arena;
-    if (!heap.is_reserved || distance >= (size_t)heap.top * UNIT)
+    if (heap.arena == NULL || distance >= (size_t)heap.top * UNIT)
         return NULL;
     uint32_t unit = (uint32_t)(distance / UNIT);
     const struct unit *at = &heap.units[unit];
@@ -372,21 +373,30 @@ static void hold(struct block *block)
 
 /* Going in and out. A signal handler whose thread is in here already is not let in. */
 
+static _Thread_local volatile bool is_inside;
+
+/* What signal handlers freed while this thread was in here. Where they free more, it stays allocated. */
+enum { DEFERRED = 32 };
+static _Thread_local struct {
+    void *pointers[DEFERRED];
+    uintptr_t callers[DEFERRED];
+    _Atomic unsigned count;
+} deferred;
+
 bool heap_is_entered(void)
 {
-    return atomic_load_explicit(&heap.owner, memory_order_relaxed) == pthread_self();
+    return is_inside;
 }
 
 static bool enter(void)
 {
-    pthread_t self = pthread_self();
-    if (UNLIKELY(heap_is_entered()))
+    if (UNLIKELY(is_inside))
         return false;
+    is_inside = true;
     bool alone = __libc_single_threaded;
     if (!alone)
         pthread_mutex_lock(&heap.lock);
     heap.is_locked = !alone;
-    atomic_store_explicit(&heap.owner, self, memory_order_relaxed);
     return true;
 }
 
@@ -403,16 +413,37 @@ static void free_block(void *pointer, uintptr_t caller)
         hold(block);
 }
 
+static void free_deferred(void)
+{
+    unsigned count;
+    while ((count = atomic_load_explicit(&deferred.count, memory_order_relaxed)) != 0) {
+        void *pointer = deferred.pointers[count - 1];
+        uintptr_t caller = deferred.callers[count - 1];
+        /* Unless a handler has just added one. */
+        if (atomic_compare_exchange_strong(&deferred.count, &count, count - 1))
+            free_block(pointer, caller);
+    }
+}
+
+static void defer(void *pointer, uintptr_t caller)
+{
+    unsigned place = atomic_fetch_add(&deferred.count, 1);
+    if (place < DEFERRED) {
+        deferred.pointers[place] = pointer;
+        deferred.callers[place] = caller;
+    } else {
+        atomic_fetch_sub(&deferred.count, 1);
+    }
+}
+
 static void leave(void)
 {
-    while (UNLIKELY(atomic_load_explicit(&heap.deferred_count, memory_order_relaxed) != 0)) {
-        unsigned last = atomic_fetch_sub(&heap.deferred_count, 1) - 1;
-        free_block(atomic_load(&heap.deferred[last]), heap.deferred_from[last]);
-    }
-    bool locked = heap.is_locked;
-    atomic_store_explicit(&heap.owner, 0, memory_order_relaxed);
-    if (locked)
-        pthread_mutex_unlock(&heap.lock);
+    do {
+        free_deferred();
+        if (heap.is_locked)
+            pthread_mutex_unlock(&heap.lock);
+        is_inside = false;
+    } while (UNLIKELY(atomic_load_explicit(&deferred.count, memory_order_relaxed) != 0) && enter());
 }
 
 static _Thread_local bool entered;
@@ -429,26 +460,26 @@ void heap_unlock(void)
     entered = false;
 }
 
-/* For a signal handler whose thread was interrupted in here: memory that is no block, and is never given back. */
+/* For a signal handler whose thread was interrupted in here: memory that is no block, at addresses that are never given
+   again. */
 
-enum { SPARE_BYTES = 1 << 20, SPARE_HEADER = 16 };
-static unsigned char spare[SPARE_BYTES] __attribute__((aligned(4096)));
-static _Atomic size_t spare_used;
+enum { SPARE_HEADER = 16 };
 
 static bool is_spare(const void *pointer)
 {
-    return (uintptr_t)pointer - (uintptr_t)spare < SPARE_BYTES;
+    return heap.arena != NULL && (uintptr_t)pointer - (uintptr_t)heap.spare < SPARE_BYTES;
 }
 
 static void *take_spare(size_t size, size_t alignment)
 {
-    size_t bytes = (size + SPARE_HEADER + alignment + ALIGNMENT - 1) / ALIGNMENT * ALIGNMENT;
-    if (size > SPARE_BYTES || alignment > SPARE_BYTES)
+    if (heap.arena == NULL || size > SPARE_BYTES || alignment > SPARE_BYTES)
         return NULL;
-    size_t first = atomic_fetch_add(&spare_used, bytes);
-    if (first + bytes > SPARE_BYTES)
+    /* Whole pages: two handlers, of two threads, then make none of them usable twice. */
+    size_t bytes = (size + SPARE_HEADER + alignment + PAGE - 1) / PAGE * PAGE;
+    size_t first = atomic_fetch_add(&heap.spare_used, bytes);
+    if (first + bytes > SPARE_BYTES || !give_memory(heap.spare + first, bytes))
         return NULL;
-    uintptr_t start = ((uintptr_t)spare + first + SPARE_HEADER + alignment - 1) / alignment * alignment;
+    uintptr_t start = ((uintptr_t)heap.spare + first + SPARE_HEADER + alignment - 1) / alignment * alignment;
     ((size_t *)start)[-1] = size;
     return (void *)start;
 }
@@ -458,30 +489,41 @@ static size_t spare_size(const void *pointer)
     return ((const size_t *)pointer)[-1];
 }
 
+static void drop_spare(void *pointer)
+{
+    unsigned char *start = pointer;
+    size_t before = (uintptr_t)(start - SPARE_HEADER) % PAGE + SPARE_HEADER;
+    madvise(start - before, (before + spare_size(pointer) + PAGE - 1) / PAGE * PAGE, MADV_DONTNEED);
+}
+
 /* Allocation. */
+
+/* How many bytes a block takes with its redzones. */
+static size_t room_for(size_t size, size_t alignment)
+{
+    return (size + ALIGNMENT - 1) / ALIGNMENT * ALIGNMENT + 2 * REDZONE + alignment - ALIGNMENT;
+}
 
 static struct block *take_block(size_t bytes)
 {
-    struct block *block = bytes <= LARGEST_SLOT ? take_slot(bytes) : take_large(bytes);
-    if (block == NULL && heap.held_bytes >= bytes) {
-        /* Without a recorder the process might have this memory: so no more recording, and nothing held back. */
-        stream_stop("no memory");
-        release_down_to(0);
-        block = bytes <= LARGEST_SLOT ? take_slot(bytes) : take_large(bytes);
-    }
-    return block;
+    return bytes <= LARGEST_SLOT ? take_slot(bytes) : take_large(bytes);
 }
 
 static void *place_block(size_t size, size_t alignment, uintptr_t caller)
 {
-    size_t rounded = (size + ALIGNMENT - 1) / ALIGNMENT * ALIGNMENT;
-    size_t bytes = rounded + 2 * REDZONE + (alignment > ALIGNMENT ? alignment - ALIGNMENT : 0);
+    size_t bytes = room_for(size, alignment);
     struct block *block = take_block(bytes);
+    if (block == NULL && heap.held_bytes != 0 && bytes <= (size_t)UNITS * UNIT) {
+        /* Without a recorder the process might have this memory: so no more recording, and nothing held back. */
+        stream_stop("no memory");
+        release_down_to(0);
+        block = take_block(bytes);
+    }
     if (block == NULL)
         return NULL;
     uintptr_t start = (uintptr_t)slot_start(block);
     uintptr_t address = (start + REDZONE + alignment - 1) / alignment * alignment;
-    block->offset = (uint32_t)((address - start) / ALIGNMENT);
+    block->offset = (address - start) / ALIGNMENT & LARGEST_OFFSET;
     if (size <= LARGEST_REGION) {
         block->state = BLOCK_LIVE;
         block->size = (uint32_t)size;
@@ -503,7 +545,7 @@ static void *allocate(size_t size, size_t alignment, bool zeroed, uintptr_t call
     if (!fits || !enter()) {
         address = fits ? take_spare(size, alignment) : NULL;
     } else {
-        if (heap.is_reserved || reserve())
+        if (heap.arena != NULL || find_range())
             address = place_block(size, alignment, caller);
         if (address == NULL)
             record_region(CODE_MALLOC, 0, size, caller); /* refused */
@@ -511,28 +553,24 @@ static void *allocate(size_t size, size_t alignment, bool zeroed, uintptr_t call
     }
     if (address == NULL)
         errno = ENOMEM;
-    else if (zeroed)
-        memset(address, 0, size);
+    else if (zeroed && room_for(size, alignment) <= LARGEST_SLOT)
+        memset(address, 0, size); /* a larger block is zeros: pages that are not used take no memory */
     return address;
 }
 
 static void give_back(void *pointer, uintptr_t caller)
 {
     caller = caller_or(caller);
-    if (pointer == NULL || is_spare(pointer))
+    if (pointer == NULL)
         return;
     int before = errno;
-    if (enter()) {
+    if (is_spare(pointer)) {
+        drop_spare(pointer);
+    } else if (enter()) {
         free_block(pointer, caller);
         leave();
     } else {
-        unsigned place = atomic_fetch_add(&heap.deferred_count, 1);
-        if (place < sizeof heap.deferred / sizeof *heap.deferred) {
-            atomic_store(&heap.deferred[place], pointer);
-            heap.deferred_from[place] = caller;
-        } else {
-            atomic_fetch_sub(&heap.deferred_count, 1);
-        }
+        defer(pointer, caller);
     }
     errno = before;
 }
@@ -665,12 +703,18 @@ REPLACES int posix_memalign(void **result, size_t alignment, size_t size)
 
 REPLACES void *valloc(size_t size)
 {
-    return allocate(size, 4096, false, CALLER());
+    return allocate(size, PAGE, false, CALLER());
 }
 
 REPLACES void *pvalloc(size_t size)
 {
-    return allocate((size + 4095) / 4096 * 4096, 4096, false, CALLER());
+    size_t pages = size / PAGE + (size % PAGE != 0);
+    size_t bytes;
+    if (__builtin_mul_overflow(pages, PAGE, &bytes)) {
+        errno = ENOMEM;
+        return NULL;
+    }
+    return allocate(bytes, PAGE, false, CALLER());
 }
 
 REPLACES size_t malloc_usable_size(void *pointer)

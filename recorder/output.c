@@ -4,7 +4,6 @@
 #include <errno.h>
 #include <fcntl.h>
 #include <poll.h>
-#include <signal.h>
 #include <string.h>
 #include <sys/mman.h>
 #include <sys/resource.h>
@@ -12,6 +11,8 @@
 #include <sys/stat.h>
 #include <sys/un.h>
 #include <unistd.h>
+
+#include "signals.h"
 
 /* The name gets a number before its last dot, or at its end: run.trace, run.1.trace, run.2.trace. */
 static bool numbered(char *name, const char *path, unsigned number)
@@ -35,24 +36,13 @@ static bool numbered(char *name, const char *path, unsigned number)
     return true;
 }
 
-/* A call that failed for a limit or a closed pipe has raised a signal, which is blocked: takes it away again. */
-static void drain(int number)
-{
-    sigset_t set;
-    struct timespec none = {0, 0};
-    sigemptyset(&set);
-    sigaddset(&set, number);
-    while (sigtimedwait(&set, NULL, &none) < 0 && errno == EINTR)
-        ;
-}
-
 static const char *reason(void)
 {
     int error = errno;
     if (error == EPIPE)
-        drain(SIGPIPE);
+        signal_take_away(SIGPIPE);
     if (error == EFBIG)
-        drain(SIGXFSZ);
+        signal_take_away(SIGXFSZ);
     return strerrordesc_np(error);
 }
 
@@ -80,62 +70,71 @@ static const char *take_pieces(struct output *output, int descriptor, uint64_t r
 {
     struct stat seen;
     output->descriptor = moved_up(descriptor);
-    output->is_mapped = false;
     if (fstat(output->descriptor, &seen) != 0)
         return reason();
     output->device = seen.st_dev;
     output->node = seen.st_ino;
-    output->bytes = mmap(NULL, room, PROT_READ | PROT_WRITE, MAP_PRIVATE | MAP_ANONYMOUS | MAP_NORESERVE, -1, 0);
-    return output->bytes == MAP_FAILED ? reason() : NULL;
+    void *bytes = mmap(NULL, room, PROT_READ | PROT_WRITE, MAP_PRIVATE | MAP_ANONYMOUS | MAP_NORESERVE, -1, 0);
+    if (bytes == MAP_FAILED)
+        return reason();
+    output->bytes = bytes;
+    return NULL;
 }
 
-/* A new file of this name, or of the next one that is free; or what is there, if it is no file. */
-static int open_new(struct output *output, const char *path)
+/* A new file of this name, or of the next one that is free; or what is there, if it is no file: a pipe is not waited
+   for. */
+static int open_new(struct output *output, const char *path, enum naming naming)
 {
+    if (naming == NAME_TAKEN_OVER)
+        unlink(path);
     for (unsigned number = 0; number < 1000000; number++) {
         if (!numbered(output->path, path, number)) {
             errno = ENAMETOOLONG;
             return -1;
         }
         int descriptor = open(output->path, O_RDWR | O_CREAT | O_EXCL | O_CLOEXEC, 0666);
-        if (descriptor >= 0 || errno != EEXIST)
+        if (descriptor >= 0 || errno != EEXIST || naming == NAME_TAKEN_OVER)
             return descriptor;
         struct stat seen;
-        if (number == 0 && stat(output->path, &seen) == 0 && !S_ISREG(seen.st_mode)) {
-            descriptor = open(output->path, O_WRONLY | O_NONBLOCK | O_NOCTTY | O_CLOEXEC);
-            if (descriptor >= 0)
-                fcntl(descriptor, F_SETFL, fcntl(descriptor, F_GETFL) & ~O_NONBLOCK);
-            return descriptor;
-        }
+        if (number == 0 && stat(output->path, &seen) == 0 && !S_ISREG(seen.st_mode))
+            return open(output->path, O_WRONLY | O_NONBLOCK | O_NOCTTY | O_CLOEXEC);
     }
     errno = EEXIST;
     return -1;
 }
 
-const char *output_open_file(struct output *output, const char *path, uint64_t room, uint64_t backed)
+static void clear(struct output *output, uint64_t room)
+{
+    output->is_mapped = output->is_socket = output->is_lost = false;
+    output->descriptor = -1;
+    output->backed = output->sent = 0;
+    output->room = room;
+    output->bytes = NULL;
+}
+
+const char *output_open_file(struct output *output, const char *path, enum naming naming, uint64_t room,
+                             uint64_t backed)
 {
     struct stat seen;
-    output->descriptor = -1;
-    output->is_socket = false;
-    output->sent = 0;
-    output->room = room;
-    output->backed = backed;
-    int descriptor = open_new(output, path);
+    clear(output, room);
+    int descriptor = open_new(output, path, naming);
     if (descriptor < 0 || fstat(descriptor, &seen) != 0)
         return reason();
     if (!S_ISREG(seen.st_mode))
         return take_pieces(output, descriptor, room);
-    output->bytes = MAP_FAILED;
+    void *bytes = MAP_FAILED;
     if (fallocate(descriptor, 0, 0, (off_t)backed) == 0)
-        output->bytes = mmap(NULL, room, PROT_READ | PROT_WRITE, MAP_SHARED | MAP_NORESERVE, descriptor, 0);
-    if (output->bytes == MAP_FAILED) {
-        if (errno == EOPNOTSUPP || errno == ENODEV)
+        bytes = mmap(NULL, room, PROT_READ | PROT_WRITE, MAP_SHARED | MAP_NORESERVE, descriptor, 0);
+    if (bytes == MAP_FAILED) {
+        if (errno == EOPNOTSUPP || errno == ENOSYS || errno == ENODEV)
             return take_pieces(output, descriptor, room);
         const char *why = reason();
         unlink(output->path);
         close(descriptor);
         return why;
     }
+    output->bytes = bytes;
+    output->backed = backed;
     output->is_mapped = true;
     output->device = seen.st_dev;
     output->node = seen.st_ino;
@@ -146,10 +145,8 @@ const char *output_open_file(struct output *output, const char *path, uint64_t r
 const char *output_connect(struct output *output, const char *path, uint64_t room, int patience_ms)
 {
     struct sockaddr_un address = {.sun_family = AF_UNIX};
+    clear(output, room);
     output->is_socket = true;
-    output->sent = 0;
-    output->room = room;
-    output->descriptor = -1;
     if (strlen(path) >= sizeof address.sun_path)
         return strerrordesc_np(ENAMETOOLONG);
     strcpy(address.sun_path, path);
@@ -185,6 +182,8 @@ const char *output_extend(struct output *output, uint64_t length)
 {
     if (!output->is_mapped || length <= output->backed)
         return NULL;
+    if (output->is_lost)
+        return "the file was cut";
     int descriptor = reopen(output);
     if (descriptor < 0)
         return reason();
@@ -201,7 +200,7 @@ const char *output_extend(struct output *output, uint64_t length)
 
 void output_trim(struct output *output, uint64_t length)
 {
-    if (!output->is_mapped)
+    if (!output->is_mapped || output->is_lost)
         return;
     int descriptor = reopen(output);
     if (descriptor < 0)
@@ -247,12 +246,33 @@ const char *output_send(struct output *output, uint64_t length, bool all, int pa
     return why;
 }
 
+/* Puts plain memory, of zeros, in the place of what is mapped. */
+static bool put_memory(const struct output *output)
+{
+    return mmap(output->bytes, output->room, PROT_READ | PROT_WRITE,
+                MAP_PRIVATE | MAP_ANONYMOUS | MAP_NORESERVE | MAP_FIXED, -1, 0) == output->bytes;
+}
+
+bool output_lose(struct output *output, const void *address)
+{
+    const unsigned char *at = address;
+    if (!output->is_mapped || at < output->bytes || at >= output->bytes + output->room)
+        return false;
+    output->is_lost = put_memory(output);
+    return output->is_lost;
+}
+
 void output_drop(struct output *output)
 {
-    if (output->bytes != NULL && output->bytes != MAP_FAILED)
-        munmap(output->bytes, output->room);
+    if (output->old_bytes != NULL)
+        munmap(output->old_bytes, output->old_room);
+    output->old_bytes = NULL;
+    /* Where a signal handler has forked, the record that it had interrupted will still be written. */
+    if (output->bytes != NULL && put_memory(output)) {
+        output->old_bytes = output->bytes;
+        output->old_room = output->room;
+    }
     if (output->descriptor >= 0 && is_still(output, output->descriptor))
         close(output->descriptor);
-    output->bytes = NULL;
-    output->descriptor = -1;
+    clear(output, 0);
 }

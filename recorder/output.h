@@ -15,13 +15,20 @@ struct output {
     ino_t node;
     uint64_t backed; /* a mapped file has this many bytes */
     uint64_t sent;   /* a descriptor was given this many */
+    bool is_lost;    /* the mapped file was cut by somebody else */
     uint64_t room;
     unsigned char *bytes;
+    unsigned char *old_bytes; /* of the parent's output, in its child */
+    uint64_t old_room;
     char path[PATH_MAX];
 };
 
+/* Where there is a file of the name: the next name that is free is taken, or this file is thrown away. */
+enum naming { NAME_NUMBERED, NAME_TAKEN_OVER };
+
 /* Each answers null, or what went wrong. */
-const char *output_open_file(struct output *output, const char *path, uint64_t room, uint64_t backed);
+const char *output_open_file(struct output *output, const char *path, enum naming naming, uint64_t room,
+                             uint64_t backed);
 const char *output_connect(struct output *output, const char *path, uint64_t room, int patience_ms);
 /* Backs a mapped file up to this length. */
 const char *output_extend(struct output *output, uint64_t length);
@@ -29,6 +36,8 @@ const char *output_extend(struct output *output, uint64_t length);
 void output_trim(struct output *output, uint64_t length);
 /* Sends what is not sent yet of the first bytes: at once what a socket takes, or all of it, with patience. */
 const char *output_send(struct output *output, uint64_t length, bool all, int patience_ms);
+/* Whether the address lies in a mapped file. Then the file is gone, and plain memory takes its place. */
+bool output_lose(struct output *output, const void *address);
 /* Forgets a parent's output in its child. */
 void output_drop(struct output *output);
 

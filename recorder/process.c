@@ -1,15 +1,14 @@
 #define _GNU_SOURCE
 #include <errno.h>
 #include <limits.h>
+#include <poll.h>
 #include <pthread.h>
-#include <sched.h>
-#include <signal.h>
 #include <stdlib.h>
 #include <string.h>
 #include <sys/stat.h>
-#include <sys/syscall.h>
 #include <unistd.h>
 
+#include "signals.h"
 #include "stream.h"
 
 /* What the environment says, and who we are. Written at the start and in a child after a fork. */
@@ -18,11 +17,10 @@ static struct {
     dev_t error_device; /* standard error as it was at the start */
     ino_t error_node;
     bool has_error;
-    bool has_handlers;
+    bool forked_inside; /* by a handler that had interrupted the allocator */
     struct settings settings;
     char pattern[PATH_MAX]; /* of the trace's name, from the root */
     char name[PATH_MAX];
-    sigset_t mask_of_fork;
 } process;
 
 static void append(char *line, size_t *length, size_t room, const char *text)
@@ -31,24 +29,32 @@ static void append(char *line, size_t *length, size_t room, const char *text)
         line[(*length)++] = *text++;
 }
 
+/* Whether standard error is what it was at the start, and takes a line at once. */
+static bool can_say(void)
+{
+    struct stat seen;
+    struct pollfd error = {STDERR_FILENO, POLLOUT, 0};
+    return process.has_error && fstat(STDERR_FILENO, &seen) == 0 && seen.st_dev == process.error_device
+           && seen.st_ino == process.error_node && poll(&error, 1, 0) == 1 && error.revents == POLLOUT;
+}
+
 void recorder_say(const char *what, const char *of, const char *why)
 {
-    char line[PATH_MAX + 256];
+    char line[PIPE_BUF]; /* no longer than what a pipe takes at once */
     size_t length = 0;
-    struct stat seen;
-    int before = errno;
-    if (!process.has_error || fstat(STDERR_FILENO, &seen) != 0 || seen.st_dev != process.error_device
-        || seen.st_ino != process.error_node)
-        return;
-    append(line, &length, sizeof line - 1, "asancol: ");
-    append(line, &length, sizeof line - 1, what);
-    append(line, &length, sizeof line - 1, of);
-    append(line, &length, sizeof line - 1, ": ");
-    append(line, &length, sizeof line - 1, why);
-    line[length++] = '\n';
-    if (write(STDERR_FILENO, line, length) < 0)
-        errno = before;
-    errno = before;
+    struct disturbance before;
+    undisturbed_begin(&before);
+    if (can_say()) {
+        append(line, &length, sizeof line - 1, "asancol: ");
+        append(line, &length, sizeof line - 1, what);
+        append(line, &length, sizeof line - 1, of);
+        append(line, &length, sizeof line - 1, ": ");
+        append(line, &length, sizeof line - 1, why);
+        line[length++] = '\n';
+        if (write(STDERR_FILENO, line, length) < 0)
+            signal_take_away(errno == EPIPE ? SIGPIPE : SIGXFSZ);
+    }
+    undisturbed_end(&before);
 }
 
 /* A number of the environment, if it is one and in range. */
@@ -137,17 +143,23 @@ static bool begin(void)
     return true;
 }
 
-void recorder_start(void)
+static void remember_errors(void)
 {
-    enum state unstarted = STATE_UNSTARTED;
     struct stat seen;
-    int before = errno;
-    if (!atomic_compare_exchange_strong(&recorder_state, &unstarted, STATE_STARTING))
-        return;
-    process.process = getpid();
     process.has_error = fstat(STDERR_FILENO, &seen) == 0;
     process.error_device = seen.st_dev;
     process.error_node = seen.st_ino;
+}
+
+void recorder_start(void)
+{
+    enum state unstarted = STATE_UNSTARTED;
+    struct disturbance before;
+    if (!atomic_compare_exchange_strong(&recorder_state, &unstarted, STATE_STARTING))
+        return;
+    undisturbed_begin(&before);
+    process.process = getpid();
+    remember_errors();
     read_settings();
     bool wanted = process.settings.trace != NULL || process.settings.socket != NULL;
     if (wanted && process.settings.trace != NULL && !set_pattern(process.settings.trace)) {
@@ -158,7 +170,7 @@ void recorder_start(void)
     if (!wanted || !begin())
         atomic_store(&recorder_state, STATE_OFF);
     heap_unlock();
-    errno = before;
+    undisturbed_end(&before);
 }
 
 /* A child of vfork runs in its parent's memory: what it does at its end is not the parent's end. */
@@ -175,10 +187,23 @@ void recorder_finish(enum finish finish)
     stream_say_left_out();
 }
 
+void recorder_finish_in_handler(void)
+{
+    if (!is_own_process())
+        return;
+    stream_end(FINISH_OPEN, false);
+    stream_say_left_out();
+}
+
 bool recorder_before_exec(void)
 {
-    if (atomic_load(&recorder_state) != STATE_RECORDING || !is_own_process())
+    enum state state = atomic_load(&recorder_state);
+    if (!is_own_process() || (state != STATE_RECORDING && state != STATE_AT_LIMIT))
         return false;
+    if (state == STATE_AT_LIMIT) {
+        recorder_finish(FINISH_CLOSED);
+        return false;
+    }
     heap_lock();
     if (stream_suspend())
         return true;
@@ -194,127 +219,49 @@ void recorder_exec_failed(void)
     errno = before;
 }
 
-/* Forks. The lock of the heap and that of the stream are held across, with all signals blocked. */
+/* Forks. The lock of the heap and that of the stream are held across. */
 
 static void before_fork(void)
 {
-    sigset_t all, before;
-    sigfillset(&all);
-    pthread_sigmask(SIG_SETMASK, &all, &before);
+    process.forked_inside = heap_is_entered();
     heap_lock();
     stream_lock();
-    process.mask_of_fork = before;
 }
 
 static void after_fork_in_parent(void)
 {
-    sigset_t before = process.mask_of_fork;
     stream_unlock();
     heap_unlock();
-    pthread_sigmask(SIG_SETMASK, &before, NULL);
+}
+
+/* Why a child is not recorded, or null. */
+static const char *why_unrecorded(void)
+{
+    if (process.settings.socket != NULL)
+        return "each connection is one process that was counted before";
+    return process.forked_inside ? "it came in the middle of an allocation" : NULL;
 }
 
 static void after_fork_in_child(void)
 {
-    sigset_t before = process.mask_of_fork;
     enum state state = atomic_load(&recorder_state);
     bool recorded = state == STATE_RECORDING || state == STATE_AT_LIMIT;
+    struct disturbance before;
     process.process = getpid();
     stream_forget();
-    if (recorded && process.settings.socket != NULL) {
-        recorder_say("a forked child is not recorded: ", process.settings.socket,
-                     "each connection is one process that was counted before");
+    stream_unlock();
+    undisturbed_begin(&before);
+    if (recorded && why_unrecorded() != NULL) {
+        const char *of = process.settings.socket != NULL ? process.settings.socket : process.settings.trace;
+        recorder_say("a forked child is not recorded: ", of, why_unrecorded());
         recorded = false;
-    } else if (recorded) {
-        recorded = begin();
     }
-    if (!recorded) {
+    if (!recorded || !begin()) {
         atomic_store(&recorder_state, STATE_OFF);
         heap_set_bound(0);
     }
+    undisturbed_end(&before);
     heap_unlock();
-    pthread_sigmask(SIG_SETMASK, &before, NULL);
-}
-
-/* Signals that end the process. What was recorded so far is in the stream: a handler ends it in order, and then lets
-   the signal do what it does. The program sees the default in place of this handler. */
-
-static const int endings[] = {SIGHUP,  SIGINT,  SIGQUIT, SIGILL,  SIGTRAP, SIGABRT,   SIGBUS,  SIGFPE,
-                              SIGUSR1, SIGSEGV, SIGUSR2, SIGPIPE, SIGALRM, SIGTERM,   SIGXCPU, SIGXFSZ,
-                              SIGPROF, SIGPOLL, SIGPWR,  SIGSYS,  SIGVTALRM, SIGSTKFLT};
-
-static bool ends_process(int number)
-{
-    for (size_t i = 0; i < sizeof endings / sizeof *endings; i++)
-        if (endings[i] == number)
-            return true;
-    return false;
-}
-
-static void on_ending(int number, siginfo_t *info, void *context)
-{
-    (void)context;
-    int before = errno;
-    if (number == SIGBUS && info->si_code > 0 && stream_has_lost(info->si_addr)) {
-        errno = before;
-        return;
-    }
-    if (is_own_process()) {
-        stream_end(FINISH_OPEN, false);
-        stream_say_left_out();
-    }
-    struct sigaction none = {.sa_handler = SIG_DFL};
-    sigaction(number, &none, NULL);
-    /* A fault comes again by itself, and with what the kernel says of it. */
-    bool may_be_fault = number == SIGSEGV || number == SIGBUS || number == SIGILL || number == SIGFPE;
-    if (!may_be_fault || info->si_code <= 0)
-        syscall(SYS_tgkill, getpid(), syscall(SYS_gettid), number);
-    errno = before;
-}
-
-static struct sigaction ending_action(void)
-{
-    struct sigaction action = {.sa_sigaction = on_ending, .sa_flags = SA_SIGINFO | SA_ONSTACK | SA_RESTART};
-    sigfillset(&action.sa_mask);
-    return action;
-}
-
-static void install_handlers(void)
-{
-    struct sigaction ours = ending_action(), seen;
-    for (size_t i = 0; i < sizeof endings / sizeof *endings; i++)
-        if (sigaction(endings[i], NULL, &seen) == 0 && !(seen.sa_flags & SA_SIGINFO) && seen.sa_handler == SIG_DFL)
-            sigaction(endings[i], &ours, NULL);
-    process.has_handlers = true;
-}
-
-int __wrap_sigaction(int number, const struct sigaction *action, struct sigaction *old)
-{
-    struct sigaction ours = ending_action();
-    bool to_default = action != NULL && action->sa_handler == SIG_DFL && process.has_handlers && ends_process(number);
-    int result = sigaction(number, to_default ? &ours : action, old);
-    if (result == 0 && old != NULL && (old->sa_flags & SA_SIGINFO) && old->sa_sigaction == on_ending)
-        *old = (struct sigaction){.sa_handler = SIG_DFL};
-    return result;
-}
-
-static sighandler_t set_handler(int number, sighandler_t handler, int flags)
-{
-    struct sigaction action = {.sa_handler = handler, .sa_flags = flags}, old;
-    sigemptyset(&action.sa_mask);
-    if (!(flags & SA_NODEFER) && number > 0 && number < NSIG)
-        sigaddset(&action.sa_mask, number);
-    return __wrap_sigaction(number, &action, &old) == 0 ? old.sa_handler : SIG_ERR;
-}
-
-sighandler_t __wrap_signal(int number, sighandler_t handler)
-{
-    return set_handler(number, handler, SA_RESTART);
-}
-
-sighandler_t __wrap___sysv_signal(int number, sighandler_t handler)
-{
-    return set_handler(number, handler, (int)SA_RESETHAND | SA_NODEFER);
 }
 
 static void finish_quickly(void)
@@ -329,7 +276,7 @@ __attribute__((constructor(101))) void asancol_start(void)
     pthread_atfork(before_fork, after_fork_in_parent, after_fork_in_child);
     if (atomic_load(&recorder_state) != STATE_OFF) {
         at_quick_exit(finish_quickly);
-        install_handlers();
+        signals_handle();
     }
 }
 

@@ -1,5 +1,7 @@
 /* The table that shared objects find in the program. */
+#define _GNU_SOURCE
 #include "hooks.h"
+#include "signals.h"
 #include "stream.h"
 
 static void access_from_object(enum code code, unsigned width, uint64_t address, uintptr_t caller)
@@ -16,4 +18,5 @@ VISIBLE const struct asancol_hooks asancol_hooks = {
     .before_exec = recorder_before_exec,
     .exec_failed = recorder_exec_failed,
     .modules_changed = stream_write_modules,
+    .set_action = signals_set_action,
 };

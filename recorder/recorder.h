@@ -123,6 +123,8 @@ enum finish { FINISH_CLOSED, FINISH_OPEN };
 
 void recorder_start(void);
 void recorder_finish(enum finish finish);
+/* In a handler of a signal that ends the process: without a close, and without waiting for other threads for ever. */
+void recorder_finish_in_handler(void);
 /* Before an exec. False: there is nothing to take back. */
 bool recorder_before_exec(void);
 void recorder_exec_failed(void);
@@ -146,6 +148,8 @@ void heap_called_from(uintptr_t caller);
 
 /* What shared objects find in the program. They are built with the small libasancol_shared.a, whose functions do
    nothing where no recorder is there. */
+struct sigaction;
+
 struct asancol_hooks {
     void (*access)(enum code code, unsigned width, uint64_t address, uintptr_t caller);
     void (*range)(enum code code, uint64_t address, uint64_t size, uintptr_t caller);
@@ -155,6 +159,7 @@ struct asancol_hooks {
     bool (*before_exec)(void);
     void (*exec_failed)(void);
     void (*modules_changed)(void);
+    int (*set_action)(int number, const struct sigaction *action, struct sigaction *old);
 };
 
 #endif

@@ -4,12 +4,12 @@
 #include <fcntl.h>
 #include <pthread.h>
 #include <sched.h>
-#include <signal.h>
 #include <string.h>
 #include <sys/mman.h>
 #include <unistd.h>
 
 #include "output.h"
+#include "signals.h"
 
 union stream_page stream_page __attribute__((aligned(4096)));
 _Atomic enum state recorder_state;
@@ -18,56 +18,79 @@ _Atomic enum state recorder_state;
 enum { FILE_STEP = 1 << 20, PIECES_STEP = 1 << 16 };
 /* How often to look again at a record that another thread has not written yet. */
 enum { LOOKS = 1000 };
+/* How many records in a row may be missing. */
+enum { MOST_HOLES = 8 };
 
 static struct {
-    pthread_mutex_t lock;  /* of all below; with it held signals are blocked */
-    sigset_t mask;         /* what was blocked before */
+    pthread_mutex_t lock;      /* of all below; who has it is undisturbed */
+    struct disturbance before; /* of who has it */
     struct output trace;
     struct output where;
     bool has_where;
     int patience_ms;
     uint64_t checked;      /* up to here the records were seen to be whole */
     uint64_t checked_events;
-    uint64_t suspended;    /* the cursor, while an exec is tried */
     _Atomic uint64_t left_out;
-} keeper = {.lock = PTHREAD_MUTEX_INITIALIZER};
+} keeper = {.lock = PTHREAD_MUTEX_INITIALIZER, .trace = {.descriptor = -1}, .where = {.descriptor = -1}};
 
 #define STREAM (&stream_page.stream)
 
 void stream_lock(void)
 {
-    sigset_t all, before;
-    sigfillset(&all);
-    pthread_sigmask(SIG_SETMASK, &all, &before);
+    struct disturbance before;
+    undisturbed_begin(&before);
     pthread_mutex_lock(&keeper.lock);
-    keeper.mask = before;
+    keeper.before = before;
 }
 
 void stream_unlock(void)
 {
-    sigset_t before = keeper.mask;
+    struct disturbance before = keeper.before;
     pthread_mutex_unlock(&keeper.lock);
-    pthread_sigmask(SIG_SETMASK, &before, NULL);
+    undisturbed_end(&before);
 }
 
-static bool try_lock(bool certain)
+static bool lock_at_once(void)
+{
+    struct disturbance before;
+    undisturbed_begin(&before);
+    if (pthread_mutex_trylock(&keeper.lock) == 0) {
+        keeper.before = before;
+        return true;
+    }
+    undisturbed_end(&before);
+    return false;
+}
+
+/* Takes the lock: for certain, or if it comes free while this looks. */
+static bool lock_for_end(bool certain)
 {
     if (certain) {
         stream_lock();
         return true;
     }
-    sigset_t all, before;
-    sigfillset(&all);
-    pthread_sigmask(SIG_SETMASK, &all, &before);
-    for (int tries = 0; tries < LOOKS; tries++) {
-        if (pthread_mutex_trylock(&keeper.lock) == 0) {
-            keeper.mask = before;
+    for (int looks = 0; looks < LOOKS; looks++) {
+        if (lock_at_once())
             return true;
-        }
         sched_yield();
     }
-    pthread_sigmask(SIG_SETMASK, &before, NULL);
     return false;
+}
+
+static bool is_on(void)
+{
+    return (atomic_load(&STREAM->cursor) & CURSOR_ON) != 0;
+}
+
+/* Whether bytes can be stored up to this offset. */
+static bool has_room(uint64_t end)
+{
+    return atomic_load_explicit(&STREAM->ready, memory_order_acquire) >= end;
+}
+
+static uint64_t limit_of_stream(void)
+{
+    return STREAM->events_end >> 32;
 }
 
 static unsigned char code_at(uint64_t offset)
@@ -75,9 +98,11 @@ static unsigned char code_at(uint64_t offset)
     return atomic_load_explicit((_Atomic unsigned char *)(STREAM->bytes + offset), memory_order_acquire);
 }
 
-/* Whether whole records begin here, as far as a few of them can say. */
+/* Whether whole records begin here, as far as a few of them can say. Some accesses may be missing before them. */
 static bool looks_sound(uint64_t offset, uint64_t end)
 {
+    for (int holes = 0; holes < MOST_HOLES && offset < end && code_at(offset) == CODE_NONE; holes++)
+        offset += ACCESS_LENGTH;
     for (int seen = 0; offset < end && seen < 8; seen++) {
         unsigned length = record_length(code_at(offset));
         const unsigned char *width = STREAM->bytes + offset + 1;
@@ -87,7 +112,7 @@ static bool looks_sound(uint64_t offset, uint64_t end)
             return false;
         offset += length;
     }
-    return offset <= end || end == 0;
+    return offset <= end;
 }
 
 /* A record that was begun and will never be written, as when a signal handler left by a jump: puts one there that says
@@ -124,7 +149,8 @@ static void check_records(uint64_t end, uint64_t limit, bool patience)
         if (UNLIKELY(length == 0)) {
             if (!patience)
                 return;
-            if (++looks < LOOKS) {
+            /* With one thread there is nobody to wait for: a signal handler has left by a jump. */
+            if (!__libc_single_threaded && ++looks < LOOKS) {
                 sched_yield();
                 continue;
             }
@@ -138,6 +164,16 @@ static void check_records(uint64_t end, uint64_t limit, bool patience)
     }
 }
 
+/* Cuts the files after the last record or the close. */
+static void trim_files(uint64_t length)
+{
+    output_trim(&keeper.trace, length);
+    if (keeper.has_where) {
+        stream_write_modules();
+        output_trim(&keeper.where, PLACES_OFFSET + keeper.checked_events * PLACE_BYTES);
+    }
+}
+
 /* No more is recorded. The stream ends after its last whole record, without a close. */
 static void give_up(const char *why)
 {
@@ -146,8 +182,8 @@ static void give_up(const char *why)
     atomic_store(&recorder_state, STATE_OFF);
     heap_set_bound(0);
     if (cursor & CURSOR_ON) {
-        check_records(end < ready ? end : ready, STREAM->events_end >> 32, true);
-        output_trim(&keeper.trace, keeper.checked);
+        check_records(end < ready ? end : ready, limit_of_stream(), true);
+        trim_files(keeper.checked);
     }
     recorder_say("recording ends: ", keeper.trace.path, why);
 }
@@ -196,18 +232,15 @@ static bool grow_to(uint64_t end)
 /* Writes the close, if there shall be one, and leaves nothing after it. The lock is held and the cursor off. */
 static void finish_at(uint64_t end, uint64_t limit, enum finish finish)
 {
-    uint64_t ready = atomic_load(&STREAM->ready);
-    check_records(end < ready ? end : ready, limit, true);
+    if (!grow_to(end))
+        return;
+    check_records(end, limit, true);
     bool whole = keeper.checked == end || keeper.checked_events == limit;
     uint64_t length = keeper.checked;
     if (finish == FINISH_CLOSED && whole && grow_to(length + CLOSE_LENGTH))
         put_code(STREAM->bytes + length++, CODE_CLOSE);
     if (keeper.trace.is_mapped) {
-        output_trim(&keeper.trace, length);
-        if (keeper.has_where) {
-            stream_write_modules();
-            output_trim(&keeper.where, PLACES_OFFSET + keeper.checked_events * PLACE_BYTES);
-        }
+        trim_files(length);
     } else {
         const char *why = output_send(&keeper.trace, length, true, keeper.patience_ms);
         if (why != NULL)
@@ -215,19 +248,19 @@ static void finish_at(uint64_t end, uint64_t limit, enum finish finish)
     }
 }
 
-static uint64_t limit_of_stream(void)
-{
-    return STREAM->events_end >> 32;
-}
-
-/* The event that takes this place is one too many. */
-static void end_at_limit(uint64_t place)
+/* The event whose record would begin here is one too many. The records before it get their room first: other threads
+   are writing them. */
+static void end_at_limit(uint64_t end)
 {
     stream_lock();
-    if (atomic_exchange(&STREAM->cursor, 0) & CURSOR_ON) {
+    if (is_on() && grow_to(end)) {
         atomic_store(&recorder_state, STATE_AT_LIMIT);
-        finish_at((uint32_t)place, limit_of_stream(), FINISH_CLOSED);
-        heap_set_bound(0);
+        if (atomic_exchange(&STREAM->cursor, 0) & CURSOR_ON) {
+            finish_at(end, limit_of_stream(), FINISH_CLOSED);
+            heap_set_bound(0);
+        } else {
+            atomic_store(&recorder_state, STATE_OFF);
+        }
     }
     stream_unlock();
 }
@@ -237,17 +270,26 @@ static bool make_room(uint64_t place, unsigned length)
 {
     if (!(place & CURSOR_ON))
         return false; /* it was turned off just now */
-    uint64_t count = (place - CURSOR_ON) >> 32;
+    uint64_t end = (uint32_t)place + length, count = (place - CURSOR_ON) >> 32;
     if (count >= limit_of_stream()) {
         if (count == limit_of_stream())
-            end_at_limit(place);
+            end_at_limit((uint32_t)place);
         atomic_fetch_add_explicit(&keeper.left_out, 1, memory_order_relaxed);
         return false;
     }
-    stream_lock();
-    bool fits = (atomic_load(&STREAM->cursor) & CURSOR_ON) && grow_to((uint32_t)place + length);
-    stream_unlock();
-    return fits;
+    /* Who has the lock may be waiting for this record, and has made room for it. */
+    for (int looks = 0; !has_room(end) && is_on(); looks++) {
+        if (looks >= LOOKS)
+            stream_lock();
+        else if (!lock_at_once()) {
+            sched_yield();
+            continue;
+        }
+        if (is_on())
+            grow_to(end);
+        stream_unlock();
+    }
+    return has_room(end);
 }
 
 /* Whether the stream is on, after a start where it had not been started. */
@@ -259,7 +301,7 @@ static bool wake(void)
         if (environ == NULL || heap_is_entered())
             return false;
         recorder_start();
-        return (atomic_load(&STREAM->cursor) & CURSOR_ON) != 0;
+        return is_on();
     case STATE_AT_LIMIT:
         atomic_fetch_add_explicit(&keeper.left_out, 1, memory_order_relaxed);
         return false;
@@ -274,7 +316,7 @@ static const char *open_where(void)
     size_t length = strlen(keeper.trace.path);
     memcpy(path, keeper.trace.path, length);
     strcpy(path + length, ".where");
-    const char *why = output_open_file(&keeper.where, path, LARGEST_WHERE,
+    const char *why = output_open_file(&keeper.where, path, NAME_TAKEN_OVER, LARGEST_WHERE,
                                        PLACES_OFFSET + (FILE_STEP / PLACE_LENGTH + 1) * PLACE_BYTES);
     if (why == NULL && !keeper.where.is_mapped)
         why = "it can't be mapped";
@@ -286,7 +328,7 @@ static const char *open_output(const struct settings *settings)
     const char *why;
     keeper.has_where = false;
     if (settings->trace != NULL)
-        why = output_open_file(&keeper.trace, settings->trace, LARGEST_STREAM + FILE_STEP, FILE_STEP);
+        why = output_open_file(&keeper.trace, settings->trace, NAME_NUMBERED, LARGEST_STREAM + FILE_STEP, FILE_STEP);
     else
         why = output_connect(&keeper.trace, settings->socket, LARGEST_STREAM + FILE_STEP, settings->patience_ms);
     if (why != NULL || !settings->with_places)
@@ -332,12 +374,16 @@ bool stream_begin(const struct settings *settings)
 void stream_end(enum finish finish, bool certain)
 {
     uint64_t cursor = atomic_exchange(&STREAM->cursor, 0);
-    if (!(cursor & CURSOR_ON))
+    bool was_on = (cursor & CURSOR_ON) != 0;
+    /* At the limit another thread may be ending it. */
+    if (!was_on && atomic_load(&recorder_state) != STATE_AT_LIMIT)
         return;
-    atomic_store(&recorder_state, STATE_OFF);
-    if (!try_lock(certain))
+    if (was_on)
+        atomic_store(&recorder_state, STATE_OFF);
+    if (!lock_for_end(certain))
         return;
-    finish_at((uint32_t)cursor, limit_of_stream(), finish);
+    if (was_on)
+        finish_at((uint32_t)cursor, limit_of_stream(), finish);
     stream_unlock();
 }
 
@@ -347,7 +393,6 @@ bool stream_suspend(void)
     if (!(cursor & CURSOR_ON))
         return false;
     stream_lock();
-    keeper.suspended = cursor;
     finish_at((uint32_t)cursor, limit_of_stream(), keeper.trace.is_mapped ? FINISH_CLOSED : FINISH_OPEN);
     stream_unlock();
     return true;
@@ -373,30 +418,21 @@ void stream_resume(void)
 
 void stream_forget(void)
 {
-    pthread_mutex_init(&keeper.lock, NULL);
     atomic_store(&STREAM->cursor, 0);
     output_drop(&keeper.trace);
-    if (keeper.has_where)
-        output_drop(&keeper.where);
+    output_drop(&keeper.where);
     keeper.has_where = false;
 }
 
 bool stream_has_lost(const void *address)
 {
-    const struct output *outputs[] = {&keeper.trace, &keeper.where};
-    for (int i = 0; i < 2; i++) {
-        const struct output *output = outputs[i];
-        const unsigned char *at = address;
-        if (output->bytes == NULL || at < output->bytes || at >= output->bytes + output->room)
-            continue;
-        /* The bytes of the record have to go somewhere. */
-        if (mmap(output->bytes, output->room, PROT_READ | PROT_WRITE,
-                 MAP_PRIVATE | MAP_ANONYMOUS | MAP_NORESERVE | MAP_FIXED, -1, 0) == MAP_FAILED)
-            return false;
-        give_up("the file was cut");
-        return true;
-    }
-    return false;
+    if (!output_lose(&keeper.trace, address) && !output_lose(&keeper.where, address))
+        return false;
+    atomic_store(&STREAM->cursor, 0);
+    atomic_store(&recorder_state, STATE_OFF);
+    heap_set_bound(0);
+    recorder_say("recording ends: ", keeper.trace.path, "the file was cut");
+    return true;
 }
 
 /* Copies the map of modules from the system: each line as it is, for as many as there is room. */
@@ -488,6 +524,9 @@ void record_region(enum code code, uint64_t address, uint64_t size, uintptr_t ca
 void record_regions(enum code code, uint64_t address, uint64_t size, uintptr_t caller)
 {
     /* Cut at granules: elsewhere one granule would be treated twice, in part. */
+    if (address >= ADDRESS_END)
+        return;
+    size = size > ADDRESS_END - address ? ADDRESS_END - address : size;
     while (size > LARGEST_REGION) {
         uint64_t piece = LARGEST_REGION - address % GRANULE;
         record_region(code, address, piece, caller);

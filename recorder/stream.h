@@ -28,6 +28,7 @@ bool stream_suspend(void);
 void stream_resume(void);
 /* In a child: forgets the parent's stream. */
 void stream_forget(void);
+/* Whoever has the lock is undisturbed. */
 void stream_lock(void);
 void stream_unlock(void);
 /* Whether this address is in the mapped trace, and what to do if the file under it is gone. */

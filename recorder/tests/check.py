@@ -11,11 +11,14 @@ said in a line, and left out.
 import os
 import re
 import shutil
+import signal
 import socket
 import subprocess
 import sys
 import tempfile
+import threading
 import time
+from concurrent.futures import ThreadPoolExecutor
 
 TESTS = os.path.dirname(os.path.abspath(__file__))
 RECORDER = os.path.dirname(TESTS)
@@ -110,7 +113,7 @@ def reports(asancol, path, options=(), most=1000):
     """The status, the first reports as the tests write them, and what comes after `end`."""
     checked = run([asancol, "check", *options, path], ".")
     lines = checked.stdout.decode().splitlines()
-    trace = Trace(path)
+    trace = Trace(path) if len(lines) > 1 else None
     texts = []
     for line in lines[:-1][:most]:
         number, kind, width, at, bad, wrong = LINE.fullmatch(line).groups()
@@ -164,24 +167,39 @@ def same_as_sanitizer(text, said):
 
 
 class Suite:
+    """Tests that run side by side, one on each processor."""
+
     def __init__(self, asancol, words):
         self.asancol = asancol
         self.words = words
         self.passed = 0
         self.failed = 0
+        self.counting = threading.Lock()
+        self.pool = ThreadPoolExecutor(max_workers=len(os.sched_getaffinity(0)))
 
     def test(self, name, run_it, *arguments):
-        if self.words and not any(word in name for word in self.words):
-            return
+        if not self.words or any(word in name for word in self.words):
+            self.pool.submit(self.run_test, name, run_it, *arguments)
+
+    def run_test(self, name, run_it, *arguments):
         folder = tempfile.mkdtemp(prefix="asancol.")
+        wrong = None
         try:
             run_it(self, folder, *arguments)
-            self.passed += 1
-        except (Failure, subprocess.TimeoutExpired, OSError, AttributeError, IndexError) as wrong:
-            self.failed += 1
-            print(f"FAILED {name}: {type(wrong).__name__}: {wrong}", flush=True)
-        finally:
-            shutil.rmtree(folder, ignore_errors=True)
+        except Exception as error:  # whatever it is, the test has failed
+            wrong = error
+        shutil.rmtree(folder, ignore_errors=True)
+        with self.counting:
+            if wrong is None:
+                self.passed += 1
+            else:
+                self.failed += 1
+                print(f"FAILED {name}: {type(wrong).__name__}: {wrong}", flush=True)
+
+    def finish(self):
+        self.pool.shutdown()
+        print(f"{self.passed} passed, {self.failed} failed")
+        return 0 if self.passed > 0 and self.failed == 0 else 1
 
 
 class Compiler:
@@ -190,6 +208,7 @@ class Compiler:
     def __init__(self, name, cxx):
         self.name = name
         self.cxx = cxx
+        self.has_sanitizer = False
 
     def __str__(self):
         return self.name
@@ -206,16 +225,17 @@ class Compiler:
 def compilers():
     found = []
     for name, cxx in (("gcc", "g++"), ("clang", "clang++")):
-        if shutil.which(name) and shutil.which(cxx):
-            found.append(Compiler(name, cxx))
-        else:
+        if not shutil.which(name):
             print(f"left out: {name} is not there")
+            continue
+        found.append(Compiler(name, cxx if shutil.which(cxx) else None))
+        if not found[-1].cxx:
+            print(f"left out: {cxx} is not there")
     return found
 
 
 def has_sanitizer(compiler, folder):
-    with open(f"{folder}/empty.c", "w") as file:
-        file.write("int main(void) { return 0; }\n")
+    write(folder, empty_c="int main(void) { return 0; }\n")
     made = run([compiler.name, "-fsanitize=address", "empty.c", "-o", "empty"], folder)
     return made.returncode == 0 and run(["./empty"], folder).returncode == 0
 
@@ -244,11 +264,9 @@ def fault_tests(suite, compiler, folder):
         program = f"{folder}/faults-{compiler}{level}"
         compiler.c(folder, [source], program, level, "-w", "-pthread")
         sanitized = None
-        if has_sanitizer(compiler, folder):
+        if compiler.has_sanitizer:
             sanitized = program + "-sanitized"
             compiler.c(folder, [source], sanitized, level, "-w", "-pthread", "-fsanitize=address", native=True)
-        else:
-            print(f"left out: the AddressSanitizer of {compiler} is not there")
         listed = run([program, "--list"], folder).stdout.decode().splitlines()
         for line in listed:
             name, expected, beside = line.split("\t")
@@ -273,6 +291,12 @@ LIVES = {
     "recovers_from_a_fault": (0, "closed", [MARK]),
     "handlers_allocate": (0, "closed", [MARK]),
     "handlers_jump": (0, "closed", [MARK]),
+    "handlers_allocate_in_threads": (0, "closed", [MARK]),
+    "ends_by_another_signal": (-(signal.SIGRTMIN + 3), "no-close", [MARK]),
+    "cancels_threads": (0, "closed", [MARK]),
+    "many_events_in_threads": (0, "closed", []),
+    "keeps_errno": (0, "closed", [MARK]),
+    "keeps_little": (0, "closed", []),
     "threads_exchange": (0, "closed", [MARK]),
     "many_threads": (0, "closed", [MARK]),
     "ends_with_threads": (0, "closed", [MARK]),
@@ -325,6 +349,17 @@ def check_fork_in_a_thread(suite, folder, program):
     expect(seen, [[]] * 10 + [[MARK]], "reports")
 
 
+def check_fork_in_handlers(suite, folder, program):
+    ran = run([program, "forks_in_handlers"], folder, ASANCOL_TRACE="%p.trace")
+    lines = ran.stderr.decode().splitlines()
+    expect((ran.returncode, [line for line in lines if "a forked child is not recorded" not in line]), (0, []))
+    names = traces(folder)
+    expect(len(names) + len(lines), 51, "traces, and lines that there is none")
+    for name in names:
+        _, texts, end = reports(suite.asancol, f"{folder}/{name}")
+        expect((texts, end.split()[0]), ([MARK], "closed"), name)
+
+
 def check_exec(suite, folder, program):
     ran = run([program, "execs"], folder, ASANCOL_TRACE="run.trace")
     expect((ran.returncode, ran.stderr), (0, b""))
@@ -352,6 +387,45 @@ def check_limit(suite, folder, program):
         expect(ran.stderr.decode().count("\n"), said, f"lines with a limit of {limit}")
         trace = Trace(f"{folder}/l{limit}.trace")
         expect((len(trace.events), trace.is_closed), (limit, True), f"events with a limit of {limit}")
+
+
+def check_limit_in_threads(suite, folder, program):
+    """The limit is just after what a file has at first, where some threads are waiting for more."""
+    for limit in (104857, 104858, 104870, 105300):
+        name = f"{limit}.trace"
+        ran = run([program, "many_events_in_threads"], folder, ASANCOL_TRACE=name, ASANCOL_LIMIT=str(limit))
+        trace = Trace(f"{folder}/{name}")
+        expect((ran.returncode, len(trace.events), trace.is_closed), (0, limit, True), name)
+        expect(len(ran.stderr.splitlines()), 1, ran.stderr)
+
+
+def check_exec_after_limit(suite, folder, program):
+    ran = run([program, "execs_after_much"], folder, ASANCOL_TRACE="t.trace", ASANCOL_LIMIT="100")
+    expect((ran.returncode, len(ran.stderr.splitlines())), (0, 1), ran.stderr)
+    expect(Trace(f"{folder}/t.trace").is_closed, True)
+
+
+def check_lost_trace(suite, folder, program, name, settings):
+    ran = run([program, name], folder, ASANCOL_TRACE="t.trace", **settings)
+    expect((ran.returncode, len(ran.stderr.splitlines())), (0, 1), ran.stderr)
+    expect(os.path.getsize(f"{folder}/t.trace"), 0, "the trace")
+
+
+def check_no_errors(suite, folder, program):
+    """Nobody reads standard error, where a line would go."""
+    reading, writing = os.pipe()
+    os.close(reading)
+    settings = environment(ASANCOL_TRACE="t.trace", ASANCOL_LIMIT="100")
+    ran = subprocess.run([program, "many_events"], cwd=folder, stderr=writing, env=settings, timeout=PATIENCE, check=False)
+    os.close(writing)
+    expect(ran.returncode, 0, "status of the program")
+
+
+def check_small_files(suite, folder, program):
+    """A limit on the size of files that the process has from the start."""
+    ran = run(["sh", "-c", f"ulimit -f 100; exec {program} many_events"], folder, ASANCOL_TRACE="t.trace")
+    expect((ran.returncode, len(ran.stderr.splitlines())), (0, 1), ran.stderr)
+    expect(os.listdir(folder), [], "files")
 
 
 def check_nowhere(suite, folder, program, settings, status=0):
@@ -402,6 +476,9 @@ def check_little_memory(suite, folder, program):
     ran = run(words, folder, ASANCOL_TRACE="u.trace")
     expect((ran.returncode, len(ran.stderr.splitlines())), (0, 1), ran.stderr)
     expect(os.path.exists(f"{folder}/u.trace"), False, "a file")
+    # Without a setting it can use nearly all.
+    ran = run(["sh", "-c", f"ulimit -v 1000000; exec {program} fills_its_space"], folder)
+    expect((ran.returncode, ran.stderr), (0, b""), "a block of 600 MB")
 
 
 def serve(suite, folder, count):
@@ -437,6 +514,22 @@ def check_two_at_a_socket(suite, folder, program):
     said, _ = server.communicate(timeout=PATIENCE)
     ends = [line.split()[:3] for line in said.decode().splitlines() if " end " in line]
     expect(ends, [["p0", "end", "closed"], ["p1", "end", "closed"]])
+
+
+def check_silent_reader(suite, folder, program, is_socket):
+    """Nobody reads what is written: the process need not wait, and does not see that the recorder tried."""
+    if is_socket:
+        reader = socket.socket(socket.AF_UNIX)
+        reader.bind(f"{folder}/out")
+        reader.listen(1)
+        where = {"ASANCOL_SOCKET": "out"}
+    else:
+        os.mkfifo(f"{folder}/out")
+        reader = open(os.open(f"{folder}/out", os.O_RDONLY | os.O_NONBLOCK), "rb")
+        where = {"ASANCOL_TRACE": "out"}
+    with reader:
+        ran = run([program, "keeps_errno"], folder, ASANCOL_PATIENCE="1", **where)
+    expect((ran.returncode, len(ran.stderr.splitlines())), (0, 1), ran.stderr)
 
 
 def check_stranger(suite, folder, program, closes):
@@ -483,6 +576,8 @@ def check_where(suite, folder, compiler, level):
     with open(f"{folder}/w.c", "w") as file:
         file.write("\n".join(source) + "\n")
     compiler.c(folder, ["w.c"], f"{folder}/w", level, "-w")
+    # What a trace that is gone has left.
+    write(folder, w_trace_where="of another trace")
     ran = run(["./w"], folder, ASANCOL_TRACE="w.trace", ASANCOL_WHERE="1")
     expect((ran.returncode, ran.stderr), (0, b""))
     verdicts = run([suite.asancol, "check", "w.trace"], folder).stdout
@@ -509,7 +604,15 @@ def life_tests(suite, compiler, folder):
         suite.test(f"{compiler} {name}", check_life, program, name, status, fate, wanted)
     suite.test(f"{compiler} fork", check_fork, program)
     suite.test(f"{compiler} fork in a thread", check_fork_in_a_thread, program)
+    suite.test(f"{compiler} fork in handlers", check_fork_in_handlers, program)
     suite.test(f"{compiler} exec", check_exec, program)
+    suite.test(f"{compiler} exec after the limit", check_exec_after_limit, program)
+    suite.test(f"{compiler} limit in threads", check_limit_in_threads, program)
+    for name in ("loses_its_trace", "loses_its_trace_at_the_end"):
+        for settings in ({}, {"ASANCOL_WHERE": "1"}):
+            suite.test(f"{compiler} {name} {settings}", check_lost_trace, program, name, settings)
+    suite.test(f"{compiler} no standard error", check_no_errors, program)
+    suite.test(f"{compiler} limit of files from the start", check_small_files, program)
     suite.test(f"{compiler} limit of events", check_limit, program)
     nowhere = {
         "no folder": {"ASANCOL_TRACE": "none/t.trace"},
@@ -539,6 +642,8 @@ def life_tests(suite, compiler, folder):
     suite.test(f"{compiler} two at a socket", check_two_at_a_socket, program)
     suite.test(f"{compiler} a peer that leaves", check_stranger, program, True)
     suite.test(f"{compiler} a peer that never reads", check_stranger, program, False)
+    suite.test(f"{compiler} a socket that nobody reads", check_silent_reader, program, True)
+    suite.test(f"{compiler} a pipe that nobody reads", check_silent_reader, program, False)
     suite.test(f"{compiler} pipe", check_pipe, program)
     for level in ("-O0", "-O2"):
         suite.test(f"{compiler} where {level}", check_where, compiler, level)
@@ -574,7 +679,7 @@ def cpp_tests(suite, compiler, folder):
         program = f"{folder}/new-{compiler}{level}"
         compiler.cpp(folder, [f"{TESTS}/new.cpp"], program, level, "-w", "-std=c++17")
         sanitized = None
-        if has_sanitizer(compiler, folder):
+        if compiler.has_sanitizer:
             sanitized = program + "-sanitized"
             compiler.cpp(
                 folder, [f"{TESTS}/new.cpp"], sanitized, level, "-w", "-std=c++17", "-fsanitize=address", native=True
@@ -775,7 +880,7 @@ def check_store(suite, folder, compiler, level):
     expect(len(plain.stdout.splitlines()) > 200, True, "that it prints something")
     status, texts, end = reports(suite.asancol, f"{folder}/t.trace")
     expect((status, texts, end.split()[0]), (0, [], "closed"), "clean")
-    if has_sanitizer(compiler, folder):
+    if compiler.has_sanitizer:
         compiler.c(folder, [source], "sanitized", level, "-w", "-fsanitize=address", native=True)
     for bug, (wrong, function) in PLANTED.items():
         trace = f"{folder}/{bug}.trace"
@@ -812,14 +917,17 @@ def main():
     folder = tempfile.mkdtemp(prefix="asancol.")
     try:
         for compiler in compilers():
+            compiler.has_sanitizer = has_sanitizer(compiler, folder)
+            if not compiler.has_sanitizer:
+                print(f"left out: the AddressSanitizer of {compiler} is not there")
             fault_tests(suite, compiler, folder)
-            cpp_tests(suite, compiler, folder)
+            if compiler.cxx:
+                cpp_tests(suite, compiler, folder)
             build_tests(suite, compiler)
             life_tests(suite, compiler, folder)
+        return suite.finish()
     finally:
         shutil.rmtree(folder, ignore_errors=True)
-    print(f"{suite.passed} passed, {suite.failed} failed")
-    return 1 if suite.failed else 0
 
 
 if __name__ == "__main__":

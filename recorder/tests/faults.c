@@ -309,6 +309,15 @@ CLEAN(unpoisoned)
     drop(p);
 }
 
+/* Up to what is no address, and past it. */
+TEST(poisoned_to_the_end, "", "else")
+{
+    void *last = (void *)(uintptr_t)hide_size(((size_t)1 << 47) - 64);
+    ASAN_POISON_MEMORY_REGION(last, hide_size(SIZE_MAX));
+    ASAN_UNPOISON_MEMORY_REGION(last, hide_size(SIZE_MAX));
+    ASAN_POISON_MEMORY_REGION(hide((void *)SIZE_MAX), hide_size(SIZE_MAX));
+}
+
 /* Threads. */
 
 static void *free_it(void *pointer)
@@ -491,8 +500,14 @@ TEST(impossible_block, "", "else")
 {
     char *p = hide((char *)malloc(hide_size(SIZE_MAX / 2)));
     char *q = hide((char *)calloc(hide_size(SIZE_MAX / 2), 4));
-    if (p != NULL || q != NULL)
+    char *r = hide((char *)pvalloc(hide_size(SIZE_MAX - 5)));
+    if (p != NULL || q != NULL || r != NULL)
         exit(9);
+    p = block(8);
+    if (hide(reallocarray(p, hide_size(SIZE_MAX / 2), 4)) != NULL)
+        exit(9);
+    LOAD(char, p + 7);
+    drop(p);
 }
 CLEAN(many_blocks)
 {

@@ -149,11 +149,11 @@ static void on_tick(int number)
 {
     (void)number;
     ticks++;
-    char *p = hide(malloc(24));
-    if (p != NULL) {
-        p[3] = 1;
-        free(p);
-    }
+    char *p = hide(malloc(1 << 16));
+    if (p == NULL)
+        _exit(9);
+    p[3] = 1;
+    free(p);
 }
 
 static void start_ticking(void (*handler)(int))
@@ -197,6 +197,28 @@ static void handlers_jump(void)
         }
         jumps++;
     }
+    fault();
+}
+
+/* In more than one thread: a handler may come while its thread waits for another in the allocator. */
+static void *allocates_under_ticks(void *unused)
+{
+    (void)unused;
+    while (ticks < 300)
+        free(hide(malloc(16)));
+    return NULL;
+}
+
+static void handlers_allocate_in_threads(void)
+{
+    pthread_t threads[4];
+    start_ticking(on_tick);
+    for (int i = 0; i < 4; i++)
+        if (pthread_create(&threads[i], NULL, allocates_under_ticks, NULL) != 0)
+            fail("pthread_create");
+    for (int i = 0; i < 4; i++)
+        pthread_join(threads[i], NULL);
+    stop_ticking();
     fault();
 }
 
@@ -277,6 +299,60 @@ static void ends_with_threads(void)
     fault();
 }
 
+static void *_Atomic busy_with;
+
+/* Cancelled at a call only: no access is one, whatever the recorder then has to do. */
+static void *works_until_cancelled(void *unused)
+{
+    char *p = hide(malloc(8));
+    busy_with = p;
+    for (;;) {
+        for (int i = 0; i < 30000; i++)
+            *(volatile char *)hide(p) = 1;
+        pthread_testcancel();
+    }
+    return unused;
+}
+
+static void cancels_threads(void)
+{
+    for (int i = 0; i < 20; i++) {
+        pthread_t thread;
+        busy_with = NULL;
+        if (pthread_create(&thread, NULL, works_until_cancelled, NULL) != 0)
+            fail("pthread_create");
+        while (busy_with == NULL)
+            sched_yield();
+        pthread_cancel(thread);
+        pthread_join(thread, NULL);
+        free(busy_with);
+    }
+    fault();
+}
+
+static pthread_barrier_t all_there;
+
+static void *makes_many_events(void *unused)
+{
+    char local[8];
+    pthread_barrier_wait(&all_there);
+    for (int i = 0; i < 20000; i++)
+        *(volatile char *)hide(local) = 1;
+    return unused;
+}
+
+/* They come to a limit, or to the end of what a file has, all at once. */
+static void many_events_in_threads(void)
+{
+    pthread_t threads[THREADS];
+    pthread_barrier_init(&all_there, NULL, THREADS);
+    for (int i = 0; i < THREADS; i++)
+        if (pthread_create(&threads[i], NULL, makes_many_events, NULL) != 0)
+            fail("pthread_create");
+    for (int i = 0; i < THREADS; i++)
+        pthread_join(threads[i], NULL);
+}
+
 /* Processes. */
 
 static void wait_for(pid_t child)
@@ -332,6 +408,43 @@ static void forks_in_a_thread(void)
     fault();
 }
 
+/* Forks in a handler, whatever it interrupts. The child goes on where its parent was. */
+
+static volatile sig_atomic_t made_by_handler;
+
+static void fork_on_signal(int number)
+{
+    (void)number;
+    if (made_by_handler < 0 || made_by_handler >= 50)
+        return;
+    pid_t child = fork();
+    if (child == 0) {
+        stop_ticking();
+        made_by_handler = -1;
+        return;
+    }
+    int status, before = errno;
+    if (child < 0 || waitpid(child, &status, 0) != child || status != 0)
+        _exit(9);
+    errno = before;
+    made_by_handler++;
+}
+
+static void forks_in_handlers(void)
+{
+    start_ticking(fork_on_signal);
+    while (made_by_handler >= 0 && made_by_handler < 50) {
+        char *p = hide(malloc(16));
+        for (int i = 0; i < 16; i++)
+            ((volatile char *)p)[i] = 1;
+        free(p);
+    }
+    stop_ticking();
+    for (int i = 0; i < 20; i++)
+        free(hide(malloc(20)));
+    fault();
+}
+
 static void forks_by_the_system(void)
 {
     char *p = hide(malloc(8));
@@ -380,6 +493,16 @@ static void execs_in_vain(void)
     if (execlp("asancol-no-such-program", "none", (char *)NULL) != -1 || errno != ENOENT)
         exit(9);
     fault();
+}
+
+/* By then the limit of events is long past. */
+static void execs_after_much(void)
+{
+    char local[8];
+    for (int i = 0; i < 1000; i++)
+        *(volatile char *)hide(local) = 1;
+    execl("/bin/true", "true", (char *)NULL);
+    fail("execl");
 }
 
 static void spawns(void)
@@ -438,6 +561,74 @@ static void writes_past_a_limit(void)
     fault();
     for (int i = 0; i < 400000; i++)
         *(volatile char *)hide(&sink) = 1;
+}
+
+/* What the recorder does at an access must not show: not even where it writes, waits or fails. */
+static void keeps_errno(void)
+{
+    errno = 77;
+    for (int i = 0; i < 300000; i++)
+        *(volatile char *)hide((void *)&sink) = 1;
+    if (errno != 77)
+        exit(9);
+    fault();
+}
+
+/* Somebody cuts its trace. */
+static void loses_its_trace(void)
+{
+    fault();
+    if (truncate("t.trace", 0) != 0)
+        fail("truncate");
+    for (int i = 0; i < 300000; i++)
+        *(volatile char *)hide((void *)&sink) = 1;
+}
+
+static void loses_its_trace_at_the_end(void)
+{
+    fault();
+    if (truncate("t.trace", 0) != 0)
+        fail("truncate");
+}
+
+/* A table that is large and nearly empty takes no more memory than what is used of it. */
+static void keeps_little(void)
+{
+    enum { LARGEST_KB = 100 << 10 };
+    struct rusage before, after;
+    getrusage(RUSAGE_SELF, &before);
+    char *p = hide(calloc((size_t)1 << 30, 1));
+    if (p == NULL)
+        fail("calloc");
+    p[0] = p[(size_t)1 << 29] = 1;
+    if (getrusage(RUSAGE_SELF, &after) != 0 || after.ru_maxrss - before.ru_maxrss > LARGEST_KB)
+        exit(9);
+    free(p);
+    /* What was used before is zeros again. */
+    p = hide(malloc(1 << 20));
+    memset(p, 1, 1 << 20);
+    free(p);
+    p = hide(calloc(1 << 20, 1));
+    for (int i = 0; i < 1 << 20; i++)
+        if (p[i] != 0)
+            exit(9);
+    free(p);
+}
+
+/* More than a half of what it may have, in one block. */
+static void fills_its_space(void)
+{
+    char *p = hide(malloc((size_t)600 << 20));
+    if (p == NULL)
+        fail("malloc");
+    p[((size_t)600 << 20) - 1] = 1;
+    free(p);
+}
+
+static void ends_by_another_signal(void)
+{
+    fault();
+    raise(SIGRTMIN + 3);
 }
 
 /* Two thirds of what it may have, again and again: the quarantine must not be in its way. */
@@ -508,6 +699,9 @@ static void loads_a_library(void)
     }
     char *(*make)(int) = (char *(*)(int))dlsym(library, "plugin_make");
     void (*spoil)(char *, int) = (void (*)(char *, int))dlsym(library, "plugin_spoil");
+    int (*sees_default)(int) = (int (*)(int))dlsym(library, "plugin_sees_default");
+    if (!sees_default(SIGTERM))
+        exit(9);
     char *p = make(8);
     spoil(p, 8);
     free(p);
@@ -521,6 +715,10 @@ static const struct {
     LIFE(ends_normally), LIFE(ends_by__exit), LIFE(ends_by_quick_exit), LIFE(exits_in_a_thread),
     LIFE(leaves_its_first_thread), LIFE(segfaults), LIFE(aborts), LIFE(is_killed), LIFE(is_terminated),
     LIFE(asks_for_handlers), LIFE(recovers_from_a_fault), LIFE(handlers_allocate), LIFE(handlers_jump),
+    LIFE(handlers_allocate_in_threads), LIFE(cancels_threads),
+    LIFE(many_events_in_threads), LIFE(forks_in_handlers), LIFE(execs_after_much), LIFE(keeps_errno),
+    LIFE(loses_its_trace), LIFE(loses_its_trace_at_the_end), LIFE(keeps_little), LIFE(fills_its_space),
+    LIFE(ends_by_another_signal),
     LIFE(threads_exchange), LIFE(many_threads), LIFE(ends_with_threads), LIFE(forks), LIFE(forks_in_a_thread),
     LIFE(forks_by_the_system), LIFE(vforks), LIFE(execs), LIFE(execs_in_vain), LIFE(spawns), LIFE(closes_all),
     LIFE(counts_descriptors), LIFE(closes_errors), LIFE(writes_past_a_limit), LIFE(fills_its_memory),
