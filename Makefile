@@ -34,9 +34,11 @@ demo: asancol
 	@./asancol < $(EXAMPLE); status=$$?; echo "status $$status"; test $$status -eq 1
 endif
 
-# Proves everything from nothing, tries the wrong bodies, and runs the tests and the program.
+# Proves everything from nothing, tries the wrong bodies, and runs the tests and the program. What has passed is then
+# the program here, so that nothing is proved again for it.
 check:
 	tests/check.py
+	@cp crates/asancol/out/asancol asancol
 
 # Many traces at once, again and again, for as many minutes: each text has to be that of its trace
 # checked alone.
@@ -49,7 +51,8 @@ stress: asancol
 recorder:
 	$(MAKE) -C recorder
 
-# Small programs under each compiler that is there, recorded and checked.
+# Small programs under each compiler that is there, recorded and checked. Tests that need a compiler, an AddressSanitizer
+# or a symbolizer that is not there are left out, and it says which.
 check-recorder: asancol recorder
 	recorder/tests/check.py ./asancol
 
