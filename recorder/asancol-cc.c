@@ -6,6 +6,7 @@
 #include <errno.h>
 #include <limits.h>
 #include <stdbool.h>
+#include <stddef.h>
 #include <stdio.h>
 #include <stdlib.h>
 #include <string.h>
@@ -57,14 +58,15 @@ static const char *const program_flags[] = {
 struct wish {
     bool has_input;
     bool has_source;    /* an input that is compiled */
+    bool has_linked;    /* an input that comes to be linked: a header does not */
     bool names_language;
     bool stops_early;   /* before the link */
     bool is_shared;
     bool is_partial;    /* a link of objects to an object */
     bool is_bare;       /* without the C library */
     bool is_static;     /* with the C library inside, whose own calls would be wrapped too */
-    bool has_sanitizer; /* another one, which brings its own runtime */
-    bool skips_next;    /* the next word belongs to the one before */
+    bool is_foreign;    /* another sanitizer, which brings its own runtime, or another machine */
+    const char *option; /* whose value is the next word, or null */
 };
 
 static _Noreturn void fail(const char *what, const char *of)
@@ -80,12 +82,13 @@ static void *must(void *memory)
     return memory;
 }
 
-static bool is_one_of(const char *word, const char *const *list, size_t count)
+/* The word as it stands in the list, or null. */
+static const char *find(const char *word, const char *const *list, size_t count)
 {
     for (size_t i = 0; i < count; i++)
         if (strcmp(word, list[i]) == 0)
-            return true;
-    return false;
+            return list[i];
+    return NULL;
 }
 
 static bool begins(const char *word, const char *front)
@@ -108,9 +111,10 @@ static bool is_linked(const char *word)
 
 static void take_input(struct wish *wish, const char *word)
 {
+    bool is_header = ends(word, ".h") || ends(word, ".hh") || ends(word, ".hpp") || ends(word, ".hxx");
     wish->has_input = true;
-    if (wish->names_language || !is_linked(word))
-        wish->has_source = true;
+    wish->has_source |= wish->names_language || !is_linked(word);
+    wish->has_linked |= wish->names_language || !is_header;
 }
 
 static void look_at(struct wish *wish, const char *word);
@@ -127,14 +131,14 @@ static void look_into(struct wish *wish, const char *path)
     char *word = must(malloc(room));
     do {
         byte = getc(file);
-        bool ends = byte == EOF || (quote == 0 && strchr(" \t\n\r\f\v", byte) != NULL && byte != 0);
-        if (ends && inside) {
+        bool is_end = byte == EOF || (quote == 0 && strchr(" \t\n\r\f\v", byte) != NULL && byte != 0);
+        if (is_end && inside) {
             word[length] = 0;
             look_at(wish, word);
             length = 0;
             inside = false;
         }
-        if (ends)
+        if (is_end)
             continue;
         inside = true;
         if (quote == 0 && (byte == '"' || byte == '\'')) {
@@ -155,53 +159,87 @@ static void look_into(struct wish *wish, const char *path)
     fclose(file);
 }
 
+static const char *const with_value[] = {
+    "-o",        "-x",       "-I",         "-L",       "-D",           "-U",           "-A",       "-F",
+    "-include",  "-imacros", "-idirafter", "-iprefix", "-iwithprefix", "-isystem",     "-isysroot", "-iwithprefixbefore",
+    "-iquote",   "-MF",      "-MT",        "-MQ",      "-Xlinker",     "-Xassembler",  "-Xclang",  "-Xpreprocessor",
+    "-mllvm",    "-u",       "-z",         "-T",       "-e",           "-B",           "--param",  "-target",
+    "-aux-info", "-dumpdir", "-dumpbase",  "-wrapper", "-specs",       "--sysroot",    "-G",       "-dumpbase-ext",
+    "-Xarch",    "-arch",    "-framework", "-soname",  "-imultilib",   "-iplugindir",  "-rpath",   "-h",
+};
+
+/* Arguments that belong together, and what they say. */
+static const struct {
+    const char *word;
+    size_t field;
+} plain[] = {
+#define SAYS(field, word) {word, offsetof(struct wish, field)}
+    SAYS(stops_early, "-c"), SAYS(stops_early, "-S"), SAYS(stops_early, "-E"), SAYS(stops_early, "-M"),
+    SAYS(stops_early, "-MM"), SAYS(stops_early, "-fsyntax-only"), SAYS(stops_early, "--version"),
+    SAYS(stops_early, "--help"), SAYS(stops_early, "--target-help"), SAYS(stops_early, "-dumpversion"),
+    SAYS(stops_early, "-dumpfullversion"), SAYS(stops_early, "-dumpmachine"), SAYS(stops_early, "-dumpspecs"),
+    SAYS(stops_early, "--preprocess"), SAYS(stops_early, "--compile"), SAYS(stops_early, "--assemble"),
+    SAYS(stops_early, "-emit-pch"), SAYS(stops_early, "--analyze"), SAYS(stops_early, "-emit-ast"),
+    SAYS(stops_early, "-cc1"), SAYS(stops_early, "-cc1as"),
+    SAYS(is_partial, "-r"), SAYS(is_partial, "-Wl,-r"), SAYS(is_partial, "-Wl,-i"),
+    SAYS(is_partial, "-Wl,--relocatable"), SAYS(is_partial, "-no-link"),
+    SAYS(is_static, "-static"), SAYS(is_static, "-static-pie"), SAYS(is_static, "--static"),
+    SAYS(is_bare, "-nostdlib"), SAYS(is_bare, "-nodefaultlibs"), SAYS(is_bare, "-nolibc"),
+    SAYS(is_bare, "-ffreestanding"),
+    SAYS(is_shared, "-shared"), SAYS(is_shared, "--shared"),
+    SAYS(is_foreign, "-m32"), SAYS(is_foreign, "-mx32"), SAYS(is_foreign, "-m16"),
+};
+
+/* Whether the word is one of the plain ones. */
+static bool take_plain(struct wish *wish, const char *word)
+{
+    for (size_t i = 0; i < COUNT(plain); i++) {
+        if (strcmp(word, plain[i].word) == 0) {
+            *(bool *)((char *)wish + plain[i].field) = true;
+            return true;
+        }
+    }
+    return false;
+}
+
+static void take_language(struct wish *wish, const char *language)
+{
+    wish->names_language = strcmp(language, "none") != 0;
+    wish->stops_early |= ends(language, "-header");
+}
+
+static void take_response_file(struct wish *wish, const char *word)
+{
+    struct stat seen;
+    if (stat(word + 1, &seen) == 0)
+        look_into(wish, word + 1);
+    else
+        take_input(wish, word);
+}
+
 static void look_at(struct wish *wish, const char *word)
 {
-    static const char *const with_value[] = {
-        "-o",       "-x",       "-I",         "-L",     "-D",           "-U",           "-A",       "-F",
-        "-include", "-imacros", "-idirafter", "-iprefix", "-iwithprefix", "-iwithprefixbefore", "-isystem", "-isysroot",
-        "-iquote",  "-MF",      "-MT",        "-MQ",    "-Xlinker",     "-Xassembler",  "-Xpreprocessor", "-Xclang",
-        "-mllvm",   "-u",       "-z",         "-T",     "-e",           "-B",           "--param",  "-target",
-        "-aux-info", "-dumpbase", "-dumpbase-ext", "-dumpdir", "-wrapper", "-specs", "--sysroot", "-G", "-arch",
-        "-Xarch", "-framework", "-imultilib", "-iplugindir", "-soname", "-rpath", "-h",
-    };
-    static const char *const early[] = {
-        "-c", "-S", "-E", "-M", "-MM", "-fsyntax-only", "--version", "--help", "--target-help", "-dumpversion",
-        "-dumpfullversion", "-dumpmachine", "-dumpspecs", "--preprocess", "--compile", "--assemble", "-emit-pch",
-        "--analyze", "-emit-ast", "-cc1", "-cc1as",
-    };
-    static const char *const partial[] = {"-r", "-Wl,-r", "-Wl,-i", "-Wl,--relocatable", "-no-link", "-qlink"};
-    static const char *const whole[] = {"-static", "-static-pie", "--static"};
-    static const char *const bare[] = {"-nostdlib", "-nodefaultlibs", "-nolibc", "-ffreestanding"};
-    if (wish->skips_next) {
-        wish->skips_next = false;
+    const char *option = wish->option;
+    wish->option = NULL;
+    if (option != NULL) {
+        if (strcmp(option, "-x") == 0)
+            take_language(wish, word);
     } else if (word[0] == '@') {
-        struct stat seen;
-        if (stat(word + 1, &seen) == 0)
-            look_into(wish, word + 1);
-        else
-            take_input(wish, word);
+        take_response_file(wish, word);
     } else if (word[0] != '-' || word[1] == 0 || begins(word, "-l")) {
         if (word[0] != 0)
             take_input(wish, word);
-    } else if (is_one_of(word, with_value, COUNT(with_value))) {
-        wish->skips_next = true;
-        wish->names_language |= strcmp(word, "-x") == 0;
+    } else if (take_plain(wish, word)) {
+        return;
+    } else if ((option = find(word, with_value, COUNT(with_value))) != NULL) {
+        wish->option = option;
     } else if (begins(word, "-x")) {
-        wish->names_language = strcmp(word, "-xnone") != 0;
-    } else if (is_one_of(word, early, COUNT(early)) || begins(word, "-print-") || begins(word, "--print-")
-               || begins(word, "--help=")) {
+        take_language(wish, word + 2);
+    } else if (begins(word, "-print-") || begins(word, "--print-") || begins(word, "--help=")) {
         wish->stops_early = true;
-    } else if (is_one_of(word, partial, COUNT(partial))) {
-        wish->is_partial = true;
-    } else if (is_one_of(word, whole, COUNT(whole))) {
-        wish->is_static = true;
-    } else if (is_one_of(word, bare, COUNT(bare))) {
-        wish->is_bare = true;
-    } else if (strcmp(word, "-shared") == 0 || strcmp(word, "--shared") == 0) {
-        wish->is_shared = true;
     } else if (begins(word, "-fsanitize=")) {
-        wish->has_sanitizer |= strstr(word, "address") || strstr(word, "thread") || strstr(word, "memory");
+        wish->is_foreign |= strstr(word, "address") || strstr(word, "thread") || strstr(word, "memory")
+                            || strstr(word, "leak");
     }
 }
 
@@ -261,10 +299,10 @@ static int kind_of_name(const char *name)
 
 static bool says_clang(const struct command *command)
 {
-    int ends[2];
+    int pipe_ends[2];
     char text[512];
     size_t length = 0;
-    if (pipe(ends) != 0)
+    if (pipe(pipe_ends) != 0)
         return false;
     pid_t child = fork();
     if (child == 0) {
@@ -273,17 +311,17 @@ static bool says_clang(const struct command *command)
             words[i] = command->words[i];
         if (words != NULL)
             words[command->count] = "--version";
-        dup2(ends[1], STDOUT_FILENO);
+        dup2(pipe_ends[1], STDOUT_FILENO);
         if (words != NULL)
             execvp(words[0], words);
         _exit(127);
     }
-    close(ends[1]);
+    close(pipe_ends[1]);
     for (ssize_t count; length < sizeof text - 1; length += (size_t)count)
-        if ((count = read(ends[0], text + length, sizeof text - 1 - length)) <= 0)
+        if ((count = read(pipe_ends[0], text + length, sizeof text - 1 - length)) <= 0)
             break;
     text[length] = 0;
-    close(ends[0]);
+    close(pipe_ends[0]);
     return strstr(text, "clang") != NULL;
 }
 
@@ -366,13 +404,13 @@ int main(int count, char **words)
         fail("there is no such compiler", command.words[0]);
     command.words[0] = found;
     add_all(&line, (const char *const *)command.words, command.count);
-    bool takes_part = wish.has_input && !wish.has_sanitizer;
+    bool takes_part = wish.has_input && !wish.is_foreign;
     if (takes_part && wish.has_source && is_clang(&command))
         add_all(&line, clang_flags, COUNT(clang_flags));
     else if (takes_part && wish.has_source)
         add_all(&line, gcc_flags, COUNT(gcc_flags));
     add_all(&line, (const char *const *)words + 1, (size_t)count - 1);
-    if (takes_part && !wish.stops_early && !wish.is_partial)
+    if (takes_part && wish.has_linked && !wish.stops_early && !wish.is_partial)
         add_link(&line, &wish, self);
     execv(found, (char *const *)line.words);
     fail(strerror(errno), found);

@@ -4,6 +4,7 @@
 #include <elf.h>
 #include <fcntl.h>
 #include <inttypes.h>
+#include <search.h>
 #include <stdbool.h>
 #include <stdio.h>
 #include <stdlib.h>
@@ -39,9 +40,8 @@ static struct view map_file(const char *path)
 
 static uint64_t number_at(const unsigned char *bytes)
 {
-    uint64_t number = 0;
-    for (int i = 8; i-- > 0;)
-        number = number << 8 | bytes[i];
+    uint64_t number;
+    memcpy(&number, bytes, sizeof number); /* the lowest byte comes first here too */
     return number;
 }
 
@@ -51,10 +51,18 @@ struct record {
     uint64_t event; /* its number, from 1 */
 };
 
+struct block {
+    uint64_t start, end; /* of its span */
+    uint64_t address, size;
+    uint64_t malloc_event, free_event; /* 0: not freed */
+};
+
 struct trace {
-    const char *path;
     struct view stream;
     struct view where;
+    size_t offset;      /* up to here the records were gone over */
+    struct record last; /* of these */
+    void *blocks;       /* a tree of what stands in the heap after it */
 };
 
 /* Reads the record at `*offset`, and moves on. False at the end of what is sound. */
@@ -241,29 +249,54 @@ static void write_place(const struct trace *trace, const char *words, uint64_t e
         printf("%s %s", words, text);
 }
 
-/* Blocks. */
+/* Blocks. A trace is gone over once for all its reports, which come in its order. */
 
-struct block {
-    uint64_t address, size;
-    uint64_t malloc_event, free_event; /* 0: not freed */
-};
-
-/* The block that a report on `address` at `event` speaks of: of those whose span has it, the last that was made. */
-static struct block find_block(const struct trace *trace, uint64_t address, uint64_t event)
+/* Blocks are the same where their spans share a byte. */
+static int by_span(const void *one, const void *other)
 {
-    struct block found = {0};
-    struct record record = {0};
-    size_t offset = HEADER_LENGTH;
-    while (next_record(trace, &offset, &record) && record.event < event) {
-        if (record.code == CODE_MALLOC && record.address != 0
-            && address - (record.address - REDZONE) < span_bytes(record.size)) {
-            /* Spans share no byte while both are held: a later block has taken the place of an earlier one. */
-            found = (struct block){record.address, record.size, record.event, 0};
-        } else if (record.code == CODE_FREE && record.address == found.address && found.free_event == 0) {
-            found.free_event = record.event;
-        }
+    const struct block *a = one, *b = other;
+    return a->end <= b->start ? -1 : b->end <= a->start ? 1 : 0;
+}
+
+/* The block whose span has this address, or null. */
+static struct block *block_at(const struct trace *trace, uint64_t address)
+{
+    struct block byte = {.start = address, .end = address + 1};
+    struct block *const *found = tfind(&byte, &trace->blocks, by_span);
+    return found != NULL ? *found : NULL;
+}
+
+/* Spans share no byte while both are held: a later block has taken the place of an earlier one. */
+static void add_block(struct trace *trace, const struct record *record)
+{
+    struct block *made = must(malloc(sizeof *made)), *const *old;
+    uint64_t start = record->address - REDZONE;
+    *made = (struct block){start, start + span_bytes(record->size), record->address, record->size, record->event, 0};
+    while ((old = tfind(made, &trace->blocks, by_span)) != NULL) {
+        struct block *gone = *old;
+        tdelete(gone, &trace->blocks, by_span);
+        free(gone);
     }
-    return found;
+    must(tsearch(made, &trace->blocks, by_span));
+}
+
+/* Goes over the records before an event. */
+static void go_to(struct trace *trace, uint64_t event)
+{
+    struct record *record = &trace->last;
+    if (record->event >= event) {
+        tdestroy(trace->blocks, free);
+        trace->blocks = NULL;
+        trace->offset = HEADER_LENGTH;
+        *record = (struct record){0};
+    }
+    while (record->event + 1 < event && next_record(trace, &trace->offset, record)) {
+        struct block *block = record->code == CODE_FREE ? block_at(trace, record->address) : NULL;
+        if (record->code == CODE_MALLOC && record->address >= REDZONE)
+            add_block(trace, record);
+        else if (block != NULL && block->address == record->address && block->free_event == 0)
+            block->free_event = record->event;
+    }
 }
 
 /* As write_place, for a block that the stream of a forked child may have begun with. */
@@ -276,21 +309,22 @@ static void write_fate(const struct trace *trace, const char *verb, uint64_t eve
         fputs(trace->where.size != 0 ? " before the trace began" : " ?", stdout);
 }
 
-static void write_block(const struct trace *trace, uint64_t address, uint64_t event)
+static void write_block(struct trace *trace, uint64_t address, uint64_t event)
 {
-    struct block block = find_block(trace, address, event);
-    if (block.malloc_event == 0)
+    go_to(trace, event);
+    const struct block *block = block_at(trace, address);
+    if (block == NULL)
         return;
-    int64_t from_start = (int64_t)(address - block.address);
+    int64_t from_start = (int64_t)(address - block->address);
     if (from_start < 0)
-        printf("; %" PRId64 " bytes before a block of %" PRIu64, -from_start, block.size);
-    else if ((uint64_t)from_start >= block.size)
-        printf("; %" PRIu64 " bytes past a block of %" PRIu64, (uint64_t)from_start - block.size, block.size);
+        printf("; %" PRId64 " bytes before a block of %" PRIu64, -from_start, block->size);
+    else if ((uint64_t)from_start >= block->size)
+        printf("; %" PRIu64 " bytes past a block of %" PRIu64, (uint64_t)from_start - block->size, block->size);
     else
-        printf("; byte %" PRId64 " of a block of %" PRIu64, from_start, block.size);
-    write_fate(trace, "allocated", block.malloc_event);
-    if (block.free_event != 0)
-        write_fate(trace, "freed", block.free_event);
+        printf("; byte %" PRId64 " of a block of %" PRIu64, from_start, block->size);
+    write_fate(trace, "allocated", block->malloc_event);
+    if (block->free_event != 0)
+        write_fate(trace, "freed", block->free_event);
 }
 
 /* Reports. */
@@ -311,12 +345,12 @@ static bool read_report(const char *line, struct report *report)
     return digits != NULL && sscanf(digits, "%" SCNx64, &report->address) == 1;
 }
 
-static void write_report(const struct trace *traces, size_t count, const char *line)
+static void write_report(struct trace *traces, size_t count, const char *line)
 {
     struct report report;
     fputs(line, stdout);
     if (read_report(line, &report) && report.process < count) {
-        const struct trace *trace = &traces[report.process];
+        struct trace *trace = &traces[report.process];
         write_place(trace, " at", report.event);
         write_block(trace, report.address, report.event);
     }
@@ -325,7 +359,7 @@ static void write_report(const struct trace *traces, size_t count, const char *l
 
 static struct trace open_trace(const char *path)
 {
-    struct trace trace = {path, map_file(path), {NULL, 0}};
+    struct trace trace = {.stream = map_file(path), .offset = HEADER_LENGTH};
     size_t length = strlen(path);
     char *side = must(malloc(length + 8));
     sprintf(side, "%s.where", path);

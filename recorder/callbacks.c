@@ -69,64 +69,66 @@ CALLBACK void __sanitizer_annotate_contiguous_container(const void *start, const
 }
 
 /* Nothing below is recorded. A program that is built for AddressSanitizer may call these, and has to link. The recorder
-   keeps no shadow: nothing is ever said to be poisoned. */
+   keeps no shadow: nothing is ever said to be poisoned. Another sanitizer of the program may bring its own. */
 
-CALLBACK void __asan_init(void)
+#define STAND_IN CALLBACK __attribute__((weak))
+
+STAND_IN void __asan_init(void)
 {
 }
 
-CALLBACK void __asan_version_mismatch_check_v8(void)
+STAND_IN void __asan_version_mismatch_check_v8(void)
 {
 }
 
-CALLBACK void __asan_handle_no_return(void)
+STAND_IN void __asan_handle_no_return(void)
 {
 }
 
-CALLBACK void __asan_before_dynamic_init(const char *module)
+STAND_IN void __asan_before_dynamic_init(const char *module)
 {
     (void)module;
 }
 
-CALLBACK void __asan_after_dynamic_init(void)
+STAND_IN void __asan_after_dynamic_init(void)
 {
 }
 
-CALLBACK int __asan_address_is_poisoned(const volatile void *address)
+STAND_IN int __asan_address_is_poisoned(const volatile void *address)
 {
     (void)address;
     return 0;
 }
 
-CALLBACK void *__asan_region_is_poisoned(void *start, size_t size)
+STAND_IN void *__asan_region_is_poisoned(void *start, size_t size)
 {
     (void)start;
     (void)size;
     return NULL;
 }
 
-CALLBACK void __asan_set_death_callback(void (*callback)(void))
+STAND_IN void __asan_set_death_callback(void (*callback)(void))
 {
     (void)callback;
 }
 
-CALLBACK void __sanitizer_set_death_callback(void (*callback)(void))
+STAND_IN void __sanitizer_set_death_callback(void (*callback)(void))
 {
     (void)callback;
 }
 
-CALLBACK void __sanitizer_print_stack_trace(void)
+STAND_IN void __sanitizer_print_stack_trace(void)
 {
 }
 
-CALLBACK void __sanitizer_start_switch_fiber(void **save, const void *bottom, size_t size)
+STAND_IN void __sanitizer_start_switch_fiber(void **save, const void *bottom, size_t size)
 {
     (void)save;
     (void)bottom;
     (void)size;
 }
 
-CALLBACK void __sanitizer_finish_switch_fiber(void *save, const void **bottom, size_t *size)
+STAND_IN void __sanitizer_finish_switch_fiber(void *save, const void **bottom, size_t *size)
 {
     (void)save;
     if (bottom != NULL)
@@ -135,24 +137,24 @@ CALLBACK void __sanitizer_finish_switch_fiber(void *save, const void **bottom, s
         *size = 0;
 }
 
-CALLBACK void __lsan_disable(void)
+STAND_IN void __lsan_disable(void)
 {
 }
 
-CALLBACK void __lsan_enable(void)
+STAND_IN void __lsan_enable(void)
 {
 }
 
-CALLBACK void __lsan_ignore_object(const void *object)
+STAND_IN void __lsan_ignore_object(const void *object)
 {
     (void)object;
 }
 
-CALLBACK void __lsan_do_leak_check(void)
+STAND_IN void __lsan_do_leak_check(void)
 {
 }
 
-CALLBACK int __lsan_do_recoverable_leak_check(void)
+STAND_IN int __lsan_do_recoverable_leak_check(void)
 {
     return 0;
 }

@@ -596,6 +596,34 @@ def check_where(suite, folder, compiler, level):
         expect(re.findall(r"w\.c:(\d+)", freed)[0], "6", lines[0])
 
 
+def check_many_places(suite, folder, compiler):
+    """Many reports, of which each has its own block; and in another order."""
+    source = """
+#include <stdlib.h>
+int main(void)
+{
+    char *blocks[300];
+    for (int i = 0; i < 300; i++)
+        blocks[i] = malloc(i % 10 + 1);
+    for (int i = 0; i < 300; i++)
+        ((volatile char *)blocks[i])[i % 10 + 1] = 1;
+    for (int i = 0; i < 300; i++)
+        free(blocks[i]);
+    return 0;
+}
+"""
+    write(folder, m_c=source)
+    compiler.c(folder, ["m.c"], f"{folder}/m", "-w")
+    run(["./m"], folder, ASANCOL_TRACE="m.trace", ASANCOL_WHERE="1")
+    verdicts = run([suite.asancol, "check", "m.trace"], folder).stdout.splitlines(True)
+    for lines in (verdicts, verdicts[::-1]):
+        said = run([WHERE, "m.trace"], folder, stdin=b"".join(lines)).stdout.decode().splitlines()
+        said = said if lines is verdicts else said[::-1]
+        expect(len(said), 301, "lines")
+        for i, line in enumerate(said[:-1]):
+            expect(f"0 bytes past a block of {i % 10 + 1}, allocated at main" in line, True, line)
+
+
 def life_tests(suite, compiler, folder):
     program = f"{folder}/lives-{compiler}"
     compiler.c(folder, [f"{TESTS}/lives.c"], program, "-O1", "-w", "-pthread")
@@ -647,6 +675,7 @@ def life_tests(suite, compiler, folder):
     suite.test(f"{compiler} pipe", check_pipe, program)
     for level in ("-O0", "-O2"):
         suite.test(f"{compiler} where {level}", check_where, compiler, level)
+    suite.test(f"{compiler} where, many", check_many_places, compiler)
 
 
 CPP = {
@@ -772,6 +801,16 @@ def check_builds(suite, folder, compiler):
         linker = ["-fuse-ld=lld"] if compiler.name == "clang" and "-flto" in flags else []
         cc(*flags, *linker, "-DVALUE=1", "main.c", "helper.c", "-o", "program")
         one_mark(suite, folder)
+    # A header by itself; the sanitizer of what is undefined; a machine that is not recorded.
+    write(folder, one_h="extern int one;\n")
+    cc("-x", "c-header", "one.h", "-o", "one.h.gch")
+    cc("one.h", "-o", "one.h.gch")
+    write(folder, undefined_c="int main(void) { return 0; }\n")
+    if run([compiler.name, "-fsanitize=undefined", "undefined.c", "-o", "undefined"], folder).returncode == 0:
+        cc("-fsanitize=undefined", "-DVALUE=1", "main.c", "helper.c", "-o", "program")
+        one_mark(suite, folder)
+    cc("-m32", "-S", "-DVALUE=1", "helper.c", "-o", "foreign.s")
+    expect("__asan" in open(f"{folder}/foreign.s").read(), False, "-m32")
     # What compiles nothing is passed on as it is.
     for words in (["--version"], ["-dumpmachine"], ["-print-prog-name=ld"], ["-print-search-dirs"]):
         expect(cc(*words), run([compiler.name, *words], folder).stdout, f"{words}")
@@ -783,6 +822,18 @@ def check_builds(suite, folder, compiler):
     theirs = run([compiler.name, "-c", "bad.c"], folder)
     ours = run([CC, "-c", "bad.c"], folder, ASANCOL_CC=compiler.name)
     expect((ours.returncode, ours.stderr), (theirs.returncode, theirs.stderr), "an error")
+
+
+def check_by_itself(suite, folder, compiler):
+    """The recorder, built by the compiler without a warning."""
+    for name in os.listdir(RECORDER):
+        if name == "Makefile" or name.endswith((".c", ".h", ".def")):
+            shutil.copy(f"{RECORDER}/{name}", folder)
+    made = run(["make", "-s", f"CC={compiler.name}"], folder)
+    expect((made.returncode, made.stderr), (0, b""), "make")
+    write(folder, main_c=PAST_THE_END, helper_c=HELPER)
+    build(["./asancol-cc", "-DVALUE=1", "main.c", "helper.c", "-o", "program"], folder, ASANCOL_CC=compiler.name)
+    one_mark(suite, folder)
 
 
 def check_own_malloc(suite, folder, compiler):
@@ -903,6 +954,7 @@ def build_tests(suite, compiler):
     for level in ("-O0", "-O2"):
         suite.test(f"{compiler} store {level}", check_store, compiler, level)
     suite.test(f"{compiler} builds", check_builds, compiler)
+    suite.test(f"{compiler} by itself", check_by_itself, compiler)
     suite.test(f"{compiler} own malloc", check_own_malloc, compiler)
     suite.test(f"{compiler} make", check_make, compiler)
     suite.test(f"{compiler} install", check_install, compiler)
