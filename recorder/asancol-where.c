@@ -292,7 +292,8 @@ static void go_to(struct trace *trace, uint64_t event)
     }
     while (record->event + 1 < event && next_record(trace, &trace->offset, record)) {
         struct block *block = record->code == CODE_FREE ? block_at(trace, record->address) : NULL;
-        if (record->code == CODE_MALLOC && record->address >= REDZONE)
+        bool is_block = record->address >= REDZONE && record->address < ADDRESS_END && record->size <= LARGEST_REGION;
+        if (record->code == CODE_MALLOC && is_block)
             add_block(trace, record);
         else if (block != NULL && block->address == record->address && block->free_event == 0)
             block->free_event = record->event;
