@@ -1,0 +1,110 @@
+//! Tests of damaged streams: each has one outcome, in whatever pieces it comes and on however many
+//! threads, and ends as a slow reading of the whole stream says.
+
+use super::reading::end_of;
+use super::{STREAM, Senders, feed_of};
+use asan_check::Ending;
+use asan_collect::{OpenGate, Options, Outcome, check_feed, collect};
+use std::alloc::{AllocError, Global};
+use std::process::Abort;
+use std::sync::Wait;
+use std::test::Fail;
+use std::thread::Threads;
+use std::time::Clock;
+use test_draws::Draws;
+use trace_feed::MemFeed;
+
+/// Each place of the stream.
+fn each_place() -> [u64; STREAM.len()] {
+    let mut places = [0; STREAM.len()];
+    for (index, place) in places.iter_mut().enumerate() {
+        *place = index as u64;
+    }
+    places
+}
+
+/// Asserts that `check_feed` makes of this stream, cut at these places, what was made of it before.
+fn expect_alone<R: Abort>(
+    rt: &R,
+    alloc: Global,
+    stream: &[u8],
+    cuts: &[u64],
+    options: Options,
+    outcome: &Outcome<MemFeed>,
+) -> Result<(), AllocError> {
+    let alone = check_feed(alloc, feed_of(alloc, stream, cuts, None)?, options);
+    assert_eq!(rt;
+        alone.ending(),
+        outcome.ending(),
+        "{stream:?} cut at {cuts:?}"
+    );
+    assert!(rt;
+        alone.reports() == outcome.reports(),
+        "{stream:?} cut at {cuts:?}"
+    );
+    Ok(())
+}
+
+/// Asserts that each of these streams has one outcome: by `collect`, where all of them are sent at
+/// once and each ring holds one event, and by `check_feed`, whole, byte by byte and cut at drawn
+/// places. Its end is that of the slow reading.
+fn expect_one_outcome<R: Threads + Wait + Clock + Sync + Abort>(
+    rt: &R,
+    alloc: Global,
+    streams: &[Vec<u8>],
+    draws: &mut Draws,
+) -> Result<(), Fail> {
+    for limit in [1, 1 << 24] {
+        let options = Options::new(1 << 28, 1, 2, limit)?;
+        let cuts = [draws.below(36), draws.below(36), draws.below(36)];
+        let mut door = Senders::new(alloc, streams, &cuts, None);
+        let outcomes = collect(rt, alloc, &mut door, &OpenGate, options)?;
+        assert_eq!(rt; outcomes.len(), streams.len());
+        for (stream, outcome) in streams.iter().zip(&outcomes) {
+            let wanted = Ending::Ran {
+                end: end_of(rt, stream, u64::from(limit)),
+                reports: outcome.reports().len() as u64,
+            };
+            assert_eq!(rt; outcome.ending(), wanted, "{stream:?}");
+            expect_alone(rt, alloc, stream, &[], options, outcome)?;
+            expect_alone(rt, alloc, stream, &each_place(), options, outcome)?;
+            expect_alone(rt, alloc, stream, &cuts, options, outcome)?;
+        }
+    }
+    Ok(())
+}
+
+#[test]
+fn each_prefix_has_one_outcome(rt: HostRuntime) -> Result<(), Fail> {
+    let mut prefixes = Vec::new(rt.alloc());
+    for length in 0..=STREAM.len() {
+        prefixes.push(STREAM[..length].to_vec(rt.alloc())?)?;
+    }
+    expect_one_outcome(&rt, rt.alloc(), &prefixes, &mut Draws::new())
+}
+
+/// The stream with the byte at one place set to each of its 255 other values.
+fn damaged(alloc: Global, place: usize) -> Result<Vec<Vec<u8>>, AllocError> {
+    let mut streams = Vec::new(alloc);
+    for value in 0..=u8::MAX {
+        if STREAM.get(place) != Some(&value) {
+            let mut stream = STREAM.to_vec(alloc)?;
+            if let Some(byte) = stream.get_mut(place) {
+                *byte = value;
+            }
+            streams.push(stream)?;
+        }
+    }
+    Ok(streams)
+}
+
+#[test]
+fn each_damaged_stream_has_one_outcome(rt: HostRuntime) -> Result<(), Fail> {
+    let mut draws = Draws::new();
+    for place in 0..STREAM.len() {
+        let streams = damaged(rt.alloc(), place)?;
+        assert_eq!(rt; streams.len(), 255);
+        expect_one_outcome(&rt, rt.alloc(), &streams, &mut draws)?;
+    }
+    Ok(())
+}
