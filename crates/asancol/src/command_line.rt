@@ -39,6 +39,18 @@ pub enum Request {
     Serve(Serving),
 }
 
+impl Request {
+    /// How many threads it starts at most.
+    pub fn threads(&self) -> usize {
+        let (senders, options) = match self {
+            Request::Input => return 0,
+            Request::Files { names, options, .. } => (names.len(), options),
+            Request::Serve(serving) => (serving.count as usize, &serving.options),
+        };
+        senders.saturating_add(options.workers as usize)
+    }
+}
+
 /// Why the words are not carried out.
 #[derive(Drop)]
 pub enum Refusal {

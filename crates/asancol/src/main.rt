@@ -9,6 +9,7 @@ mod print;
 mod run;
 mod serve;
 mod source;
+mod stack;
 #[cfg(test)]
 mod tests;
 mod words;
