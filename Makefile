@@ -8,7 +8,7 @@ HAS_CC := $(shell command -v $(firstword $(CC)) 2> /dev/null)
 SOURCES := crates.txt HANDLES $(shell find crates -name out -prune -o -type f \( -name '*.rt' -o -name '*.antt' \) -print)
 EXAMPLE := examples/one_byte_past_the_end.trace
 
-.PHONY: all demo check stress install clean recorder check-recorder install-recorder
+.PHONY: all demo check stress failures install clean recorder check-recorder install-recorder
 
 # The program, proved.
 all: asancol
@@ -46,6 +46,11 @@ MINUTES := 10
 
 stress: asancol
 	tests/stress.py --minutes $(MINUTES) ./asancol
+
+# Memory, threads and descriptors that run short, peers that die, outputs that take no more: within a
+# minute or two.
+failures: asancol
+	tests/failures.py ./asancol
 
 # The recorder: plain C, built with cc, gcc or clang (CC=..). It needs no asancol.
 recorder:

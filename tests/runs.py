@@ -630,20 +630,22 @@ def what_became_of_each_file(program):
 
 def output_that_ends_early(program):
     """The first bytes go out, as many as there is room for."""
+    put("trace", PAST_THE_END)
     text = past_the_end().encode()
-    for room in range(len(text) + 1):
+    for words in [[], ["check", "trace"]]:
+        for room in range(len(text) + 1):
 
-        def bound():
-            resource.setrlimit(resource.RLIMIT_FSIZE, (room, room))
-            signal.signal(signal.SIGXFSZ, signal.SIG_IGN)
+            def bound():
+                resource.setrlimit(resource.RLIMIT_FSIZE, (room, room))
+                signal.signal(signal.SIGXFSZ, signal.SIG_IGN)
 
-        with open("output", "wb") as output:
-            ran = program.run(
-                [], given=PAST_THE_END, stdout=output, before=bound, restore_signals=False
-            )
-        with open("output", "rb") as output:
-            went_out = output.read()
-        same(room, (ran, went_out), ((1 if room == len(text) else 4, None, b""), text[:room]))
+            how = {"given": PAST_THE_END, "before": bound, "restore_signals": False}
+            with open("output", "wb") as output:
+                ran = program.run(words, stdout=output, **how)
+            with open("output", "rb") as output:
+                went_out = output.read()
+            wanted = (1 if room == len(text) else 4, None, b"")
+            same((words, room), (ran, went_out), (wanted, text[:room]))
 
 
 def no_memory_to_begin(program):
@@ -706,11 +708,15 @@ class Served:
             peer.close()
         return self
 
-    def expect(self, status, output):
+    def answer(self):
+        """Its status and what it wrote, once it has ended."""
         said = self.program.communicate(timeout=PATIENCE)
         Served.running.remove(self.program)
-        same(self.words, (self.program.returncode, *said), (status, output.encode(), b""))
         os.remove("socket")
+        return self.program.returncode, *said
+
+    def expect(self, status, output):
+        same(self.words, self.answer(), (status, output.encode(), b""))
 
 
 def peers_on_a_socket(program):
@@ -859,7 +865,7 @@ def passes(case, program, room):
     return True
 
 
-def main(paths):
+def main(paths, cases):
     here = os.getcwd()
     with tempfile.TemporaryDirectory(prefix="asancol-") as room:
         programs = []
@@ -872,7 +878,7 @@ def main(paths):
             os.chown(room, NOBODY, NOBODY)
             os.setegid(NOBODY)
             os.seteuid(NOBODY)
-        results = [passes(case, program, room) for program in programs for case in CASES]
+        results = [passes(case, program, room) for program in programs for case in cases]
         os.chdir(here)
         os.seteuid(os.getuid())
     print(f"{sum(results)} passed, {len(results) - sum(results)} failed")
@@ -880,4 +886,4 @@ def main(paths):
 
 
 if __name__ == "__main__":
-    sys.exit(main(sys.argv[1:]))
+    sys.exit(main(sys.argv[1:], CASES))
