@@ -159,16 +159,17 @@ static void look_into(struct wish *wish, const char *path)
     fclose(file);
 }
 
+/* Their value is the next word. */
 static const char *const with_value[] = {
-    "-o",        "-x",       "-I",         "-L",       "-D",           "-U",           "-A",       "-F",
-    "-include",  "-imacros", "-idirafter", "-iprefix", "-iwithprefix", "-isystem",     "-isysroot", "-iwithprefixbefore",
-    "-iquote",   "-MF",      "-MT",        "-MQ",      "-Xlinker",     "-Xassembler",  "-Xclang",  "-Xpreprocessor",
-    "-mllvm",    "-u",       "-z",         "-T",       "-e",           "-B",           "--param",  "-target",
-    "-aux-info", "-dumpdir", "-dumpbase",  "-wrapper", "-specs",       "--sysroot",    "-G",       "-dumpbase-ext",
-    "-Xarch",    "-arch",    "-framework", "-soname",  "-imultilib",   "-iplugindir",  "-rpath",   "-h",
+    "-o",        "-x",        "-I",         "-L",       "-D",           "-U",          "-A",         "-F",
+    "-include",  "-imacros",  "-idirafter", "-iprefix", "-iwithprefix", "-isystem",    "-isysroot",  "-iquote",
+    "-MF",       "-MT",       "-MQ",        "-Xlinker", "-Xassembler",  "-Xclang",     "-mllvm",     "-Xpreprocessor",
+    "-u",        "-z",        "-T",         "-e",       "-B",           "--param",     "-target",    "-soname",
+    "-aux-info", "-dumpdir",  "-dumpbase",  "-wrapper", "-specs",       "--sysroot",   "-G",         "-dumpbase-ext",
+    "-Xarch",    "-arch",     "-framework", "-h",       "-imultilib",   "-iplugindir", "-rpath",     "-iwithprefixbefore",
 };
 
-/* Arguments that belong together, and what they say. */
+/* Arguments without a value, and what they say. */
 static const struct {
     const char *word;
     size_t field;

@@ -501,7 +501,8 @@ static void drop_spare(void *pointer)
 /* How many bytes a block takes with its redzones. */
 static size_t room_for(size_t size, size_t alignment)
 {
-    return (size + ALIGNMENT - 1) / ALIGNMENT * ALIGNMENT + 2 * REDZONE + alignment - ALIGNMENT;
+    size_t rounded = (size + ALIGNMENT - 1) / ALIGNMENT * ALIGNMENT;
+    return rounded + alignment - ALIGNMENT + (size_t)2 * REDZONE;
 }
 
 static struct block *take_block(size_t bytes)

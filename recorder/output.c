@@ -170,11 +170,10 @@ const char *output_connect(struct output *output, const char *path, uint64_t roo
 static int reopen(const struct output *output)
 {
     int descriptor = open(output->path, O_RDWR | O_CLOEXEC);
-    if (descriptor >= 0 && is_still(output, descriptor))
+    if (descriptor < 0 || is_still(output, descriptor))
         return descriptor;
-    if (descriptor >= 0)
-        close(descriptor);
-    errno = ESTALE;
+    close(descriptor);
+    errno = ESTALE; /* it is another file by now */
     return -1;
 }
 

@@ -416,7 +416,8 @@ def check_no_errors(suite, folder, program):
     reading, writing = os.pipe()
     os.close(reading)
     settings = environment(ASANCOL_TRACE="t.trace", ASANCOL_LIMIT="100")
-    ran = subprocess.run([program, "many_events"], cwd=folder, stderr=writing, env=settings, timeout=PATIENCE, check=False)
+    words = [program, "many_events"]
+    ran = subprocess.run(words, cwd=folder, stderr=writing, env=settings, timeout=PATIENCE, check=False)
     os.close(writing)
     expect(ran.returncode, 0, "status of the program")
 

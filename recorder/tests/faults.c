@@ -96,7 +96,12 @@ TEST(load_16_half_past, "load 8 +24 heap-buffer-overflow", "else")
 FAULT(load_before, "load 1 -1 heap-buffer-overflow") { char *p = block(8); LOAD(char, p - 1); drop(p); }
 FAULT(store_before, "store 4 -4 heap-buffer-overflow") { char *p = block(8); STORE(int, p - 4); drop(p); }
 FAULT(store_far_before, "store 8 -16 heap-buffer-overflow") { char *p = block(8); STORE(long, p - 16); drop(p); }
-TEST(load_in_the_redzone, "load 1 +39 heap-buffer-overflow", "else") { char *p = block(8); LOAD(char, p + 39); drop(p); }
+TEST(load_in_the_redzone, "load 1 +39 heap-buffer-overflow", "else")
+{
+    char *p = block(8);
+    LOAD(char, p + 39);
+    drop(p);
+}
 FAULT(past_a_large_block, "store 1 +100000 heap-buffer-overflow")
 {
     char *p = block(100000);
