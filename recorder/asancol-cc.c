@@ -166,7 +166,8 @@ static const char *const with_value[] = {
     "-MF",       "-MT",       "-MQ",        "-Xlinker", "-Xassembler",  "-Xclang",     "-mllvm",     "-Xpreprocessor",
     "-u",        "-z",        "-T",         "-e",       "-B",           "--param",     "-target",    "-soname",
     "-aux-info", "-dumpdir",  "-dumpbase",  "-wrapper", "-specs",       "--sysroot",   "-G",         "-dumpbase-ext",
-    "-Xarch",    "-arch",     "-framework", "-h",       "-imultilib",   "-iplugindir", "-rpath",     "-iwithprefixbefore",
+    "-Xarch",    "-arch",     "-framework", "-h",       "-imultilib",   "-iplugindir", "-rpath",
+    "-iwithprefixbefore",
 };
 
 /* Arguments without a value, and what they say. */

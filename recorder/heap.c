@@ -1,9 +1,5 @@
-/* The allocator. Its notes on blocks lie apart from them, so that a program that writes out of bounds does not meet
-   them; and a pointer is looked up by arithmetic alone.
-
-   One range of addresses is the arena. It is cut into units of 64 KiB. A unit is a slab of slots of one size,
-   or it is part of a run of units that is one large block, or part of a free run. A slot has 32 bytes of redzone, the
-   bytes of the block, and again 32 bytes or more.
+/* The allocator. A unit of the arena is a slab of slots of one size, or it is part of a run of units that is one large
+   block, or part of a free run. A slot has 32 bytes of redzone, the bytes of the block, and again 32 bytes or more.
 
    A freed block waits in the quarantine, as long as the checker holds it: it counts the same bytes in the same order.
 
@@ -19,52 +15,17 @@
 #include <stdlib.h>
 #include <string.h>
 #include <sys/mman.h>
-#include <sys/resource.h>
 
+#include "arena.h"
 #include "recorder.h"
 
-enum { UNIT = 1 << 16, SMALLEST_SLOT = 2 * REDZONE, SLOTS = UNIT / SMALLEST_SLOT, ALIGNMENT = 16, PAGE = 4096 };
 enum { LARGEST_SLOT = 1 << 14, FINE_STEP = 16, FINE_END = 1024, CLASSES = 64 + 16 };
-/* Free runs are listed by their number of units, the longer ones together. */
-enum { BINS = 64 };
-/* The arena has 2^38 bytes. Memory for it is asked for by so many units that the notes on them fill whole pages. */
-enum { UNITS = 1 << 22, COMMIT_STEP = 256 };
-/* Memory for signal handlers. */
-#define SPARE_BYTES ((uint64_t)1 << 34)
-/* Where the range may begin. */
-#define FIRST_RANGE ((uint64_t)1 << 44)
-#define LAST_RANGE ((uint64_t)1 << 46)
 /* A stream that begins with what is there has the newest of the blocks in quarantine, and no more of them. */
 enum { HELD_RECORDED = 4096 };
 
 enum { LARGEST_OFFSET = (1 << 30) - 1 };
 
 enum block_state { BLOCK_FREE, BLOCK_LIVE, BLOCK_HELD, BLOCK_UNRECORDED };
-
-struct block {
-    uint32_t size;       /* as it was asked for; of one that is not recorded, in `next` */
-    uint32_t state : 2;
-    uint32_t offset : 30; /* of the block in its slot or run, in multiples of ALIGNMENT */
-    union {
-        struct block *next; /* in its list of free slots, or in the quarantine */
-        uint64_t large_size;
-    };
-};
-
-enum unit_kind { UNIT_NEW, UNIT_SLAB, UNIT_RUN, UNIT_RUN_BODY, UNIT_FREE, UNIT_FREE_END };
-
-struct unit {
-    uint32_t kind;
-    uint32_t count; /* of a run or a free run: its units; in its body or at its end: how far back it begins */
-    union {
-        struct {
-            uint32_t previous, next; /* free runs of a bin; 0 is none, and unit 0 is never used */
-        };
-        struct {
-            uint32_t slot_size, used; /* of a slab; and how many were ever used */
-        };
-    };
-};
 
 struct class {
     struct block *free;
@@ -74,17 +35,10 @@ struct class {
 static struct {
     pthread_mutex_t lock;
     bool is_locked; /* by the thread that is in here: one that is alone need not */
-    unsigned char *arena; /* null until the first allocation */
-    struct unit *units;
-    struct block *blocks; /* SLOTS for each unit */
-    uint32_t committed;   /* units that have memory */
-    uint32_t top;         /* units used so far */
-    uint32_t bins[BINS + 1];
     struct class classes[CLASSES];
     struct block *oldest, *newest; /* the quarantine */
     uint64_t held_bytes, held_count;
     _Atomic uint64_t bound;
-    unsigned char *spare; /* memory for signal handlers */
     _Atomic size_t spare_used;
 } heap = {.lock = PTHREAD_MUTEX_INITIALIZER};
 
@@ -105,130 +59,6 @@ static uintptr_t caller_or(uintptr_t caller)
 void heap_set_bound(uint64_t bytes)
 {
     atomic_store(&heap.bound, bytes);
-}
-
-/* Memory. */
-
-/* Makes whole pages of the range usable, which are zeros. */
-static bool give_memory(void *start, size_t bytes)
-{
-    int flags = MAP_PRIVATE | MAP_ANONYMOUS | MAP_NORESERVE | MAP_FIXED_NOREPLACE;
-    return mmap(start, bytes, PROT_READ | PROT_WRITE, flags, -1, 0) == start;
-}
-
-static bool commit(uint32_t units)
-{
-    if (units <= heap.committed)
-        return true;
-    if (units > UNITS)
-        return false;
-    size_t from = heap.committed, count = (units - from + COMMIT_STEP - 1) / COMMIT_STEP * COMMIT_STEP;
-    const struct {
-        void *start;
-        size_t bytes;
-    } parts[] = {{heap.units + from, count * sizeof(struct unit)},
-                 {heap.blocks + from * SLOTS, count * SLOTS * sizeof(struct block)},
-                 {heap.arena + from * UNIT, count * UNIT}};
-    for (int i = 0; i < 3; i++) {
-        if (give_memory(parts[i].start, parts[i].bytes))
-            continue;
-        while (i-- > 0)
-            munmap(parts[i].start, parts[i].bytes);
-        return false;
-    }
-    heap.committed += (uint32_t)count;
-    return true;
-}
-
-/* Finds a range that nothing lies in: far from what the system hands out, so that nothing will. It is mapped as it is
-   used, and what isn't counts towards no limit of the process. */
-static bool find_range(void)
-{
-    for (uint64_t start = FIRST_RANGE; start < LAST_RANGE; start *= 2) {
-        heap.blocks = (struct block *)start;
-        heap.units = (struct unit *)(heap.blocks + (size_t)UNITS * SLOTS);
-        heap.arena = (unsigned char *)(heap.units + UNITS);
-        heap.spare = heap.arena + (size_t)UNITS * UNIT;
-        heap.top = 1;
-        if (commit(1))
-            return true;
-    }
-    heap.arena = NULL;
-    return false;
-}
-
-static unsigned char *unit_start(uint32_t unit)
-{
-    return heap.arena + (size_t)unit * UNIT;
-}
-
-/* Runs of units. */
-
-static uint32_t *bin_of(uint32_t count)
-{
-    return &heap.bins[count < BINS ? count : BINS];
-}
-
-static void list_run(uint32_t first, uint32_t count)
-{
-    uint32_t *bin = bin_of(count);
-    heap.units[first] = (struct unit){.kind = UNIT_FREE, .count = count, .next = *bin};
-    if (count > 1)
-        heap.units[first + count - 1] = (struct unit){.kind = UNIT_FREE_END, .count = count - 1};
-    if (*bin != 0)
-        heap.units[*bin].previous = first;
-    *bin = first;
-}
-
-static void unlist_run(uint32_t first)
-{
-    struct unit *run = &heap.units[first];
-    if (run->previous != 0)
-        heap.units[run->previous].next = run->next;
-    else
-        *bin_of(run->count) = run->next;
-    if (run->next != 0)
-        heap.units[run->next].previous = run->previous;
-}
-
-/* Units in a row, all zeros; 0 where there is no memory. */
-static uint32_t take_run(uint32_t count)
-{
-    for (uint32_t bin = count < BINS ? count : BINS; bin <= BINS; bin++) {
-        for (uint32_t first = heap.bins[bin]; first != 0; first = heap.units[first].next) {
-            uint32_t found = heap.units[first].count;
-            if (found < count)
-                continue;
-            unlist_run(first);
-            if (found > count)
-                list_run(first + count, found - count);
-            return first;
-        }
-    }
-    if (count > UNITS - heap.top || !commit(heap.top + count))
-        return 0;
-    heap.top += count;
-    return heap.top - count;
-}
-
-static void give_run(uint32_t first, uint32_t count)
-{
-    /* Memory that the process has locked can't be given back to the system. */
-    if (madvise(unit_start(first), (size_t)count * UNIT, MADV_DONTNEED) != 0)
-        memset(unit_start(first), 0, (size_t)count * UNIT);
-    uint32_t after = first + count;
-    if (after < heap.top && heap.units[after].kind == UNIT_FREE) {
-        count += heap.units[after].count;
-        unlist_run(after);
-    }
-    const struct unit *before = &heap.units[first - 1];
-    uint32_t back = before->kind == UNIT_FREE_END ? before->count + 1 : before->kind == UNIT_FREE ? 1 : 0;
-    if (back != 0) {
-        unlist_run(first - back);
-        first -= back;
-        count += back;
-    }
-    list_run(first, count);
 }
 
 /* Slots. Up to FINE_END bytes there is a class for each 16 bytes, and then four for each doubling. */
@@ -258,14 +88,14 @@ static struct block *take_slot(size_t bytes)
         return block;
     }
     if (class->slab == 0) {
-        uint32_t unit = take_run(1);
+        uint32_t unit = arena_take_run(1);
         if (unit == 0)
             return NULL;
-        heap.units[unit] = (struct unit){.kind = UNIT_SLAB, .count = 1, .slot_size = slot_size};
+        arena.units[unit] = (struct unit){.kind = UNIT_SLAB, .count = 1, .slot_size = slot_size};
         class->slab = unit;
     }
-    struct unit *unit = &heap.units[class->slab];
-    block = heap.blocks + (size_t)class->slab * SLOTS + unit->used;
+    struct unit *unit = &arena.units[class->slab];
+    block = arena.blocks + (size_t)class->slab * SLOTS + unit->used;
     unit->used++;
     if ((unit->used + 1) * unit->slot_size > UNIT)
         class->slab = 0;
@@ -277,26 +107,26 @@ static struct block *take_large(size_t bytes)
     size_t count = (bytes + UNIT - 1) / UNIT;
     if (count > UNITS)
         return NULL;
-    uint32_t first = take_run((uint32_t)count);
+    uint32_t first = arena_take_run((uint32_t)count);
     if (first == 0)
         return NULL;
-    heap.units[first] = (struct unit){.kind = UNIT_RUN, .count = (uint32_t)count};
+    arena.units[first] = (struct unit){.kind = UNIT_RUN, .count = (uint32_t)count};
     for (uint32_t i = 1; i < count; i++)
-        heap.units[first + i] = (struct unit){.kind = UNIT_RUN_BODY, .count = i};
-    return heap.blocks + (size_t)first * SLOTS;
+        arena.units[first + i] = (struct unit){.kind = UNIT_RUN_BODY, .count = i};
+    return arena.blocks + (size_t)first * SLOTS;
 }
 
 static uint32_t unit_of(const struct block *block)
 {
-    return (uint32_t)((size_t)(block - heap.blocks) / SLOTS);
+    return (uint32_t)((size_t)(block - arena.blocks) / SLOTS);
 }
 
 /* Where the slot or the run of a block begins. */
 static unsigned char *slot_start(const struct block *block)
 {
     uint32_t unit = unit_of(block);
-    size_t slot = (size_t)(block - heap.blocks) % SLOTS;
-    return unit_start(unit) + slot * (heap.units[unit].kind == UNIT_SLAB ? heap.units[unit].slot_size : 0);
+    size_t slot = (size_t)(block - arena.blocks) % SLOTS;
+    return unit_start(unit) + slot * (arena.units[unit].kind == UNIT_SLAB ? arena.units[unit].slot_size : 0);
 }
 
 static unsigned char *block_start(const struct block *block)
@@ -307,18 +137,18 @@ static unsigned char *block_start(const struct block *block)
 /* The block that starts here, or null. */
 static struct block *find(const void *pointer)
 {
-    uintptr_t distance = (uintptr_t)pointer - (uintptr_t)heap.arena;
-    if (heap.arena == NULL || distance >= (size_t)heap.top * UNIT)
+    uintptr_t distance = (uintptr_t)pointer - (uintptr_t)arena.bytes;
+    if (arena.bytes == NULL || distance >= (size_t)arena.top * UNIT)
         return NULL;
     uint32_t unit = (uint32_t)(distance / UNIT);
-    const struct unit *at = &heap.units[unit];
+    const struct unit *at = &arena.units[unit];
     struct block *block;
     if (at->kind == UNIT_SLAB && distance % UNIT / at->slot_size < at->used)
-        block = heap.blocks + (size_t)unit * SLOTS + distance % UNIT / at->slot_size;
+        block = arena.blocks + (size_t)unit * SLOTS + distance % UNIT / at->slot_size;
     else if (at->kind == UNIT_RUN)
-        block = heap.blocks + (size_t)unit * SLOTS;
+        block = arena.blocks + (size_t)unit * SLOTS;
     else if (at->kind == UNIT_RUN_BODY)
-        block = heap.blocks + (size_t)(unit - at->count) * SLOTS;
+        block = arena.blocks + (size_t)(unit - at->count) * SLOTS;
     else
         return NULL;
     return block->state != BLOCK_FREE && block_start(block) == pointer ? block : NULL;
@@ -335,11 +165,11 @@ static void release(struct block *block)
 {
     uint32_t unit = unit_of(block), slot_size;
     block->state = BLOCK_FREE;
-    if (heap.units[unit].kind != UNIT_SLAB) {
-        give_run(unit, heap.units[unit].count);
+    if (arena.units[unit].kind != UNIT_SLAB) {
+        arena_give_run(unit, arena.units[unit].count);
         return;
     }
-    struct class *class = &heap.classes[class_of(heap.units[unit].slot_size, &slot_size)];
+    struct class *class = &heap.classes[class_of(arena.units[unit].slot_size, &slot_size)];
     block->next = class->free;
     class->free = block;
 }
@@ -467,19 +297,19 @@ enum { SPARE_HEADER = 16 };
 
 static bool is_spare(const void *pointer)
 {
-    return heap.arena != NULL && (uintptr_t)pointer - (uintptr_t)heap.spare < SPARE_BYTES;
+    return arena.bytes != NULL && (uintptr_t)pointer - (uintptr_t)arena.spare < SPARE_BYTES;
 }
 
 static void *take_spare(size_t size, size_t alignment)
 {
-    if (heap.arena == NULL || size > SPARE_BYTES || alignment > SPARE_BYTES)
+    if (arena.bytes == NULL || size > SPARE_BYTES || alignment > SPARE_BYTES)
         return NULL;
     /* Whole pages: two handlers, of two threads, then make none of them usable twice. */
     size_t bytes = (size + SPARE_HEADER + alignment + PAGE - 1) / PAGE * PAGE;
     size_t first = atomic_fetch_add(&heap.spare_used, bytes);
-    if (first + bytes > SPARE_BYTES || !give_memory(heap.spare + first, bytes))
+    if (first + bytes > SPARE_BYTES || !arena_give_memory(arena.spare + first, bytes))
         return NULL;
-    uintptr_t start = ((uintptr_t)heap.spare + first + SPARE_HEADER + alignment - 1) / alignment * alignment;
+    uintptr_t start = ((uintptr_t)arena.spare + first + SPARE_HEADER + alignment - 1) / alignment * alignment;
     ((size_t *)start)[-1] = size;
     return (void *)start;
 }
@@ -546,7 +376,7 @@ static void *allocate(size_t size, size_t alignment, bool zeroed, uintptr_t call
     if (!fits || !enter()) {
         address = fits ? take_spare(size, alignment) : NULL;
     } else {
-        if (heap.arena != NULL || find_range())
+        if (arena.bytes != NULL || arena_find())
             address = place_block(size, alignment, caller);
         if (address == NULL)
             record_region(CODE_MALLOC, 0, size, caller); /* refused */
@@ -621,11 +451,11 @@ void heap_record_all(void)
         record_region(CODE_MALLOC, (uintptr_t)block_start(block), block->size, 0);
     for (const struct block *block = first; block != NULL; block = block->next)
         record_free((uintptr_t)block_start(block), 0);
-    for (uint32_t unit = 1; unit < heap.top; unit++) {
-        const struct unit *at = &heap.units[unit];
+    for (uint32_t unit = 1; unit < arena.top; unit++) {
+        const struct unit *at = &arena.units[unit];
         uint32_t count = at->kind == UNIT_SLAB ? at->used : at->kind == UNIT_RUN ? 1 : 0;
         for (uint32_t slot = 0; slot < count; slot++) {
-            const struct block *block = heap.blocks + (size_t)unit * SLOTS + slot;
+            const struct block *block = arena.blocks + (size_t)unit * SLOTS + slot;
             if (block->state == BLOCK_LIVE)
                 record_region(CODE_MALLOC, (uintptr_t)block_start(block), block->size, 0);
         }

@@ -56,7 +56,7 @@ static inline void note_regions(enum code code, uint64_t address, uint64_t size,
 
 static inline void note_called_from(uintptr_t caller)
 {
-    heap_called_from(caller);
+    asancol_hooks.called_from(caller);
 }
 
 #endif

@@ -837,6 +837,23 @@ def check_by_itself(suite, folder, compiler):
     one_mark(suite, folder)
 
 
+def check_own_names(suite, folder, compiler):
+    """A program may have every name that the recorder has for itself."""
+    sources = [f"{RECORDER}/{name}" for name in os.listdir(RECORDER) if name.endswith(".c")]
+    names = set()
+    for source in sources:
+        names |= set(re.findall(r"^(?:[\w ]+[ *])(\w+)\([^;]*\)$", open(source).read(), re.M))
+    ours = ("__wrap_", "main", "asancol_", "__asan_", "__sanitizer_", "__lsan_")
+    names = {name for name in names | {"arena", "stream_page", "recorder_state"} if not name.startswith(ours)}
+    names -= {"malloc", "free", "calloc", "realloc", "reallocarray", "memalign", "aligned_alloc", "posix_memalign"}
+    names -= {"valloc", "pvalloc", "malloc_usable_size"}
+    expect(len(names) > 100, True, "names")
+    write(folder, main_c=PAST_THE_END, helper_c=HELPER, names_c="".join(f"int {name};\n" for name in sorted(names)))
+    for flags in ([], ["-static"]):
+        compiler.c(folder, ["main.c", "helper.c", "names.c"], "program", "-w", "-DVALUE=1", "-fno-builtin", *flags)
+        one_mark(suite, folder)
+
+
 def check_own_malloc(suite, folder, compiler):
     """A program with an allocator of its own keeps it: its accesses are recorded, and its blocks are not."""
     write(
@@ -956,6 +973,7 @@ def build_tests(suite, compiler):
         suite.test(f"{compiler} store {level}", check_store, compiler, level)
     suite.test(f"{compiler} builds", check_builds, compiler)
     suite.test(f"{compiler} by itself", check_by_itself, compiler)
+    suite.test(f"{compiler} own names", check_own_names, compiler)
     suite.test(f"{compiler} own malloc", check_own_malloc, compiler)
     suite.test(f"{compiler} make", check_make, compiler)
     suite.test(f"{compiler} install", check_install, compiler)
