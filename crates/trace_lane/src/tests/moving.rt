@@ -45,7 +45,8 @@ fn as_many_are_put_as_there_is_room_for(rt: HostRuntime) -> Result<(), Fail> {
     Ok(())
 }
 
-/// Puts the items and takes some of them, by turns in a fixed order, and gives those taken.
+/// Puts the items and takes some of them, by turns in a fixed order, one by one and by slices, and
+/// gives those taken.
 fn by_turns(
     alloc: Global,
     into: &mut LaneIn<u32>,
@@ -70,6 +71,9 @@ fn by_turns(
                 taken.push(item)?;
             }
         }
+        let mut some = [0; 50];
+        let count = out.take_some(&mut some[..round % 50]);
+        taken.extend_from_slice(&some[..count])?;
         if rest.is_empty() {
             break;
         }
