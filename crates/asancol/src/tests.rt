@@ -9,7 +9,10 @@ use test_writers::{Ending, ShortWriter};
 fn output_that_is_not_flushed(rt: HostRuntime) -> Result<(), Fail> {
     let mut help = Vec::new(rt.alloc());
     help.push(String::from_str(rt.alloc(), "--help")?)?;
-    for words in [&[], help.as_slice()] {
+    let mut check = Vec::new(rt.alloc());
+    check.push(String::from_str(rt.alloc(), "check")?)?;
+    check.push(String::from_str(rt.alloc(), "-")?)?;
+    for words in [&[], help.as_slice(), check.as_slice()] {
         let mut output = writer(rt.alloc());
         output.flushes = false;
         let mut faults = writer(rt.alloc());
