@@ -18,6 +18,7 @@ use Rattle.asan_collect.specs.declared.item.Item.TheVariants as item
 use Rattle.asan_collect.specs.Items.{items_of, events_of, has_end}
 use Rattle.asan_collect.specs.Ranges.{most_events}
 use Rattle.asan_collect.specs.Checking.{StandsAfter, HasChecked}
+use Rattle.asan_collect.specs.Outboxes.{IsFront}
 use Rattle.asan_collect.proofs.Stepping.{stepped, reverse-more, checked_within, reports_short, reports_whole}
 use Rattle.asan_collect.proofs.Told.{few_of}
 
@@ -94,7 +95,7 @@ none_more events full = elim (cases_lt (length events) most_events) [
 ]
 
 -- what begins a list still begins it where more follows
-begins_more : (first some rest : List Report) → take (length first) some ≡ first → take (length first) (some ++ rest) ≡ first
+pub begins_more : (first some rest : List Report) → take (length first) some ≡ first → take (length first) (some ++ rest) ≡ first
 begins_more first some rest begins =
     let within : length first ≤ length some = elim (cases_lt (length some) (length first)) [
       | inl short ↦ absurd (let whole = ap length (take_all (length first) some (omega arith)) in let same = ap length begins in omega arith)
@@ -108,7 +109,7 @@ module _ {A : Type 0} where
   checked_few bound c events stands = ∥∥₁_elim stands le_prop (λ s. let n = checked_within bound c (reverse events) s in omega (arith, length-reverse events))
 
   -- a step adds to the reports at the end
-  grown : (bound : ℕ) (c new : Checker A) (r : Result (Option Report) Failed) (e : Event) (past : List Event)
+  pub grown : (bound : ℕ) (c new : Checker A) (r : Result (Option Report) Failed) (e : Event) (past : List Event)
       → IfOk r (λ report. (b : ℕ) (p : List Event) → Stands b c p → (report ≡ verdict b p e) × Stands b new (e ∷ p))
       → OnErr r ((has_failed new ≡ true) × (checked_of new ≡ checked_of c) × (reports_of new ≡ reports_of c))
       → (has_failed c ≡ true → IsErr r × (new ≡ c))
@@ -116,6 +117,24 @@ module _ {A : Type 0} where
   grown bound c new (Ok x) e past ok kept stays (inl s) = (option_to_list (verdict bound past e), (ok bound past s).1.reports ∙ ap (λ rs. rs ++ option_to_list (verdict bound past e)) (sym s.reports))
   grown bound c new (Ok x) e past ok kept stays (inr f) = absurd (false≢true (stays f.failed).0)
   grown bound c new (Err x) e past ok kept stays s = ([], kept.2 ∙ sym (append-nil (reports_of c)))
+
+  -- a step's reports begin with those before it
+  pub front_event : (c new : Checker A) (r : Result (Option Report) Failed) (e : Event) (items : List Item)
+      → IfOk r (λ report. (b : ℕ) (p : List Event) → Stands b c p → (report ≡ verdict b p e) × Stands b new (e ∷ p))
+      → OnErr r ((has_failed new ≡ true) × (checked_of new ≡ checked_of c) × (reports_of new ≡ reports_of c))
+      → (has_failed c ≡ true → IsErr r × (new ≡ c))
+      → StandsAfter c items → IsFront (reports_of c) (reports_of new)
+  front_event c new r e items ok kept stays stands = ∥∥₁_elim stands (reports-prop (take (length (reports_of c)) (reports_of new)) (reports_of c)) (λ s.
+      let rest = grown (bound_of c) c new r e (reverse (events_of items)) ok kept stays s in
+      let all = take_all (length (reports_of c)) (reports_of c) (omega arith) in
+      ap (take (length (reports_of c))) rest.1 ∙ begins_more (reports_of c) (reports_of c) rest.0 all)
+
+  -- and so do those of a batch
+  pub front_batch : (c new : Checker A) (items : List Item)
+      → ((bound : ℕ) (past : List Event) → StandsOrFailed bound c past → IsFront (reports_of c) (reports_of new))
+      → StandsAfter c items → IsFront (reports_of c) (reports_of new)
+  front_batch c new items front stands =
+      ∥∥₁_elim stands (reports-prop (take (length (reports_of c)) (reports_of new)) (reports_of c)) (λ s. front (bound_of c) (reverse (events_of items)) s)
 
   -- what a bench knows of its checker
   pub seen_so_far : (c : Checker A) (events : ℕ) (items : List Item) → StandsAfter c items → events ≡ length (events_of items) → events ≤ most_events → HasChecked c events c items

@@ -10,6 +10,7 @@ mod Senders
 mod Dealing
 mod Arriving
 mod Counting
+mod Reporting
 mod Rights
 mod Lengths
 mod Told

@@ -1,14 +1,17 @@
 -- Where a bench and its checker stand.
 use Rattle.std.specs.Prelude.{◌≡◌, ℕ, ◌<◌, Bool, ◌||◌, nat_le, List, [], ◌∷◌, ◌++◌, length}
+use Rattle.std.specs.Prelude.{Option}
 use Rattle.std.specs.Prelude.{slice_index_or}
 use Rattle.trace_lane.specs.Lanes.{Lane, out_lane, taken_list}
 use Rattle.asan_check.specs.declared.checker.Checker.{Checker}
-use Rattle.asan_check.specs.Standing.{bound_of}
+use Rattle.asan_check.specs.declared.report.Report.{Report}
+use Rattle.asan_check.specs.Standing.{bound_of, reports_of}
 use Rattle.asan_collect.specs.declared.item.Item.{Item}
 use Rattle.asan_collect.specs.declared.bench.Bench.{Bench}
 use Rattle.asan_collect.specs.declared.bench.Turn.{Turn}
 use Rattle.asan_collect.specs.declared.bench.Turn.TheVariants as turn
 use Rattle.asan_collect.specs.Items.{events_of, has_end}
+use Rattle.asan_collect.specs.Outboxes.{IsFront, HasPut, KeepsLane, lane_into, put_into}
 use Rattle.asan_collect.specs.Ranges.{most_events}
 
 -- whether a bench that took these items takes no more
@@ -23,7 +26,7 @@ Takes turn.Over before after = after ≡ before
 
 module _ {A : Type 0} where
   -- what a contract sees of a bench: its process, its lane, the items that it has taken, its
-  -- checker, and the bound of that checker's quarantine
+  -- checker, the bound of that checker's quarantine, and the checker's reports
   abbrev pub process_of : Bench A → ℕ
   process_of b = b.process
 
@@ -39,18 +42,38 @@ module _ {A : Type 0} where
   abbrev pub bench_bound : Bench A → ℕ
   bench_bound b = bound_of b.checker
 
-  -- a turn of a bench leaves it the same process, lane and bound
+  abbrev pub found_of : Bench A → List Report
+  found_of b = reports_of b.checker
+
+  -- and its report lane, if it has one, and the reports that it has put into it
+  abbrev pub report_lane_of : Bench A → Option (Lane A)
+  report_lane_of b = lane_into b.outbox.lane
+
+  abbrev pub put_of : Bench A → List Report
+  put_of b = put_into b.outbox.lane
+
+  -- the bench has put all of these reports, or has no report lane
+  abbrev pub HasReported : Bench A → List Report → Type 0
+  HasReported b reports = HasPut b.outbox reports
+
+  -- a turn of a bench leaves it the same process, lane and bound, and its report lane if that is
+  -- still taken from; reports come only after those that it had
   pub record Turns (before : Bench A) (did : Turn) (after : Bench A) : Type 0 where
     pub process : process_of after ≡ process_of before
     pub lane : lane_of after ≡ lane_of before
     pub bound : bench_bound after ≡ bench_bound before
+    pub report_lane : KeepsLane (report_lane_of before) (report_lane_of after)
+    pub found : IsFront (found_of before) (found_of after)
     pub taken : Takes did (taken_of before) (taken_of after)
 
-  -- a bench has the process, the lane and the bound that it had, and has taken some more items
+  -- a bench has the process, the lane and the bound that it had, and its report lane if that is
+  -- still taken from; it has taken some more items, and found some more reports
   pub record Later (before after : Bench A) : Type 0 where
     pub process : process_of after ≡ process_of before
     pub lane : lane_of after ≡ lane_of before
     pub bound : bench_bound after ≡ bench_bound before
+    pub report_lane : KeepsLane (report_lane_of before) (report_lane_of after)
+    pub found : IsFront (found_of before) (found_of after)
     pub more : List Item
     pub taken : taken_of after ≡ taken_of before ++ more
 

@@ -7,6 +7,7 @@ pub mod Pieces
 pub mod Decoding
 pub mod Sources
 pub mod Readers
+pub mod Outboxes
 pub mod Checking
 pub mod Benches
 pub mod Arrivals

@@ -15,6 +15,7 @@ mod item;
 mod lanes;
 mod laws;
 mod options;
+mod outbox;
 mod outcome;
 mod pause;
 mod piece;

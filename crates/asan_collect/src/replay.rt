@@ -5,6 +5,7 @@ ghost use Rattle.std.specs.Prelude.{reverse};
 ghost use Rattle.trace_record.specs.declared.event.Event.{Event as AnEvent};
 ghost use Rattle.asan_check.specs.Standing.{StandsOrFailed, bound_of, checked_of};
 ghost use Rattle.asan_check.specs.Standing.{reports_of as checker_reports};
+ghost use Rattle.asan_collect.specs.Outboxes.{IsFront};
 ghost use Rattle.asan_collect.specs.Outcomes.{IsOutcomeOf, StopsSoon, Tells, is_read};
 ghost use Rattle.asan_collect.specs.Ranges.{most_reports};
 ghost use Rattle.asan_collect.specs.Texts.{reports_of};
@@ -57,6 +58,8 @@ pub(crate) fn check_each<A: Allocator + Copy>(checker: &mut Checker<A>, events: 
     requires room { checked_of checker.old + length events.now < 2 ^ 64 }
     ensures stands { (bound : ℕ) (past : List AnEvent) → StandsOrFailed bound checker.old past →
         StandsOrFailed bound checker.new (reverse events.now ++ past) }
+    ensures found { (bound : ℕ) (past : List AnEvent) → StandsOrFailed bound checker.old past →
+        IsFront (checker_reports checker.old) (checker_reports checker.new) }
     ensures bound { bound_of checker.new ≡ bound_of checker.old }
 {
     let (mut from, mut fetched) = (0, 0_usize);

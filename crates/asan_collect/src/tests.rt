@@ -9,6 +9,7 @@ mod collect;
 mod feeds;
 mod overlap;
 mod refusals;
+mod reports;
 mod writing;
 
 use crate::{Options, Outcome, check_feed};

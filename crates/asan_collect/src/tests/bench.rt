@@ -26,8 +26,8 @@ use trace_record::{Access, End, Event, Fate, Region};
 
 /// A gate of process 7. It counts the events that it hears of, as long as they come in order.
 #[derive(Drop)]
-struct Counter {
-    heard: AtomicU64,
+pub(super) struct Counter {
+    pub(super) heard: AtomicU64,
 }
 
 impl Gate for Counter {
@@ -40,14 +40,14 @@ impl Gate for Counter {
 }
 
 /// A gate that has heard of no event.
-fn new_counter() -> Counter {
+pub(super) fn new_counter() -> Counter {
     Counter {
         heard: AtomicU64::new(0),
     }
 }
 
 /// The end of a stream of two events that was closed.
-const CLOSED: End = End {
+pub(super) const CLOSED: End = End {
     fate: Fate::Closed,
     events: 2,
     offset: 29,

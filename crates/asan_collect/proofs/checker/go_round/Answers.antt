@@ -1,6 +1,9 @@
 use Rattle.std.proofs.Common.{rules, ◌<◌, length}
-use Rattle.asan_collect.proofs.Later.{each_worked}
+use Rattle.asan_collect.proofs.Later.{each_refl, each_worked}
 use Rattle.asan_collect.proofs.checker.go_round.Goals as goal
+
+pub loop-i-init : goal.loop-i-init
+loop-i-init g c = each_refl c.args.benches.now.items
 
 pub loop-i-preserved : goal.loop-i-preserved
 loop-i-preserved g c =

@@ -1,7 +1,8 @@
 use Rattle.std.proofs.Common.{◌≡◌, length, ◌-◌, ◌+◌, ◌≤◌, ℕ, List, ◌++◌, take}
 use Rattle.std.specs.Prelude.{reverse}
 use Rattle.trace_record.specs.declared.event.Event.{Event}
-use Rattle.asan_check.specs.Standing.{StandsOrFailed, bound_of, checked_of}
+use Rattle.asan_check.specs.Standing.{StandsOrFailed, bound_of, checked_of, reports_of}
+use Rattle.asan_collect.specs.Outboxes.{IsFront}
 use Rattle.asan_collect.proofs.replay.check_each.Given as goal
 
 abbrev pub invariant-loop-from : goal.invariant-loop-from
@@ -10,6 +11,7 @@ invariant-loop-from g l = record {
   counted : checked_of l.checker ≤ checked_of l.fn.checker + l.from;
   bound : bound_of l.checker ≡ bound_of l.fn.checker;
   stands : (bound : ℕ) (past : List Event) → StandsOrFailed bound l.fn.checker past → StandsOrFailed bound l.checker (reverse (take l.from l.events) ++ past);
+  found : (bound : ℕ) (past : List Event) → StandsOrFailed bound l.fn.checker past → IsFront (reports_of l.fn.checker) (reports_of l.checker);
 }
 
 abbrev pub decreases-loop-from : goal.decreases-loop-from
