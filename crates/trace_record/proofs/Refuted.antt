@@ -1,5 +1,5 @@
 -- Answers and ends that the contracts refuse. Each lemma is named for what would have gone wrong.
-use Rattle.std.proofs.Common.{◌≡◌, ℕ, ◌+◌, ◌<◌, ◌⊎◌, inl, inr, List, [], ◌∷◌, ◌++◌, Some, None, ap, arith}
+use Rattle.std.proofs.Common.{◌≡◌, ℕ, ◌+◌, ◌*◌, ◌<◌, ◌≤◌, ◌⊎◌, inl, inr, List, [], ◌∷◌, ◌++◌, Some, None, refl, ap, arith}
 use Rattle.std.specs.Prelude.{◌≢◌, length}
 use Rattle.trace_record.specs.declared.event.Event.{Event}
 use Rattle.trace_record.specs.declared.end.Fate.{Fate}
@@ -8,7 +8,8 @@ use Rattle.trace_record.specs.declared.end.Flaw.TheVariants as flaw
 use Rattle.trace_record.specs.Flaws.{access_flaw, region_flaw}
 use Rattle.trace_record.specs.Spelling.{header}
 use Rattle.trace_record.specs.Standing.{StandsAt}
-use Rattle.trace_record.specs.Stream.{IsDecided, IsInHeader, IsInRecords, Spells, offset_of}
+use Rattle.trace_record.specs.Stream.{IsDecided, IsInHeader, IsInRecords, IsOpen, Spells}
+use Rattle.trace_record.specs.Stream.{offset_of}
 
 -- ---- where a decoder stands
 
@@ -60,6 +61,18 @@ close_not_counted :
 close_not_counted limit n text events spells =
     let same : offset_of text events ≡ offset_of text events + 1 = spells.offset
     in absurd (omega arith)
+
+-- ---- open texts
+
+-- an open text is a byte shorter than the header and the longest records
+bound_is_a_byte_short :
+    ¬ ((limit : ℕ) (text : List ℕ) (events : List Event) →
+    IsOpen limit text events → length text ≤ 17 * limit + 7)
+bound_is_a_byte_short short =
+    let bare : IsOpen 0 header [] =
+    ([], inr (record { split = refl; follows = omega arith })) in
+    let eight_is_seven : 8 ≤ 7 = short 0 header [] bare in
+    absurd (omega arith)
 
 -- ---- flaws
 

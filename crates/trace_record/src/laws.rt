@@ -39,10 +39,14 @@ pub fn texts_have_one_reading()
         (events ≡ others) × (decided ≡ other) }
 {}
 
-/// An open text is no longer than the header and the longest records that the limit allows.
+/// An open text is no longer than the header and the longest records that the limit allows. So one
+/// byte more decides every text.
 pub fn open_texts_are_short()
-    ensures { (limit : ℕ) (text : List ℕ) (events : List Event) →
+    ensures short { (limit : ℕ) (text : List ℕ) (events : List Event) →
         IsOpen limit text events → length text ≤ 17 * limit + 8 }
+    ensures decided { (limit : ℕ) (text : List ℕ) → AreBytes text →
+        17 * limit + 8 < length text →
+        (events : List Event) × (decided : Fate) × IsDecided limit text events decided }
 {}
 
 /// What is decided for a text is decided, with the same events and fate, whatever follows it.
