@@ -65,27 +65,6 @@ fn three_senders(rt: HostRuntime) -> Result<(), Fail> {
     Ok(())
 }
 
-#[test]
-fn a_refusal_in_the_middle(rt: HostRuntime) -> Result<(), Fail> {
-    let alloc = rt.alloc();
-    let mut arrivals = Vec::new(alloc);
-    arrivals.push(Arrival::Came(feed_of(alloc, &STREAM, &[], None)?))?;
-    arrivals.push(Arrival::Refused)?;
-    arrivals.push(Arrival::Came(feed_of(alloc, &MISS, &[], None)?))?;
-    let mut door = ListDoor::new(arrivals);
-    let (text, status) = printed_of(&rt, alloc, &mut door, &OpenGate, Options::usual())?;
-    let wanted = "\
-p0 #2 store 4 at 000000001004 bad 000000001005 heap-buffer-overflow shadow 05
-p0 end closed events 2 offset 36 reports 1
-p1 end not-opened
-p2 end closed events 2 offset 36 reports 0
-";
-    assert_eq!(rt; text.as_str(), wanted);
-    assert_eq!(rt; status, 3);
-    assert_eq!(rt; door.refusals(), 1);
-    Ok(())
-}
-
 /// A door of a crowd: how its senders behave repeats after each ten.
 #[derive(Drop)]
 struct Crowd {
