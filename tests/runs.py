@@ -67,6 +67,10 @@ SOUND = closed(malloc(0x1000, 8), store(4, 0x1006))
 # The first 30 bytes of PAST_THE_END: half a store.
 CUT = PAST_THE_END[:30]
 
+# 100,000 mallocs of 8 bytes that are 2^30 bytes apart. Without a bound they make a checker hold
+# 3.9 GB.
+FAR_APART = closed(*(malloc(place << 30, 8) for place in range(1, 100_001)))
+
 TWICE_FREED = closed(malloc(0x1000, 8), free(0x1000), free(0x1000))
 
 
@@ -437,6 +441,7 @@ def ends_of_ranges(program):
         "--ring": (1, 1 << 16),
         "--workers": (1, 64),
         "--limit": (1, 1 << 24),
+        "--memory": (1 << 20, 1 << 40),
     }
     for option, (least, most) in ranges.items():
         for value in [least, most]:
@@ -528,6 +533,7 @@ def help_texts(program):
         (["check", "--help"], "1 to 65536 [default: 1024]\n"),
         (["check", "--help"], "1 to 64 [default: 2]\n"),
         (["check", "--help"], "1 to 16777216 [default: 16777216]\n"),
+        (["check", "--help"], "1048576 to 1099511627776 [default: no bound]\n"),
         (["serve", "--help"], "Usage: " + serve),
     ]:
         status, output, faults = program.run(words)
@@ -554,6 +560,7 @@ def numbers_below_zero(program):
         ("--ring", "EVENTS"),
         ("--workers", "CHECKERS"),
         ("--limit", "EVENTS"),
+        ("--memory", "BYTES"),
     ]:
         for value in ["-1", "-0"]:
             said = f"invalid value '{value}' for '{option} <{name}>': "
@@ -742,6 +749,47 @@ def options_of_serve(program):
     )
 
 
+def peak_of(process):
+    """Waits for a process, and gives its status, its output, and the most memory that it held."""
+    clock = threading.Timer(PATIENCE, process.kill)
+    clock.start()
+    _, status, usage = os.wait4(process.pid, 0)
+    clock.cancel()
+    process.returncode = os.waitstatus_to_exitcode(status)
+    return process.returncode, process.stdout.read(), usage.ru_maxrss << 10
+
+
+def memory_of_each_process(program):
+    """A process that is out of memory harms no other, and no more is held than README says."""
+    bound = 1 << 26
+    most = 4 * (bound + bound // 8 + (1 << 18)) + (1 << 22)
+    beside = [(PAST_THE_END, past_the_end), (CUT, cut), (SOUND, sound)]
+    checked = set()
+    for place in range(4):
+        far = (FAR_APART, lambda process: f"p{process} end no-memory checked (\\d+) reports 0\n")
+        traces = [*beside[:place], far, *beside[place:]]
+        wanted = "".join(text(process) for process, (_, text) in enumerate(traces))
+        files = [put(f"trace{process}", data) for process, (data, _) in enumerate(traces)]
+        words = ["check", "--memory", str(bound), *files]
+        checking = subprocess.Popen(
+            [program.path, *words], preexec_fn=prepared(), stdout=subprocess.PIPE
+        )
+        Served.running.append(checking)
+        served = Served(program, "--memory", str(bound), "--count", "4")
+        served.send(*(data for data, _ in traces))
+        for process in [checking, served.program]:
+            status, output, peak = peak_of(process)
+            Served.running.remove(process)
+            same(words, status, 3)
+            found = re.fullmatch(wanted, output.decode())
+            holds(words, found, output.decode())
+            checked.add(found[1])
+            holds(words, bound // 2 < peak < most, f"{peak} bytes were held, and not {most}")
+        os.remove("socket")
+    # It ends at the same event each time.
+    holds("--memory", len(checked) == 1, checked)
+
+
 def peers_beside_closed_streams(program):
     """No peer is taken for a standard stream that was closed: none gets what is printed."""
     for streams in [(0,), (0, 1), (0, 1, 2)]:
@@ -838,6 +886,7 @@ CASES = [
     no_memory_to_begin,
     peers_on_a_socket,
     options_of_serve,
+    memory_of_each_process,
     peers_beside_closed_streams,
     checkers_that_work,
     paths_that_cannot_be_served,

@@ -68,12 +68,54 @@ where
         All (λ o. length (reports_of o) ≤ most_reports) outcomes.items) }
     ensures unasked { OnErr result (door.new ≡ door.old) }
 {
+    collect_within(rt, alloc, &[], door, gate, options)
+}
+
+/// Does what [`collect`] does, with an allocator of its own for each sender's checker: the checker of
+/// sender i takes its memory from `own[i]`, where there is one, and else from `alloc`, as the lists
+/// and the lanes do. So where that allocator refuses a growth, this sender alone ends as `NoMemory`.
+///
+/// Its reports stay in the memory of its checker. No contract says which allocator was asked: tests
+/// show it.
+///
+/// # Errors
+///
+/// `NoMemory` where there was no room for the lists of 256 senders. The door was not asked then.
+pub fn collect_within<
+    D: Door,
+    G: Gate + Sync,
+    A: Allocator + Copy + Send,
+    R: Threads + Wait + Clock + Sync,
+>(
+    rt: &R,
+    alloc: A,
+    own: &[A],
+    door: &mut D,
+    gate: &G,
+    options: Options,
+) -> Result<Vec<Outcome<D::Feed, A>, A>, NoMemory>
+where
+    D::Feed: Send + Drop,
+    requires { (D.seen door.old).refusals ≤ 2 ^ 32 }
+    ensures each { IfOk result (λ outcomes. (arrivals : List (AnArrival D.Feed))
+        × Arrived (D.seen door.old).to_arrive (D.seen door.new).to_arrive arrivals
+        × (IsTrue (D.seen door.new).is_shut ⊎ (length arrivals ≡ most_senders))
+        × Pairwise (IsAnswerTo D.Feed.seen options) arrivals outcomes.items) }
+    ensures count { IfOk result (λ outcomes.
+        IsAllThatCame (D.seen door.old).left (length outcomes.items)) }
+    ensures refused { IfOk result (λ outcomes.
+        (D.seen door.new).refusals ≡ not_opened_among outcomes.items + (D.seen door.old).refusals) }
+    ensures few { IfOk result (λ outcomes. length outcomes.items ≤ most_senders) }
+    ensures few_reports { IfOk result (λ outcomes.
+        All (λ o. length (reports_of o) ≤ most_reports) outcomes.items) }
+    ensures unasked { OnErr result (door.new ≡ door.old) }
+{
     let arrival_room = Vec::with_capacity(alloc, MOST_SENDERS)?;
     let sender_room = Vec::with_capacity(alloc, MOST_SENDERS)?;
     let outcome_room = Vec::with_capacity(alloc, MOST_SENDERS)?;
     let share_room = no_shares(alloc, options.workers as usize)?;
     let arrivals = ask(door, arrival_room);
-    let (senders, shares) = open_all(alloc, arrivals, sender_room, share_room, options);
+    let (senders, shares) = open_all(alloc, own, arrivals, sender_room, share_room, options);
     let Returned { senders, shares } = run_all(rt, alloc, gate, senders, shares, options);
     let mut senders = senders;
     place_all(&mut senders, shares, options.quarantine);

@@ -37,9 +37,11 @@ pub(crate) fn no_shares<A: Allocator + Copy>(
     Ok(shares)
 }
 
-/// A lane and a bench for a sender whose feed came.
+/// A lane and a bench for a sender whose feed came. The lane takes its memory from `alloc`, and the
+/// checker from `own`.
 fn open<F: Feed + Drop, A: Allocator + Copy>(
     alloc: A,
+    own: A,
     arrival: Arrival<F>,
     process: u32,
     options: Options,
@@ -58,7 +60,7 @@ fn open<F: Feed + Drop, A: Allocator + Copy>(
     };
     match lane(alloc, options.ring as usize) {
         Ok((into, out)) => {
-            let checker = Checker::new(alloc, options.quarantine).unwrap();
+            let checker = Checker::new(own, options.quarantine).unwrap();
             (
                 Sender::Ready(feed, into),
                 Some(Bench::new(process, out, checker)),
@@ -79,9 +81,11 @@ fn deal<A: Allocator + Copy>(shares: &mut Vec<Vec<Bench<A>, A>, A>, process: usi
 }
 
 /// Each arrival becomes a sender, and the benches of those that came are dealt out to the checkers
-/// in turn.
+/// in turn. The checker of sender i takes its memory from `own[i]`, where there is one, and else from
+/// `alloc`.
 pub(crate) fn open_all<F: Feed + Drop, A: Allocator + Copy>(
     alloc: A,
+    own: &[A],
     arrivals: Vec<Arrival<F>, A>,
     sender_room: Vec<Sender<F, A>, A>,
     shares: Vec<Vec<Bench<A>, A>, A>,
@@ -100,7 +104,8 @@ pub(crate) fn open_all<F: Feed + Drop, A: Allocator + Copy>(
     let (mut arrivals, mut senders, mut shares) = (arrivals, sender_room, shares);
     for i in 0..arrivals.len() {
         let arrival = mem::replace(&mut arrivals[i], Arrival::Refused);
-        let (sender, bench) = open(alloc, arrival, i as u32, options);
+        let of_checker = own.get(i).copied().unwrap_or(alloc);
+        let (sender, bench) = open(alloc, of_checker, arrival, i as u32, options);
         senders.push(sender).unwrap();
         if let Some(bench) = bench {
             deal(&mut shares, i, bench);

@@ -37,11 +37,13 @@ mod write;
 pub use arrivals::MOST_SENDERS;
 pub use bench::{Bench, Turn};
 pub use checker::run_checker;
-pub use collector::collect;
+pub use collector::{collect, collect_within};
 pub use gate::{Gate, OpenGate};
 pub use item::Item;
 pub use laws::{answers_are_outcomes, bytes_spell_one_end, outcomes_agree};
-pub use options::{BadOption, MOST_EVENTS, MOST_RING, MOST_WORKERS, Options};
+pub use options::{
+    BadOption, LEAST_MEMORY, MOST_EVENTS, MOST_MEMORY, MOST_RING, MOST_WORKERS, Options,
+};
 pub use outcome::Outcome;
 pub use reader::{ReaderDone, run_reader};
 pub use replay::check_feed;

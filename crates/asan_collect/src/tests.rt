@@ -8,6 +8,7 @@ mod bench;
 mod collect;
 mod feeds;
 mod overlap;
+mod own_memory;
 mod refusals;
 mod reports;
 mod writing;

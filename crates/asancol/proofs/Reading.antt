@@ -1,11 +1,11 @@
 -- What is read of the values that were found.
-use Rattle.std.proofs.Common.{◌≡◌, ℕ, List, Option, None, Some, refl}
+use Rattle.std.proofs.Common.{◌≡◌, ℕ, List, Option, None, Some, refl, ap}
 use Rattle.std.specs.Prelude.{Result, Ok, Err, IfOk, MatchResult, codes, unwrap_or}
 use Rattle.std.specs.Str.Parse.{ParsesUnsigned}
 use Rattle.clap.specs.Matches.{ReadsOne, one_text}
 use Rattle.asan_collect.specs.declared.options.Options.{Options}
 use Rattle.clap.specs.declared.parser.matches.Found.{Found}
-use Rattle.asancol.specs.Settings.{AreOptionsOf, IsGiven, IsSet, IsReadAs}
+use Rattle.asancol.specs.Settings.{AreOptionsOf, AreSizesOf, IsGiven, IsSet, IsSetIfGiven, IsReadAs}
 use Rattle.asan_collect.specs.Ranges.{usual_quarantine, usual_limit, usual_ring, usual_workers}
 
 module _ {E : Type 0} (gives : List ℕ → Result ℕ E → Type 0) (bits : ℕ)
@@ -33,13 +33,33 @@ module _ {E : Type 0} (gives : List ℕ → Result ℕ E → Type 0) (bits : ℕ
       let value : IsReadAs bits t (unwrap_or got number) = spelled t got number (some t refl) in
       rw is at value
 
--- options that were made of these values are those that were found
+  pub set_if : (text : Option (List ℕ)) (got : Option ℕ)
+      → (text ≡ None → got ≡ None) → ((t : List ℕ) → text ≡ Some t → ReadsOne gives t got) → IsSetIfGiven bits text got
+  set_if None got none some = none refl
+  set_if (Some t) (Some v) none some = λ numeral fits. ap Some (parses t (Ok v) (some t refl)).1
+  set_if (Some t) None none some = λ numeral fits. absurd (let so = some t refl in (parses t (Err so.0) so.1) (numeral, fits))
+
+-- options that were made of these values are those that were found, without a bound on memory
 pub made_of : {E : Type 0} (P : E → Type 0) (r : Result Options E) (found : Found) (quarantine ring workers limit : ℕ)
     → MatchResult r (λ o. (o.quarantine ≡ quarantine) × (o.ring ≡ ring) × (o.workers ≡ workers) × (o.limit ≡ limit)) P
     → IsSet 64 (one_text found (codes "quarantine")) usual_quarantine quarantine
     → IsSet 32 (one_text found (codes "ring")) usual_ring ring
     → IsSet 32 (one_text found (codes "workers")) usual_workers workers
     → IsSet 32 (one_text found (codes "limit")) usual_limit limit
-    → IfOk r (AreOptionsOf found)
+    → IfOk r (AreSizesOf found)
 made_of P (Ok o) found quarantine ring workers limit so a b c d = (rw so.0 a, rw so.1 b, rw so.2 c, rw so.3 d)
 made_of P (Err e) found quarantine ring workers limit so a b c d = tt
+
+-- with a bound on memory that was found they are all that was found
+pub bounded_of : {E : Type 0} (r : Result Options E) (o : Options) (found : Found) (bytes : ℕ)
+    → IfOk r (λ p. p.memory ≡ Some bytes)
+    → IfOk r (λ p. (p.quarantine ≡ o.quarantine) × (p.ring ≡ o.ring) × (p.workers ≡ o.workers) × (p.limit ≡ o.limit))
+    → AreSizesOf found o → IsSetIfGiven 64 (one_text found (codes "memory")) (Some bytes) → IfOk r (AreOptionsOf found)
+bounded_of (Ok p) o found bytes memory same sizes given =
+    ((rw same.0 sizes.0, rw same.1 sizes.1, rw same.2 sizes.2, rw same.3 sizes.3), rw memory given)
+bounded_of (Err e) o found bytes memory same sizes given = tt
+
+-- and without one they are, where none was found
+pub unbounded_of : (o : Options) (found : Found)
+    → AreSizesOf found o → o.memory ≡ None → IsSetIfGiven 64 (one_text found (codes "memory")) None → AreOptionsOf found o
+unbounded_of o found sizes none given = (sizes, rw none given)

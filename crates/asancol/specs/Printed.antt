@@ -1,8 +1,10 @@
 -- What the program prints, and the status that it ends with.
-use Rattle.std.specs.Prelude.{◌≡◌, ◌≢◌, ℕ, ◌+◌, ◌⊎◌, true, IsTrue, Option}
+use Rattle.std.specs.Prelude.{◌≡◌, ◌≢◌, ℕ, ◌+◌, ◌⊎◌, true, IsTrue, Option, None, Some}
 use Rattle.std.specs.Prelude.{List, [], ◌∷◌, length, take}
+use Rattle.std.specs.Borrow.{Bor}
 use Rattle.std.specs.Io.KnownBytes.{Appends}
 use Rattle.std.specs.declared.alloc.Global.{Global}
+use Rattle.bounded_allocator.specs.declared.BoundedAllocator.{BoundedAllocator}
 use Rattle.trace_feed.specs.declared.door.Arrival.{Arrival}
 use Rattle.trace_feed.specs.Doors.{DoorState}
 use Rattle.trace_feed.specs.Feeds.{FeedState}
@@ -15,6 +17,15 @@ use Rattle.asan_collect.specs.Ranges.{most_senders}
 use Rattle.asan_collect.specs.Statuses.{status_of, unwritten}
 use Rattle.asan_collect.specs.Texts.{texts_from}
 use Rattle.asancol.specs.Settings.{AreUsual}
+
+-- a `&` to an allocator that has a bound
+abbrev pub BoundedMemory : Type 0
+BoundedMemory = Bor (BoundedAllocator Global)
+
+-- where the checkers of a run take their memory: from allocators with a bound, if there is one
+abbrev pub CheckersMemory : Option ℕ → Type 0
+CheckersMemory None = Global
+CheckersMemory (Some bytes) = BoundedMemory
 
 -- A writer holds some bytes before and after.
 module _ {F A : Type 0} where
@@ -41,6 +52,8 @@ module _ {F : Type 0} (seen : F → FeedState) where
   IsInputPrinted bytes before after status =
       (feed : F) × ((seen feed).to_come ≡ bytes) × IsFeedPrinted feed before after status
 
+-- The reports of the outcomes lie in memory of this kind.
+module _ {F : Type 0} (seen : F → FeedState) (A : Type 0) where
   -- The senders that arrived have an outcome each, in order; they are all that came until the door
   -- was shut, or as many as one call takes. Of a known number of arrivals that were left all came,
   -- or as many as one call takes. The door counts one refusal more for each outcome of a sender
@@ -48,7 +61,7 @@ module _ {F : Type 0} (seen : F → FeedState) where
   abbrev pub AreSendersPrinted :
       Options → (old new : DoorState F) → (before after : Option (List ℕ)) → ℕ → Type 0
   AreSendersPrinted options old new before after status =
-      (arrivals : List (Arrival F)) × (outcomes : List (Outcome F Global))
+      (arrivals : List (Arrival F)) × (outcomes : List (Outcome F A))
       × Arrived old.to_arrive new.to_arrive arrivals
       × (IsTrue new.is_shut ⊎ (length arrivals ≡ most_senders))
       × IsAllThatCame old.left (length outcomes)

@@ -22,19 +22,34 @@ abbrev pub IsSet : ℕ → Option (List ℕ) → ℕ → ℕ → Type 0
 IsSet bits None default number = number ≡ default
 IsSet bits (Some text) default number = IsReadAs bits text number
 
--- each option has the value that was found, or its default
-abbrev pub AreOptionsOf : Found → Options → Type 0
-AreOptionsOf found options =
+-- the number that was given, or none where none was
+abbrev pub IsSetIfGiven : ℕ → Option (List ℕ) → Option ℕ → Type 0
+IsSetIfGiven bits None number = number ≡ None
+IsSetIfGiven bits (Some text) number =
+    IsNumeral 10 (without_leading_plus text)
+    → digits_value 10 (without_leading_plus text) < 2 ^ bits
+    → number ≡ Some (digits_value 10 (without_leading_plus text))
+
+-- each option that has a default has the value that was found, or its default
+abbrev pub AreSizesOf : Found → Options → Type 0
+AreSizesOf found options =
     IsSet 64 (one_text found (codes "quarantine")) usual_quarantine options.quarantine
     × IsSet 32 (one_text found (codes "ring")) usual_ring options.ring
     × IsSet 32 (one_text found (codes "workers")) usual_workers options.workers
     × IsSet 32 (one_text found (codes "limit")) usual_limit options.limit
+
+-- and memory has the bound that was found, or none
+abbrev pub AreOptionsOf : Found → Options → Type 0
+AreOptionsOf found options =
+    AreSizesOf found options
+    × IsSetIfGiven 64 (one_text found (codes "memory")) options.memory
 
 -- each option has its default
 abbrev pub AreUsual : Options → Type 0
 AreUsual options =
     (options.quarantine ≡ usual_quarantine) × (options.ring ≡ usual_ring)
     × (options.workers ≡ usual_workers) × (options.limit ≡ usual_limit)
+    × (options.memory ≡ None)
 
 -- the files that were found, in order, with their options
 abbrev pub AreFilesOf : Found → Request → Type 0

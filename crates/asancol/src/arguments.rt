@@ -1,6 +1,8 @@
 //! The commands that the command line may have, and their arguments.
 
-use asan_collect::{MOST_EVENTS, MOST_RING, MOST_SENDERS, MOST_WORKERS, Options};
+use asan_collect::{
+    LEAST_MEMORY, MOST_EVENTS, MOST_MEMORY, MOST_RING, MOST_SENDERS, MOST_WORKERS, Options,
+};
 use asan_units::LARGEST_QUARANTINE;
 use clap::{Arg, ArgAction, Command, value_parser};
 use std::alloc::{AllocError, Global};
@@ -26,6 +28,8 @@ pub const RING: &str = "ring";
 pub const WORKERS: &str = "workers";
 
 pub const LIMIT: &str = "limit";
+
+pub const MEMORY: &str = "memory";
 
 pub const READY: &str = "ready";
 
@@ -62,6 +66,7 @@ pub struct HelpTexts {
     ring: String,
     workers: String,
     limit: String,
+    memory: String,
     after_help: String,
 }
 
@@ -93,6 +98,10 @@ impl HelpTexts {
             limit: format!(in alloc;
                 "Events that each trace may have, 1 to {} [default: {}]",
                 MOST_EVENTS, usual.limit
+            )?,
+            memory: format!(in alloc;
+                "Bytes that the checker of each process may hold, {} to {} [default: no bound]",
+                LEAST_MEMORY, MOST_MEMORY
             )?,
             after_help: format!(in alloc; "{NO_WORDS}\n\n{STATUSES}")?,
         })
@@ -172,7 +181,10 @@ fn with_options<'a>(
         ).range(1..=i64::from(MOST_WORKERS))))?
         .arg(number(alloc, LIMIT, "EVENTS", texts.limit.as_str()).value_parser(value_parser!(
             u32
-        ).range(1..=i64::from(MOST_EVENTS))))
+        ).range(1..=i64::from(MOST_EVENTS))))?
+        .arg(number(alloc, MEMORY, "BYTES", texts.memory.as_str()).value_parser(value_parser!(
+            u64
+        ).range(LEAST_MEMORY as i64..=MOST_MEMORY as i64)))
 }
 
 fn count<'a>(alloc: Global, texts: &'a HelpTexts) -> Arg<'a> {

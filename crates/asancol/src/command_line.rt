@@ -1,7 +1,7 @@
 //! What the words of the command line ask for.
 
 ghost use Rattle.std.specs.Prelude.{◌≡◌, ◌<◌, ◌≤◌, ◌↔◌, [], Ok, Err, IfOk, IfSome, Some, false};
-ghost use Rattle.std.specs.Prelude.{codes, length, map, option_map, string_bytes};
+ghost use Rattle.std.specs.Prelude.{None, codes, length, map, option_map, string_bytes};
 ghost use Rattle.asan_collect.specs.Ranges.{most_senders};
 ghost use Rattle.asancol.specs.declared.command_line.Refusal.TheVariants.{NoMemory};
 ghost use Rattle.asancol.specs.declared.command_line.Refusal.TheVariants.{OptionOutOfRange};
@@ -9,10 +9,11 @@ ghost use Rattle.clap.specs.Values.{kind_of};
 ghost use Rattle.clap.specs.Words.{first_value, found_of, one_text};
 ghost use Rattle.asancol.specs.Refusals.{refusal_of};
 ghost use Rattle.asancol.specs.Requests.{HasFewFiles, IsQuiet, is_verbose as is_verbose_of};
-ghost use Rattle.asancol.specs.Settings.{AreFilesOf, AreOptionsOf, IsGiven};
+ghost use Rattle.asancol.specs.Settings.{AreFilesOf, AreOptionsOf, AreSizesOf, IsGiven};
+ghost use Rattle.asancol.specs.Settings.{IsSetIfGiven};
 
 use crate::arguments::{
-    CHECK, COUNT, FILES, HelpTexts, LIMIT, QUARANTINE, READY, RING, SERVE, SOCKET, VERBOSE,
+    CHECK, COUNT, FILES, HelpTexts, LIMIT, MEMORY, QUARANTINE, READY, RING, SERVE, SOCKET, VERBOSE,
     WORKERS, command,
 };
 use crate::input_door::INPUT;
@@ -206,8 +207,21 @@ fn serving_of(alloc: Global, matches: &ArgMatches<'_>) -> Result<Option<Serving>
 }
 
 /// The options that were found, and the usual ones in place of those that were not.
+#[tactic(auto, using(crate::proofs::Reading::bounded_of, crate::proofs::Reading::unbounded_of))]
 fn options_of(matches: &ArgMatches<'_>) -> Result<Options, BadOption>
     ensures found { IfOk result (AreOptionsOf (found_of matches.now)) }
+{
+    let options = sizes_of(matches)?;
+    match memory_of(matches) {
+        Some(bytes) => options.with_memory(bytes),
+        None => Ok(options),
+    }
+}
+
+/// The options that were found, but for a bound on memory.
+fn sizes_of(matches: &ArgMatches<'_>) -> Result<Options, BadOption>
+    ensures found { IfOk result (AreSizesOf (found_of matches.now)) }
+    ensures unbounded { IfOk result (λ o. o.memory ≡ None) }
 {
     let usual = Options::usual();
     Options::new(
@@ -216,4 +230,11 @@ fn options_of(matches: &ArgMatches<'_>) -> Result<Options, BadOption>
         matches.get_one(WORKERS).unwrap_or(usual.workers),
         matches.get_one(LIMIT).unwrap_or(usual.limit),
     )
+}
+
+/// The bound on memory that was found.
+fn memory_of(matches: &ArgMatches<'_>) -> Option<u64>
+    ensures { IsSetIfGiven 64 (one_text (found_of matches.now) (codes "memory")) result }
+{
+    matches.get_one(MEMORY)
 }

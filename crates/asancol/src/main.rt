@@ -5,6 +5,7 @@ mod arguments;
 mod closed_streams;
 mod command_line;
 mod input_door;
+mod memory;
 mod print;
 mod run;
 mod serve;

@@ -1,14 +1,20 @@
 //! What is printed of the traces, and the status that follows from it.
 
-ghost use Rattle.std.specs.Prelude.{◌≡◌, ◌<◌, ◌≤◌, ◌⊎◌, ◌^◌, All, IfOk, None, OnErr, length};
+ghost use Rattle.std.specs.Prelude.{◌≡◌, ◌<◌, ◌≤◌, ◌⊎◌, ◌^◌, All, IfOk, None, OnErr, Some, length};
+ghost use Rattle.bounded_allocator.specs.Bounds.{bound_of};
 ghost use Rattle.asan_collect.specs.Ranges.{most_senders, most_reports};
 ghost use Rattle.asan_collect.specs.Statuses.{unchecked, unwritten};
 ghost use Rattle.asan_collect.specs.Texts.{reports_of};
 ghost use Rattle.asancol.specs.Printed.{IsPrinted, IsFeedPrinted, AreSendersPrinted};
+ghost use Rattle.asancol.specs.Printed.{BoundedMemory, CheckersMemory};
 
+use crate::memory::bounded_heaps;
 use asan_check::end_text;
-use asan_collect::{OpenGate, Options, Outcome, check_feed, collect, exit_status, write_outcomes};
-use std::alloc::{AllocError, Global};
+use asan_collect::{
+    OpenGate, Options, Outcome, check_feed, collect_within, exit_status, write_outcomes,
+};
+use bounded_allocator::BoundedAllocator;
+use std::alloc::{AllocError, Allocator, Global};
 use std::io::Write;
 use std::sync::Wait;
 use std::thread::Threads;
@@ -40,9 +46,11 @@ pub fn report_feed<F: Feed + Drop, W: Write>(
 /// what became of all of them, and gives the status to end with. Reading starts once the door is
 /// over or has given 256 other answers.
 ///
-/// Where the senders have names, what became of each of them is then said on `faults` too.
+/// Where the options bound the memory of the checkers, each checker has an allocator of its own
+/// with that bound. Where the senders have names, what became of each of them is then said on
+/// `faults` too.
 ///
-/// Where there is no memory for the lists of senders, the door is not asked.
+/// Where there is no memory for the lists of senders or for their allocators, the door is not asked.
 pub fn report_each<D: Door, W: Write, E: Write, R: Threads + Wait + Clock + Sync>(
     rt: &R,
     alloc: Global,
@@ -56,7 +64,8 @@ where
     D::Feed: Send + Drop,
     requires { (D.seen door.old).refusals ≤ 2 ^ 32 }
     ensures ok { IfOk result (λ status.
-        AreSendersPrinted D.Feed.seen options (D.seen door.old) (D.seen door.new)
+        AreSendersPrinted D.Feed.seen (CheckersMemory options.memory)
+        options (D.seen door.old) (D.seen door.new)
         (W.contents output.old) (W.contents output.new) status) }
     ensures refused { IfOk result (λ status. (D.seen door.old).refusals < (D.seen door.new).refusals
         → (status ≡ unchecked) ⊎ (status ≡ unwritten)) }
@@ -64,7 +73,77 @@ where
     ensures err { OnErr result (output.new ≡ output.old) }
     ensures quiet { names.entry ≡ None → faults.new ≡ faults.old }
 {
-    let outcomes = collect(rt, alloc, door, &OpenGate, options)?;
+    match options.memory {
+        None => report_all(rt, alloc, &[], door, options, output, names, faults),
+        Some(bytes) => {
+            let heaps = bounded_heaps(alloc, bytes)?;
+            report_within(rt, alloc, &heaps, door, options, output, names, faults)
+        }
+    }
+}
+
+/// Does what [`report_each`] does. The checker of each sender has one of these allocators.
+fn report_within<D: Door, W: Write, E: Write, R: Threads + Wait + Clock + Sync>(
+    rt: &R,
+    alloc: Global,
+    heaps: &[BoundedAllocator<Global>],
+    door: &mut D,
+    options: Options,
+    output: &mut W,
+    names: Option<&[String]>,
+    faults: &mut E,
+) -> Result<u8, AllocError>
+where
+    D::Feed: Send + Drop,
+    requires few_refused { (D.seen door.old).refusals ≤ 2 ^ 32 }
+    requires bound { All (λ heap. options.memory ≡ Some (bound_of heap)) heaps.now }
+    requires each_has_one { length heaps.now ≡ most_senders }
+    ensures ok { IfOk result (λ status.
+        AreSendersPrinted D.Feed.seen BoundedMemory options (D.seen door.old) (D.seen door.new)
+        (W.contents output.old) (W.contents output.new) status) }
+    ensures refused { IfOk result (λ status. (D.seen door.old).refusals < (D.seen door.new).refusals
+        → (status ≡ unchecked) ⊎ (status ≡ unwritten)) }
+    ensures unasked { OnErr result (door.new ≡ door.old) }
+    ensures err { OnErr result (output.new ≡ output.old) }
+    ensures quiet { names.entry ≡ None → faults.new ≡ faults.old }
+{
+    // What all senders share has no bound.
+    let shared = BoundedAllocator::new(alloc, u64::MAX);
+    let own = heaps.iter().collect::<Vec<_>>(alloc)?;
+    report_all(rt, &shared, &own, door, options, output, names, faults)
+}
+
+/// Does what [`report_each`] does. The checker of sender i takes its memory from `own[i]`, where
+/// there is one, and all else is taken from `alloc`.
+fn report_all<
+    D: Door,
+    W: Write,
+    E: Write,
+    A: Allocator + Copy + Send,
+    R: Threads + Wait + Clock + Sync,
+>(
+    rt: &R,
+    alloc: A,
+    own: &[A],
+    door: &mut D,
+    options: Options,
+    output: &mut W,
+    names: Option<&[String]>,
+    faults: &mut E,
+) -> Result<u8, AllocError>
+where
+    D::Feed: Send + Drop,
+    requires { (D.seen door.old).refusals ≤ 2 ^ 32 }
+    ensures ok { IfOk result (λ status.
+        AreSendersPrinted D.Feed.seen A options (D.seen door.old) (D.seen door.new)
+        (W.contents output.old) (W.contents output.new) status) }
+    ensures refused { IfOk result (λ status. (D.seen door.old).refusals < (D.seen door.new).refusals
+        → (status ≡ unchecked) ⊎ (status ≡ unwritten)) }
+    ensures unasked { OnErr result (door.new ≡ door.old) }
+    ensures err { OnErr result (output.new ≡ output.old) }
+    ensures quiet { names.entry ≡ None → faults.new ≡ faults.old }
+{
+    let outcomes = collect_within(rt, alloc, own, door, &OpenGate, options)?;
     let status = print(alloc, output, &outcomes);
     if let Some(names) = names {
         name_each(alloc, names, &outcomes, faults);
@@ -74,7 +153,12 @@ where
 
 /// Writes a line for each sender that has a name: its number, its name and what became of it. A
 /// line that can't be written is left out.
-fn name_each<F, E: Write>(alloc: Global, names: &[String], outcomes: &[Outcome<F>], faults: &mut E)
+fn name_each<F, A: Allocator + Copy, E: Write>(
+    alloc: A,
+    names: &[String],
+    outcomes: &[Outcome<F, A>],
+    faults: &mut E,
+)
     requires few { length outcomes.now ≤ most_senders }
 {
     for (process, outcome) in outcomes.iter().enumerate() {
@@ -89,7 +173,11 @@ fn name_each<F, E: Write>(alloc: Global, names: &[String], outcomes: &[Outcome<F
 }
 
 /// Prints the texts of outcomes, and gives the status to end with.
-fn print<F, W: Write>(alloc: Global, output: &mut W, outcomes: &[Outcome<F>]) -> u8
+fn print<F, A: Allocator + Copy, W: Write>(
+    alloc: A,
+    output: &mut W,
+    outcomes: &[Outcome<F, A>],
+) -> u8
     requires few { length outcomes.now ≤ most_senders }
     requires few_reports { All (λ o. length (reports_of o) ≤ most_reports) outcomes.now }
     ensures { IsPrinted (W.contents output.old) (W.contents output.new) outcomes.now result }

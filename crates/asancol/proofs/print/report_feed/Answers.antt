@@ -6,7 +6,7 @@ returns-clause-ok g c =
     let usual = c.usual.ensures in (
       c.usual.result,
       c.check_feed-outcome.result,
-      (usual.quarantine, usual.ring, usual.workers, usual.limit),
+      (usual.quarantine, usual.ring, usual.workers, usual.limit, usual.memory),
       c.check_feed-outcome.ensures.outcome,
       search rules,
     )

@@ -4,7 +4,7 @@ use Rattle.asan_collect.proofs.Rights.{all_few, pairs_joined}
 use Rattle.asan_collect.proofs.Dealing.{shares_back, shares_kept}
 use Rattle.asan_collect.proofs.Senders.{becomes_keeps, came_on, pairs_on, pairs_fit}
 use Rattle.asan_collect.proofs.Counting.{all_counted}
-use Rattle.asan_collect.proofs.collector.collect.Goals as goal
+use Rattle.asan_collect.proofs.collector.collect_within.Goals as goal
 
 pub place_all-requires : goal.place_all-requires
 place_all-requires g c =

@@ -4,7 +4,7 @@ use Rattle.clap.specs.Words.{found_of, one_text}
 use Rattle.asancol.specs.Settings.{IsSet}
 use Rattle.asan_collect.specs.Ranges.{usual_quarantine, usual_limit, usual_ring, usual_workers}
 use Rattle.asancol.proofs.Reading.{made_of, set_of}
-use Rattle.asancol.proofs.command_line.options_of.Goals as goal
+use Rattle.asancol.proofs.command_line.sizes_of.Goals as goal
 
 pub returns : goal.returns
 returns c =
@@ -22,5 +22,6 @@ returns c =
     set_of (λ text r. ParsesUnsigned 32 10 text r × ExplainsUnsignedError 10 text r × HasUnsignedDigitsIfOk text r) 32 (λ text r given. given.0)
     (one_text found (codes "limit")) c.get_one-4.result _ usual_limit _ c.unwrap_or-4.ensures c.usual-usual.ensures.limit c.get_one-4.ensures.none c.get_one-4.ensures.value in
     record {
-      found = made_of _ c.new.result found c.unwrap_or.result c.unwrap_or-2.result c.unwrap_or-3.result c.unwrap_or-4.result c.new.ensures quarantine ring workers limit;
+      found = made_of _ c.new.result found c.unwrap_or.result c.unwrap_or-2.result c.unwrap_or-3.result c.unwrap_or-4.result c.new.ensures.each quarantine ring workers limit;
+      unbounded = c.new.ensures.unbounded;
     }
