@@ -71,9 +71,10 @@ where
     collect_within(rt, alloc, &[], door, gate, options)
 }
 
-/// Does what [`collect`] does, with an allocator of its own for each sender's checker: the checker of
-/// sender i takes its memory from `own[i]`, where there is one, and else from `alloc`, as the lists
-/// and the lanes do. So where that allocator refuses a growth, this sender alone ends as `NoMemory`.
+/// Does what [`collect`] does, with an allocator of its own for each sender's checker: the checker
+/// of sender i takes its memory from `own[i]`, where there is one, and else from `alloc`, as the
+/// lists and the lanes do. So where that allocator refuses a growth, this sender alone ends as
+/// `NoMemory`.
 ///
 /// Its reports stay in the memory of its checker. No contract says which allocator was asked: tests
 /// show it.

@@ -81,8 +81,8 @@ fn deal<A: Allocator + Copy>(shares: &mut Vec<Vec<Bench<A>, A>, A>, process: usi
 }
 
 /// Each arrival becomes a sender, and the benches of those that came are dealt out to the checkers
-/// in turn. The checker of sender i takes its memory from `own[i]`, where there is one, and else from
-/// `alloc`.
+/// in turn. The checker of sender i takes its memory from `own[i]`, where there is one, and else
+/// from `alloc`.
 pub(crate) fn open_all<F: Feed + Drop, A: Allocator + Copy>(
     alloc: A,
     own: &[A],

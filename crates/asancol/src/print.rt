@@ -50,7 +50,8 @@ pub fn report_feed<F: Feed + Drop, W: Write>(
 /// with that bound. Where the senders have names, what became of each of them is then said on
 /// `faults` too.
 ///
-/// Where there is no memory for the lists of senders or for their allocators, the door is not asked.
+/// Where there is no memory for the lists of senders or for their allocators, the door is not
+/// asked.
 pub fn report_each<D: Door, W: Write, E: Write, R: Threads + Wait + Clock + Sync>(
     rt: &R,
     alloc: Global,

@@ -22,10 +22,10 @@ use std::alloc::{AllocError, Allocator};
 ///
 /// A collection takes it by `&`, and so do several that are to share the bound, also on several
 /// threads. It is proved that a block has the room that was asked for, that the right to free it is
-/// `inner`'s, that `inner` gets it back with its own size and alignment, and that the account of the
-/// bytes refuses each request that is greater than the whole bound. No contract says what is counted
-/// beside it, since another thread may change the count at any time: tests show that no request
-/// passes the bound, and that one within it is granted.
+/// `inner`'s, that `inner` gets it back with its own size and alignment, and that the account of
+/// the bytes refuses each request that is greater than the whole bound. No contract says what is
+/// counted beside it, since another thread may change the count at any time: tests show that no
+/// request passes the bound, and that one within it is granted.
 pub struct BoundedAllocator<B: Allocator> {
     inner: B,
     account: Account,
@@ -50,7 +50,8 @@ impl<B: Allocator> BoundedAllocator<B> {
         self.account.bound()
     }
 
-    /// How many bytes it holds. No clause says the number: another thread may change it at any time.
+    /// How many bytes it holds. No clause says the number: another thread may change it at any
+    /// time.
     pub fn held(&self) -> u64 {
         self.account.held()
     }
