@@ -68,7 +68,7 @@ SOUND = closed(malloc(0x1000, 8), store(4, 0x1006))
 CUT = PAST_THE_END[:30]
 
 # 100,000 mallocs of 8 bytes that are 2^30 bytes apart. Without a bound they make a checker hold
-# 3.9 GB.
+# 2 GB.
 FAR_APART = closed(*(malloc(place << 30, 8) for place in range(1, 100_001)))
 
 TWICE_FREED = closed(malloc(0x1000, 8), free(0x1000), free(0x1000))
