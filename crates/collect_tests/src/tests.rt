@@ -34,14 +34,12 @@ fn feed_of(
     Ok(MemFeed::new(bytes.to_vec(alloc)?, cuts.to_vec(alloc)?, fail_at))
 }
 
-/// A door of senders that send these streams, in order, all cut at the same places. One of them may
-/// be refused.
+/// A door of senders that send these streams, in order, all cut at the same places.
 #[derive(Drop)]
 struct Senders<'a> {
     alloc: Global,
     streams: &'a [Vec<u8>],
     cuts: &'a [u64],
-    refused: Option<usize>,
     arrived: usize,
     last: usize,
     refusals: u64,
@@ -50,33 +48,24 @@ struct Senders<'a> {
 impl<'a> Senders<'a> {
     ghost use Rattle.std.specs.Prelude.{IfSome};
 
-    /// Nobody has arrived. The sender of the number `refused` is going to be refused.
-    fn new(
-        alloc: Global,
-        streams: &'a [Vec<u8>],
-        cuts: &'a [u64],
-        refused: Option<usize>,
-    ) -> Senders<'a>
+    /// Nobody has arrived.
+    fn new(alloc: Global, streams: &'a [Vec<u8>], cuts: &'a [u64]) -> Senders<'a>
         ensures { result.refusals ≡ 0 }
     {
         Senders {
             alloc,
             streams,
             cuts,
-            refused,
             arrived: 0,
             last: streams.len(),
             refusals: 0,
         }
     }
 
-    /// The feed of the sender of this number, or `None` where it is refused.
+    /// The feed of the sender of this number, or `None` where there is no memory for it.
     fn feed(&self, number: usize) -> Option<MemFeed>
         ensures { IfSome result (λ f. f.faults ≡ 0) }
     {
-        if self.refused == Some(number) {
-            return None;
-        }
         feed_of(self.alloc, self.streams.get(number)?, self.cuts, None).ok()
     }
 }

@@ -57,7 +57,7 @@ fn expect_one_outcome<R: Threads + Wait + Clock + Sync + Abort>(
     for limit in [1, 1 << 24] {
         let options = Options::new(1 << 28, 1, 2, limit)?;
         let cuts = [draws.below(36), draws.below(36), draws.below(36)];
-        let mut door = Senders::new(alloc, streams, &cuts, None);
+        let mut door = Senders::new(alloc, streams, &cuts);
         let outcomes = collect(rt, alloc, &mut door, &OpenGate, options)?;
         assert_eq!(rt; outcomes.len(), streams.len());
         for (stream, outcome) in streams.iter().zip(&outcomes) {
