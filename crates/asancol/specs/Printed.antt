@@ -4,7 +4,7 @@ use Rattle.std.specs.Prelude.{List, [], ◌∷◌, length, take}
 use Rattle.std.specs.Borrow.{Bor}
 use Rattle.std.specs.Io.KnownBytes.{Appends}
 use Rattle.std.specs.declared.alloc.Global.{Global}
-use Rattle.bounded_allocator.specs.declared.BoundedAllocator.{BoundedAllocator}
+use Rattle.refusing_allocator.specs.declared.RefusingAllocator.{RefusingAllocator}
 use Rattle.trace_feed.specs.declared.door.Arrival.{Arrival}
 use Rattle.trace_feed.specs.Doors.{DoorState}
 use Rattle.trace_feed.specs.Feeds.{FeedState}
@@ -20,7 +20,7 @@ use Rattle.asancol.specs.Settings.{AreUsual}
 
 -- a `&` to an allocator that has a bound
 abbrev pub BoundedMemory : Type 0
-BoundedMemory = Bor (BoundedAllocator Global)
+BoundedMemory = Bor (RefusingAllocator Global)
 
 -- where the checkers of a run take their memory: from allocators with a bound, if there is one
 abbrev pub CheckersMemory : Option ℕ → Type 0

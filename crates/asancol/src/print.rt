@@ -1,7 +1,7 @@
 //! What is printed of the traces, and the status that follows from it.
 
-ghost use Rattle.std.specs.Prelude.{◌≡◌, ◌<◌, ◌≤◌, ◌⊎◌, ◌^◌, All, IfOk, None, OnErr, Some, length};
-ghost use Rattle.bounded_allocator.specs.Bounds.{bound_of};
+ghost use Rattle.std.specs.Prelude.{◌≡◌, ◌<◌, ◌≤◌, ◌⊎◌, ◌^◌, All, IfOk, None, OnErr, length};
+ghost use Rattle.refusing_allocator.specs.Rules.{bound_of};
 ghost use Rattle.asan_collect.specs.Ranges.{most_senders, most_reports};
 ghost use Rattle.asan_collect.specs.Statuses.{unchecked, unwritten};
 ghost use Rattle.asan_collect.specs.Texts.{reports_of};
@@ -13,7 +13,7 @@ use asan_check::end_text;
 use asan_collect::{
     OpenGate, Options, Outcome, check_feed, collect_within, exit_status, write_outcomes,
 };
-use bounded_allocator::BoundedAllocator;
+use refusing_allocator::RefusingAllocator;
 use std::alloc::{AllocError, Allocator, Global};
 use std::io::Write;
 use std::sync::Wait;
@@ -87,7 +87,7 @@ where
 fn report_within<D: Door, W: Write, E: Write, R: Threads + Wait + Clock + Sync>(
     rt: &R,
     alloc: Global,
-    heaps: &[BoundedAllocator<Global>],
+    heaps: &[RefusingAllocator<Global>],
     door: &mut D,
     options: Options,
     output: &mut W,
@@ -97,7 +97,7 @@ fn report_within<D: Door, W: Write, E: Write, R: Threads + Wait + Clock + Sync>(
 where
     D::Feed: Send + Drop,
     requires few_refused { (D.seen door.old).refusals ≤ 2 ^ 32 }
-    requires bound { All (λ heap. options.memory ≡ Some (bound_of heap)) heaps.now }
+    requires bound { All (λ heap. options.memory ≡ bound_of heap) heaps.now }
     requires each_has_one { length heaps.now ≡ most_senders }
     ensures ok { IfOk result (λ status.
         AreSendersPrinted D.Feed.seen BoundedMemory options (D.seen door.old) (D.seen door.new)
@@ -109,7 +109,7 @@ where
     ensures quiet { names.entry ≡ None → faults.new ≡ faults.old }
 {
     // What all senders share has no bound.
-    let shared = BoundedAllocator::new(alloc, u64::MAX);
+    let shared = RefusingAllocator::counting(alloc);
     let own = heaps.iter().collect::<Vec<_>>(alloc)?;
     report_all(rt, &shared, &own, door, options, output, names, faults)
 }

@@ -2,7 +2,7 @@
 ghost use Rattle.std.specs.Prelude.{◌+◌, ◌-◌, ◌^◌, ◌≤◌};
 
 use crate::{Admit, Block, Book, Bound, Freed, NoMemory};
-use failing_allocator::FailingAllocator;
+use refusing_allocator::RefusingAllocator;
 use std::alloc::{Allocator, Global};
 use std::process::Abort;
 use std::test::Fail;
@@ -159,7 +159,7 @@ fn ask<A: Allocator + Copy>(book: &mut Book<A>, call: Call) -> Result<Answer, No
 /// later ones answer as if there had been memory. Gives the number of refusals.
 fn refuse_each(rt: &impl Abort, alloc: Global, calls: &[Call]) -> Result<u64, Fail> {
     for turn in 1..100u64 {
-        let heap = FailingAllocator::new(alloc, turn);
+        let heap = RefusingAllocator::at_turn(alloc, turn);
         let mut book = Book::new(&heap, 72)?;
         let mut ample = Book::new(alloc, 72)?;
         let mut refused = false;

@@ -1,6 +1,6 @@
 //! Lines, and texts that have no room for one.
 use crate::{Class, Ending, Fault, NoMemory, Report, end_text, report_text};
-use failing_allocator::FailingAllocator;
+use refusing_allocator::RefusingAllocator;
 use std::test::Fail;
 use trace_record::{End, Fate, Flaw};
 
@@ -207,7 +207,7 @@ p0 end not-opened
 fn each_growth_refused_in_turn(rt: HostRuntime) -> Result<(), Fail> {
     let bad = access(2, true, 4, 0x1004, 0x1005, Class::HeapBufferOverflow, 0x05);
     for turn in 1..20u64 {
-        let heap = FailingAllocator::new(rt.alloc(), turn);
+        let heap = RefusingAllocator::at_turn(rt.alloc(), turn);
         let mut text = String::new(&heap);
         let answer = match report_text(0, &bad, &mut text) {
             Ok(()) => end_text(0, &Ending::Unsettled, &mut text),

@@ -1,7 +1,7 @@
 //! Which events a checker passes at once.
 use super::{USUAL, free, load, malloc, pass, poison, step, store, unpoison};
 use crate::{Checker, Failed};
-use failing_allocator::FailingAllocator;
+use refusing_allocator::RefusingAllocator;
 use std::test::Fail;
 
 #[test]
@@ -32,7 +32,7 @@ fn good_accesses_are_passed(rt: HostRuntime) -> Result<(), Fail> {
 
 #[test]
 fn nothing_is_passed_after_a_refusal(rt: HostRuntime) -> Result<(), Fail> {
-    let heap = FailingAllocator::new(rt.alloc(), 1);
+    let heap = RefusingAllocator::at_turn(rt.alloc(), 1);
     let mut checker = Checker::new(&heap, USUAL)?;
     let good = [load(1, 0x1000)?];
     assert_eq!(rt; pass(&rt, &mut checker, &good), 1);

@@ -1,7 +1,7 @@
 //! Each growth of a checker refused in turn.
 use super::{free, load, malloc, poison, step, unpoison};
 use crate::{Checker, Failed};
-use failing_allocator::FailingAllocator;
+use refusing_allocator::RefusingAllocator;
 use std::test::Fail;
 
 /// An address on whose two sides the shadow keeps nothing in common.
@@ -28,7 +28,7 @@ fn each_growth_refused_in_turn(rt: HostRuntime) -> Result<(), Fail> {
         verdicts.push(step(&rt, &mut ample, event)?)?;
     }
     for turn in 1..100u64 {
-        let heap = FailingAllocator::new(rt.alloc(), turn);
+        let heap = RefusingAllocator::at_turn(rt.alloc(), turn);
         let mut checker = Checker::new(&heap, 72)?;
         let mut failed = false;
         for (event, verdict) in events.iter().zip(&verdicts) {

@@ -11,7 +11,7 @@ use crate::{
     write_outcomes,
 };
 use asan_check::Checker;
-use failing_allocator::FailingAllocator;
+use refusing_allocator::RefusingAllocator;
 use std::alloc::Global;
 use std::snapshot::Snapshot;
 use std::sync::Wait;
@@ -77,7 +77,7 @@ fn a_failed_checker_takes_and_drops(rt: HostRuntime) -> Result<(), Fail> {
     let load = Item::Event(Event::Load(Access::new(0x1000, 1)?));
     let malloc = Item::Event(Event::Malloc(Region::new(0x1000, 8)?));
     for turn in 1..100u64 {
-        let heap = FailingAllocator::new(rt.alloc(), turn);
+        let heap = RefusingAllocator::at_turn(rt.alloc(), turn);
         let Ok((mut into, out)) = lane(&heap, 4) else {
             continue;
         };
@@ -122,7 +122,7 @@ fn a_checker_that_fails_within_a_batch_announces_no_more(rt: HostRuntime) -> Res
     let load = Item::Event(Event::Load(Access::new(0x1000, 1)?));
     let malloc = Item::Event(Event::Malloc(Region::new(0x1000, 8)?));
     for turn in 1..100u64 {
-        let heap = FailingAllocator::new(rt.alloc(), turn);
+        let heap = RefusingAllocator::at_turn(rt.alloc(), turn);
         let Ok((mut into, out)) = lane(&heap, 8) else {
             continue;
         };

@@ -7,7 +7,7 @@ use crate::{
     Gate, MOST_SENDERS, OpenGate, Options, Outcome, check_feed, collect, exit_status,
     write_outcomes,
 };
-use failing_allocator::FailingAllocator;
+use refusing_allocator::RefusingAllocator;
 use std::alloc::{AllocError, Global};
 use std::io::Write;
 use std::sync::Wait;
@@ -255,9 +255,9 @@ impl Door for Repeated {
 fn no_room_leaves_the_door_as_it_was(rt: HostRuntime) -> Result<(), Fail> {
     let options = Options::new(1 << 28, 1, 3, 1 << 24)?;
     for turn in 1..8u64 {
-        let heap: &'static FailingAllocator<Global> = Box::leak(Box::new(
+        let heap: &'static RefusingAllocator<Global> = Box::leak(Box::new(
             rt.alloc(),
-            FailingAllocator::new(rt.alloc(), turn),
+            RefusingAllocator::at_turn(rt.alloc(), turn),
         )?);
         let mut door = Repeated {
             alloc: rt.alloc(),

@@ -4,7 +4,7 @@ ghost use Rattle.std.specs.Prelude.{◌≡◌, IfOk};
 
 use super::{STREAM, feed_of};
 use crate::{BadOption, OpenGate, Options, Outcome, collect_within};
-use bounded_allocator::BoundedAllocator;
+use refusing_allocator::RefusingAllocator;
 use std::alloc::Global;
 use std::test::Fail;
 use trace_feed::{Arrival, ListDoor, MemFeed};
@@ -24,14 +24,14 @@ fn three_of_a_kind(alloc: Global) -> Result<ListDoor<MemFeed>, Fail>
 #[test]
 fn want_of_memory_is_of_one_sender(rt: HostRuntime) -> Result<(), Fail> {
     for short in 0..3 {
-        let ample = BoundedAllocator::new(rt.alloc(), u64::MAX);
-        let little = BoundedAllocator::new(rt.alloc(), 100);
+        let ample = RefusingAllocator::counting(rt.alloc());
+        let little = RefusingAllocator::with_bound(rt.alloc(), 100);
         let mut own = Vec::new(rt.alloc());
         for sender in 0..3 {
             own.push(if sender == short { &little } else { &ample })?;
         }
         let mut door = three_of_a_kind(rt.alloc())?;
-        let shared = BoundedAllocator::new(rt.alloc(), u64::MAX);
+        let shared = RefusingAllocator::counting(rt.alloc());
         let outcomes = collect_within(&rt, &shared, &own, &mut door, &OpenGate, Options::usual())?;
         assert_eq!(rt; outcomes.len(), 3);
         for (sender, outcome) in outcomes.iter().enumerate() {
@@ -64,8 +64,8 @@ fn want_of_memory_is_of_one_sender(rt: HostRuntime) -> Result<(), Fail> {
 
 #[test]
 fn senders_past_the_list_share_the_memory(rt: HostRuntime) -> Result<(), Fail> {
-    let own = BoundedAllocator::new(rt.alloc(), u64::MAX);
-    let shared = BoundedAllocator::new(rt.alloc(), u64::MAX);
+    let own = RefusingAllocator::counting(rt.alloc());
+    let shared = RefusingAllocator::counting(rt.alloc());
     let mut door = three_of_a_kind(rt.alloc())?;
     let outcomes = collect_within(
         &rt,

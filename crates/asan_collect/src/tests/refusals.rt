@@ -2,7 +2,7 @@
 
 use super::{THREE_TEXTS, feed_of, three_outcomes};
 use crate::{Options, Outcome, Why, check_feed, write_outcomes};
-use failing_allocator::FailingAllocator;
+use refusing_allocator::RefusingAllocator;
 use std::test::Fail;
 use trace_record::Fate;
 
@@ -21,7 +21,7 @@ fn each_growth_of_the_checker_refused_in_turn(rt: HostRuntime) -> Result<(), Fai
     assert_eq!(rt; ample.reports().len(), 2);
     let mut last = 0;
     for turn in 1..100u64 {
-        let heap = FailingAllocator::new(rt.alloc(), turn);
+        let heap = RefusingAllocator::at_turn(rt.alloc(), turn);
         let feed = feed_of(rt.alloc(), &FREES, &[], None)?;
         match check_feed(&heap, feed, options) {
             Outcome::Settled { end, reports, .. } => {
@@ -61,8 +61,8 @@ fn each_growth_of_the_checker_refused_in_turn(rt: HostRuntime) -> Result<(), Fai
 fn each_growth_of_the_text_refused_in_turn(rt: HostRuntime) -> Result<(), Fail> {
     let mut before = 0;
     for turn in 1..100u64 {
-        let calm = FailingAllocator::new(rt.alloc(), 0);
-        let heap = FailingAllocator::new(rt.alloc(), turn);
+        let calm = RefusingAllocator::counting(rt.alloc());
+        let heap = RefusingAllocator::at_turn(rt.alloc(), turn);
         let outcomes = three_outcomes(rt.alloc(), &calm)?;
         let mut text = Vec::new(rt.alloc());
         match write_outcomes(&heap, &mut text, &outcomes) {

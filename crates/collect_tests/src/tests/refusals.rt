@@ -4,7 +4,7 @@ ghost use Rattle.std.specs.Prelude.{◌≡◌, IfOk};
 
 use super::{STREAM, feed_of};
 use asan_collect::{OpenGate, Options, Outcome, collect};
-use failing_allocator::FailingAllocator;
+use refusing_allocator::RefusingAllocator;
 use std::alloc::{Allocator, Global};
 use std::process::Abort;
 use std::test::Fail;
@@ -70,7 +70,7 @@ fn each_growth_refused_in_turn(rt: HostRuntime) -> Result<(), Fail> {
     for turn in 1..200u64 {
         let mut refused = false;
         for _ in 0..REPEATS {
-            let heap = FailingAllocator::new(rt.alloc(), turn);
+            let heap = RefusingAllocator::at_turn(rt.alloc(), turn);
             let mut door = three_arrivals(rt.alloc())?;
             match collect(&rt, &heap, &mut door, &OpenGate, options) {
                 Err(_) => {

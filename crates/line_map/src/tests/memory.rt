@@ -3,7 +3,7 @@ ghost use Rattle.std.specs.Prelude.{◌^◌, ◌≤◌};
 
 use super::{WIDTHS, insert, live, remove};
 use crate::LineMap;
-use failing_allocator::FailingAllocator;
+use refusing_allocator::RefusingAllocator;
 use std::alloc::{AllocError, Allocator};
 use std::test::Fail;
 
@@ -46,8 +46,8 @@ fn chain(levels: u64) -> u64
 
 /// How many requests for memory it takes to put a slot at an address, and for how many bytes.
 fn asked<B: Allocator>(
-    heap: &FailingAllocator<B>,
-    map: &mut LineMap<&FailingAllocator<B>>,
+    heap: &RefusingAllocator<B>,
+    map: &mut LineMap<&RefusingAllocator<B>>,
     at: u64,
 ) -> Result<(u64, u64), AllocError> {
     let (requests, bytes) = (heap.requests_made(), heap.bytes_asked());
@@ -62,7 +62,7 @@ fn asked<B: Allocator>(
 fn memory_of_a_lone_slot(rt: HostRuntime) -> Result<(), Fail> {
     for width in WIDTHS {
         for at in [width.saturating_sub(64), width.min(END)] {
-            let heap = FailingAllocator::new(rt.alloc(), 0);
+            let heap = RefusingAllocator::counting(rt.alloc());
             let mut map = LineMap::new(&heap);
             assert_eq!(rt; asked(&heap, &mut map, at)?, (LEVELS + 1, chain(LEVELS)));
         }
@@ -79,7 +79,7 @@ fn memory_of_a_slot_past_an_end(rt: HostRuntime) -> Result<(), Fail> {
         // second node.
         let end = WIDTHS[(levels + 1) as usize];
         let node = if levels == 0 { LEAF } else { BRANCH };
-        let heap = FailingAllocator::new(rt.alloc(), 0);
+        let heap = RefusingAllocator::counting(rt.alloc());
         let mut map = LineMap::new(&heap);
         asked(&heap, &mut map, end.saturating_sub(64))?;
         assert_eq!(rt;
@@ -94,7 +94,7 @@ fn memory_of_a_slot_past_an_end(rt: HostRuntime) -> Result<(), Fail> {
 
 #[test]
 fn memory_of_a_leaf(rt: HostRuntime) -> Result<(), Fail> {
-    let heap = FailingAllocator::new(rt.alloc(), 0);
+    let heap = RefusingAllocator::counting(rt.alloc());
     let mut map = LineMap::new(&heap);
     asked(&heap, &mut map, 0)?;
     let mut room = 4;
@@ -115,7 +115,7 @@ fn memory_of_a_leaf(rt: HostRuntime) -> Result<(), Fail> {
 fn memory_of_a_slot_that_makes_a_branch_grow(rt: HostRuntime) -> Result<(), Fail> {
     // One slot is in the first node of the branch over all the others, and one in its last.
     for (first, second) in [(0, END), (END, 0)] {
-        let heap = FailingAllocator::new(rt.alloc(), 0);
+        let heap = RefusingAllocator::counting(rt.alloc());
         let mut map = LineMap::new(&heap);
         asked(&heap, &mut map, first)?;
         assert_eq!(rt;
@@ -132,7 +132,7 @@ fn memory_of_a_slot_that_makes_a_branch_grow(rt: HostRuntime) -> Result<(), Fail
 
 #[test]
 fn memory_of_what_has_no_slots_is_given_back(rt: HostRuntime) -> Result<(), Fail> {
-    let heap = FailingAllocator::new(rt.alloc(), 0);
+    let heap = RefusingAllocator::counting(rt.alloc());
     let mut map = LineMap::new(&heap);
     asked(&heap, &mut map, 0x1000)?;
     asked(&heap, &mut map, 0x2000)?;
@@ -151,7 +151,7 @@ fn memory_of_what_has_no_slots_is_given_back(rt: HostRuntime) -> Result<(), Fail
 #[test]
 fn memory_of_a_refused_slot_is_given_back(rt: HostRuntime) -> Result<(), Fail> {
     for turn in 1..=LEVELS + 1 {
-        let heap = FailingAllocator::new(rt.alloc(), turn);
+        let heap = RefusingAllocator::at_turn(rt.alloc(), turn);
         let mut map = LineMap::new(&heap);
         assert!(rt; asked(&heap, &mut map, 0x1000).is_err(), "turn {turn}");
         assert_eq!(rt;
@@ -167,7 +167,7 @@ fn memory_of_a_refused_slot_is_given_back(rt: HostRuntime) -> Result<(), Fail> {
 fn memory_is_given_back_in_any_order(rt: HostRuntime) -> Result<(), Fail> {
     // On both sides of the ends of nodes of each level, taken out from the first on or the last.
     for is_upward in [true, false] {
-        let heap = FailingAllocator::new(rt.alloc(), 0);
+        let heap = RefusingAllocator::counting(rt.alloc());
         let mut map = LineMap::new(&heap);
         for width in WIDTHS {
             insert(&mut map, width.saturating_sub(64), live(8))?;
@@ -189,7 +189,7 @@ fn memory_is_given_back_in_any_order(rt: HostRuntime) -> Result<(), Fail> {
 
 #[test]
 fn room_is_kept_round_one_slot(rt: HostRuntime) -> Result<(), Fail> {
-    let heap = FailingAllocator::new(rt.alloc(), 0);
+    let heap = RefusingAllocator::counting(rt.alloc());
     let mut map = LineMap::new(&heap);
     asked(&heap, &mut map, 0)?;
     for levels in 1..=LEVELS {

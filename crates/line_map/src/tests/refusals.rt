@@ -1,7 +1,7 @@
 //! A growth that is refused.
 use super::{WIDTHS, insert, live, remove};
 use crate::{LineMap, Slot};
-use failing_allocator::FailingAllocator;
+use refusing_allocator::RefusingAllocator;
 use std::alloc::{AllocError, Allocator, Global};
 use std::test::Fail;
 
@@ -52,7 +52,7 @@ fn insert_both<A: Allocator + Copy>(
 /// Puts slots on both sides of the ends of nodes of each level, from the first ones on or from the
 /// last ones, and takes them out again, where one request is refused.
 fn calls_refused_at(alloc: Global, turn: u64, is_upward: bool) -> Result<Outcome, AllocError> {
-    let heap = FailingAllocator::new(alloc, turn);
+    let heap = RefusingAllocator::at_turn(alloc, turn);
     let mut map = LineMap::new(&heap);
     let mut ample = LineMap::new(alloc);
     let (mut refused, mut right) = (false, true);

@@ -2,7 +2,7 @@
 ghost use Rattle.std.specs.Prelude.{◌≤◌};
 
 use crate::{FREED, NoMemory, Shadow};
-use failing_allocator::FailingAllocator;
+use refusing_allocator::RefusingAllocator;
 use std::alloc::{Allocator, Global};
 use std::test::Fail;
 
@@ -91,7 +91,7 @@ fn mark_record<A: Allocator + Copy>(shadow: &mut Shadow<A>, record: usize) -> Re
 
 /// How many requests for memory a record makes, and for how many bytes.
 fn asked(alloc: Global, record: usize) -> Result<(u64, u64), NoMemory> {
-    let heap = FailingAllocator::new(alloc, 0);
+    let heap = RefusingAllocator::counting(alloc);
     let mut shadow = Shadow::new(&heap);
     prepare(&mut shadow, record)?;
     let (requests, bytes) = (heap.requests_made(), heap.bytes_asked());
@@ -122,7 +122,7 @@ fn memory_of_a_record(rt: HostRuntime) -> Result<(), Fail> {
 
 /// Whether a request of a poison of whole branches is refused, by its number.
 fn poison_is_refused_at(alloc: Global, turn: u64) -> bool {
-    let heap = FailingAllocator::new(alloc, turn);
+    let heap = RefusingAllocator::at_turn(alloc, turn);
     let mut shadow = Shadow::new(&heap);
     shadow.poison(0x4000_0000, LARGEST).is_err()
 }
@@ -137,7 +137,7 @@ fn no_poison_makes_many_requests(rt: HostRuntime) {
 fn asked_after(alloc: Global, size: u64) -> Result<u64, NoMemory>
     requires { size ≤ 0x1000_0000 }
 {
-    let heap = FailingAllocator::new(alloc, 0);
+    let heap = RefusingAllocator::counting(alloc);
     let mut shadow = Shadow::new(&heap);
     shadow.poison(0x4000_0008, 8)?;
     shadow.unpoison(0x4000_0000, size)?;

@@ -1,7 +1,7 @@
 //! A growth that is refused.
 use super::values;
 use crate::{FREED, NoMemory, Shadow};
-use failing_allocator::FailingAllocator;
+use refusing_allocator::RefusingAllocator;
 use std::alloc::{Allocator, Global};
 use std::test::Fail;
 
@@ -70,7 +70,7 @@ fn call_both<A: Allocator + Copy>(
 
 /// Makes all calls, one after another, where one request is refused.
 fn calls_refused_at(alloc: Global, turn: u64) -> Result<Outcome, NoMemory> {
-    let heap = FailingAllocator::new(alloc, turn);
+    let heap = RefusingAllocator::at_turn(alloc, turn);
     let mut shadow = Shadow::new(&heap);
     let mut ample = Shadow::new(alloc);
     let (mut refused, mut right) = (false, true);

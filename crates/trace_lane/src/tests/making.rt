@@ -1,7 +1,7 @@
 //! Tests of the making of lanes.
 
 use crate::{LaneError, lane};
-use failing_allocator::FailingAllocator;
+use refusing_allocator::RefusingAllocator;
 use std::alloc::Global;
 use std::test::Fail;
 
@@ -33,8 +33,8 @@ fn each_allocation_refused_in_turn(rt: HostRuntime) {
     for capacity in [1, 64, 65_536] {
         let mut refusals = 0u32;
         for turn in 1..=10 {
-            let heap = FailingAllocator::new(rt.alloc(), turn);
-            let made = lane::<u32, &FailingAllocator<Global>>(&heap, capacity);
+            let heap = RefusingAllocator::at_turn(rt.alloc(), turn);
+            let made = lane::<u32, &RefusingAllocator<Global>>(&heap, capacity);
             if !heap.has_refused() {
                 assert!(rt; made.is_ok());
                 break;
@@ -53,15 +53,15 @@ fn each_allocation_refused_in_turn(rt: HostRuntime) {
 
 #[test]
 fn refused_memory_is_not_asked_for_a_wrong_capacity(rt: HostRuntime) {
-    let heap = FailingAllocator::new(rt.alloc(), 1);
-    let made = lane::<u32, &FailingAllocator<Global>>(&heap, 0);
+    let heap = RefusingAllocator::at_turn(rt.alloc(), 1);
+    let made = lane::<u32, &RefusingAllocator<Global>>(&heap, 0);
     assert_eq!(rt; made.err(), Some(LaneError::Capacity));
     assert_eq!(rt; heap.requests_made(), 0);
 }
 
 #[test]
 fn only_the_making_takes_memory(rt: HostRuntime) -> Result<(), Fail> {
-    let heap = FailingAllocator::new(rt.alloc(), 0);
+    let heap = RefusingAllocator::counting(rt.alloc());
     let (mut into, mut out) = lane(&heap, 200)?;
     let requests = heap.requests_made();
     let bytes = heap.bytes_asked();

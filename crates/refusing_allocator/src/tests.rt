@@ -1,0 +1,5 @@
+//! Tests of an allocator that refuses.
+
+mod bounds;
+mod threads;
+mod turns;
