@@ -18,6 +18,8 @@ number_of class.HeapBufferOverflow = 1
 number_of class.HeapUseAfterFree = 2
 number_of class.UseAfterPoison = 3
 number_of class.UnknownCrash = 4
+number_of class.StackBufferOverflow = 5
+number_of class.GlobalBufferOverflow = 6
 
 abbrev numbers : Fault → List ℕ
 numbers (fault.Access true width at bad class shadow) =

@@ -10,7 +10,8 @@ use Rattle.std.specs.List.{list_any}
 use Rattle.trace_record.specs.declared.event.Event.{Event}
 use Rattle.trace_record.specs.declared.event.Event.TheVariants as event
 use Rattle.trace_record.specs.declared.event.Region.{Region}
-use Rattle.shadow_map.specs.States.{Freed, HeapRedzone, Mark, Fill, Block, Poison, Unpoison}
+use Rattle.shadow_map.specs.States.{Freed, HeapRedzone, UserPoison, Mark, Fill, Block, Poison}
+use Rattle.shadow_map.specs.States.{Unpoison}
 use Rattle.heap_book.specs.Spans.{Extent, span_from, span_to, may_be_admitted, held_of}
 use Rattle.asan_units.specs.Units.{round_up}
 use Rattle.heap_book.specs.Spans.{starts_at}
@@ -112,7 +113,7 @@ marks bound (event.Free p ∷ past) =
     in with_marks released_mark
     (released_from (held bound past ++ freed_now) (held bound (event.Free p ∷ past)))
     (with_marks freed_mark freed_now (marks bound past))
-marks bound (event.Poison r ∷ past) = Poison r.at r.size ∷ marks bound past
+marks bound (event.Poison r ∷ past) = Poison r.at r.size UserPoison ∷ marks bound past
 marks bound (event.Unpoison r ∷ past) = Unpoison r.at r.size ∷ marks bound past
 marks bound (event.Load a ∷ past) = marks bound past
 marks bound (event.Store a ∷ past) = marks bound past

@@ -31,6 +31,8 @@ abbrev pub class_text : Class → List ℕ
 class_text class.HeapBufferOverflow = codes "heap-buffer-overflow"
 class_text class.HeapUseAfterFree = codes "heap-use-after-free"
 class_text class.UseAfterPoison = codes "use-after-poison"
+class_text class.StackBufferOverflow = codes "stack-buffer-overflow"
+class_text class.GlobalBufferOverflow = codes "global-buffer-overflow"
 class_text class.UnknownCrash = codes "unknown-crash"
 
 abbrev pub flaw_text : Flaw → List ℕ

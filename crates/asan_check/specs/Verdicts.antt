@@ -2,7 +2,7 @@
 --
 -- The check of an access is that of the paper of 2012. The classes, the verdicts on frees and
 -- mallocs, and that the replay goes on after a report are this project's choice (profile).
-use Rattle.std.specs.Prelude.{ℕ, ◌+◌, ◌*◌, ◌/◌, Bool, true, false, ◌||◌, ◌==◌, if◌then◌else◌}
+use Rattle.std.specs.Prelude.{ℕ, ◌+◌, Bool, true, false, ◌||◌, ◌==◌, if◌then◌else◌}
 use Rattle.std.specs.Prelude.{List, [], ◌∷◌, ◌++◌, length, Option, Some, None, option_to_list}
 use Rattle.std.specs.Prelude.{reverse}
 use Rattle.std.specs.List.{list_any}
@@ -12,7 +12,7 @@ use Rattle.trace_record.specs.declared.event.Event.{Event}
 use Rattle.trace_record.specs.declared.event.Event.TheVariants as event
 use Rattle.trace_record.specs.declared.event.Access.{Access}
 use Rattle.shadow_map.specs.States.{State, Addressable, HeapRedzone, Freed, UserPoison}
-use Rattle.shadow_map.specs.States.{state_of, lift, bad_byte_of}
+use Rattle.shadow_map.specs.States.{StackRedzone, GlobalRedzone, state_of, lift, bad_byte_of}
 use Rattle.shadow_map.specs.Causes.{deciding_granule}
 use Rattle.heap_book.specs.Spans.{starts_at}
 use Rattle.asan_check.specs.declared.report.Class.{Class}
@@ -28,6 +28,8 @@ class_of_state Addressable = class.UnknownCrash
 class_of_state HeapRedzone = class.HeapBufferOverflow
 class_of_state Freed = class.HeapUseAfterFree
 class_of_state UserPoison = class.UseAfterPoison
+class_of_state StackRedzone = class.StackBufferOverflow
+class_of_state GlobalRedzone = class.GlobalBufferOverflow
 
 -- the class of a bad access: that of the first byte of the granule that decides
 abbrev pub class_of : (ℕ → State) → ℕ → Class

@@ -19,7 +19,7 @@ use crate::fetched::Fetched;
 use crate::report::{Class, Fault, Report};
 use asan_units::{GRANULE, REDZONE};
 use heap_book::{Admit, Block, Book, Bound, Freed};
-use shadow_map::{FREED, HEAP_REDZONE, Shadow, USER_POISON};
+use shadow_map::{FREED, GLOBAL_REDZONE, HEAP_REDZONE, STACK_REDZONE, Shadow, USER_POISON};
 use std::alloc::{Allocator, Global};
 use thiserror::Error;
 use trace_record::{Access, Event, Place, Region};
@@ -298,7 +298,7 @@ impl<A: Allocator + Copy> Checker<A> {
             Event::Malloc(region) => self.malloc(region),
             Event::Free(place) => self.free(place),
             Event::Poison(region) => {
-                self.shadow.poison(region.at(), region.size())?;
+                self.poison(region)?;
                 Ok(None)
             }
             Event::Unpoison(region) => {
@@ -377,6 +377,17 @@ impl<A: Allocator + Copy> Checker<A> {
         }
     }
 
+    /// Applies a poison.
+    fn poison(&mut self, region: &Region) -> Result<(), NoMemory>
+        ensures ok { OnOk result ((bound : ℕ) (past : List AnEvent) →
+            ShowsHistory bound self.old past →
+            ShowsHistory bound self.new (event.Poison region.now ∷ past)) }
+        ensures spared { OnErr result (0 < region.now.size) }
+        ensures tally { KeepsTally self.old self.new }
+    {
+        self.shadow.poison(region.at(), region.size(), USER_POISON)
+    }
+
     /// Marks the granules of a block that has joined the quarantine as freed, and then releases the
     /// oldest blocks past the quarantine's bound: their whole spans become redzone.
     fn hold(&mut self, block: &Block) -> Result<(), NoMemory>
@@ -401,6 +412,8 @@ fn class_by(shadow: u8) -> Class
         HEAP_REDZONE => Class::HeapBufferOverflow,
         FREED => Class::HeapUseAfterFree,
         USER_POISON => Class::UseAfterPoison,
+        STACK_REDZONE => Class::StackBufferOverflow,
+        GLOBAL_REDZONE => Class::GlobalBufferOverflow,
         _ => Class::UnknownCrash,
     }
 }

@@ -6,18 +6,19 @@ ghost use Rattle.std.specs.Prelude.{Contains, option_to_list, reverse};
 ghost use Rattle.std.specs.List.{IsDistinct};
 ghost use Rattle.trace_record.specs.declared.event.Event.{Event};
 ghost use Rattle.trace_record.specs.declared.event.Access.{Access};
-ghost use Rattle.shadow_map.specs.States.{Freed, code_of};
+ghost use Rattle.trace_record.specs.declared.event.Region.{Region};
+ghost use Rattle.shadow_map.specs.States.{Freed, UserPoison, Mark, code_of};
 ghost use Rattle.heap_book.specs.Spans.{Extent, span_from, span_to, meets};
-ghost use Rattle.asan_units.specs.Units.{round_up};
+ghost use Rattle.asan_units.specs.Units.{granule_of, round_up};
 ghost use Rattle.asan_check.specs.declared.report.Class.TheVariants as class;
 ghost use Rattle.asan_check.specs.declared.report.Report.{Report};
-ghost use Rattle.asan_check.specs.History.{live, held};
+ghost use Rattle.asan_check.specs.History.{live, held, marks};
 ghost use Rattle.asan_check.specs.Verdicts.{verdict, verdicts};
 ghost use Rattle.asan_check.specs.Laws.{SharesByte, IsReportedAmong};
 ghost use Rattle.asan_check.specs.Laws.{since_malloc, since_free, IsLiveSince, IsHeldSince};
 ghost use Rattle.asan_check.specs.Laws.{NoPoisonShares, NoUnpoisonShares};
 ghost use Rattle.asan_check.specs.Laws.{access_event, LiesInside, StartsAround, StartsWithin};
-ghost use Rattle.asan_check.specs.Laws.{first_byte_report, shadow_around};
+ghost use Rattle.asan_check.specs.Laws.{first_byte_report, shadow_around, IsPoisonedSince};
 
 /// The spans of live and held blocks never meet, after any history and with any bound on the
 /// quarantine.
@@ -88,6 +89,22 @@ pub fn use_after_free_is_reported()
         NoUnpoisonShares (since_free bound past block) block.at (block.at + round_up block.size) →
         verdict bound past (access_event is_store access)
         ≡ Some (first_byte_report past is_store access class.HeapUseAfterFree (code_of Freed)) }
+{}
+
+/// A load or a store that starts in a granule that lies wholly in the region of a poison is reported
+/// at its first byte, with the class and the shadow byte of that poison, as long as no mark since the
+/// poison's has covered a byte of the granule.
+pub fn poison_is_reported()
+    ensures { (bound : ℕ) (past : List Event) (poison : Region) (is_store : Bool) (access : Access) →
+        IsPoisonedSince bound past poison (granule_of access.at) →
+        verdict bound past (access_event is_store access)
+        ≡ Some (first_byte_report past is_store access class.UseAfterPoison (code_of UserPoison)) }
+{}
+
+/// Later events only add marks to those of a history, the newest first.
+pub fn marks_are_only_added()
+    ensures { (bound : ℕ) (past since : List Event) → (laid : List Mark)
+        × (marks bound (since ++ past) ≡ laid ++ marks bound past) }
 {}
 
 /// The reports on some events are the verdicts on each of them, in their order: first those on the
