@@ -9,6 +9,10 @@ use Rattle.trace_record.specs.declared.event.Event.TheVariants as event
 use Rattle.trace_record.specs.declared.event.Access.{Access}
 use Rattle.trace_record.specs.declared.event.Place.{Place}
 use Rattle.trace_record.specs.declared.event.Region.{Region}
+use Rattle.trace_record.specs.declared.shade.Kind.{Kind}
+use Rattle.trace_record.specs.declared.shade.Kind.TheVariants as kind
+use Rattle.trace_record.specs.declared.shade.Shade.{Shade}
+use Rattle.trace_record.specs.Shades.{shade_size}
 use Rattle.shadow_map.specs.States.{HeapRedzone, Freed, UserPoison, StackRedzone, GlobalRedzone}
 use Rattle.shadow_map.specs.States.{code_of, lies_in, Mark, state_given, state_of}
 use Rattle.heap_book.specs.Spans.{Extent, span_from, span_to, starts_at}
@@ -82,7 +86,7 @@ pub record SharesGranule (at size from to : ℕ) : Type 0 where
 -- to another
 abbrev pub NoPoisonShares : List Event → ℕ → ℕ → Type 0
 NoPoisonShares events from to =
-    (s : Region) → Contains events (event.Poison s) → ¬ SharesGranule s.at s.size from to
+    (s : Shade) → Contains events (event.Poison s) → ¬ SharesGranule s.at (shade_size s) from to
 
 -- no unpoison does
 abbrev pub NoUnpoisonShares : List Event → ℕ → ℕ → Type 0
@@ -102,12 +106,13 @@ NoneCovers (mark ∷ marks) before granule =
 
 -- in the history stands this poison, in whose region the granule lies wholly, and no mark that was
 -- laid after its own covers a byte of the granule
-pub record IsPoisonedSince (bound : ℕ) (past : List Event) (s : Region)
+pub record IsPoisonedSince (bound : ℕ) (past : List Event) (s : Shade)
     (granule : ℕ) : Type 0 where
   pub before : List Event
   pub since : List Event
   pub split : past ≡ since ++ event.Poison s ∷ before
-  pub whole : (s.at ≤ first_byte granule) × (first_byte granule + granule_size ≤ s.at + s.size)
+  pub whole : (s.at ≤ first_byte granule)
+      × (first_byte granule + granule_size ≤ s.at + shade_size s)
   pub laid : List Mark
   pub laid_since : marks bound past ≡ laid ++ marks bound (event.Poison s ∷ before)
   pub uncovered : NoneCovers laid (marks bound (event.Poison s ∷ before)) granule
@@ -164,6 +169,12 @@ pub record IsReportedAmong (bound : ℕ) (events : List Event) (report : Report)
   pub is_verdict : verdict bound (reverse before) event ≡ Some report
 
 -- ---- classes
+
+-- the class of an access to poison of a kind
+abbrev pub class_of_kind : Kind → Class
+class_of_kind kind.User = class.UseAfterPoison
+class_of_kind kind.Stack = class.StackBufferOverflow
+class_of_kind kind.Global = class.GlobalBufferOverflow
 
 -- the class of a granule's first byte, by the granule's shadow byte
 abbrev pub class_of_shadow : ℕ → Class

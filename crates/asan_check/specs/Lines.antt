@@ -41,6 +41,7 @@ flaw_text flaw.Code = codes "code"
 flaw_text flaw.Width = codes "width"
 flaw_text flaw.Size = codes "size"
 flaw_text flaw.Range = codes "range"
+flaw_text flaw.Kind = codes "kind"
 
 abbrev pub fate_text : Fate → List ℕ
 fate_text fate.Closed = codes "closed"

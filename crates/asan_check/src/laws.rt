@@ -6,19 +6,21 @@ ghost use Rattle.std.specs.Prelude.{Contains, option_to_list, reverse};
 ghost use Rattle.std.specs.List.{IsDistinct};
 ghost use Rattle.trace_record.specs.declared.event.Event.{Event};
 ghost use Rattle.trace_record.specs.declared.event.Access.{Access};
-ghost use Rattle.trace_record.specs.declared.event.Region.{Region};
-ghost use Rattle.shadow_map.specs.States.{Freed, UserPoison, Mark, code_of};
+ghost use Rattle.trace_record.specs.declared.shade.Shade.{Shade};
+ghost use Rattle.trace_record.specs.Shades.{shade_kind};
+ghost use Rattle.shadow_map.specs.States.{Freed, Mark, code_of};
 ghost use Rattle.heap_book.specs.Spans.{Extent, span_from, span_to, meets};
 ghost use Rattle.asan_units.specs.Units.{granule_of, round_up};
 ghost use Rattle.asan_check.specs.declared.report.Class.TheVariants as class;
 ghost use Rattle.asan_check.specs.declared.report.Report.{Report};
-ghost use Rattle.asan_check.specs.History.{live, held, marks};
+ghost use Rattle.asan_check.specs.History.{live, held, marks, state_of_kind};
 ghost use Rattle.asan_check.specs.Verdicts.{verdict, verdicts};
 ghost use Rattle.asan_check.specs.Laws.{SharesByte, IsReportedAmong};
 ghost use Rattle.asan_check.specs.Laws.{since_malloc, since_free, IsLiveSince, IsHeldSince};
 ghost use Rattle.asan_check.specs.Laws.{NoPoisonShares, NoUnpoisonShares};
 ghost use Rattle.asan_check.specs.Laws.{access_event, LiesInside, StartsAround, StartsWithin};
 ghost use Rattle.asan_check.specs.Laws.{first_byte_report, shadow_around, IsPoisonedSince};
+ghost use Rattle.asan_check.specs.Laws.{class_of_kind};
 
 /// The spans of live and held blocks never meet, after any history and with any bound on the
 /// quarantine.
@@ -92,13 +94,14 @@ pub fn use_after_free_is_reported()
 {}
 
 /// A load or a store that starts in a granule that lies wholly in the region of a poison is reported
-/// at its first byte, with the class and the shadow byte of that poison, as long as no mark since the
-/// poison's has covered a byte of the granule.
+/// at its first byte, with the class and the shadow byte of the poison's kind, as long as no mark
+/// that was laid after the poison's covers a byte of the granule.
 pub fn poison_is_reported()
-    ensures { (bound : ℕ) (past : List Event) (poison : Region) (is_store : Bool) (access : Access) →
+    ensures { (bound : ℕ) (past : List Event) (poison : Shade) (is_store : Bool) (access : Access) →
         IsPoisonedSince bound past poison (granule_of access.at) →
         verdict bound past (access_event is_store access)
-        ≡ Some (first_byte_report past is_store access class.UseAfterPoison (code_of UserPoison)) }
+        ≡ Some (first_byte_report past is_store access (class_of_kind (shade_kind poison))
+        (code_of (state_of_kind (shade_kind poison)))) }
 {}
 
 /// Later events only add marks to those of a history, the newest first.

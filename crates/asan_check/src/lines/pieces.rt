@@ -98,5 +98,6 @@ pub fn flaw_word(flaw: Flaw) -> &'static str
         Flaw::Width => "width",
         Flaw::Size => "size",
         Flaw::Range => "range",
+        Flaw::Kind => "kind",
     }
 }
