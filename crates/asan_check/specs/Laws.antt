@@ -82,8 +82,8 @@ pub record SharesGranule (at size from to : ℕ) : Type 0 where
   pub in_range : (from ≤ other) × (other < to)
   pub one_granule : granule_of own ≡ granule_of other
 
--- no poison among these events, of whatever kind, shares a granule with the bytes from an address up
--- to another
+-- no poison among these events, of whatever kind, shares a granule with the bytes from an address
+-- up to another
 abbrev pub NoPoisonShares : List Event → ℕ → ℕ → Type 0
 NoPoisonShares events from to =
     (s : Shade) → Contains events (event.Poison s) → ¬ SharesGranule s.at (shade_size s) from to

@@ -56,8 +56,8 @@ pub fn held_since_its_free()
         Contains (held bound past) block × (since ≡ since_free bound past block) }
 {}
 
-/// A load or a store that lies inside a live block is not reported, as long as no poison since the
-/// block's malloc shares a granule with the block.
+/// A load or a store that lies inside a live block is not reported, as long as no poison, of
+/// whatever kind, since the block's malloc shares a granule with the block.
 pub fn quiet_inside_live_block()
     ensures { (bound : ℕ) (past : List Event) (block : Extent) (is_store : Bool) (access : Access) →
         Contains (live bound past) block →
@@ -93,9 +93,9 @@ pub fn use_after_free_is_reported()
         ≡ Some (first_byte_report past is_store access class.HeapUseAfterFree (code_of Freed)) }
 {}
 
-/// A load or a store that starts in a granule that lies wholly in the region of a poison is reported
-/// at its first byte, with the class and the shadow byte of the poison's kind, as long as no mark
-/// that was laid after the poison's covers a byte of the granule.
+/// A load or a store that starts in a granule that lies wholly in the region of a poison is
+/// reported at its first byte, with the class and the shadow byte of the poison's kind, as long as
+/// no mark that was laid after the poison's covers a byte of the granule.
 pub fn poison_is_reported()
     ensures { (bound : ℕ) (past : List Event) (poison : Shade) (is_store : Bool) (access : Access) →
         IsPoisonedSince bound past poison (granule_of access.at) →
