@@ -7,6 +7,7 @@ HAS_CC := $(shell command -v $(firstword $(CC)) 2> /dev/null)
 
 SOURCES := crates.txt HANDLES $(shell find crates -name out -prune -o -type f \( -name '*.rt' -o -name '*.antt' \) -print)
 EXAMPLE := examples/one_byte_past_the_end.trace
+REDZONES := examples/stack_and_global_poison.trace
 
 .PHONY: all demo check stress failures install clean recorder check-recorder install-recorder
 
@@ -19,7 +20,8 @@ asancol: $(SOURCES)
 	cp crates/asancol/out/asancol $@
 
 # A store that runs past its block: from C to the report with its line where a C compiler is there, and else from a
-# stored trace. The program reports it and ends with status 1.
+# stored trace. Then a stored trace of a load in a redzone on the stack, and of a store in a global's. The program
+# reports them and ends with status 1.
 ifneq ($(HAS_CC),)
 demo: asancol recorder
 	@rm -f bug.trace bug.trace.where
@@ -28,11 +30,16 @@ demo: asancol recorder
 	@echo './asancol < bug.trace | recorder/asancol-where bug.trace'
 	@./asancol < bug.trace > bug.verdicts; status=$$?; recorder/asancol-where bug.trace < bug.verdicts; \
 	echo "status $$status"; test $$status -eq 1
+	@$(SHOW_REDZONES)
 else
 demo: asancol
 	@echo './asancol < $(EXAMPLE)'
 	@./asancol < $(EXAMPLE); status=$$?; echo "status $$status"; test $$status -eq 1
+	@$(SHOW_REDZONES)
 endif
+
+SHOW_REDZONES = echo './asancol < $(REDZONES)'; ./asancol < $(REDZONES); status=$$?; \
+	echo "status $$status"; test $$status -eq 1
 
 # Proves everything from nothing, tries the wrong bodies, and runs the tests and the program. What has passed is then
 # the program here, so that nothing is proved again for it.

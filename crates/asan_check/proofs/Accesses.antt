@@ -43,7 +43,7 @@ module _ (states : ℕ → State) where
       min_le m n = omega arith
 
   -- where its first byte is not, that one is bad
-  first_fault : (is_store : Bool) (a : Access) → is_addressable (states a.at) ≡ false →
+  pub first_fault : (is_store : Bool) (a : Access) → is_addressable (states a.at) ≡ false →
       access_fault states is_store a ≡ Some (fault.Access is_store a.width a.at a.at (class_of states a.at) (lift states (a.at / 8)))
   first_fault is_store a bad =
       let known = a.known_width in
@@ -72,10 +72,10 @@ module _ (states : ℕ → State) where
   front_zero byte zero bad = refl
   front_zero byte (suc count) bad = rw bad refl
 
-  own_class : (at : ℕ) → ((i : ℕ) → i < 8 → is_addressable (states (8 * (at / 8) + i)) ≡ false) → class_of states at ≡ class_of_state (states (8 * (at / 8)))
+  pub own_class : (at : ℕ) → ((i : ℕ) → i < 8 → is_addressable (states (8 * (at / 8) + i)) ≡ false) → class_of states at ≡ class_of_state (states (8 * (at / 8)))
   own_class at bad = ap (λ t. class_of_state (states (8 * (cond t (at / 8) (at / 8 + 1))))) (none_is states (at / 8) bad)
 
-  own_shadow : (granule : ℕ) → is_addressable (states (8 * granule)) ≡ false → lift states granule ≡ code_of (states (8 * granule))
+  pub own_shadow : (granule : ℕ) → is_addressable (states (8 * granule)) ≡ false → lift states granule ≡ code_of (states (8 * granule))
   own_shadow granule bad = ap (λ (k : ℕ). shadow_byte k (states (8 * granule))) (front_zero (8 * granule) 8 bad)
 
   -- a granule of which the first k bytes are addressable, and no others
@@ -98,7 +98,7 @@ module _ (states : ℕ → State) where
         counted m code lt lt' = grind (arith, nat_tests)
 
 -- a fault of an access, as its verdict
-verdict_from : (bound : ℕ) (past : List Event) (is_store : Bool) (a : Access) (o : Option Fault) → access_fault (state_of (marks bound past)) is_store a ≡ o →
+pub verdict_from : (bound : ℕ) (past : List Event) (is_store : Bool) (a : Access) (o : Option Fault) → access_fault (state_of (marks bound past)) is_store a ≡ o →
     verdict bound past (access_event is_store a) ≡ option_map (λ f. record { number = length past + 1; fault = f }) o
 verdict_from bound past true a o is = ap (option_map (λ f. record { number = length past + 1; fault = f })) is
 verdict_from bound past false a o is = ap (option_map (λ f. record { number = length past + 1; fault = f })) is
@@ -177,7 +177,7 @@ module _ (states : ℕ → State) (b : Extent) (placed : IsPlaced b) (each : (by
           beyond : (from to byte : ℕ) → lies_in from to byte ≡ false → (byte < from) ⊎ (to ≤ byte)
           beyond from to byte off = grind (arith, nat_tests)
 
-some_report : (past : List Event) (is_store : Bool) (a : Access) (c d : Class) (v w : ℕ) → c ≡ d → v ≡ w →
+pub some_report : (past : List Event) (is_store : Bool) (a : Access) (c d : Class) (v w : ℕ) → c ≡ d → v ≡ w →
     option_map (λ f. record { number = length past + 1; fault = f }) (Some (fault.Access is_store a.width a.at a.at c v)) ≡ Some (first_byte_report past is_store a d w)
 some_report past is_store a c d v w p q = rw (p, q) refl
 

@@ -9,6 +9,7 @@ use Rattle.trace_record.specs.declared.event.Event.{Event}
 use Rattle.trace_record.specs.declared.event.Event.TheVariants as event
 use Rattle.trace_record.specs.declared.event.Place.{Place}
 use Rattle.trace_record.specs.declared.event.Region.{Region}
+use Rattle.trace_record.specs.Shades.{shade_size}
 use Rattle.shadow_map.specs.States.{Addressable, HeapRedzone, Freed, Mark, Block, lies_in, state_of}
 use Rattle.heap_book.specs.Spans.{Extent, span_from, span_to, meets, starts_at}
 use Rattle.asan_units.specs.Units.{round_up}
@@ -118,8 +119,8 @@ pub live_inside : (bound : ℕ) (past : List Event) (b : Extent) (byte : ℕ) �
 live_inside bound [] b byte has above below clear = absurd (in_none b has)
 live_inside bound (event.Load a ∷ past) b byte has above below clear = live_inside bound past b byte has above below (NoPoisonShares-tail _ _ _ _ clear)
 live_inside bound (event.Store a ∷ past) b byte has above below clear = live_inside bound past b byte has above below (NoPoisonShares-tail _ _ _ _ clear)
-live_inside bound (event.Poison r ∷ past) b byte has above below clear =
-    poison_leaves r b.at (b.at + b.size) byte (clear r (in_head _ _)) above below (marks bound past)
+live_inside bound (event.Poison s ∷ past) b byte has above below clear =
+    poison_leaves s.at (shade_size s) b.at (b.at + b.size) byte (clear s (in_head _ _)) above below _ (marks bound past)
     ∙ live_inside bound past b byte has above below (NoPoisonShares-tail _ _ _ _ clear)
 live_inside bound (event.Unpoison r ∷ past) b byte has above below clear =
     unpoison_keeps r byte (marks bound past) (live_inside bound past b byte has above below (NoPoisonShares-tail _ _ _ _ clear))
@@ -148,11 +149,11 @@ pub live_span : (bound : ℕ) (past : List Event) (b : Extent) (byte : ℕ) → 
 live_span bound [] b byte has in_span clear clear' = absurd (in_none b has)
 live_span bound (event.Load a ∷ past) b byte has in_span clear clear' = live_span bound past b byte has in_span (NoPoisonShares-tail _ _ _ _ clear) (NoUnpoisonShares-tail _ _ _ _ clear')
 live_span bound (event.Store a ∷ past) b byte has in_span clear clear' = live_span bound past b byte has in_span (NoPoisonShares-tail _ _ _ _ clear) (NoUnpoisonShares-tail _ _ _ _ clear')
-live_span bound (event.Poison r ∷ past) b byte has in_span clear clear' =
-    poison_leaves r (span_from b) (span_to b) byte (clear r (in_head _ _)) in_span.from in_span.to (marks bound past)
+live_span bound (event.Poison s ∷ past) b byte has in_span clear clear' =
+    poison_leaves s.at (shade_size s) (span_from b) (span_to b) byte (clear s (in_head _ _)) in_span.from in_span.to _ (marks bound past)
     ∙ live_span bound past b byte has in_span (NoPoisonShares-tail _ _ _ _ clear) (NoUnpoisonShares-tail _ _ _ _ clear')
 live_span bound (event.Unpoison r ∷ past) b byte has in_span clear clear' =
-    unpoison_leaves r (span_from b) (span_to b) byte (clear' r (in_head _ _)) in_span.from in_span.to (marks bound past)
+    unpoison_leaves r.at r.size (span_from b) (span_to b) byte (clear' r (in_head _ _)) in_span.from in_span.to (marks bound past)
     ∙ live_span bound past b byte has in_span (NoPoisonShares-tail _ _ _ _ clear) (NoUnpoisonShares-tail _ _ _ _ clear')
 live_span bound (event.Free p ∷ past) b byte has in_span clear clear' =
     let parts = live_free_cases bound past b p has in
@@ -193,11 +194,11 @@ pub held_bytes : (bound : ℕ) (past : List Event) (b : Extent) (byte : ℕ) →
 held_bytes bound [] b byte has above below clear clear' = absurd (in_none b has)
 held_bytes bound (event.Load a ∷ past) b byte has above below clear clear' = held_bytes bound past b byte has above below (NoPoisonShares-tail _ _ _ _ clear) (NoUnpoisonShares-tail _ _ _ _ clear')
 held_bytes bound (event.Store a ∷ past) b byte has above below clear clear' = held_bytes bound past b byte has above below (NoPoisonShares-tail _ _ _ _ clear) (NoUnpoisonShares-tail _ _ _ _ clear')
-held_bytes bound (event.Poison r ∷ past) b byte has above below clear clear' =
-    poison_leaves r b.at (b.at + round_up b.size) byte (clear r (in_head _ _)) above below (marks bound past)
+held_bytes bound (event.Poison s ∷ past) b byte has above below clear clear' =
+    poison_leaves s.at (shade_size s) b.at (b.at + round_up b.size) byte (clear s (in_head _ _)) above below _ (marks bound past)
     ∙ held_bytes bound past b byte has above below (NoPoisonShares-tail _ _ _ _ clear) (NoUnpoisonShares-tail _ _ _ _ clear')
 held_bytes bound (event.Unpoison r ∷ past) b byte has above below clear clear' =
-    unpoison_leaves r b.at (b.at + round_up b.size) byte (clear' r (in_head _ _)) above below (marks bound past)
+    unpoison_leaves r.at r.size b.at (b.at + round_up b.size) byte (clear' r (in_head _ _)) above below (marks bound past)
     ∙ held_bytes bound past b byte has above below (NoPoisonShares-tail _ _ _ _ clear) (NoUnpoisonShares-tail _ _ _ _ clear')
 held_bytes bound (event.Malloc r ∷ past) b byte has above below clear clear' =
     let old = rw (held_malloc bound r past) at has in

@@ -2,7 +2,7 @@
 use Rattle.std.proofs.Common.{◌≡◌, ℕ, zero, suc, ◌+◌, ◌*◌, ◌≤◌, ◌<◌, Bool, true, false, cond, ltb, eqb, refl, ◌∙◌, arith, add-zero}
 use Rattle.std.proofs.lemmas.Bool.{false≢true}
 use Rattle.std.proofs.lemmas.Bool.Decides.{nat_tests}
-use Rattle.shadow_map.specs.States.{State, Addressable, HeapRedzone, Freed, UserPoison, is_addressable, addressable_front, shadow_byte, lift}
+use Rattle.shadow_map.specs.States.{State, Addressable, HeapRedzone, Freed, UserPoison, StackRedzone, GlobalRedzone, is_addressable, addressable_front, shadow_byte, lift}
 use Rattle.shadow_map.specs.Causes.{has_none_addressable}
 use Rattle.asan_check.specs.declared.report.Class.TheVariants as class
 use Rattle.asan_check.specs.Verdicts.{class_of_state}
@@ -13,7 +13,9 @@ unknown_below shadow le =
     let a : eqb shadow 0xfa ≡ false = grind (arith, nat_tests) in
     let b : eqb shadow 0xfd ≡ false = grind (arith, nat_tests) in
     let d : eqb shadow 0xf7 ≡ false = grind (arith, nat_tests) in
-    rw (a, b, d) refl
+    let e : eqb shadow 0xf2 ≡ false = grind (arith, nat_tests) in
+    let f : eqb shadow 0xf9 ≡ false = grind (arith, nat_tests) in
+    rw (a, b, d, e, f) refl
 
 some_front : (front : ℕ) (first : State) → 0 < front → front ≤ 8 → shadow_byte front first ≤ 8
 some_front front first some most = grind (arith, nat_tests)
@@ -26,6 +28,10 @@ class_by_front Freed zero is most = refl
 class_by_front Freed (suc front) is most = absurd (false≢true (is ∙ grind (arith, nat_tests)))
 class_by_front UserPoison zero is most = refl
 class_by_front UserPoison (suc front) is most = absurd (false≢true (is ∙ grind (arith, nat_tests)))
+class_by_front StackRedzone zero is most = refl
+class_by_front StackRedzone (suc front) is most = absurd (false≢true (is ∙ grind (arith, nat_tests)))
+class_by_front GlobalRedzone zero is most = refl
+class_by_front GlobalRedzone (suc front) is most = absurd (false≢true (is ∙ grind (arith, nat_tests)))
 
 module _ (states : ℕ → State) where
   front_most : (byte count : ℕ) → addressable_front states byte count ≤ count

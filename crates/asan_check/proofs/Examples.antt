@@ -1,19 +1,26 @@
 -- Worked histories, each with the reports that it comes to, computed by the definitions.
-use Rattle.std.proofs.Common.{◌≡◌, ℕ, ◌+◌, true, false, [], ◌∷◌, refl}
+use Rattle.std.proofs.Common.{◌≡◌, ℕ, ◌+◌, ◌*◌, ◌/◌, ◌%◌, true, false, [], ◌∷◌, refl, arith}
 use Rattle.std.specs.Prelude.{◌&&◌, nat_le, nat_lt, IsTrue, reverse}
 use Rattle.std.proofs.lemmas.Bool.{and_parts, leb-true, ltb-true}
+use Rattle.std.proofs.lemmas.Bool.Decides.{nat_tests}
 use Rattle.trace_record.specs.Ranges.{largest_region}
 use Rattle.asan_units.specs.Units.{is_width, address_end}
 use Rattle.trace_record.specs.declared.event.Event.{Event}
 use Rattle.trace_record.specs.declared.event.Event.TheVariants as event
 use Rattle.trace_record.specs.declared.event.Access.{Access}
 use Rattle.trace_record.specs.declared.event.Region.{Region}
+use Rattle.trace_record.specs.declared.shade.Kind.{Kind}
+use Rattle.trace_record.specs.declared.shade.Kind.TheVariants as kind
+use Rattle.trace_record.specs.declared.shade.Shade.{Shade}
+use Rattle.trace_record.specs.declared.version.Version.TheVariants as version
+use Rattle.trace_record.specs.Kinds.{kind_number}
+use Rattle.shadow_map.specs.States.{Block, lies_in}
 use Rattle.asan_check.specs.declared.report.Class.TheVariants as class
 use Rattle.asan_check.specs.declared.report.Fault.{Fault}
 use Rattle.asan_check.specs.declared.report.Fault.TheVariants as fault
 use Rattle.asan_check.specs.declared.report.Report.{Report}
 use Rattle.asan_check.specs.Verdicts.{verdicts}
-use Rattle.asan_check.specs.Laws.{since_malloc, since_free}
+use Rattle.asan_check.specs.Laws.{since_malloc, since_free, IsPoisonedSince}
 
 -- ---- events, whose ranges compute at written-out numbers
 
@@ -28,19 +35,39 @@ load at width ok = event.Load (access at width ok)
 abbrev pub store : (at width : ℕ) → IsTrue (is_width width && nat_le (at + width) address_end) → Event
 store at width ok = event.Store (access at width ok)
 
-abbrev region : (at size : ℕ) → IsTrue (nat_le size largest_region && nat_le (at + size) address_end) → Region
-region at size ok =
-    let parts = and_parts (nat_le size largest_region) (nat_le (at + size) address_end) ok in
-    record { at = at; size = size; small = leb-true size largest_region parts.0; in_range = leb-true (at + size) address_end parts.1 }
+-- the most bytes of a region, in the later version
+abbrev most : ℕ
+most = largest_region version.Two
 
-abbrev pub malloc : (at size : ℕ) → IsTrue (nat_le size largest_region && nat_le (at + size) address_end) → Event
+abbrev region : (at size : ℕ) → IsTrue (nat_le size most && nat_le (at + size) address_end) → Region
+region at size ok =
+    let parts = and_parts (nat_le size most) (nat_le (at + size) address_end) ok in
+    record { at = at; size = size; small = leb-true size most parts.0; in_range = leb-true (at + size) address_end parts.1 }
+
+abbrev pub malloc : (at size : ℕ) → IsTrue (nat_le size most && nat_le (at + size) address_end) → Event
 malloc at size ok = event.Malloc (region at size ok)
 
-abbrev pub poison : (at size : ℕ) → IsTrue (nat_le size largest_region && nat_le (at + size) address_end) → Event
-poison at size ok = event.Poison (region at size ok)
-
-abbrev pub unpoison : (at size : ℕ) → IsTrue (nat_le size largest_region && nat_le (at + size) address_end) → Event
+abbrev pub unpoison : (at size : ℕ) → IsTrue (nat_le size most && nat_le (at + size) address_end) → Event
 unpoison at size ok = event.Unpoison (region at size ok)
+
+-- the number that keeps a size and a kind
+abbrev packed : Kind → ℕ → ℕ
+packed k size = size * 4 + kind_number k
+
+abbrev IsShade : ℕ → ℕ → Type 0
+IsShade at number = IsTrue (nat_lt (number % 4) 3 && nat_le (number / 4) most && nat_le (at + number / 4) address_end)
+
+abbrev shade : (at number : ℕ) → IsShade at number → Shade
+shade at number ok =
+    let parts = and_parts (nat_lt (number % 4) 3 && nat_le (number / 4) most) (nat_le (at + number / 4) address_end) ok in
+    let own = and_parts (nat_lt (number % 4) 3) (nat_le (number / 4) most) parts.0 in
+    record { at = at; size_and_kind = number; known_kind = ltb-true (number % 4) 3 own.0; small = leb-true (number / 4) most own.1; in_range = leb-true (at + number / 4) address_end parts.1 }
+
+abbrev pub poison_of : (k : Kind) (at size : ℕ) → IsShade at (packed k size) → Event
+poison_of k at size ok = event.Poison (shade at (packed k size) ok)
+
+abbrev pub poison : (at size : ℕ) → IsShade at (packed kind.User size) → Event
+poison at size ok = poison_of kind.User at size ok
 
 abbrev pub free : (at : ℕ) → IsTrue (nat_lt at address_end) → Event
 free at ok = event.Free record { at = at; in_range = ltb-true at address_end ok }
@@ -103,6 +130,30 @@ two_kinds_in_a_granule :
     verdicts usual ((malloc 0x1000 5 refl) ∷ (poison 0x1000 5 refl) ∷ (load 0x1006 1 refl) ∷ [])
     ≡ (report 3 (fault.Access false 1 0x1006 0x1006 class.UseAfterPoison 0xf7)) ∷ []
 two_kinds_in_a_granule = refl
+
+-- redzones of the stack and of globals have classes of their own
+stack_and_global_poison :
+    verdicts usual ((poison_of kind.Stack 0x2000 16 refl) ∷ (poison_of kind.Global 0x2010 16 refl) ∷ (load 0x2008 1 refl) ∷ (store 0x2010 4 refl) ∷ (unpoison 0x2000 32 refl) ∷ (load 0x2000 8 refl) ∷ [])
+    ≡ (report 3 (fault.Access false 1 0x2008 0x2008 class.StackBufferOverflow 0xf2)) ∷ (report 4 (fault.Access true 4 0x2010 0x2010 class.GlobalBufferOverflow 0xf9)) ∷ []
+stack_and_global_poison = refl
+
+-- the class of an access that starts before a redzone comes from the next granule
+half_a_granule :
+    verdicts usual ((poison_of kind.Stack 0x1004 12 refl) ∷ (load 0x1000 8 refl) ∷ [])
+    ≡ (report 2 (fault.Access false 8 0x1000 0x1004 class.StackBufferOverflow 4)) ∷ []
+half_a_granule = refl
+
+-- a poison of a whole granule recodes it
+block_recoded_by_each_kind :
+    verdicts usual ((malloc 0x1000 8 refl) ∷ (poison_of kind.Stack 0x1000 8 refl) ∷ (load 0x1004 1 refl) ∷ (poison_of kind.Global 0x1000 8 refl) ∷ (store 0x1006 2 refl) ∷ (poison 0x1000 8 refl) ∷ (load 0x1000 8 refl) ∷ [])
+    ≡ (report 3 (fault.Access false 1 0x1004 0x1004 class.StackBufferOverflow 0xf2)) ∷ (report 5 (fault.Access true 2 0x1006 0x1006 class.GlobalBufferOverflow 0xf9)) ∷ (report 7 (fault.Access false 8 0x1000 0x1000 class.UseAfterPoison 0xf7)) ∷ []
+block_recoded_by_each_kind = refl
+
+-- the first byte of a granule tells its kind too
+first_byte_tells_the_kind :
+    verdicts usual ((malloc 0x1000 5 refl) ∷ (poison_of kind.Stack 0x1000 5 refl) ∷ (load 0x1006 1 refl) ∷ [])
+    ≡ (report 3 (fault.Access false 1 0x1006 0x1006 class.StackBufferOverflow 0xf2)) ∷ []
+first_byte_tells_the_kind = refl
 
 -- past the last granule all is addressable
 last_granule :
@@ -231,3 +282,16 @@ since_the_free_of_the_live_block :
     since_free usual (reverse ((malloc 0x1000 8 refl) ∷ (poison 0x1000 8 refl) ∷ (free 0x1000 refl) ∷ (poison 0x2000 8 refl) ∷ (free 0x1000 refl) ∷ [])) (record { at = 0x1000; size = 8 })
     ≡ (free 0x1000 refl) ∷ (poison 0x2000 8 refl) ∷ []
 since_the_free_of_the_live_block = refl
+
+-- a granule that was poisoned, and no byte of which a malloc elsewhere covers
+poisoned_beside_a_block :
+    IsPoisonedSince usual ((malloc 0x3000 8 refl) ∷ (poison_of kind.Stack 0x1004 12 refl) ∷ []) (shade 0x1004 (packed kind.Stack 12) refl) 0x201
+poisoned_beside_a_block = record {
+  before = [];
+  since = malloc 0x3000 8 refl ∷ [];
+  split = refl;
+  whole = (omega arith, omega arith);
+  laid = Block 0x3000 8 ∷ [];
+  laid_since = refl;
+  uncovered = (λ byte here. (let off : lies_in 0x2fe0 0x3028 byte ≡ false = grind (arith, nat_tests) in rw off refl), tt);
+}

@@ -47,38 +47,38 @@ marked_leaves mark (b ∷ blocks) marks byte each =
 
 -- ---- the marks of regions
 
-module _ (r : Region) (from to byte : ℕ) (clear : ¬ SharesGranule r from to) (above : from ≤ byte) (below : byte < to) where
-  shares : (own : ℕ) → r.at ≤ own → own < r.at + r.size → own / 8 ≡ byte / 8 → ⊥
+module _ (at size from to byte : ℕ) (clear : ¬ SharesGranule at size from to) (above : from ≤ byte) (below : byte < to) where
+  shares : (own : ℕ) → at ≤ own → own < at + size → own / 8 ≡ byte / 8 → ⊥
   shares own least most same = clear record { own = own; other = byte; in_region = (least, most); in_range = (above, below); one_granule = same }
 
-  not_whole : granule_lies_in r.at (r.at + r.size) byte ≡ false
+  not_whole : granule_lies_in at (at + size) byte ≡ false
   not_whole = false_from_ne_true _ (λ whole.
-      let parts = and_parts (leb r.at (8 * (byte / 8))) (leb (8 * (byte / 8) + 8) (r.at + r.size)) whole in
+      let parts = and_parts (leb at (8 * (byte / 8))) (leb (8 * (byte / 8) + 8) (at + size)) whole in
       let first = leb-true _ _ parts.0 in
       let last = leb-true _ _ parts.1 in
       shares byte (omega arith) (omega arith) refl)
 
-  not_part : lies_in r.at (r.at + r.size) byte ≡ false
+  not_part : lies_in at (at + size) byte ≡ false
   not_part = false_from_ne_true _ (λ part.
-      let parts = and_parts (leb r.at byte) (ltb byte (r.at + r.size)) part in
+      let parts = and_parts (leb at byte) (ltb byte (at + size)) part in
       shares byte (leb-true _ _ parts.0) (ltb-true _ _ parts.1) refl)
 
-  not_reached : (ltb 0 r.size && ltb byte (r.at + r.size) && ltb r.at (8 * (byte / 8) + 8)) ≡ false
+  not_reached : (ltb 0 size && ltb byte (at + size) && ltb at (8 * (byte / 8) + 8)) ≡ false
   not_reached = false_from_ne_true _ (λ reached.
-      let outer = and_parts (ltb 0 r.size && ltb byte (r.at + r.size)) (ltb r.at (8 * (byte / 8) + 8)) reached in
-      let inner = and_parts (ltb 0 r.size) (ltb byte (r.at + r.size)) outer.0 in
+      let outer = and_parts (ltb 0 size && ltb byte (at + size)) (ltb at (8 * (byte / 8) + 8)) reached in
+      let inner = and_parts (ltb 0 size) (ltb byte (at + size)) outer.0 in
       let some = ltb-true _ _ inner.0 in
       let before_end = ltb-true _ _ inner.1 in
       let begun = ltb-true _ _ outer.1 in
-      elim (cases_lt byte r.at) [
-        | inl less ↦ shares r.at (omega arith) (omega arith) (omega arith)
+      elim (cases_lt byte at) [
+        | inl less ↦ shares at (omega arith) (omega arith) (omega arith)
         | inr more ↦ shares byte more before_end refl
       ])
 
-  pub poison_leaves : Leaves (Poison r.at r.size) byte
-  poison_leaves marks = rw (not_whole, not_part) refl
+  pub poison_leaves : (state : State) → Leaves (Poison at size state) byte
+  poison_leaves state marks = rw (not_whole, not_part) refl
 
-  pub unpoison_leaves : Leaves (Unpoison r.at r.size) byte
+  pub unpoison_leaves : Leaves (Unpoison at size) byte
   unpoison_leaves marks = rw not_reached refl
 
 -- an addressable byte stays so under an unpoison, wherever it is

@@ -11,6 +11,7 @@ pub mod Frames
 pub mod Histories
 pub mod Bytes
 pub mod Accesses
+pub mod Poisons
 pub mod Order
 mod Digits
 mod Pieces

@@ -9,7 +9,8 @@ use Rattle.asan_check.specs.declared.report.Fault.{Fault}
 use Rattle.asan_check.specs.declared.report.Fault.TheVariants as fault
 use Rattle.asan_check.specs.declared.report.Report.{Report}
 use Rattle.asan_check.specs.Verdicts.{verdicts}
-use Rattle.asan_check.proofs.Examples.{load, store, malloc, poison, free, report, usual}
+use Rattle.trace_record.specs.declared.shade.Kind.TheVariants as kind
+use Rattle.asan_check.proofs.Examples.{load, store, malloc, poison, poison_of, free, report, usual}
 
 -- ---- reports as numbers, which are easily compared
 
@@ -18,6 +19,8 @@ number_of class.HeapBufferOverflow = 1
 number_of class.HeapUseAfterFree = 2
 number_of class.UseAfterPoison = 3
 number_of class.UnknownCrash = 4
+number_of class.StackBufferOverflow = 5
+number_of class.GlobalBufferOverflow = 6
 
 abbrev numbers : Fault → List ℕ
 numbers (fault.Access true width at bad class shadow) =
@@ -189,3 +192,35 @@ poison_takes_whole_granule :
     verdicts usual (malloc 0x1000 8 refl ∷ poison 0x1002 3 refl ∷ load 0x1003 1 refl ∷ [])
     ≢ report 3 (fault.Access false 1 0x1003 0x1003 class.UseAfterPoison 0xf7) ∷ []
 poison_takes_whole_granule = differ _ _ refl refl
+
+-- a stack redzone is reported as poison of the user
+stack_redzone_reported_as_user_poison :
+    verdicts usual (poison_of kind.Stack 0x1000 8 refl ∷ load 0x1000 1 refl ∷ [])
+    ≢ report 2 (fault.Access false 1 0x1000 0x1000 class.UseAfterPoison 0xf7) ∷ []
+stack_redzone_reported_as_user_poison = differ _ _ refl refl
+
+-- its class is told as that of poison of the user
+stack_redzone_has_the_users_class :
+    verdicts usual (poison_of kind.Stack 0x1000 8 refl ∷ load 0x1000 1 refl ∷ [])
+    ≢ report 2 (fault.Access false 1 0x1000 0x1000 class.UseAfterPoison 0xf2) ∷ []
+stack_redzone_has_the_users_class = differ _ _ refl refl
+
+-- its shadow byte is told as that of poison of the user
+stack_redzone_has_the_users_code :
+    verdicts usual (poison_of kind.Stack 0x1000 8 refl ∷ load 0x1000 1 refl ∷ [])
+    ≢ report 2 (fault.Access false 1 0x1000 0x1000 class.StackBufferOverflow 0xf7) ∷ []
+stack_redzone_has_the_users_code = differ _ _ refl refl
+
+-- kinds 1 and 2 are exchanged
+kinds_are_exchanged :
+    verdicts usual (poison_of kind.Stack 0x1000 8 refl ∷ load 0x1000 1 refl ∷ [])
+    ≢ report 2 (fault.Access false 1 0x1000 0x1000 class.GlobalBufferOverflow 0xf9) ∷ []
+kinds_are_exchanged = differ _ _ refl refl
+
+-- poison of another kind leaves a granule its kind
+poison_keeps_the_first_kind :
+    verdicts usual
+    (poison_of kind.Stack 0x1000 8 refl ∷ poison_of kind.Global 0x1000 8 refl
+    ∷ load 0x1000 1 refl ∷ [])
+    ≢ report 3 (fault.Access false 1 0x1000 0x1000 class.StackBufferOverflow 0xf2) ∷ []
+poison_keeps_the_first_kind = differ _ _ refl refl

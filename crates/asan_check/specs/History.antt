@@ -10,7 +10,11 @@ use Rattle.std.specs.List.{list_any}
 use Rattle.trace_record.specs.declared.event.Event.{Event}
 use Rattle.trace_record.specs.declared.event.Event.TheVariants as event
 use Rattle.trace_record.specs.declared.event.Region.{Region}
-use Rattle.shadow_map.specs.States.{Freed, HeapRedzone, Mark, Fill, Block, Poison, Unpoison}
+use Rattle.trace_record.specs.declared.shade.Kind.{Kind}
+use Rattle.trace_record.specs.declared.shade.Kind.TheVariants as kind
+use Rattle.trace_record.specs.Shades.{shade_size, shade_kind}
+use Rattle.shadow_map.specs.States.{State, Freed, HeapRedzone, UserPoison, StackRedzone}
+use Rattle.shadow_map.specs.States.{GlobalRedzone, Mark, Fill, Block, Poison, Unpoison}
 use Rattle.heap_book.specs.Spans.{Extent, span_from, span_to, may_be_admitted, held_of}
 use Rattle.asan_units.specs.Units.{round_up}
 use Rattle.heap_book.specs.Spans.{starts_at}
@@ -93,6 +97,12 @@ freed_mark b = Fill b.at (b.at + round_up b.size) Freed
 abbrev pub released_mark : Extent → Mark
 released_mark b = Fill (span_from b) (span_to b) HeapRedzone
 
+-- the state that a poison of a kind gives
+abbrev pub state_of_kind : Kind → State
+state_of_kind kind.User = UserPoison
+state_of_kind kind.Stack = StackRedzone
+state_of_kind kind.Global = GlobalRedzone
+
 -- after these marks, a mark for each of the blocks in turn
 abbrev pub with_marks : (Extent → Mark) → List Extent → List Mark → List Mark
 with_marks mark [] marks = marks
@@ -112,7 +122,8 @@ marks bound (event.Free p ∷ past) =
     in with_marks released_mark
     (released_from (held bound past ++ freed_now) (held bound (event.Free p ∷ past)))
     (with_marks freed_mark freed_now (marks bound past))
-marks bound (event.Poison r ∷ past) = Poison r.at r.size ∷ marks bound past
+marks bound (event.Poison s ∷ past) =
+    Poison s.at (shade_size s) (state_of_kind (shade_kind s)) ∷ marks bound past
 marks bound (event.Unpoison r ∷ past) = Unpoison r.at r.size ∷ marks bound past
 marks bound (event.Load a ∷ past) = marks bound past
 marks bound (event.Store a ∷ past) = marks bound past

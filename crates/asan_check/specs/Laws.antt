@@ -1,22 +1,27 @@
 -- The words of the laws about reports: since when a block is live or held, which events come near
 -- it, the report of an access whose first byte is bad, and the class that a shadow byte stands for.
-use Rattle.std.specs.Prelude.{ℕ, ◌≡◌, ◌≢◌, ◌+◌, ◌/◌, ◌%◌, ◌<◌, ◌≤◌, Bool, true, false, ◌&&◌, ◌==◌}
+use Rattle.std.specs.Prelude.{ℕ, ◌≡◌, ◌≢◌, ◌+◌, ◌%◌, ◌<◌, ◌≤◌, Bool, true, false, ◌&&◌, ◌==◌}
 use Rattle.std.specs.Prelude.{if◌then◌else◌, ◌⊎◌, IsTrue, List, [], ◌∷◌, ◌++◌, length, reverse}
-use Rattle.std.specs.Prelude.{Contains, Some}
+use Rattle.std.specs.Prelude.{Contains, Some, None}
 use Rattle.std.specs.List.{list_any}
 use Rattle.trace_record.specs.declared.event.Event.{Event}
 use Rattle.trace_record.specs.declared.event.Event.TheVariants as event
 use Rattle.trace_record.specs.declared.event.Access.{Access}
 use Rattle.trace_record.specs.declared.event.Place.{Place}
 use Rattle.trace_record.specs.declared.event.Region.{Region}
-use Rattle.shadow_map.specs.States.{HeapRedzone, Freed, UserPoison, code_of, lies_in}
+use Rattle.trace_record.specs.declared.shade.Kind.{Kind}
+use Rattle.trace_record.specs.declared.shade.Kind.TheVariants as kind
+use Rattle.trace_record.specs.declared.shade.Shade.{Shade}
+use Rattle.trace_record.specs.Shades.{shade_size}
+use Rattle.shadow_map.specs.States.{HeapRedzone, Freed, UserPoison, StackRedzone, GlobalRedzone}
+use Rattle.shadow_map.specs.States.{code_of, lies_in, Mark, state_given, state_of}
 use Rattle.heap_book.specs.Spans.{Extent, span_from, span_to, starts_at}
-use Rattle.asan_units.specs.Units.{granule_size, granule_of, round_up}
+use Rattle.asan_units.specs.Units.{granule_size, granule_of, first_byte, round_up}
 use Rattle.asan_check.specs.declared.report.Class.{Class}
 use Rattle.asan_check.specs.declared.report.Class.TheVariants as class
 use Rattle.asan_check.specs.declared.report.Fault.TheVariants as fault
 use Rattle.asan_check.specs.declared.report.Report.{Report}
-use Rattle.asan_check.specs.History.{block_of, live, held, admits}
+use Rattle.asan_check.specs.History.{block_of, live, held, admits, marks}
 use Rattle.asan_check.specs.Verdicts.{verdict}
 
 -- ---- since when a block is live
@@ -68,24 +73,49 @@ pub record IsHeldSince (bound : ℕ) (past : List Event) (b : Extent)
 
 -- ---- events that come near a range of bytes
 
--- a region shares a granule with the bytes from an address up to another: a byte of the one and a
--- byte of the other lie in one granule
-pub record SharesGranule (r : Region) (from to : ℕ) : Type 0 where
+-- a region, by its address and size, shares a granule with the bytes from an address up to another:
+-- a byte of the one and a byte of the other lie in one granule
+pub record SharesGranule (at size from to : ℕ) : Type 0 where
   pub own : ℕ
   pub other : ℕ
-  pub in_region : (r.at ≤ own) × (own < r.at + r.size)
+  pub in_region : (at ≤ own) × (own < at + size)
   pub in_range : (from ≤ other) × (other < to)
   pub one_granule : granule_of own ≡ granule_of other
 
--- no poison among these events shares a granule with the bytes from an address up to another
+-- no poison among these events, of whatever kind, shares a granule with the bytes from an address
+-- up to another
 abbrev pub NoPoisonShares : List Event → ℕ → ℕ → Type 0
 NoPoisonShares events from to =
-    (r : Region) → Contains events (event.Poison r) → ¬ SharesGranule r from to
+    (s : Shade) → Contains events (event.Poison s) → ¬ SharesGranule s.at (shade_size s) from to
 
 -- no unpoison does
 abbrev pub NoUnpoisonShares : List Event → ℕ → ℕ → Type 0
 NoUnpoisonShares events from to =
-    (r : Region) → Contains events (event.Unpoison r) → ¬ SharesGranule r from to
+    (r : Region) → Contains events (event.Unpoison r) → ¬ SharesGranule r.at r.size from to
+
+-- ---- since when a granule is poison
+
+-- of some marks, the newest first, none covers a byte of a granule, where those before them were
+-- these
+abbrev pub NoneCovers : List Mark → List Mark → ℕ → Type 0
+NoneCovers [] before granule = Unit {0}
+NoneCovers (mark ∷ marks) before granule =
+    ((byte : ℕ) → granule_of byte ≡ granule →
+    state_given (state_of (marks ++ before)) mark byte ≡ None)
+    × NoneCovers marks before granule
+
+-- in the history stands this poison, in whose region the granule lies wholly, and no mark that was
+-- laid after its own covers a byte of the granule
+pub record IsPoisonedSince (bound : ℕ) (past : List Event) (s : Shade)
+    (granule : ℕ) : Type 0 where
+  pub before : List Event
+  pub since : List Event
+  pub split : past ≡ since ++ event.Poison s ∷ before
+  pub whole : (s.at ≤ first_byte granule)
+      × (first_byte granule + granule_size ≤ s.at + shade_size s)
+  pub laid : List Mark
+  pub laid_since : marks bound past ≡ laid ++ marks bound (event.Poison s ∷ before)
+  pub uncovered : NoneCovers laid (marks bound (event.Poison s ∷ before)) granule
 
 -- ---- accesses
 
@@ -140,9 +170,18 @@ pub record IsReportedAmong (bound : ℕ) (events : List Event) (report : Report)
 
 -- ---- classes
 
+-- the class of an access to poison of a kind
+abbrev pub class_of_kind : Kind → Class
+class_of_kind kind.User = class.UseAfterPoison
+class_of_kind kind.Stack = class.StackBufferOverflow
+class_of_kind kind.Global = class.GlobalBufferOverflow
+
 -- the class of a granule's first byte, by the granule's shadow byte
 abbrev pub class_of_shadow : ℕ → Class
 class_of_shadow shadow =
     if shadow == code_of HeapRedzone then class.HeapBufferOverflow
     else (if shadow == code_of Freed then class.HeapUseAfterFree
-    else (if shadow == code_of UserPoison then class.UseAfterPoison else class.UnknownCrash))
+    else (if shadow == code_of UserPoison then class.UseAfterPoison
+    else (if shadow == code_of StackRedzone then class.StackBufferOverflow
+    else (if shadow == code_of GlobalRedzone then class.GlobalBufferOverflow
+    else class.UnknownCrash))))

@@ -31,6 +31,8 @@ abbrev pub class_text : Class → List ℕ
 class_text class.HeapBufferOverflow = codes "heap-buffer-overflow"
 class_text class.HeapUseAfterFree = codes "heap-use-after-free"
 class_text class.UseAfterPoison = codes "use-after-poison"
+class_text class.StackBufferOverflow = codes "stack-buffer-overflow"
+class_text class.GlobalBufferOverflow = codes "global-buffer-overflow"
 class_text class.UnknownCrash = codes "unknown-crash"
 
 abbrev pub flaw_text : Flaw → List ℕ
@@ -39,6 +41,7 @@ flaw_text flaw.Code = codes "code"
 flaw_text flaw.Width = codes "width"
 flaw_text flaw.Size = codes "size"
 flaw_text flaw.Range = codes "range"
+flaw_text flaw.Kind = codes "kind"
 
 abbrev pub fate_text : Fate → List ℕ
 fate_text fate.Closed = codes "closed"

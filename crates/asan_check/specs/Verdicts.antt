@@ -2,7 +2,7 @@
 --
 -- The check of an access is that of the paper of 2012. The classes, the verdicts on frees and
 -- mallocs, and that the replay goes on after a report are this project's choice (profile).
-use Rattle.std.specs.Prelude.{ℕ, ◌+◌, ◌*◌, ◌/◌, Bool, true, false, ◌||◌, ◌==◌, if◌then◌else◌}
+use Rattle.std.specs.Prelude.{ℕ, ◌+◌, Bool, true, false, ◌||◌, ◌==◌, if◌then◌else◌}
 use Rattle.std.specs.Prelude.{List, [], ◌∷◌, ◌++◌, length, Option, Some, None, option_to_list}
 use Rattle.std.specs.Prelude.{reverse}
 use Rattle.std.specs.List.{list_any}
@@ -11,8 +11,9 @@ use Rattle.asan_units.specs.Units.{granule_of, first_byte}
 use Rattle.trace_record.specs.declared.event.Event.{Event}
 use Rattle.trace_record.specs.declared.event.Event.TheVariants as event
 use Rattle.trace_record.specs.declared.event.Access.{Access}
+use Rattle.trace_record.specs.Shades.{shade_size}
 use Rattle.shadow_map.specs.States.{State, Addressable, HeapRedzone, Freed, UserPoison}
-use Rattle.shadow_map.specs.States.{state_of, lift, bad_byte_of}
+use Rattle.shadow_map.specs.States.{StackRedzone, GlobalRedzone, state_of, lift, bad_byte_of}
 use Rattle.shadow_map.specs.Causes.{deciding_granule}
 use Rattle.heap_book.specs.Spans.{starts_at}
 use Rattle.asan_check.specs.declared.report.Class.{Class}
@@ -28,6 +29,8 @@ class_of_state Addressable = class.UnknownCrash
 class_of_state HeapRedzone = class.HeapBufferOverflow
 class_of_state Freed = class.HeapUseAfterFree
 class_of_state UserPoison = class.UseAfterPoison
+class_of_state StackRedzone = class.StackBufferOverflow
+class_of_state GlobalRedzone = class.GlobalBufferOverflow
 
 -- the class of a bad access: that of the first byte of the granule that decides
 abbrev pub class_of : (ℕ → State) → ℕ → Class
@@ -60,7 +63,7 @@ fault_of bound past (event.Load a) = access_fault (state_of (marks bound past)) 
 fault_of bound past (event.Store a) = access_fault (state_of (marks bound past)) true a
 fault_of bound past (event.Malloc r) = malloc_fault bound past r.at r.size
 fault_of bound past (event.Free p) = free_fault bound past p.at
-fault_of bound past (event.Poison r) = None
+fault_of bound past (event.Poison s) = None
 fault_of bound past (event.Unpoison r) = None
 
 -- whether an event lays no mark whatever came before it: a load, a store, a malloc or a free at
@@ -70,7 +73,7 @@ marks_none (event.Load a) = true
 marks_none (event.Store a) = true
 marks_none (event.Malloc r) = r.at == 0
 marks_none (event.Free p) = p.at == 0
-marks_none (event.Poison r) = r.size == 0
+marks_none (event.Poison s) = shade_size s == 0
 marks_none (event.Unpoison r) = r.size == 0
 
 -- the verdict on an event after a history: a report with the event's number, or nothing

@@ -7,9 +7,11 @@ ghost use Rattle.asan_units.specs.Units.{address_end, largest_quarantine};
 ghost use Rattle.trace_record.specs.declared.event.Event.{Event as AnEvent};
 ghost use Rattle.trace_record.specs.declared.event.Event.TheVariants as event;
 ghost use Rattle.trace_record.specs.declared.event.Place.{Place as APlace};
+ghost use Rattle.trace_record.specs.Shades.{shade_size};
+ghost use Rattle.shadow_map.specs.Calls.{is_poison_code};
 ghost use Rattle.shadow_map.specs.States.{is_addressable, state_of, least_unaddressable};
-ghost use Rattle.shadow_map.specs.States.{bad_byte_of};
-ghost use Rattle.asan_check.specs.History.{marks};
+ghost use Rattle.shadow_map.specs.States.{bad_byte_of, code_of};
+ghost use Rattle.asan_check.specs.History.{marks, state_of_kind};
 ghost use Rattle.asan_check.specs.Verdicts.{verdict, fault_of, access_fault, malloc_fault};
 ghost use Rattle.asan_check.specs.Verdicts.{free_fault, marks_none};
 ghost use Rattle.asan_check.specs.Laws.{class_of_shadow};
@@ -19,10 +21,10 @@ use crate::fetched::Fetched;
 use crate::report::{Class, Fault, Report};
 use asan_units::{GRANULE, REDZONE};
 use heap_book::{Admit, Block, Book, Bound, Freed};
-use shadow_map::{FREED, HEAP_REDZONE, Shadow, USER_POISON};
+use shadow_map::{FREED, GLOBAL_REDZONE, HEAP_REDZONE, STACK_REDZONE, Shadow, USER_POISON};
 use std::alloc::{Allocator, Global};
 use thiserror::Error;
-use trace_record::{Access, Event, Place, Region};
+use trace_record::{Access, Event, Kind, Place, Region, Shade};
 
 /// There was no memory for this event or for an earlier one.
 #[derive(Clone, Copy, Debug, PartialEq, Eq, Error)]
@@ -297,8 +299,8 @@ impl<A: Allocator + Copy> Checker<A> {
             Event::Store(access) => Ok(self.access_fault(true, access)),
             Event::Malloc(region) => self.malloc(region),
             Event::Free(place) => self.free(place),
-            Event::Poison(region) => {
-                self.shadow.poison(region.at(), region.size())?;
+            Event::Poison(shade) => {
+                self.poison(shade)?;
                 Ok(None)
             }
             Event::Unpoison(region) => {
@@ -377,6 +379,18 @@ impl<A: Allocator + Copy> Checker<A> {
         }
     }
 
+    /// Applies a poison.
+    fn poison(&mut self, shade: &Shade) -> Result<(), NoMemory>
+        ensures ok { OnOk result ((bound : ℕ) (past : List AnEvent) →
+            ShowsHistory bound self.old past →
+            ShowsHistory bound self.new (event.Poison shade.now ∷ past)) }
+        ensures spared { OnErr result (0 < shade_size shade.now) }
+        ensures tally { KeepsTally self.old self.new }
+    {
+        let code = poison_code(shade.kind());
+        self.shadow.poison(shade.at(), shade.size(), code)
+    }
+
     /// Marks the granules of a block that has joined the quarantine as freed, and then releases the
     /// oldest blocks past the quarantine's bound: their whole spans become redzone.
     fn hold(&mut self, block: &Block) -> Result<(), NoMemory>
@@ -393,6 +407,18 @@ impl<A: Allocator + Copy> Checker<A> {
     }
 }
 
+/// The shadow byte of poison of a kind.
+fn poison_code(kind: Kind) -> u8
+    ensures code { IsTrue (is_poison_code result) }
+    ensures state { result ≡ code_of (state_of_kind kind) }
+{
+    match kind {
+        Kind::User => USER_POISON,
+        Kind::Stack => STACK_REDZONE,
+        Kind::Global => GLOBAL_REDZONE,
+    }
+}
+
 /// The class that a shadow byte stands for.
 fn class_by(shadow: u8) -> Class
     ensures { result ≡ class_of_shadow shadow }
@@ -401,6 +427,8 @@ fn class_by(shadow: u8) -> Class
         HEAP_REDZONE => Class::HeapBufferOverflow,
         FREED => Class::HeapUseAfterFree,
         USER_POISON => Class::UseAfterPoison,
+        STACK_REDZONE => Class::StackBufferOverflow,
+        GLOBAL_REDZONE => Class::GlobalBufferOverflow,
         _ => Class::UnknownCrash,
     }
 }

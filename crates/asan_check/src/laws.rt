@@ -6,18 +6,21 @@ ghost use Rattle.std.specs.Prelude.{Contains, option_to_list, reverse};
 ghost use Rattle.std.specs.List.{IsDistinct};
 ghost use Rattle.trace_record.specs.declared.event.Event.{Event};
 ghost use Rattle.trace_record.specs.declared.event.Access.{Access};
-ghost use Rattle.shadow_map.specs.States.{Freed, code_of};
+ghost use Rattle.trace_record.specs.declared.shade.Shade.{Shade};
+ghost use Rattle.trace_record.specs.Shades.{shade_kind};
+ghost use Rattle.shadow_map.specs.States.{Freed, Mark, code_of};
 ghost use Rattle.heap_book.specs.Spans.{Extent, span_from, span_to, meets};
-ghost use Rattle.asan_units.specs.Units.{round_up};
+ghost use Rattle.asan_units.specs.Units.{granule_of, round_up};
 ghost use Rattle.asan_check.specs.declared.report.Class.TheVariants as class;
 ghost use Rattle.asan_check.specs.declared.report.Report.{Report};
-ghost use Rattle.asan_check.specs.History.{live, held};
+ghost use Rattle.asan_check.specs.History.{live, held, marks, state_of_kind};
 ghost use Rattle.asan_check.specs.Verdicts.{verdict, verdicts};
 ghost use Rattle.asan_check.specs.Laws.{SharesByte, IsReportedAmong};
 ghost use Rattle.asan_check.specs.Laws.{since_malloc, since_free, IsLiveSince, IsHeldSince};
 ghost use Rattle.asan_check.specs.Laws.{NoPoisonShares, NoUnpoisonShares};
 ghost use Rattle.asan_check.specs.Laws.{access_event, LiesInside, StartsAround, StartsWithin};
-ghost use Rattle.asan_check.specs.Laws.{first_byte_report, shadow_around};
+ghost use Rattle.asan_check.specs.Laws.{first_byte_report, shadow_around, IsPoisonedSince};
+ghost use Rattle.asan_check.specs.Laws.{class_of_kind};
 
 /// The spans of live and held blocks never meet, after any history and with any bound on the
 /// quarantine.
@@ -53,8 +56,8 @@ pub fn held_since_its_free()
         Contains (held bound past) block × (since ≡ since_free bound past block) }
 {}
 
-/// A load or a store that lies inside a live block is not reported, as long as no poison since the
-/// block's malloc shares a granule with the block.
+/// A load or a store that lies inside a live block is not reported, as long as no poison, of
+/// whatever kind, since the block's malloc shares a granule with the block.
 pub fn quiet_inside_live_block()
     ensures { (bound : ℕ) (past : List Event) (block : Extent) (is_store : Bool) (access : Access) →
         Contains (live bound past) block →
@@ -88,6 +91,23 @@ pub fn use_after_free_is_reported()
         NoUnpoisonShares (since_free bound past block) block.at (block.at + round_up block.size) →
         verdict bound past (access_event is_store access)
         ≡ Some (first_byte_report past is_store access class.HeapUseAfterFree (code_of Freed)) }
+{}
+
+/// A load or a store that starts in a granule that lies wholly in the region of a poison is
+/// reported at its first byte, with the class and the shadow byte of the poison's kind, as long as
+/// no mark that was laid after the poison's covers a byte of the granule.
+pub fn poison_is_reported()
+    ensures { (bound : ℕ) (past : List Event) (poison : Shade) (is_store : Bool) (access : Access) →
+        IsPoisonedSince bound past poison (granule_of access.at) →
+        verdict bound past (access_event is_store access)
+        ≡ Some (first_byte_report past is_store access (class_of_kind (shade_kind poison))
+        (code_of (state_of_kind (shade_kind poison)))) }
+{}
+
+/// Later events only add marks to those of a history, the newest first.
+pub fn marks_are_only_added()
+    ensures { (bound : ℕ) (past since : List Event) → (laid : List Mark)
+        × (marks bound (since ++ past) ≡ laid ++ marks bound past) }
 {}
 
 /// The reports on some events are the verdicts on each of them, in their order: first those on the

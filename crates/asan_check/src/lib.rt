@@ -15,8 +15,8 @@ pub use ending::Ending;
 pub use heap_book::Bound;
 pub use laws::{
     blocks_meet_where_spans_share_a_byte, each_event_has_its_verdict, held_since_its_free,
-    live_since_its_malloc, overflow_is_reported, quiet_inside_live_block, reports_are_verdicts,
-    spans_never_meet, use_after_free_is_reported,
+    live_since_its_malloc, marks_are_only_added, overflow_is_reported, poison_is_reported,
+    quiet_inside_live_block, reports_are_verdicts, spans_never_meet, use_after_free_is_reported,
 };
 pub use lines::{end_text, report_text};
 pub use report::{Class, Fault, Report};

@@ -7,6 +7,8 @@ pub enum Class {
     HeapBufferOverflow,
     HeapUseAfterFree,
     UseAfterPoison,
+    StackBufferOverflow,
+    GlobalBufferOverflow,
     UnknownCrash,
 }
 

@@ -4,11 +4,12 @@ mod examples;
 mod model;
 mod passing;
 mod refusals;
+mod streams;
 
 use crate::{Checker, Failed, Report};
 use std::alloc::Allocator;
 use std::process::Abort;
-use trace_record::{Access, Event, Flaw, Place, Region};
+use trace_record::{Access, Event, Flaw, Place, Region, Shade};
 
 /// The bound on the quarantine that is usual, in bytes of spans.
 const USUAL: u64 = 1 << 28;
@@ -30,7 +31,12 @@ fn free(at: u64) -> Result<Event, Flaw> {
 }
 
 fn poison(at: u64, size: u64) -> Result<Event, Flaw> {
-    Ok(Event::Poison(Region::new(at, size)?))
+    poison_of(0, at, size)
+}
+
+/// A poison of the kind with this number: 0 for a user's, 1 for the stack's, 2 for a global's.
+fn poison_of(kind: u8, at: u64, size: u64) -> Result<Event, Flaw> {
+    Ok(Event::Poison(Shade::new(at, size, kind)?))
 }
 
 fn unpoison(at: u64, size: u64) -> Result<Event, Flaw> {

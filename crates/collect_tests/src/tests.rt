@@ -6,6 +6,7 @@ mod damage;
 mod failures;
 mod reading;
 mod refusals;
+mod versions;
 
 use std::alloc::{AllocError, Global};
 use trace_feed::{Arrival, Door, MemFeed};
@@ -20,6 +21,13 @@ const STREAM: [u8; 36] = [
 const MISS: [u8; 36] = [
     0x41, 0x53, 0x54, 0x52, 1, 0, 0, 0, 3, 0, 0x10, 0, 0, 0, 0, 0, 0, 8, 0, 0, 0, 0, 0, 0, 0, 2, 4,
     6, 0x10, 0, 0, 0, 0, 0, 0, 7,
+];
+
+/// In version 2, a poison of 12 bytes at 0x1004 on the stack, a load of 8 bytes at 0x1000, and the
+/// close.
+const POISON: [u8; 37] = [
+    0x41, 0x53, 0x54, 0x52, 2, 0, 0, 0, 5, 1, 4, 0x10, 0, 0, 0, 0, 0, 0, 12, 0, 0, 0, 0, 0, 0, 0,
+    1, 8, 0, 0x10, 0, 0, 0, 0, 0, 0, 7,
 ];
 
 /// A feed of bytes whose reads are cut at these places and fail at one.

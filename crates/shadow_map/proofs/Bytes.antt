@@ -2,10 +2,10 @@
 use Rattle.std.proofs.Common.{◌≡◌, ℕ, zero, suc, ◌+◌, ◌-◌, ◌*◌, ◌/◌, ◌%◌, ◌<◌, ◌≤◌, Bool, true, false, cond, leb, ltb, eqb, List, ◌∷◌, Some, None, refl, sym, ap, ◌∙◌, arith, add-zero}
 use Rattle.std.specs.Prelude.{min, ◌&&◌, nat_lt, unwrap_or}
 use Rattle.std.proofs.lemmas.Bool.Decides.{nat_tests}
-use Rattle.shadow_map.specs.States.{State, Addressable, HeapRedzone, Freed, UserPoison, is_addressable, code_of, Mark, Fill, Block, Poison, Unpoison, lies_in, state_of, addressable_front, shadow_byte, lift, IsMark, AreMarks}
+use Rattle.shadow_map.specs.States.{State, Addressable, HeapRedzone, Freed, UserPoison, StackRedzone, GlobalRedzone, is_addressable, code_of, Mark, Fill, Block, Poison, Unpoison, lies_in, state_of, addressable_front, shadow_byte, lift, IsMark, AreMarks}
 use Rattle.asan_units.specs.Units.{round_up}
 use Rattle.shadow_map.specs.Granules.{front_of, poisoned_byte, unpoisoned_byte, block_byte}
-use Rattle.shadow_map.proofs.Fronts.{Front, poisoned_front, after, front_step, front_of_marks, first_is, none_from_is, granule_zero, fill_keeps}
+use Rattle.shadow_map.proofs.Fronts.{Front, poisoned_front, after, front_step, front_of_marks, first_is, none_from_is, granule_zero}
 
 front_run : (states : ℕ → State) (byte front count : ℕ) → ((place : ℕ) → place < count → is_addressable (states (byte + place)) ≡ ltb place front) →
     addressable_front states byte count ≡ min front count
@@ -31,6 +31,8 @@ code_is_high Addressable h = absurd cc
 code_is_high HeapRedzone h = omega arith
 code_is_high Freed h = omega arith
 code_is_high UserPoison h = omega arith
+code_is_high StackRedzone h = omega arith
+code_is_high GlobalRedzone h = omega arith
 
 pub first_code : (states : ℕ → State) (granule front : ℕ) → Front states granule front → front ≡ 0 → 128 ≤ code_of (states (8 * granule))
 first_code states granule front f none =
@@ -66,8 +68,7 @@ pub fill_makes : (from to : ℕ) (state : State) → IsMark (Fill from to state)
     MakesOfBytes (Fill from to state) (λ shadow granule. cond (leb (from / 8) granule && ltb granule (to / 8)) (code_of state) shadow)
 fill_makes from to state mark marks ok granule shadow is =
     let p = front_of_marks marks ok granule in
-    let keeps = fill_keeps from to state mark in
-    rw (aligned_within from to granule keeps.1 keeps.2)
+    rw (aligned_within from to granule mark.1 mark.2)
     (fill_byte (lies_in from to (8 * granule)) p.0 shadow state (state_of marks (8 * granule)) (is ∙ lift_is (state_of marks) granule p.0 p.1)
     ∙ sym (lift_is (after (state_of marks) (Fill from to state)) granule _ (front_step (state_of marks) granule p.0 (Fill from to state) mark p.1)))
 
@@ -121,31 +122,31 @@ cut_is : (x at end front : ℕ) → front ≤ 8 → (lies_in at end x && ltb 0 f
 cut_is x at end front most = grind (arith, nat_tests)
 
 -- in the words of the part: whole, cut, or as it was
-part_byte : (whole cut from_start : Bool) (front from code : ℕ) → front ≤ 8 → (cut ≡ true → from < front) → (from_start ≡ eqb from 0) →
-    byte_by (cond whole 0 (cond cut from front)) (cond whole 0xf7 (cond (cut && from_start) 0xf7 code))
-    ≡ cond whole 0xf7 (cond cut (cond (eqb from 0) 0xf7 from) (byte_by front code))
-part_byte true cut from_start front from code most h is = refl
-part_byte false false from_start front from code most h is = refl
-part_byte false true from_start front from code most h is = let lt = h refl in rw is (grind (arith, nat_tests))
+part_byte : (whole cut from_start : Bool) (front from code poison : ℕ) → front ≤ 8 → (cut ≡ true → from < front) → (from_start ≡ eqb from 0) →
+    byte_by (cond whole 0 (cond cut from front)) (cond whole poison (cond (cut && from_start) poison code))
+    ≡ cond whole poison (cond cut (cond (eqb from 0) poison from) (byte_by front code))
+part_byte true cut from_start front from code poison most h is = refl
+part_byte false false from_start front from code poison most h is = refl
+part_byte false true from_start front from code poison most h is = let lt = h refl in rw is (grind (arith, nat_tests))
 
-poison_number : (x at end front code : ℕ) → front ≤ 8 → (front ≡ 0 → 128 ≤ code) →
+poison_number : (x at end front code poison : ℕ) → front ≤ 8 → (front ≡ 0 → 128 ≤ code) →
     byte_by (poisoned_front front (min 8 (at - x)) (min 8 (end - x)))
-    (cond (leb at x && leb (x + 8) end) 0xf7 (cond (lies_in at end x && ltb 0 front && leb front (end - x)) 0xf7 code))
-    ≡ poisoned_byte (byte_by front code) (min 8 (at - x)) (min 8 (end - x))
-poison_number x at end front code most high =
+    (cond (leb at x && leb (x + 8) end) poison (cond (lies_in at end x && ltb 0 front && leb front (end - x)) poison code))
+    ≡ poisoned_byte poison (byte_by front code) (min 8 (at - x)) (min 8 (end - x))
+poison_number x at end front code poison most high =
     rw (whole_is x at end, cut_is x at end front most, front_of_byte front code most high)
     (part_byte (eqb (min 8 (at - x)) 0 && eqb (min 8 (end - x)) 8) (leb front (min 8 (end - x)) && ltb (min 8 (at - x)) front && ltb (min 8 (at - x)) (min 8 (end - x)))
-    (eqb (min 8 (at - x)) 0) front (min 8 (at - x)) code most (λ h. grind (arith, nat_tests)) refl)
+    (eqb (min 8 (at - x)) 0) front (min 8 (at - x)) code poison most (λ h. grind (arith, nat_tests)) refl)
 
-pub poison_makes : (at size : ℕ) → IsMark (Poison at size) →
-    MakesOfBytes (Poison at size) (λ shadow granule. poisoned_byte shadow (min 8 (at - 8 * granule)) (min 8 (at + size - 8 * granule)))
-poison_makes at size mark marks ok granule shadow is =
+pub poison_makes : (at size : ℕ) (state : State) → IsMark (Poison at size state) →
+    MakesOfBytes (Poison at size state) (λ shadow granule. poisoned_byte (code_of state) shadow (min 8 (at - 8 * granule)) (min 8 (at + size - 8 * granule)))
+poison_makes at size state mark marks ok granule shadow is =
     let p = front_of_marks marks ok granule in
     let first = first_is (state_of marks) granule p.0 p.1 in
     let none = none_from_is (state_of marks) granule p.0 (at + size) p.1 in
     rw (is, lift_is (state_of marks) granule p.0 p.1)
-    (sym (poison_number (8 * granule) at (at + size) p.0 (code_of (state_of marks (8 * granule))) p.1.most (first_code (state_of marks) granule p.0 p.1))
-    ∙ rw (lift_is (after (state_of marks) (Poison at size)) granule _ (front_step (state_of marks) granule p.0 (Poison at size) mark p.1), granule_zero granule, none, code_poisoned, first) refl)
+    (sym (poison_number (8 * granule) at (at + size) p.0 (code_of (state_of marks (8 * granule))) (code_of state) p.1.most (first_code (state_of marks) granule p.0 p.1))
+    ∙ rw (lift_is (after (state_of marks) (Poison at size state)) granule _ (front_step (state_of marks) granule p.0 (Poison at size state) mark p.1), granule_zero granule, none, code_poisoned, first) refl)
 
 -- unpoison
 code_unpoisoned : (covered : Bool) (old : State) → code_of (unwrap_or (cond covered (Some Addressable) None) old) ≡ cond covered 0 (code_of old)

@@ -5,7 +5,7 @@ use Rattle.std.proofs.lemmas.Bool.{cases_lt}
 use Rattle.std.proofs.lemmas.Bool.Decides.{nat_tests}
 use Rattle.shadow_map.specs.declared.granule.Change.{Change}
 use Rattle.shadow_map.specs.declared.granule.Change.TheVariants.{Poisoned, Unpoisoned}
-use Rattle.shadow_map.specs.States.{State, Addressable, HeapRedzone, Freed, UserPoison, code_of, Mark, Fill, Block, Poison, Unpoison, IsMark, AreMarks, state_of, lift}
+use Rattle.shadow_map.specs.States.{State, HeapRedzone, code_of, Mark, Fill, Block, Poison, Unpoison, IsMark, AreMarks, state_of, lift}
 use Rattle.shadow_map.specs.Granules.{unpoisoned_byte, block_byte, changed_in}
 use Rattle.shadow_map.specs.Calls.{range_from, range_to}
 use Rattle.shadow_map.proofs.Bytes.{fill_makes, poison_makes, unpoison_makes}
@@ -21,23 +21,14 @@ LeavesMarks mark byte_after =
 -- a fill leaves a shorter one
 cut_is_mark : (from to byte : ℕ) (state : State) → IsMark (Fill from to state) → from ≤ byte → byte < to →
     IsMark (Fill from (8 * (byte / 8)) state)
-cut_is_mark from to byte Addressable mark low high = mark
-cut_is_mark from to byte HeapRedzone mark low high = let a = mark.0 in let e = mark.3 in (a, omega arith, omega arith, omega arith)
-cut_is_mark from to byte Freed mark low high = let a = mark.0 in let e = mark.3 in (a, omega arith, omega arith, omega arith)
-cut_is_mark from to byte UserPoison mark low high = let a = mark.0 in let e = mark.3 in (a, omega arith, omega arith, omega arith)
-
-to_aligned : (from to : ℕ) (state : State) → IsMark (Fill from to state) → to % 8 ≡ 0
-to_aligned from to Addressable mark = absurd mark
-to_aligned from to HeapRedzone mark = mark.1
-to_aligned from to Freed mark = mark.1
-to_aligned from to UserPoison mark = mark.1
+cut_is_mark from to byte state mark low high = let a = mark.1 in let e = mark.4 in (mark.0, a, omega arith, omega arith, omega arith)
 
 pub fill_leaves : (from to : ℕ) (state : State) → IsMark (Fill from to state) →
     LeavesMarks (Fill from to state) (λ shadow granule. cond (leb (from / 8) granule && ltb granule (to / 8)) (code_of state) shadow)
 fill_leaves from to state mark marks ok byte range =
     let low = range.0 in
     let high = range.1 in
-    let aligned = to_aligned from to state mark in
+    let aligned = mark.2 in
     let cut = cut_is_mark from to byte state mark low high in
     let whole : 8 * (byte / 8) / 8 ≡ byte / 8 = omega arith in (
       Fill from (8 * (byte / 8)) state ∷ marks,
@@ -64,15 +55,17 @@ cut_change change at size byte granule shadow low high =
           rw past (sym (changed_nothing change shadow _ _ none))
     ]
 
-pub poison_leaves : (at size : ℕ) → IsMark (Poison at size) → LeavesMarks (Poison at size) (changed_in Poisoned at (at + size))
-poison_leaves at size mark marks ok byte range =
+pub poison_leaves : (at size : ℕ) (state : State) → IsMark (Poison at size state) → LeavesMarks (Poison at size state) (changed_in (Poisoned (code_of state)) at (at + size))
+poison_leaves at size state mark marks ok byte range =
     let low = range.0 in
     let high = range.1 in
-    let end : at + (8 * (byte / 8) - at) ≤ 2 ^ 47 = omega arith in (
-      Poison at (8 * (byte / 8) - at) ∷ marks,
-      (end, ok),
-      λ granule shadow is. cut_change Poisoned at size byte granule shadow low high
-          ∙ poison_makes at (8 * (byte / 8) - at) end marks ok granule shadow is,
+    let before = mark.1 in
+    let end : at + (8 * (byte / 8) - at) ≤ 2 ^ 47 = omega arith in
+    let cut : IsMark (Poison at (8 * (byte / 8) - at) state) = (mark.0, end) in (
+      Poison at (8 * (byte / 8) - at) state ∷ marks,
+      (cut, ok),
+      λ granule shadow is. cut_change (Poisoned (code_of state)) at size byte granule shadow low high
+          ∙ poison_makes at (8 * (byte / 8) - at) state cut marks ok granule shadow is,
     )
 
 pub unpoison_leaves : (at size : ℕ) → IsMark (Unpoison at size) → LeavesMarks (Unpoison at size) (changed_in Unpoisoned at (at + size))
@@ -154,7 +147,7 @@ block_leaves at size mark marks ok byte range =
     let aligned = mark.0 in
     let room = mark.1 in
     let end = mark.2 in
-    let redzones : IsMark (Fill (at - 32) (8 * (byte / 8)) HeapRedzone) = (omega arith, omega arith, omega arith, omega arith) in
+    let redzones : IsMark (Fill (at - 32) (8 * (byte / 8)) HeapRedzone) = (refl, omega arith, omega arith, omega arith, omega arith) in
     let bytes : IsMark (Unpoison at (min size (8 * (byte / 8) - at))) = omega arith in
     let first : (at - 32) / 8 ≡ at / 8 - 4 = omega arith in
     let whole : 8 * (byte / 8) / 8 ≡ byte / 8 = omega arith in (

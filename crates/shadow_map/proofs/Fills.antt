@@ -73,11 +73,11 @@ either true now new old left right is p q = is ∙ p
 either false now new old left right is p q = is ∙ q
 
 -- poison and unpoison of the granules before, within and past a region
-poison_before : (byte a e g : ℕ) → g < a / 8 → poisoned_byte byte (min 8 (a - 8 * g)) (min 8 (e - 8 * g)) ≡ byte
-poison_before byte a e g lt = grind (arith, nat_tests)
+poison_before : (code byte a e g : ℕ) → g < a / 8 → poisoned_byte code byte (min 8 (a - 8 * g)) (min 8 (e - 8 * g)) ≡ byte
+poison_before code byte a e g lt = grind (arith, nat_tests)
 
-poison_past : (byte a e g : ℕ) → a ≤ e → (e + 7) / 8 ≤ g → poisoned_byte byte (min 8 (a - 8 * g)) (min 8 (e - 8 * g)) ≡ byte
-poison_past byte a e g order le =
+poison_past : (code byte a e g : ℕ) → a ≤ e → (e + 7) / 8 ≤ g → poisoned_byte code byte (min 8 (a - 8 * g)) (min 8 (e - 8 * g)) ≡ byte
+poison_past code byte a e g order le =
     let from : min 8 (a - 8 * g) ≡ 0 = omega arith in
     let to : min 8 (e - 8 * g) ≡ 0 = omega arith in
     rw (from, to) (grind (arith, nat_tests))
@@ -87,19 +87,19 @@ unpoison_nothing byte from to le = let empty : ltb from to ≡ false = grind (ar
 
 -- nothing changes where no byte of the granule lies in the region
 pub changed_nothing : (change : Change) (byte from to : ℕ) → to ≤ from → changed_byte change byte from to ≡ byte
-changed_nothing Poisoned byte from to le =
+changed_nothing (Poisoned code) byte from to le =
     let empty : ltb from to ≡ false = grind (arith, nat_tests) in
     let part : (eqb from 0 && eqb to 8) ≡ false = grind (arith, nat_tests) in
     rw (part, empty) (grind (arith, nat_tests))
 changed_nothing Unpoisoned byte from to le = unpoison_nothing byte from to le
 
 pub change_before : (change : Change) (byte a e g : ℕ) → g < a / 8 → changed_byte change byte (min 8 (a - 8 * g)) (min 8 (e - 8 * g)) ≡ byte
-change_before Poisoned byte a e g lt = poison_before byte a e g lt
+change_before (Poisoned code) byte a e g lt = poison_before code byte a e g lt
 change_before Unpoisoned byte a e g lt = unpoison_nothing byte _ _ (omega arith)
 
 pub change_within : (change : Change) (byte a e g : ℕ) → (a + 7) / 8 ≤ g → g < e / 8 →
     changed_byte change byte (min 8 (a - 8 * g)) (min 8 (e - 8 * g)) ≡ inside_byte change
-change_within Poisoned byte a e g le lt =
+change_within (Poisoned code) byte a e g le lt =
     let from : min 8 (a - 8 * g) ≡ 0 = omega arith in
     let to : min 8 (e - 8 * g) ≡ 8 = omega arith in
     rw (from, to) refl
@@ -110,7 +110,7 @@ change_within Unpoisoned byte a e g le lt =
 
 pub change_past : (change : Change) (byte a e g : ℕ) → a ≤ e → (e + 7) / 8 ≤ g →
     changed_byte change byte (min 8 (a - 8 * g)) (min 8 (e - 8 * g)) ≡ byte
-change_past Poisoned byte a e g order le = poison_past byte a e g order le
+change_past (Poisoned code) byte a e g order le = poison_past code byte a e g order le
 change_past Unpoisoned byte a e g order le = unpoison_nothing byte _ _ (omega arith)
 
 -- a change of a region from one address up to another: the granule that its first edge cuts, the whole ones, the one that its

@@ -1,8 +1,8 @@
 -- After any marks the addressable bytes of each granule are its first ones.
-use Rattle.std.proofs.Common.{◌≡◌, ℕ, ◌+◌, ◌-◌, ◌*◌, ◌/◌, ◌%◌, ◌^◌, ◌<◌, ◌≤◌, Bool, true, false, cond, eqb, leb, ltb, List, [], ◌∷◌, Some, None, refl, arith, add-zero}
-use Rattle.std.specs.Prelude.{min, not, ◌&&◌, ◌||◌, nat_lt, nat_le, unwrap_or}
+use Rattle.std.proofs.Common.{◌≡◌, ℕ, ◌+◌, ◌-◌, ◌*◌, ◌/◌, ◌%◌, ◌<◌, ◌≤◌, Bool, true, false, cond, eqb, leb, ltb, List, [], ◌∷◌, Some, None, refl, arith, add-zero}
+use Rattle.std.specs.Prelude.{min, not, ◌&&◌, ◌||◌, nat_lt, nat_le, unwrap_or, IsTrue}
 use Rattle.std.proofs.lemmas.Bool.Decides.{nat_tests}
-use Rattle.shadow_map.specs.States.{State, Addressable, HeapRedzone, Freed, UserPoison, is_addressable, Mark, Fill, Block, Poison, Unpoison, lies_in, none_addressable_from, state_given, state_of, IsMark, AreMarks}
+use Rattle.shadow_map.specs.States.{State, Addressable, HeapRedzone, Freed, UserPoison, StackRedzone, GlobalRedzone, is_addressable, is_poison, Mark, Fill, Block, Poison, Unpoison, lies_in, none_addressable_from, state_given, state_of, IsMark, AreMarks}
 use Rattle.asan_units.specs.Units.{redzone, round_up}
 
 -- the states after one more mark
@@ -61,20 +61,21 @@ redzone_or : (inside : Bool) → is_addressable (cond inside Addressable HeapRed
 redzone_or true = refl
 redzone_or false = refl
 
--- what a fill that a call may make keeps to
-pub fill_keeps : (from to : ℕ) (state : State) → IsMark (Fill from to state) →
-    (is_addressable state ≡ false) × (from % 8 ≡ 0) × (to % 8 ≡ 0) × (to ≤ 2 ^ 47)
-fill_keeps from to Addressable h = absurd h
-fill_keeps from to HeapRedzone h = (refl, h.0, h.1, h.3)
-fill_keeps from to Freed h = (refl, h.0, h.1, h.3)
-fill_keeps from to UserPoison h = (refl, h.0, h.1, h.3)
+-- a state that poison can give is not addressable
+pub poison_is : (state : State) → IsTrue (is_poison state) → is_addressable state ≡ false
+poison_is Addressable h = absurd cc
+poison_is HeapRedzone h = refl
+poison_is Freed h = refl
+poison_is UserPoison h = refl
+poison_is StackRedzone h = refl
+poison_is GlobalRedzone h = refl
 
 -- how many first bytes of a granule are addressable after a mark
 abbrev pub front_after : Mark → ℕ → ℕ → ℕ
 front_after (Fill from to state) granule front = cond (lies_in from to (8 * granule)) 0 front
 front_after (Block at size) granule front =
     cond (lies_in (at - redzone) (at + round_up size + redzone) (8 * granule)) (cond (leb at (8 * granule)) (min 8 (at + size - 8 * granule)) 0) front
-front_after (Poison at size) granule front = poisoned_front front (min 8 (at - 8 * granule)) (min 8 (at + size - 8 * granule))
+front_after (Poison at size state) granule front = poisoned_front front (min 8 (at - 8 * granule)) (min 8 (at + size - 8 * granule))
 front_after (Unpoison at size) granule front =
     let end = min 8 (at + size - 8 * granule) in
     cond (ltb 0 size && ltb (8 * granule) (at + size) && ltb at (8 * granule + 8) && ltb front end) end front
@@ -102,19 +103,17 @@ unpoison_front x at size front place lt most = grind (arith, nat_tests)
 -- each mark leaves the addressable bytes of a granule its first ones
 pub front_step : (states : ℕ → State) (granule front : ℕ) (mark : Mark) → IsMark mark → Front states granule front →
     Front (after states mark) granule (front_after mark granule front)
-front_step states granule front (Fill from to state) ok f =
-    let keeps = fill_keeps from to state ok in
-    record {
-      most = let m = f.most in grind (arith, nat_tests);
-      each = λ place lt. rw (addressable_one, keeps.0, f.each place lt) (fill_front (8 * granule) from to front place lt (base_aligned granule) keeps.1 keeps.2);
-    }
+front_step states granule front (Fill from to state) ok f = record {
+  most = let m = f.most in grind (arith, nat_tests);
+  each = λ place lt. rw (addressable_one, ok.0, f.each place lt) (fill_front (8 * granule) from to front place lt (base_aligned granule) ok.1 ok.2);
+}
 front_step states granule front (Block at size) ok f = record {
   most = let m = f.most in grind (arith, nat_tests);
   each = λ place lt. rw (addressable_one, redzone_or, f.each place lt) (block_front (8 * granule) at size front place lt (base_aligned granule) ok.0 ok.1 f.most);
 }
-front_step states granule front (Poison at size) ok f = record {
+front_step states granule front (Poison at size state) ok f = record {
   most = let m = f.most in grind (arith, nat_tests);
-  each = λ place lt. rw (granule_is granule place lt, none_from_is states granule front (at + size) f, addressable_two, f.each place lt) (poison_front (8 * granule) at (at + size) front place lt f.most);
+  each = λ place lt. rw (granule_is granule place lt, none_from_is states granule front (at + size) f, addressable_two, poison_is state ok.0, f.each place lt) (poison_front (8 * granule) at (at + size) front place lt f.most);
 }
 front_step states granule front (Unpoison at size) ok f = record {
   most = let m = f.most in grind (arith, nat_tests);

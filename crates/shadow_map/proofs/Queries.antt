@@ -4,7 +4,7 @@ use Rattle.std.specs.List.{list_all}
 use Rattle.std.specs.Prelude.{min, max, not, ◌&&◌, ◌||◌, nat_lt, nat_le, ◌↔◌, is_some, IsTrue, MatchOption}
 use Rattle.std.proofs.lemmas.Bool.Decides.{nat_tests}
 use Rattle.std.proofs.lemmas.Bool.{cases_lt}
-use Rattle.shadow_map.specs.States.{State, Addressable, HeapRedzone, Freed, UserPoison, is_addressable, code_of, Mark, AreMarks, places, state_of, lift, least_unaddressable, bad_byte_of}
+use Rattle.shadow_map.specs.States.{State, Addressable, HeapRedzone, Freed, UserPoison, StackRedzone, GlobalRedzone, is_addressable, code_of, Mark, AreMarks, places, state_of, lift, least_unaddressable, bad_byte_of}
 use Rattle.shadow_map.specs.Checks.{is_negative, check_reports}
 use Rattle.shadow_map.specs.Causes.{has_none_addressable, deciding_granule}
 use Rattle.asan_units.specs.Units.{is_width}
@@ -218,6 +218,8 @@ is_addressable_state Addressable h = refl
 is_addressable_state HeapRedzone h = absurd cc
 is_addressable_state Freed h = absurd cc
 is_addressable_state UserPoison h = absurd cc
+is_addressable_state StackRedzone h = absurd cc
+is_addressable_state GlobalRedzone h = absurd cc
 
 -- a region all of whose bytes are addressable but for one more at its front
 front_byte : (P : ℕ → Type 0) (at size : ℕ) → P at → ((byte : ℕ) → at + 1 ≤ byte → byte < at + 1 + size → P byte) →

@@ -1,6 +1,6 @@
 -- The granule that says why an access is bad. That one granule does is this project's choice
 -- (profile).
-use Rattle.std.specs.Prelude.{ℕ, ◌+◌, ◌*◌, ◌/◌, Bool, not, if◌then◌else◌}
+use Rattle.std.specs.Prelude.{ℕ, ◌+◌, Bool, not, if◌then◌else◌}
 use Rattle.std.specs.List.{list_all}
 use Rattle.asan_units.specs.Units.{granule_of, first_byte}
 use Rattle.shadow_map.specs.States.{State, is_addressable, places}

@@ -1,5 +1,5 @@
 -- What a shadow shows.
-use Rattle.std.specs.Prelude.{◌≡◌, ℕ, ◌^◌, ◌<◌, nat_lt, if◌then◌else◌, List}
+use Rattle.std.specs.Prelude.{◌≡◌, ℕ, ◌<◌, nat_lt, if◌then◌else◌, List}
 use Rattle.asan_units.specs.Units.{granule_count}
 use Rattle.page_table.specs.Tables.{byte_of}
 use Rattle.shadow_map.specs.declared.shadow.Shadow.{Shadow}

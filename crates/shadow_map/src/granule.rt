@@ -21,6 +21,12 @@ pub const FREED: u8 = 0xfd;
 /// The shadow byte of a granule whose bytes the user has poisoned.
 pub const USER_POISON: u8 = 0xf7;
 
+/// The shadow byte of a granule whose bytes are a redzone of a variable on the stack.
+pub const STACK_REDZONE: u8 = 0xf2;
+
+/// The shadow byte of a granule whose bytes are a redzone of a global.
+pub const GLOBAL_REDZONE: u8 = 0xf9;
+
 /// How many bytes of a granule are addressable, by its shadow byte. They are its first ones.
 #[inline]
 pub fn front(shadow: u8) -> u8
@@ -41,10 +47,10 @@ pub fn part(address: u64, granule: u64) -> u8
     address.saturating_sub(GRANULE * granule).min(GRANULE) as u8
 }
 
-/// What a call makes of a region: poison, or addressable bytes.
+/// What a call makes of a region: poison of a code, or addressable bytes.
 #[derive(Clone, Copy)]
 pub enum Change {
-    Poisoned,
+    Poisoned(u8),
     Unpoisoned,
 }
 
@@ -54,7 +60,7 @@ impl Change {
         ensures { result ≡ inside_byte self }
     {
         match self {
-            Change::Poisoned => USER_POISON,
+            Change::Poisoned(code) => code,
             Change::Unpoisoned => 0,
         }
     }
@@ -66,22 +72,22 @@ impl Change {
         ensures { result ≡ changed_byte self shadow from to }
     {
         match self {
-            Change::Poisoned => poisoned(shadow, from, to),
+            Change::Poisoned(code) => poisoned(code, shadow, from, to),
             Change::Unpoisoned => unpoisoned(shadow, from, to),
         }
     }
 }
 
-/// The shadow byte after poison of the bytes from one place up to another.
-fn poisoned(shadow: u8, from: u8, to: u8) -> u8
+/// The shadow byte after poison, of a code, of the bytes from one place up to another.
+fn poisoned(code: u8, shadow: u8, from: u8, to: u8) -> u8
     requires { to ≤ granule_size }
-    ensures { result ≡ poisoned_byte shadow from to }
+    ensures { result ≡ poisoned_byte code shadow from to }
 {
     let front = front(shadow);
     if from == 0 && to == WHOLE {
-        USER_POISON
+        code
     } else if front <= to && from < front && from < to {
-        if from == 0 { USER_POISON } else { from }
+        if from == 0 { code } else { from }
     } else {
         shadow
     }

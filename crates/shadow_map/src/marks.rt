@@ -5,7 +5,7 @@ ghost use Rattle.shadow_map.specs.States.{State, Fill, Block, Poison, Unpoison, 
 ghost use Rattle.asan_units.specs.Units.{address_end, granule_size, granule_of};
 ghost use Rattle.asan_units.specs.Units.{IsGranuleStart, redzone, round_up};
 ghost use Rattle.shadow_map.specs.Shows.{value_at};
-ghost use Rattle.shadow_map.specs.Calls.{is_code, Adds, AddsInPart, IsBrokenOff};
+ghost use Rattle.shadow_map.specs.Calls.{is_code, is_poison_code, Adds, AddsInPart, IsBrokenOff};
 ghost use Rattle.shadow_map.specs.Granules.{block_byte, changed_in};
 
 use crate::granule::{Change, HEAP_REDZONE, part};
@@ -23,10 +23,12 @@ const REDZONE_GRANULES: u64 = REDZONE / GRANULE;
 /// no granule, and its call does nothing.
 impl<A: Allocator + Copy> Shadow<A> {
     /// Marks the whole granules from one address up to another by a code: [`HEAP_REDZONE`],
-    /// [`FREED`] or [`USER_POISON`].
+    /// [`FREED`], [`USER_POISON`], [`STACK_REDZONE`] or [`GLOBAL_REDZONE`].
     ///
     /// [`FREED`]: crate::FREED
     /// [`USER_POISON`]: crate::USER_POISON
+    /// [`STACK_REDZONE`]: crate::STACK_REDZONE
+    /// [`GLOBAL_REDZONE`]: crate::GLOBAL_REDZONE
     pub fn mark(&mut self, from: u64, to: u64, code: u8) -> Result<(), NoMemory>
         requires granules { IsGranuleStart from × IsGranuleStart to }
         requires order { from ≤ to }
@@ -53,16 +55,24 @@ impl<A: Allocator + Copy> Shadow<A> {
         self.block_granules(at, size)
     }
 
-    /// Poisons `size` bytes from `at` on. A granule that lies wholly in this region becomes user
-    /// poison, whatever it was. Of one that lies there in part the addressable bytes in the region
-    /// become user poison, if none of its bytes at the region's end or past it is addressable;
-    /// otherwise it stays as it is.
-    pub fn poison(&mut self, at: u64, size: u64) -> Result<(), NoMemory>
-        requires { at + size ≤ address_end }
-        ensures ok { OnOk result (Adds self.old self.new (Poison at size)) }
-        ensures err { OnErr result (AddsInPart self.old self.new (Poison at size)) }
+    /// Poisons `size` bytes from `at` on, with a code that says why: [`USER_POISON`],
+    /// [`STACK_REDZONE`] or [`GLOBAL_REDZONE`]. A granule that lies wholly in this region becomes
+    /// such poison, whatever it was. Of one that lies there in part the addressable bytes in the
+    /// region become such poison, if none of its bytes at the region's end or past it is
+    /// addressable; otherwise it stays as it is.
+    ///
+    /// [`USER_POISON`]: crate::USER_POISON
+    /// [`STACK_REDZONE`]: crate::STACK_REDZONE
+    /// [`GLOBAL_REDZONE`]: crate::GLOBAL_REDZONE
+    pub fn poison(&mut self, at: u64, size: u64, code: u8) -> Result<(), NoMemory>
+        requires end { at + size ≤ address_end }
+        requires code { IsTrue (is_poison_code code) }
+        ensures ok { OnOk result ((state : State) → code_of state ≡ code →
+            Adds self.old self.new (Poison at size state)) }
+        ensures err { OnErr result ((state : State) → code_of state ≡ code →
+            AddsInPart self.old self.new (Poison at size state)) }
     {
-        self.change(Change::Poisoned, at, size)
+        self.change(Change::Poisoned(code), at, size)
     }
 
     /// Makes `size` bytes from `at` on addressable, and with each of them all bytes before it in

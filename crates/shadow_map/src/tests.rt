@@ -22,7 +22,7 @@ fn values<const COUNT: usize, A: Allocator + Copy>(shadow: &Shadow<A>, first: u6
 fn values_in_turn<A: Allocator + Copy>(shadow: &mut Shadow<A>) -> Result<[u8; 3], NoMemory> {
     shadow.unpoison(0x1006, 1)?;
     let unpoisoned = shadow.value(0x200);
-    shadow.poison(0x1000, 8)?;
+    shadow.poison(0x1000, 8, USER_POISON)?;
     let poisoned = shadow.value(0x200);
     shadow.mark(0x1000, 0x1008, FREED)?;
     Ok([unpoisoned, poisoned, shadow.value(0x200)])
@@ -66,7 +66,7 @@ fn shadow_calls(rt: HostRuntime) -> Result<(), Fail> {
 #[test]
 fn last_granule(rt: HostRuntime) -> Result<(), Fail> {
     let mut shadow = Shadow::new(rt.alloc());
-    shadow.poison(0x7fff_ffff_fffc, 4)?;
+    shadow.poison(0x7fff_ffff_fffc, 4, USER_POISON)?;
     assert_eq!(rt;
         [
             shadow.value(0xfff_ffff_ffff),

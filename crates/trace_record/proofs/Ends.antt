@@ -1,16 +1,13 @@
 -- A text spells one end where no read failed, and the end of a decided text stays, whatever follows.
-use Rattle.std.proofs.Common.{◌≡◌, ◌≢◌, ℕ, ◌+◌, ◌≤◌, ◌⊎◌, List, [], ◌++◌, length, Option, Some, None, refl, sym, ap, subst, ◌∙◌, inl, inr, eqb}
-use Rattle.std.specs.Prelude.{if◌then◌else◌}
-use Rattle.std.proofs.lemmas.List.{append-nil, take-append-le}
-use lib.Pointwise.{pointwise}
+use Rattle.std.proofs.Common.{◌≡◌, ◌≢◌, ℕ, ◌+◌, ◌≤◌, ◌⊎◌, List, [], ◌++◌, length, Option, Some, None, refl, sym, ap, subst, ◌∙◌, inl, inr}
 use Rattle.trace_record.specs.declared.event.Event.{Event}
 use Rattle.trace_record.specs.declared.end.End.{End}
 use Rattle.trace_record.specs.declared.end.Fate.{Fate}
 use Rattle.trace_record.specs.declared.end.Fate.TheVariants as fate
-use Rattle.trace_record.specs.Spelling.{header, spellings}
-use Rattle.trace_record.specs.Stream.{MayEnd, Spells, IsDecidedFate, offset_of, close_length}
+use Rattle.trace_record.specs.declared.version.Version.{Version}
+use Rattle.trace_record.specs.Stream.{version_of, MayEnd, Spells, IsDecidedFate, header_and_records, offset_of, close_length}
 use Rattle.trace_record.specs.Reading.{Reads}
-use Rattle.trace_record.proofs.Readings.{one_reading, stands, decided_long}
+use Rattle.trace_record.proofs.Readings.{one_reading, stands, decided_long, version_same}
 
 -- the fate that a text is decided with, if its end is one that a byte decides
 abbrev decided_fate : Fate → Option Fate
@@ -26,7 +23,7 @@ read_of limit text events fate.Closed may = may
 read_of limit text events (fate.Malformed f) may = may
 read_of limit text events fate.TooMany may = may
 read_of limit text events fate.Truncated may = may.0
-read_of limit text events fate.NoClose may = ([], inr record { split = may.0 ∙ sym (append-nil (header ++ spellings events)); follows = may.1 })
+read_of limit text events fate.NoClose ((v, made), within) = ([], inr record { version = v; made = made; follows = within })
 read_of limit text events fate.ReadFailed may = may
 
 fate_decided : (f g : Fate) → decided_fate f ≡ Some g → f ≡ g
@@ -86,5 +83,5 @@ may_stand limit text more events fate.ReadFailed decided may = absurd decided
 pub end_stands : (limit : ℕ) (text more : List ℕ) (events : List Event) (end : End) → Spells limit text events end → IsDecidedFate end.fate → Spells limit (text ++ more) events end
 end_stands limit text more events end spells decided =
     let may = may_stand limit text more events end.fate decided spells.fate in
-    let offset : offset_of (text ++ more) events ≡ offset_of text events = ap (λ (front : List ℕ). if pointwise eqb header front then 8 + length (spellings events) else 0) (take-append-le 8 text more may.1) in
+    let offset : offset_of (text ++ more) events ≡ offset_of text events = ap (λ (o : Option Version). header_and_records o events) (version_same text more may.1) in
     record { fate = may.0; count = spells.count; offset = spells.offset ∙ ap (λ (n : ℕ). n + close_length end.fate) (sym offset) }

@@ -1,38 +1,50 @@
 -- Answers and ends that the contracts refuse. Each lemma is named for what would have gone wrong.
-use Rattle.std.proofs.Common.{◌≡◌, ℕ, ◌+◌, ◌*◌, ◌<◌, ◌≤◌, ◌⊎◌, inl, inr, List, [], ◌∷◌, ◌++◌, Some, None, refl, ap, arith}
-use Rattle.std.specs.Prelude.{◌≢◌, length}
+use Rattle.std.proofs.Common.{◌≡◌, ℕ, ◌+◌, ◌*◌, ◌<◌, ◌≤◌, ◌⊎◌, inl, inr, Bool, true, false, List, [], ◌∷◌, ◌++◌, Some, None, refl, ap, arith}
+use Rattle.std.specs.Prelude.{◌≢◌, IsTrue, length}
 use Rattle.trace_record.specs.declared.event.Event.{Event}
 use Rattle.trace_record.specs.declared.end.Fate.{Fate}
 use Rattle.trace_record.specs.declared.end.Fate.TheVariants as fate
 use Rattle.trace_record.specs.declared.end.Flaw.TheVariants as flaw
-use Rattle.trace_record.specs.Flaws.{access_flaw, region_flaw}
-use Rattle.trace_record.specs.Spelling.{header}
+use Rattle.trace_record.specs.declared.event.Event.TheVariants as event
+use Rattle.trace_record.specs.declared.shade.Kind.TheVariants as kind
+use Rattle.trace_record.specs.declared.shade.Shade.{Shade}
+use Rattle.trace_record.specs.declared.version.Version.{Version}
+use Rattle.trace_record.specs.declared.version.Version.TheVariants as version
+use Rattle.trace_record.specs.Flaws.{access_flaw, region_flaw, shade_flaw}
+use Rattle.trace_record.specs.Shades.{shade_kind}
+use Rattle.trace_record.specs.Spelling.{header, spelling, spells_in}
 use Rattle.trace_record.specs.Standing.{StandsAt}
-use Rattle.trace_record.specs.Stream.{IsDecided, IsInHeader, IsInRecords, IsOpen, Spells}
+use Rattle.trace_record.specs.Stream.{IsDecided, IsInHeader, IsInRecords, IsMadeOf, IsOpen, Spells}
 use Rattle.trace_record.specs.Stream.{offset_of}
+use Rattle.trace_record.proofs.Steps.{none_to_spell}
 
 -- ---- where a decoder stands
 
 -- the first byte of a load was read after the header, and the decoder holds no byte
 drops_record_cut_in_two :
     (limit : ℕ) (events : List Event) →
-    ¬ StandsAt (record { limit = limit; events = 0; offset = 8; rest = []; stop = None })
-    (header ++ 1 ∷ []) events
+    ¬ StandsAt
+    (record { limit = limit; version = version.One; events = 0; offset = 8; rest = []; stop = None })
+    (header version.One ++ 1 ∷ []) events
 drops_record_cut_in_two limit [] stands = go stands.reads
   where
-    go : IsInHeader (header ++ 1 ∷ []) [] [] ⊎ IsInRecords limit (header ++ 1 ∷ []) [] [] → ⊥
+    text : List ℕ
+    text = header version.One ++ 1 ∷ []
+
+    go : IsInHeader text [] [] ⊎ IsInRecords limit text [] [] → ⊥
     go (inl short) = absurd (omega (arith, short.short))
     go (inr whole) =
-        let nine_is_eight : ◌≡◌ {A = ℕ} 9 8 = ap length whole.split in absurd (omega arith)
+        let nine_is_eight : ◌≡◌ {A = ℕ} 9 8 = ap length whole.made.split in absurd (omega arith)
 drops_record_cut_in_two limit (e ∷ events) stands =
     let none_is_some : 0 ≡ length (e ∷ events) = stands.count in absurd cc
 
 -- an event was read and counted, and it is not given
 last_event_read_ahead_is_dropped :
-    (limit offset : ℕ) (text : List ℕ) →
-    ¬ StandsAt (record { limit = limit; events = 1; offset = offset; rest = []; stop = None })
+    (limit offset : ℕ) (v : Version) (text : List ℕ) →
+    ¬ StandsAt
+    (record { limit = limit; version = v; events = 1; offset = offset; rest = []; stop = None })
     text []
-last_event_read_ahead_is_dropped limit offset text stands =
+last_event_read_ahead_is_dropped limit offset v text stands =
     let one_is_none : ◌≡◌ {A = ℕ} 1 0 = stands.count in absurd (omega arith)
 
 -- ---- ends
@@ -67,11 +79,13 @@ close_not_counted limit n text events spells =
 -- an open text is a byte shorter than the header and the longest records
 bound_is_a_byte_short :
     ¬ ((limit : ℕ) (text : List ℕ) (events : List Event) →
-    IsOpen limit text events → length text ≤ 17 * limit + 7)
+    IsOpen limit text events → length text ≤ 18 * limit + 7)
 bound_is_a_byte_short short =
-    let bare : IsOpen 0 header [] =
-    ([], inr (record { split = refl; follows = omega arith })) in
-    let eight_is_seven : 8 ≤ 7 = short 0 header [] bare in
+    let made : IsMadeOf version.Two (header version.Two) [] [] =
+    record { spelled = none_to_spell version.Two; split = refl } in
+    let bare : IsOpen 0 (header version.Two) [] =
+    ([], inr (record { version = version.Two; made = made; follows = omega arith })) in
+    let eight_is_seven : 8 ≤ 7 = short 0 (header version.Two) [] bare in
     absurd (omega arith)
 
 -- ---- flaws
@@ -85,5 +99,48 @@ range_before_width : access_flaw 0x8000_0000_0000 3 ≢ Some flaw.Range
 range_before_width same = absurd cc
 
 -- of a region with two flaws the range is found first
-range_before_size : region_flaw 0x8000_0000_0000 0x1000_0001 ≢ Some flaw.Range
-range_before_size same = absurd cc
+range_before_size : (v : Version) → region_flaw v 0x8000_0000_0000 0x1000_0001 ≢ Some flaw.Range
+range_before_size version.One same = absurd cc
+range_before_size version.Two same = absurd cc
+
+-- of a poison with two flaws the size is found before the kind
+size_before_kind : shade_flaw version.Two 0x1000 0x1000_0001 3 ≢ Some flaw.Size
+size_before_kind same = absurd cc
+
+-- there is a fourth kind
+kind_of_three_taken : shade_flaw version.Two 0x1000 8 3 ≢ None
+kind_of_three_taken same = absurd cc
+
+-- ---- versions
+
+-- a stream of version 1 has the poison of a redzone
+stack_poison_in_version_1 :
+    (s : Shade) → shade_kind s ≡ kind.Stack →
+    ¬ IsTrue (spells_in version.One (event.Poison s))
+stack_poison_in_version_1 s is spells =
+    let no_is_yes : ◌≡◌ {A = Bool} false true = rw is at spells in absurd cc
+
+abbrev packed_in : Event → ℕ
+packed_in (event.Poison s) = s.size_and_kind
+packed_in _ = 0
+
+-- two events that version 1 does not tell apart would have one spelling there
+kinds_are_told_in_version_1 :
+    ¬ ((e f : Event) → spelling version.One e ≡ spelling version.One f → e ≡ f)
+kinds_are_told_in_version_1 told =
+    let user : Shade = record {
+      at = 0;
+      size_and_kind = 0;
+      known_kind = omega arith;
+      small = omega arith;
+      in_range = omega arith;
+    } in
+    let stack : Shade = record {
+      at = 0;
+      size_and_kind = 1;
+      known_kind = omega arith;
+      small = omega arith;
+      in_range = omega arith;
+    } in
+    let same = told (event.Poison user) (event.Poison stack) refl in
+    let none_is_one : ◌≡◌ {A = ℕ} 0 1 = ap packed_in same in absurd (omega arith)

@@ -1,12 +1,12 @@
 -- An event is known by its fields, which fit and have no flaw; fields without a flaw are those of an event.
-use Rattle.std.proofs.Common.{◌≡◌, ℕ, ◌+◌, ◌^◌, ◌<◌, ◌≤◌, ◌⊎◌, List, ◌++◌, length, None, refl, sym, ap, subst, arith, inl, inr}
-use Rattle.std.specs.Prelude.{IsTrue}
+use Rattle.std.proofs.Common.{◌≡◌, ℕ, ◌+◌, ◌*◌, ◌^◌, ◌<◌, ◌≤◌, ◌⊎◌, Bool, true, List, ◌++◌, length, None, refl, sym, ap, subst, ◌∙◌, arith, inl, inr}
+use Rattle.std.specs.Prelude.{IsTrue, ◌/◌, ◌%◌, ◌&&◌, nat_le}
 use Rattle.std.proofs.Math.Bridge.{le_prop}
 use Rattle.std.proofs.Props.{props}
 use Rattle.std.proofs.lemmas.Bool.{cases_eq}
 use Rattle.std.proofs.lemmas.Bool.Decides.{nat_tests}
 use Rattle.asan_units.specs.Units.{is_width}
-use Rattle.trace_record.specs.Flaws.{access_flaw, region_flaw, place_flaw}
+use Rattle.trace_record.specs.Flaws.{access_flaw, region_flaw, shade_flaw, place_flaw}
 use Rattle.trace_record.specs.declared.event.Access.{Access}
 use Rattle.trace_record.specs.declared.event.Region.{Region}
 use Rattle.trace_record.specs.declared.event.Place.{Place}
@@ -15,8 +15,17 @@ use Rattle.trace_record.specs.declared.event.Event.TheVariants as event
 use Rattle.trace_record.specs.declared.fields.Fields.{Fields}
 use Rattle.trace_record.specs.declared.fields.Numbers.{Numbers}
 use Rattle.trace_record.specs.declared.fields.Numbers.TheVariants as numbers
-use Rattle.trace_record.specs.Spelling.{Fit, record_bytes, fields_of, flaw_of, record_length, spelling}
+use Rattle.trace_record.specs.declared.shade.Kind.{Kind}
+use Rattle.trace_record.specs.declared.shade.Kind.TheVariants as kind
+use Rattle.trace_record.specs.declared.shade.Shade.{Shade}
+use Rattle.trace_record.specs.declared.version.Version.{Version}
+use Rattle.trace_record.specs.declared.version.Version.TheVariants as version
+use Rattle.trace_record.specs.Kinds.{kind_number, kind_of}
+use Rattle.trace_record.specs.Ranges.{largest_region}
+use Rattle.trace_record.specs.Shades.{shade_size, shade_kind}
+use Rattle.trace_record.specs.Spelling.{Fit, record_bytes, fields_of, poison_numbers, flaw_of, poison_length, record_length, spelling, spells_in, has_kind}
 use Rattle.trace_record.proofs.Numbers.{same_fields}
+use Rattle.trace_record.proofs.Steps.{poison_lengths}
 
 IsTrue_prop : (width : ℕ) → IsProp (IsTrue (is_width width))
 IsTrue_prop width = hlevel props
@@ -33,6 +42,20 @@ same_region a b at size =
     let here : P a.at a.size = λ small in_range i. record { at = a.at; size = a.size; small = le_prop a.small small i; in_range = le_prop a.in_range in_range i } in
     (subst (λ (w : ℕ). P b.at w) size (subst (λ (n : ℕ). P n a.size) at here)) b.small b.in_range
 
+same_number : (m n : ℕ) → m / 4 ≡ n / 4 → m % 4 ≡ n % 4 → m ≡ n
+same_number m n sizes kinds = omega arith
+
+kind_back : (n : ℕ) → n < 3 → kind_number (kind_of n) ≡ n
+kind_back n known = grind (arith, nat_tests)
+
+pub same_shade : (a b : Shade) → a.at ≡ b.at → shade_size a ≡ shade_size b → kind_number (shade_kind a) ≡ kind_number (shade_kind b) → a ≡ b
+same_shade a b at size kind =
+    let rest : a.size_and_kind % 4 ≡ b.size_and_kind % 4 = sym (kind_back (a.size_and_kind % 4) a.known_kind) ∙ kind ∙ kind_back (b.size_and_kind % 4) b.known_kind in
+    let packed : a.size_and_kind ≡ b.size_and_kind = same_number a.size_and_kind b.size_and_kind size rest in
+    let P : ℕ → ℕ → Type 0 = λ at packed. (known : packed % 4 < 3) (small : packed / 4 ≤ 2 ^ 28) (in_range : at + packed / 4 ≤ 2 ^ 47) → a ≡ record { at = at; size_and_kind = packed; known_kind = known; small = small; in_range = in_range } in
+    let here : P a.at a.size_and_kind = λ known small in_range i. record { at = a.at; size_and_kind = a.size_and_kind; known_kind = le_prop a.known_kind known i; small = le_prop a.small small i; in_range = le_prop a.in_range in_range i } in
+    (subst (λ (w : ℕ). P b.at w) packed (subst (λ (n : ℕ). P n a.size_and_kind) at here)) b.known_kind b.small b.in_range
+
 pub same_place : (a b : Place) → a.at ≡ b.at → a ≡ b
 same_place a b at =
     let P : ℕ → Type 0 = λ at. (in_range : at < 2 ^ 47) → a ≡ record { at = at; in_range = in_range } in
@@ -45,72 +68,127 @@ numbers_of x y is = ap (λ (z : Fields). z.numbers) is
 code_of : (x y : Fields) → x ≡ y → x.code ≡ y.code
 code_of x y is = ap (λ (z : Fields). z.code) is
 
--- events with the same fields are one
-pub same_event : (e f : Event) → fields_of e ≡ fields_of f → e ≡ f
-same_event (event.Load a) (event.Load b) is = let n = numbers_of _ _ is in ap event.Load (same_access a b (cc) (cc))
-same_event (event.Store a) (event.Store b) is = let n = numbers_of _ _ is in ap event.Store (same_access a b (cc) (cc))
-same_event (event.Malloc a) (event.Malloc b) is = let n = numbers_of _ _ is in ap event.Malloc (same_region a b (cc) (cc))
-same_event (event.Free a) (event.Free b) is = let n = numbers_of _ _ is in ap event.Free (same_place a b (cc))
-same_event (event.Poison a) (event.Poison b) is = let n = numbers_of _ _ is in ap event.Poison (same_region a b (cc) (cc))
-same_event (event.Unpoison a) (event.Unpoison b) is = let n = numbers_of _ _ is in ap event.Unpoison (same_region a b (cc) (cc))
-same_event _ _ is = absurd (let n = code_of _ _ is in omega arith)
+-- of both is either
+first_of : (a b : Bool) → IsTrue (a && b) → IsTrue a
+first_of a b both = grind (arith, nat_tests)
+
+second_of : (a b : Bool) → IsTrue (a && b) → IsTrue b
+second_of a b both = grind (arith, nat_tests)
+
+-- version 1 has no other kind than a user's
+user_alone : (k : Kind) → IsTrue (has_kind version.One k) → kind_number k ≡ 0
+user_alone kind.User has = refl
+user_alone kind.Stack has = absurd cc
+user_alone kind.Global has = absurd cc
+
+same_poison : (v : Version) (a b : Shade) → IsTrue (spells_in v (event.Poison a)) → IsTrue (spells_in v (event.Poison b)) → poison_numbers v a ≡ poison_numbers v b → a ≡ b
+same_poison version.One a b sa sb n =
+    let ka : kind_number (shade_kind a) ≡ 0 = user_alone (shade_kind a) (first_of _ _ sa) in
+    let kb : kind_number (shade_kind b) ≡ 0 = user_alone (shade_kind b) (first_of _ _ sb) in
+    same_shade a b (cc) (cc) (ka ∙ sym kb)
+same_poison version.Two a b sa sb n = same_shade a b (cc) (cc) (cc)
+
+-- events that spell in a version and have the same fields there are one
+pub same_event : (v : Version) (e f : Event) → IsTrue (spells_in v e) → IsTrue (spells_in v f) → fields_of v e ≡ fields_of v f → e ≡ f
+same_event v (event.Load a) (event.Load b) se sf is = let n = numbers_of _ _ is in ap event.Load (same_access a b (cc) (cc))
+same_event v (event.Store a) (event.Store b) se sf is = let n = numbers_of _ _ is in ap event.Store (same_access a b (cc) (cc))
+same_event v (event.Malloc a) (event.Malloc b) se sf is = let n = numbers_of _ _ is in ap event.Malloc (same_region a b (cc) (cc))
+same_event v (event.Free a) (event.Free b) se sf is = let n = numbers_of _ _ is in ap event.Free (same_place a b (cc))
+same_event v (event.Poison a) (event.Poison b) se sf is = ap event.Poison (same_poison v a b se sf (numbers_of _ _ is))
+same_event v (event.Unpoison a) (event.Unpoison b) se sf is = let n = numbers_of _ _ is in ap event.Unpoison (same_region a b (cc) (cc))
+same_event v _ _ se sf is = absurd (let n = code_of _ _ is in omega arith)
 
 width_small : (width : ℕ) → IsTrue (is_width width) → width < 2 ^ 8
 width_small width known = grind (arith, nat_tests)
 
+pub kind_small : (k : Kind) → kind_number k ≤ 2
+kind_small kind.User = omega arith
+kind_small kind.Stack = omega arith
+kind_small kind.Global = omega arith
+
+poison_fits : (v : Version) (s : Shade) → Fit v (fields_of v (event.Poison s))
+poison_fits version.One s = (refl, (omega arith, omega arith))
+poison_fits version.Two s = (refl, (let small = kind_small (shade_kind s) in omega arith, omega arith, omega arith))
+
 -- an event's fields are those of a record
-pub event_fits : (e : Event) → Fit (fields_of e)
-event_fits (event.Load a) = (refl, (width_small a.width a.known_width, omega arith))
-event_fits (event.Store a) = (refl, (width_small a.width a.known_width, omega arith))
-event_fits (event.Malloc r) = (refl, (omega arith, omega arith))
-event_fits (event.Free p) = (refl, omega arith)
-event_fits (event.Poison r) = (refl, (omega arith, omega arith))
-event_fits (event.Unpoison r) = (refl, (omega arith, omega arith))
+pub event_fits : (v : Version) (e : Event) → Fit v (fields_of v e)
+event_fits v (event.Load a) = (refl, (width_small a.width a.known_width, omega arith))
+event_fits v (event.Store a) = (refl, (width_small a.width a.known_width, omega arith))
+event_fits v (event.Malloc r) = (refl, (omega arith, omega arith))
+event_fits v (event.Free p) = (refl, omega arith)
+event_fits v (event.Poison s) = poison_fits v s
+event_fits v (event.Unpoison r) = (refl, (omega arith, omega arith))
 
 no_access_flaw : (at width : ℕ) → IsTrue (is_width width) → at + width ≤ 2 ^ 47 → access_flaw at width ≡ None
 no_access_flaw at width known in_range = grind (arith, nat_tests)
 
-no_region_flaw : (at size : ℕ) → size ≤ 2 ^ 28 → at + size ≤ 2 ^ 47 → region_flaw at size ≡ None
-no_region_flaw at size small in_range = grind (arith, nat_tests)
+no_region_flaw : (v : Version) (at size : ℕ) → IsTrue (nat_le size (largest_region v)) → at + size ≤ 2 ^ 47 → region_flaw v at size ≡ None
+no_region_flaw v at size small in_range = grind (arith, nat_tests)
+
+no_shade_flaw : (v : Version) (at size kind : ℕ) → kind ≤ 2 → IsTrue (nat_le size (largest_region v)) → at + size ≤ 2 ^ 47 → shade_flaw v at size kind ≡ None
+no_shade_flaw v at size kind known small in_range = grind (arith, nat_tests)
 
 no_place_flaw : (at : ℕ) → at < 2 ^ 47 → place_flaw at ≡ None
 no_place_flaw at in_range = grind (arith, nat_tests)
 
--- an event's numbers have no flaw
-pub event_flawless : (e : Event) → flaw_of (fields_of e).numbers ≡ None
-event_flawless (event.Load a) = no_access_flaw a.at a.width a.known_width a.in_range
-event_flawless (event.Store a) = no_access_flaw a.at a.width a.known_width a.in_range
-event_flawless (event.Malloc r) = no_region_flaw r.at r.size r.small r.in_range
-event_flawless (event.Free p) = no_place_flaw p.at p.in_range
-event_flawless (event.Poison r) = no_region_flaw r.at r.size r.small r.in_range
-event_flawless (event.Unpoison r) = no_region_flaw r.at r.size r.small r.in_range
+poison_flawless : (v : Version) (s : Shade) → IsTrue (spells_in v (event.Poison s)) → flaw_of v (poison_numbers v s) ≡ None
+poison_flawless version.One s spells = no_region_flaw version.One s.at (shade_size s) (second_of (has_kind version.One (shade_kind s)) _ spells) s.in_range
+poison_flawless version.Two s spells = no_shade_flaw version.Two s.at (shade_size s) (kind_number (shade_kind s)) (kind_small (shade_kind s)) (second_of (has_kind version.Two (shade_kind s)) _ spells) s.in_range
+
+-- the numbers of an event have no flaw in a version that it spells in
+pub event_flawless : (v : Version) (e : Event) → IsTrue (spells_in v e) → flaw_of v (fields_of v e).numbers ≡ None
+event_flawless v (event.Load a) spells = no_access_flaw a.at a.width a.known_width a.in_range
+event_flawless v (event.Store a) spells = no_access_flaw a.at a.width a.known_width a.in_range
+event_flawless v (event.Malloc r) spells = no_region_flaw v r.at r.size spells r.in_range
+event_flawless v (event.Free p) spells = no_place_flaw p.at p.in_range
+event_flawless v (event.Poison s) spells = poison_flawless v s spells
+event_flawless v (event.Unpoison r) spells = no_region_flaw v r.at r.size spells r.in_range
 
 access_of : (at width : ℕ) → access_flaw at width ≡ None → IsTrue (is_width width) × (at + width ≤ 2 ^ 47)
 access_of at width none = (grind (arith, nat_tests), grind (arith, nat_tests))
 
-region_of : (at size : ℕ) → region_flaw at size ≡ None → (size ≤ 2 ^ 28) × (at + size ≤ 2 ^ 47)
-region_of at size none = (grind (arith, nat_tests), grind (arith, nat_tests))
+-- no version has a larger region than version 2
+largest_of_all : (v : Version) → largest_region v ≤ largest_region version.Two
+largest_of_all version.One = omega arith
+largest_of_all version.Two = omega arith
+
+pub record IsGoodRegion (v : Version) (at size : ℕ) : Type 0 where
+  pub fits : IsTrue (nat_le size (largest_region v))
+  pub small : size ≤ 2 ^ 28
+  pub in_range : at + size ≤ 2 ^ 47
+
+pub region_of : (v : Version) (at size : ℕ) → region_flaw v at size ≡ None → IsGoodRegion v at size
+region_of v at size none =
+    record { fits = grind (arith, nat_tests); small = (let most = largest_of_all v in grind (arith, nat_tests)); in_range = grind (arith, nat_tests) }
 
 place_of : (at : ℕ) → place_flaw at ≡ None → at < 2 ^ 47
 place_of at none = grind (arith, nat_tests)
 
+only_version_1 : (v : Version) → 17 ≡ poison_length v → v ≡ version.One
+only_version_1 version.One is = refl
+only_version_1 version.Two is = absurd (omega arith)
+
+only_version_2 : (v : Version) → 18 ≡ poison_length v → v ≡ version.Two
+only_version_2 version.One is = absurd (omega arith)
+only_version_2 version.Two is = refl
+
 -- the codes of the records of each length
-access_codes : (code : ℕ) → 10 ≡ record_length code → (code ≡ 1) ⊎ (code ≡ 2)
-access_codes code long =
+access_codes : (v : Version) (code : ℕ) → 10 ≡ record_length v code → (code ≡ 1) ⊎ (code ≡ 2)
+access_codes v code long =
     elim (cases_eq code 1) [
       | inl is ↦ inl is
       | inr other ↦ elim (cases_eq code 2) [
         | inl is ↦ inr is
-        | inr none ↦ absurd (grind (arith, nat_tests))
+        | inr none ↦ absurd (let poison = poison_lengths v in grind (arith, nat_tests))
       ]
     ]
 
-region_codes : (code : ℕ) → 17 ≡ record_length code → (code ≡ 3) ⊎ ((code ≡ 5) ⊎ (code ≡ 6))
-region_codes code long =
+region_codes : (v : Version) (code : ℕ) → 17 ≡ record_length v code → (code ≡ 3) ⊎ (((code ≡ 5) × (v ≡ version.One)) ⊎ (code ≡ 6))
+region_codes v code long =
     elim (cases_eq code 3) [
       | inl is ↦ inl is
       | inr other ↦ elim (cases_eq code 5) [
-        | inl is ↦ inr (inl is)
+        | inl is ↦ inr (inl (is, only_version_1 v (grind (arith, nat_tests))))
         | inr more ↦ elim (cases_eq code 6) [
           | inl is ↦ inr (inr is)
           | inr none ↦ absurd (grind (arith, nat_tests))
@@ -118,29 +196,101 @@ region_codes code long =
       ]
     ]
 
-place_code : (code : ℕ) → 9 ≡ record_length code → code ≡ 4
-place_code code long = grind (arith, nat_tests)
+shade_code : (v : Version) (code : ℕ) → 18 ≡ record_length v code → (code ≡ 5) × (v ≡ version.Two)
+shade_code v code long =
+    let is : code ≡ 5 = grind (arith, nat_tests) in
+    (is, only_version_2 v (grind (arith, nat_tests)))
 
-access_event : (code : ℕ) (a : Access) → (code ≡ 1) ⊎ (code ≡ 2) → (e : Event) × (fields_of e ≡ record { code = code; numbers = numbers.Access a.width a.at })
-access_event code a (inl is) = (event.Load a, λ i. record { code = sym is i; numbers = numbers.Access a.width a.at })
-access_event code a (inr is) = (event.Store a, λ i. record { code = sym is i; numbers = numbers.Access a.width a.at })
+place_code : (v : Version) (code : ℕ) → 9 ≡ record_length v code → code ≡ 4
+place_code v code long = let poison = poison_lengths v in grind (arith, nat_tests)
 
-region_event : (code : ℕ) (r : Region) → (code ≡ 3) ⊎ ((code ≡ 5) ⊎ (code ≡ 6)) → (e : Event) × (fields_of e ≡ record { code = code; numbers = numbers.Region r.at r.size })
-region_event code r (inl is) = (event.Malloc r, λ i. record { code = sym is i; numbers = numbers.Region r.at r.size })
-region_event code r (inr (inl is)) = (event.Poison r, λ i. record { code = sym is i; numbers = numbers.Region r.at r.size })
-region_event code r (inr (inr is)) = (event.Unpoison r, λ i. record { code = sym is i; numbers = numbers.Region r.at r.size })
+-- an event that spells in a version and has these fields there
+pub record HasEvent (v : Version) (x : Fields) : Type 0 where
+  pub event : Event
+  pub spells : IsTrue (spells_in v event)
+  pub fields : fields_of v event ≡ x
 
-event_with : (code : ℕ) (x : Numbers) → length (record_bytes code x) ≡ record_length code → flaw_of x ≡ None → (e : Event) × (fields_of e ≡ record { code = code; numbers = x })
-event_with code (numbers.Access width at) long none = let h = access_of at width none in access_event code record { at = at; width = width; known_width = h.0; in_range = h.1 } (access_codes code long)
-event_with code (numbers.Region at size) long none = let h = region_of at size none in region_event code record { at = at; size = size; small = h.0; in_range = h.1 } (region_codes code long)
-event_with code (numbers.Place at) long none = (event.Free record { at = at; in_range = place_of at none }, λ i. record { code = sym (place_code code long) i; numbers = numbers.Place at })
+access_event : (v : Version) (code : ℕ) (a : Access) → (code ≡ 1) ⊎ (code ≡ 2) → HasEvent v (record { code = code; numbers = numbers.Access a.width a.at })
+access_event v code a (inl is) = record { event = event.Load a; spells = refl; fields = λ i. record { code = sym is i; numbers = numbers.Access a.width a.at } }
+access_event v code a (inr is) = record { event = event.Store a; spells = refl; fields = λ i. record { code = sym is i; numbers = numbers.Access a.width a.at } }
+
+-- the poison of these numbers
+pub record HasShade (at size : ℕ) (k : Kind) : Type 0 where
+  pub shade : Shade
+  pub at_is : shade.at ≡ at
+  pub size_is : shade_size shade ≡ size
+  pub kind_is : shade_kind shade ≡ k
+
+kind_there : (k : Kind) → kind_of (kind_number k) ≡ k
+kind_there kind.User = refl
+kind_there kind.Stack = refl
+kind_there kind.Global = refl
+
+shade_with : (at size : ℕ) (k : Kind) → size ≤ 2 ^ 28 → at + size ≤ 2 ^ 47 → HasShade at size k
+shade_with at size k small in_range =
+    let packed = size * 4 + kind_number k in
+    let few = kind_small k in
+    let front : packed / 4 ≡ size = omega arith in
+    let last : packed % 4 ≡ kind_number k = omega arith in
+    record {
+      shade = record { at = at; size_and_kind = packed; known_kind = omega arith; small = omega arith; in_range = omega arith };
+      at_is = refl;
+      size_is = front;
+      kind_is = ap kind_of last ∙ kind_there k;
+    }
+
+poison_of_1 : (r : Region) → IsTrue (nat_le r.size (largest_region version.One)) → HasEvent version.One (record { code = 5; numbers = numbers.Region r.at r.size })
+poison_of_1 r fits =
+    let s = shade_with r.at r.size kind.User r.small r.in_range in
+    record {
+      event = event.Poison s.shade;
+      spells = rw (s.kind_is, s.size_is) fits;
+      fields = λ i. record { code = 5; numbers = numbers.Region (s.at_is i) (s.size_is i) };
+    }
+
+poison_of_2 : (at size : ℕ) (k : Kind) → IsGoodRegion version.Two at size → HasEvent version.Two (record { code = 5; numbers = numbers.Shade (kind_number k) at size })
+poison_of_2 at size k good =
+    let s = shade_with at size k good.small good.in_range in
+    record {
+      event = event.Poison s.shade;
+      spells = rw (s.size_is) (good.fits);
+      fields = λ i. record { code = 5; numbers = numbers.Shade (kind_number (s.kind_is i)) (s.at_is i) (s.size_is i) };
+    }
+
+region_event : (v : Version) (code : ℕ) (r : Region) → IsTrue (nat_le r.size (largest_region v)) → (code ≡ 3) ⊎ (((code ≡ 5) × (v ≡ version.One)) ⊎ (code ≡ 6)) → HasEvent v (record { code = code; numbers = numbers.Region r.at r.size })
+region_event v code r fits (inl is) = record { event = event.Malloc r; spells = fits; fields = λ i. record { code = sym is i; numbers = numbers.Region r.at r.size } }
+region_event v code r fits (inr (inl (is, one))) =
+    let one_fits : IsTrue (nat_le r.size (largest_region version.One)) = subst (λ (w : Version). IsTrue (nat_le r.size (largest_region w))) one fits in
+    subst (λ (w : Version). HasEvent w (record { code = code; numbers = numbers.Region r.at r.size })) (sym one)
+    (subst (λ (n : ℕ). HasEvent version.One (record { code = n; numbers = numbers.Region r.at r.size })) (sym is) (poison_of_1 r one_fits))
+region_event v code r fits (inr (inr is)) = record { event = event.Unpoison r; spells = fits; fields = λ i. record { code = sym is i; numbers = numbers.Region r.at r.size } }
+
+known_kind : (v : Version) (at size kind : ℕ) → shade_flaw v at size kind ≡ None → kind ≤ 2
+known_kind v at size kind none = grind (arith, nat_tests)
+
+region_none : (v : Version) (at size kind : ℕ) → shade_flaw v at size kind ≡ None → region_flaw v at size ≡ None
+region_none v at size kind none = let known = known_kind v at size kind none in grind (arith, nat_tests)
+
+shade_event : (v : Version) (code kind at size : ℕ) → shade_flaw v at size kind ≡ None → (code ≡ 5) × (v ≡ version.Two) → HasEvent v (record { code = code; numbers = numbers.Shade kind at size })
+shade_event v code kind at size none (is, two) =
+    let good : IsGoodRegion version.Two at size = subst (λ (w : Version). IsGoodRegion w at size) two (region_of v at size (region_none v at size kind none)) in
+    let known = kind_back kind (let most = known_kind v at size kind none in omega arith) in
+    let here : HasEvent version.Two (record { code = 5; numbers = numbers.Shade kind at size }) = subst (λ (n : ℕ). HasEvent version.Two (record { code = 5; numbers = numbers.Shade n at size })) known (poison_of_2 at size (kind_of kind) good) in
+    subst (λ (w : Version). HasEvent w (record { code = code; numbers = numbers.Shade kind at size })) (sym two)
+    (subst (λ (n : ℕ). HasEvent version.Two (record { code = n; numbers = numbers.Shade kind at size })) (sym is) here)
+
+event_with : (v : Version) (code : ℕ) (x : Numbers) → length (record_bytes code x) ≡ record_length v code → flaw_of v x ≡ None → HasEvent v (record { code = code; numbers = x })
+event_with v code (numbers.Access width at) long none = let h = access_of at width none in access_event v code record { at = at; width = width; known_width = h.0; in_range = h.1 } (access_codes v code long)
+event_with v code (numbers.Region at size) long none = let h = region_of v at size none in region_event v code record { at = at; size = size; small = h.small; in_range = h.in_range } h.fits (region_codes v code long)
+event_with v code (numbers.Shade kind at size) long none = shade_event v code kind at size none (shade_code v code long)
+event_with v code (numbers.Place at) long none = record { event = event.Free record { at = at; in_range = place_of at none }; spells = refl; fields = λ i. record { code = sym (place_code v code long) i; numbers = numbers.Place at } }
 
 -- fields whose numbers have no flaw are those of an event
-pub event_of : (x : Fields) → Fit x → flaw_of x.numbers ≡ None → (e : Event) × (fields_of e ≡ x)
-event_of x fit none = event_with x.code x.numbers fit.0 none
+pub event_of : (v : Version) (x : Fields) → Fit v x → flaw_of v x.numbers ≡ None → HasEvent v x
+event_of v x fit none = event_with v x.code x.numbers fit.0 none
 
 -- no spelling begins another
-pub no_prefix : (e f : Event) (x y : List ℕ) → spelling e ++ x ≡ spelling f ++ y → (e ≡ f) × (x ≡ y)
-no_prefix e f x y is =
-    let same = same_fields (fields_of e) (fields_of f) x y (event_fits e) (event_fits f) is in
-    (same_event e f same.0, same.1)
+pub no_prefix : (v : Version) (e f : Event) (x y : List ℕ) → IsTrue (spells_in v e) → IsTrue (spells_in v f) → spelling v e ++ x ≡ spelling v f ++ y → (e ≡ f) × (x ≡ y)
+no_prefix v e f x y se sf is =
+    let same = same_fields v (fields_of v e) (fields_of v f) x y (event_fits v e) (event_fits v f) is in
+    (same_event v e f se sf same.0, same.1)

@@ -8,11 +8,11 @@ use Rattle.trace_record.specs.Spelling.{record_length}
 pub record IsSound (d : Inside) : Type 0 where
   pub limited : d.limit ≤ largest_limit
   pub counted : d.events ≤ d.limit
-  -- the header has 8 bytes, and no record has more than 17
-  pub measured : d.offset ≤ 8 + 17 * d.events
+  -- the header has 8 bytes, and no record has more than 18
+  pub measured : d.offset ≤ 8 + 18 * d.events
   -- before the header is whole, its first bytes are kept
   pub in_header : d.offset < 8 → length d.partial < 8
   -- after it, a part of a record is kept only where the limit leaves room for the record, and it is
   -- never all of the record
   pub in_record : 8 ≤ d.offset → 0 < length d.partial →
-      (d.events < d.limit) × (length d.partial < record_length (slice_index d.partial 0))
+      (d.events < d.limit) × (length d.partial < record_length d.version (slice_index d.partial 0))

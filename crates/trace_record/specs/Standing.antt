@@ -7,13 +7,16 @@ use Rattle.trace_record.specs.declared.end.Fate.{Fate}
 use Rattle.trace_record.specs.declared.decoder.Out.{Out}
 use Rattle.trace_record.specs.declared.decoder.Out.TheVariants as out
 use Rattle.trace_record.specs.declared.decoder.Step.{Step}
+use Rattle.trace_record.specs.declared.version.Version.{Version}
 use Rattle.trace_record.specs.Stream.{IsOpenWith, IsDecidedFate, IsDecidedByLast, Spells}
-use Rattle.trace_record.specs.Stream.{offset_of, close_length}
+use Rattle.trace_record.specs.Stream.{version_of, offset_of, close_length}
 
--- what a contract sees of a decoder: its event limit, the counts of good events and of the bytes of
--- header and good records, the unfinished rest of the text, and the end that it has given, if one
+-- what a contract sees of a decoder: its event limit, the version of the text once its header is
+-- whole, the counts of good events and of the bytes of header and good records, the unfinished rest
+-- of the text, and the end that it has given, if one
 pub record Standing : Type 0 where
   pub limit : ℕ
+  pub version : Version
   pub events : ℕ
   pub offset : ℕ
   pub rest : List ℕ
@@ -25,6 +28,7 @@ pub record StandsAt (d : Standing) (text : List ℕ) (events : List Event) : Typ
   pub reads : IsOpenWith d.limit text events d.rest
   pub count : d.events ≡ length events
   pub offset : d.offset ≡ offset_of text events
+  pub version : 8 ≤ length text → version_of text ≡ Some d.version
 
 -- the end with this fate at what the decoder has read
 abbrev pub end_of : Standing → Fate → End

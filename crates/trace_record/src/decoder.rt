@@ -2,7 +2,7 @@
 
 ghost use Rattle.std.specs.Prelude.{◌≡◌, ◌≢◌, ◌<◌, ◌≤◌, ◌↔◌, ◌⊎◌, [], ◌∷◌, ◌++◌};
 ghost use Rattle.std.specs.Prelude.{ℕ, List, length, slice_index, take};
-ghost use Rattle.std.specs.Prelude.{IsTrue, IsSome, IfSome, IfNone, IfOk, Some, None};
+ghost use Rattle.std.specs.Prelude.{IsTrue, IsSome, IfSome, IfNone, IfOk, Some, None, Ok};
 ghost use Rattle.trace_record.specs.Ranges.{largest_limit};
 ghost use Rattle.trace_record.specs.Reading.{Says};
 ghost use Rattle.trace_record.specs.Spelling.{record_length, spelling};
@@ -10,8 +10,9 @@ ghost use Rattle.trace_record.specs.Spelling.{record_length, spelling};
 use crate::end::{End, Fate, Flaw};
 use crate::event::Event;
 use crate::fields::read_record;
-use crate::format::{ACCESS_LENGTH, CLOSE, HEADER, HEADER_LENGTH, LOAD, STORE, length_of};
+use crate::format::{ACCESS_LENGTH, CLOSE, HEADER_LENGTH, LOAD, STORE, length_of, read_header};
 use crate::partial::Partial;
+use crate::version::Version;
 use std::marker::Model;
 
 /// The greatest event limit.
@@ -19,11 +20,13 @@ pub const LARGEST_LIMIT: u32 = 1 << 24;
 
 /// Reads one stream, whose bytes come in pieces of any lengths, record by record.
 ///
-/// It takes no memory. Of what it has read it keeps two counts, and the bytes of a header or record
-/// that a piece cut.
+/// It takes no memory. Of what it has read it keeps the version, two counts, and the bytes of a
+/// header or record that a piece cut.
 #[derive(Drop)]
 pub struct Decoder {
     limit: u32,
+    // Without meaning until the header is whole.
+    version: Version,
     events: u64,
     offset: u64,
     partial: Partial,
@@ -38,6 +41,7 @@ impl Model for Decoder {
 
     ghost view = { λ d. record {
       limit = d.limit;
+      version = d.version;
       events = d.events;
       offset = d.offset;
       rest = d.partial;
@@ -87,6 +91,7 @@ impl Decoder {
         }
         Some(Decoder {
             limit,
+            version: Version::One,
             events: 0,
             offset: 0,
             partial: Partial::new(),
@@ -240,19 +245,21 @@ impl Decoder {
             };
         }
         self.partial.append(&piece[..missing]);
-        let good = self.partial.as_slice() == HEADER.as_slice();
+        let header = read_header(self.partial.as_slice());
         self.partial.clear();
-        if good {
-            self.offset = HEADER_LENGTH as u64;
-            Step {
-                used: missing,
-                out: Out::Need,
+        match header {
+            Some(version) => {
+                self.version = version;
+                self.offset = HEADER_LENGTH as u64;
+                Step {
+                    used: missing,
+                    out: Out::Need,
+                }
             }
-        } else {
-            Step {
+            None => Step {
                 used: missing,
                 out: self.stop(Fate::Malformed(Flaw::Header)),
-            }
+            },
         }
     }
 
@@ -293,7 +300,7 @@ impl Decoder {
             },
             // Most records are these, and their length is a constant.
             LOAD | STORE => self.take_whole(piece, ACCESS_LENGTH),
-            code => self.take_whole(piece, length_of(code)),
+            code => self.take_whole(piece, length_of(self.version, code)),
         }
     }
 
@@ -306,7 +313,7 @@ impl Decoder {
         requires none_cut { self.old.rest ≡ [] }
         requires begun { 0 < length piece.now }
         requires open { slice_index piece.now 0 ≢ 7 }
-        requires size { size ≡ record_length (slice_index piece.now 0) }
+        requires size { size ≡ record_length self.old.version (slice_index piece.now 0) }
         ensures takes { Takes self.old self.new piece.now result }
         ensures need { result.out ≡ Out.Need → result.used ≡ length piece.now }
     {
@@ -329,7 +336,7 @@ impl Decoder {
                 out: Out::Need,
             };
         }
-        let said = read_record(&piece[..size]);
+        let said = read_record(self.version, &piece[..size]);
         self.finish(said, size, size)
     }
 
@@ -351,7 +358,7 @@ impl Decoder {
         if self.events >= u64::from(self.limit) {
             return None;
         }
-        let front = read_front(piece)?;
+        let front = read_front(self.version, piece)?;
         self.events += 1;
         self.offset += front.size as u64;
         Some(front)
@@ -365,7 +372,7 @@ impl Decoder {
         ensures takes { Takes self.old self.new piece.now result }
         ensures need { result.out ≡ Out.Need → result.used ≡ length piece.now }
     {
-        let length = length_of(self.partial.as_slice()[0]);
+        let length = length_of(self.version, self.partial.as_slice()[0]);
         let missing = length - self.partial.len();
         if piece.len() < missing {
             self.partial.append(piece);
@@ -375,7 +382,7 @@ impl Decoder {
             };
         }
         self.partial.append(&piece[..missing]);
-        let said = read_record(self.partial.as_slice());
+        let said = read_record(self.version, self.partial.as_slice());
         self.partial.clear();
         self.finish(said, length, missing)
     }
@@ -387,13 +394,14 @@ impl Decoder {
         requires in_records { 8 ≤ self.old.offset }
         requires none_cut { self.old.rest ≡ [] }
         requires room { self.old.events < self.old.limit }
-        requires size { IfOk said (λ event. size ≡ length (spelling event)) }
+        requires size { IfOk said (λ event. size ≡ length (spelling self.old.version event)) }
         ensures used { result.used ≡ used }
         ensures decides { result.out ≢ Out.Need }
         ensures limit { self.new.limit ≡ self.old.limit }
         ensures stop { self.new.stop ≡ stop_of result.out }
         ensures answers { (text : List ℕ) (events : List Event) (rest part : List ℕ) →
-            StandsAt (record self.old { rest = rest }) text events → Says (rest ++ part) said →
+            StandsAt (record self.old { rest = rest }) text events →
+            Says self.old.version (rest ++ part) said →
             Answers self.new (text ++ part) events result.out }
     {
         match said {
@@ -444,30 +452,30 @@ struct Front {
 
 /// The record that these bytes begin with, if it is whole and good.
 #[inline(always)]
-fn read_front(bytes: &[u8]) -> Option<Front>
+fn read_front(version: Version, bytes: &[u8]) -> Option<Front>
     requires { 0 < length bytes.now }
     ensures { IfSome result (λ front. (front.size ≤ length bytes.now)
-        × (take front.size bytes.now ≡ spelling front.event)) }
+        × Says version (take front.size bytes.now) (Ok front.event)) }
 {
     match bytes[0] {
         // Most records are these, and their length is a constant.
-        LOAD | STORE => read_whole(bytes, ACCESS_LENGTH),
-        code => read_whole(bytes, length_of(code)),
+        LOAD | STORE => read_whole(version, bytes, ACCESS_LENGTH),
+        code => read_whole(version, bytes, length_of(version, code)),
     }
 }
 
 /// The record of `size` bytes that these begin with, if it is whole and good. No record has 0
 /// bytes: that is the length of an unknown code.
 #[inline(always)]
-fn read_whole(bytes: &[u8], size: usize) -> Option<Front>
+fn read_whole(version: Version, bytes: &[u8], size: usize) -> Option<Front>
     requires begun { 0 < length bytes.now }
-    requires size { size ≡ record_length (slice_index bytes.now 0) }
+    requires size { size ≡ record_length version (slice_index bytes.now 0) }
     ensures { IfSome result (λ front. (front.size ≤ length bytes.now)
-        × (take front.size bytes.now ≡ spelling front.event)) }
+        × Says version (take front.size bytes.now) (Ok front.event)) }
 {
     if size == 0 || bytes.len() < size {
         return None;
     }
-    let event = read_record(&bytes[..size]).ok()?;
+    let event = read_record(version, &bytes[..size]).ok()?;
     Some(Front { event, size })
 }

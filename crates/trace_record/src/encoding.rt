@@ -1,30 +1,40 @@
 //! The encoder: it puts the record of an event into a buffer.
 
-ghost use Rattle.std.specs.Prelude.{◌≡◌, ◌+◌, ◌≤◌, ◌∷◌, ◌++◌, length, take, drop};
+ghost use Rattle.std.specs.Prelude.{◌≡◌, ◌+◌, ◌≤◌, ◌∷◌, ◌++◌, IsTrue, length, take, drop};
 ghost use Rattle.std.specs.Int.{w64, to_le_bytes};
-ghost use Rattle.trace_record.specs.Spelling.{spelling};
+ghost use Rattle.trace_record.specs.Kinds.{kind_number};
+ghost use Rattle.trace_record.specs.Shades.{shade_size, shade_kind};
+ghost use Rattle.trace_record.specs.Spelling.{spelling, spells_in};
 
-use crate::event::{Access, Event, Place, Region};
+use crate::event::{Access, Event, Place};
 use crate::format::{
-    ACCESS_LENGTH, FREE, LOAD, MALLOC, PLACE_LENGTH, POISON, RECORD_ROOM, REGION_LENGTH, STORE,
-    UNPOISON,
+    ACCESS_LENGTH, FREE, LOAD, MALLOC, PLACE_LENGTH, POISON, RECORD_ROOM, REGION_LENGTH,
+    SHADE_LENGTH, STORE, UNPOISON,
 };
+use crate::shade::Shade;
+use crate::version::Version;
 use byteorder::{ByteOrder, LittleEndian};
 
-/// Puts an event's record at the front of `out` and answers how many bytes it has, at most 17. The
-/// bytes after it stay.
-pub fn encode(event: &Event, out: &mut [u8; RECORD_ROOM]) -> usize
-    ensures length { result ≡ length (spelling event.now) }
-    ensures front { take result out.new ≡ spelling event.now }
+/// Puts an event's record in a version at the front of `out` and answers how many bytes it has, at
+/// most 18. The bytes after it stay.
+///
+/// The version must be one that the event [spells in](Event::spells_in).
+pub fn encode(version: Version, event: &Event, out: &mut [u8; RECORD_ROOM]) -> usize
+    requires spells { IsTrue (spells_in version event.now) }
+    ensures length { result ≡ length (spelling version event.now) }
+    ensures front { take result out.new ≡ spelling version event.now }
     ensures rest { drop result out.new ≡ drop result out.old }
 {
     match event {
         Event::Load(access) => encode_access(LOAD, access, out),
         Event::Store(access) => encode_access(STORE, access, out),
-        Event::Malloc(region) => encode_region(MALLOC, region, out),
+        Event::Malloc(region) => encode_region(MALLOC, region.at(), region.size(), out),
         Event::Free(place) => encode_place(FREE, place, out),
-        Event::Poison(region) => encode_region(POISON, region, out),
-        Event::Unpoison(region) => encode_region(UNPOISON, region, out),
+        Event::Poison(shade) => match version {
+            Version::One => encode_region(POISON, shade.at(), shade.size(), out),
+            Version::Two => encode_shade(shade, out),
+        },
+        Event::Unpoison(region) => encode_region(UNPOISON, region.at(), region.size(), out),
     }
 }
 
@@ -40,17 +50,30 @@ fn encode_access(code: u8, access: &Access, out: &mut [u8; RECORD_ROOM]) -> usiz
     ACCESS_LENGTH
 }
 
-/// The record of a malloc, a poison or an unpoison.
-fn encode_region(code: u8, region: &Region, out: &mut [u8; RECORD_ROOM]) -> usize
+/// The record of a malloc, an unpoison or a poison of version 1.
+fn encode_region(code: u8, at: u64, size: u64, out: &mut [u8; RECORD_ROOM]) -> usize
     ensures length { result ≡ 17 }
-    ensures front { take 17 out.new
-        ≡ code ∷ to_le_bytes w64 region.now.at ++ to_le_bytes w64 region.now.size }
+    ensures front { take 17 out.new ≡ code ∷ to_le_bytes w64 at ++ to_le_bytes w64 size }
     ensures rest { drop 17 out.new ≡ drop 17 out.old }
 {
     out[0] = code;
-    put_number(out, 1, region.at);
-    put_number(out, 9, region.size);
+    put_number(out, 1, at);
+    put_number(out, 9, size);
     REGION_LENGTH
+}
+
+/// The record of a poison of version 2.
+fn encode_shade(shade: &Shade, out: &mut [u8; RECORD_ROOM]) -> usize
+    ensures length { result ≡ 18 }
+    ensures front { take 18 out.new ≡ 5 ∷ kind_number (shade_kind shade.now)
+        ∷ to_le_bytes w64 shade.now.at ++ to_le_bytes w64 (shade_size shade.now) }
+    ensures rest { drop 18 out.new ≡ drop 18 out.old }
+{
+    out[0] = POISON;
+    out[1] = shade.kind().number();
+    put_number(out, 2, shade.at());
+    put_number(out, 10, shade.size());
+    SHADE_LENGTH
 }
 
 /// The record of a free.

@@ -2,8 +2,10 @@
 
 use thiserror::Error;
 
-/// What is wrong with a header or a record. Where a record has several flaws, it is the first in
-/// this order.
+/// What is wrong with a header or a record.
+///
+/// Where the numbers of a record have several flaws, it is the first of these: `Width`, `Kind`,
+/// `Size`, `Range`. The number of a flaw only names it, and says nothing of this order.
 #[derive(Clone, Copy, Debug, PartialEq, Eq, Error)]
 pub enum Flaw {
     /// The first eight bytes are not the header.
@@ -21,6 +23,9 @@ pub enum Flaw {
     /// The record reaches past the last address.
     #[error("a record reaches past the last address")]
     Range,
+    /// The kind of a poison is over 2.
+    #[error("the kind of a poison is none of 0, 1 and 2")]
+    Kind,
 }
 
 /// How a stream ended.

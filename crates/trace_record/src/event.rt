@@ -1,14 +1,15 @@
 //! The events of a trace, and the ranges that their numbers keep.
 
-ghost use Rattle.std.specs.Prelude.{◌≡◌, ◌+◌, ◌<◌, ◌≤◌, IsTrue, MatchResult, Some};
+ghost use Rattle.std.specs.Prelude.{◌≡◌, ◌+◌, ◌<◌, ◌≤◌, IsTrue, MatchResult, Some, None};
+ghost use Rattle.trace_record.specs.declared.version.Version.TheVariants as version;
 ghost use Rattle.trace_record.specs.Ranges.{largest_region};
 ghost use Rattle.asan_units.specs.Units.{is_width, address_end};
 
 use crate::end::Flaw;
+use crate::shade::{Kind, Shade};
+use crate::version::Version;
 use asan_units::{ADDRESS_END, is_width};
-
-/// The most bytes that a malloc, a poison or an unpoison may speak of.
-const LARGEST_REGION: u64 = 1 << 28;
+use std::mem::size_of;
 
 /// The bytes of a load or a store.
 #[derive(Clone, Copy, Debug, PartialEq, Eq)]
@@ -19,12 +20,12 @@ pub struct Access {
     pub ghost in_range: { at + width ≤ address_end },
 }
 
-/// The bytes of a malloc, a poison or an unpoison.
+/// The bytes of a malloc or an unpoison.
 #[derive(Clone, Copy, Debug, PartialEq, Eq)]
 pub struct Region {
     pub at: u64,
     pub size: u64,
-    pub ghost small: { size ≤ largest_region },
+    pub ghost small: { size ≤ largest_region version.Two },
     pub ghost in_range: { at + size ≤ address_end },
 }
 
@@ -42,8 +43,32 @@ pub enum Event {
     Store(Access),
     Malloc(Region),
     Free(Place),
-    Poison(Region),
+    Poison(Shade),
     Unpoison(Region),
+}
+
+// Each event is moved by its bytes from thread to thread, so it is kept small.
+const _: () = prove!(size_of::<Event>() == 24);
+
+impl Event {
+    ghost use Rattle.trace_record.specs.Spelling.{spells_in};
+
+    /// Whether the event can be spelled in a version. In version 1 a poison of another kind than
+    /// user can't; in version 2 every event can.
+    pub fn spells_in(&self, version: Version) -> bool
+        ensures { result ≡ spells_in version self.now }
+    {
+        match self {
+            Event::Malloc(region) | Event::Unpoison(region) => {
+                region.size() <= version.largest_region()
+            }
+            Event::Poison(shade) => {
+                (version == Version::Two || shade.kind() == Kind::User)
+                    && shade.size() <= version.largest_region()
+            }
+            Event::Load(_) | Event::Store(_) | Event::Free(_) => true,
+        }
+    }
 }
 
 impl Access {
@@ -87,9 +112,18 @@ impl Region {
     /// lie at 2^47.
     pub fn new(at: u64, size: u64) -> Result<Region, Flaw>
         ensures { MatchResult result
-            (λ r. (r.at ≡ at) × (r.size ≡ size)) (λ f. region_flaw at size ≡ Some f) }
+            (λ r. (r.at ≡ at) × (r.size ≡ size)) (λ f. region_flaw version.Two at size ≡ Some f) }
     {
-        if size > LARGEST_REGION {
+        Region::in_version(Version::Two, at, size)
+    }
+
+    /// The region of these numbers in a stream of a version, or their first flaw there.
+    pub(crate) fn in_version(version: Version, at: u64, size: u64) -> Result<Region, Flaw>
+        ensures { MatchResult result
+            (λ r. (r.at ≡ at) × (r.size ≡ size) × (region_flaw version at size ≡ None))
+            (λ f. region_flaw version at size ≡ Some f) }
+    {
+        if size > version.largest_region() {
             return Err(Flaw::Size);
         }
         if at > ADDRESS_END - size {

@@ -1,14 +1,18 @@
 //! The numbers of a whole record: they are read from its bytes, and an event is made of them.
 
 ghost use Rattle.std.specs.Prelude.{◌≡◌, ◌+◌, ◌≤◌, ◌<◌};
-ghost use Rattle.std.specs.Prelude.{length, take, drop, slice_index, MatchResult, Some};
+ghost use Rattle.std.specs.Prelude.{length, take, drop, slice_index, IsTrue, MatchResult, Some};
 ghost use Rattle.std.specs.Int.{w64, to_le_bytes};
+ghost use Rattle.trace_record.specs.declared.version.Version.{Version};
 ghost use Rattle.trace_record.specs.Reading.{Says};
 ghost use Rattle.trace_record.specs.Spelling.{bytes_of, fields_of, flaw_of, record_length};
+ghost use Rattle.trace_record.specs.Spelling.{spells_in};
 
 use crate::end::Flaw;
 use crate::event::{Access, Event, Place, Region};
-use crate::format::{ACCESS_LENGTH, LOAD, MALLOC, POISON, REGION_LENGTH};
+use crate::format::{ACCESS_LENGTH, LOAD, MALLOC, POISON, REGION_LENGTH, SHADE_LENGTH};
+use crate::shade::{Kind, Shade};
+use crate::version::Version;
 use byteorder::{ByteOrder, LittleEndian};
 
 /// The numbers of a record, before their ranges are tested.
@@ -16,8 +20,10 @@ use byteorder::{ByteOrder, LittleEndian};
 pub enum Numbers {
     /// Those of a load or a store.
     Access { width: u8, at: u64 },
-    /// Those of a malloc, a poison or an unpoison.
+    /// Those of a malloc, an unpoison or a poison of version 1.
     Region { at: u64, size: u64 },
+    /// Those of a poison of version 2.
+    Shade { kind: u8, at: u64, size: u64 },
     /// That of a free.
     Place { at: u64 },
 }
@@ -32,13 +38,17 @@ pub struct Fields {
 impl Fields {
     ghost use Rattle.trace_record.specs.Spelling.{Fit};
 
-    /// The fields of a whole record. How many bytes it has says which numbers these are.
+    /// The fields of a whole record. How many bytes it has says which numbers these are, whatever
+    /// the version.
     #[inline(always)]
     fn read(bytes: &[u8]) -> Fields
         requires begun { 0 < length bytes.now }
-        requires whole { length bytes.now ≡ record_length (slice_index bytes.now 0) }
+        requires whole { (version : Version)
+            × (length bytes.now ≡ record_length version (slice_index bytes.now 0)) }
         ensures spelled { bytes_of result ≡ bytes.now }
-        ensures fit { Fit result }
+        ensures fit { (version : Version) →
+            length bytes.now ≡ record_length version (slice_index bytes.now 0) →
+            Fit version result }
     {
         let numbers = match bytes.len() {
             ACCESS_LENGTH => Numbers::Access {
@@ -48,6 +58,11 @@ impl Fields {
             REGION_LENGTH => Numbers::Region {
                 at: number_at(bytes, 1),
                 size: number_at(bytes, 9),
+            },
+            SHADE_LENGTH => Numbers::Shade {
+                kind: bytes[1],
+                at: number_at(bytes, 2),
+                size: number_at(bytes, 10),
             },
             _ => Numbers::Place {
                 at: number_at(bytes, 1),
@@ -59,12 +74,13 @@ impl Fields {
         }
     }
 
-    /// The event with these fields, or the first flaw of its numbers.
+    /// The event with these fields in a version, or the first flaw of its numbers.
     #[inline(always)]
-    fn event(self) -> Result<Event, Flaw>
-        requires { Fit self }
+    fn event(self, version: Version) -> Result<Event, Flaw>
+        requires { Fit version self }
         ensures { MatchResult result
-            (λ e. fields_of e ≡ self) (λ f. flaw_of self.numbers ≡ Some f) }
+            (λ e. IsTrue (spells_in version e) × (fields_of version e ≡ self))
+            (λ f. flaw_of version self.numbers ≡ Some f) }
     {
         let code = self.code;
         match self.numbers {
@@ -77,27 +93,31 @@ impl Fields {
                 })
             }
             Numbers::Region { at, size } => {
-                let region = Region::new(at, size)?;
+                let region = Region::in_version(version, at, size)?;
                 Ok(match code {
                     MALLOC => Event::Malloc(region),
-                    POISON => Event::Poison(region),
+                    POISON => Event::Poison(Shade::of(region, Kind::User)),
                     _ => Event::Unpoison(region),
                 })
+            }
+            Numbers::Shade { kind, at, size } => {
+                let shade = Shade::in_version(version, at, size, kind)?;
+                Ok(Event::Poison(shade))
             }
             Numbers::Place { at } => Place::new(at).map(Event::Free),
         }
     }
 }
 
-/// What a whole record says: its event, or its first flaw. Inlined with the two steps that it
-/// takes, so that a record's numbers stay in registers.
+/// What a whole record of a version says: its event, or its first flaw. Inlined with the two steps
+/// that it takes, so that a record's numbers stay in registers.
 #[inline(always)]
-pub fn read_record(bytes: &[u8]) -> Result<Event, Flaw>
+pub fn read_record(version: Version, bytes: &[u8]) -> Result<Event, Flaw>
     requires begun { 0 < length bytes.now }
-    requires whole { length bytes.now ≡ record_length (slice_index bytes.now 0) }
-    ensures { Says bytes.now result }
+    requires whole { length bytes.now ≡ record_length version (slice_index bytes.now 0) }
+    ensures { Says version bytes.now result }
 {
-    Fields::read(bytes).event()
+    Fields::read(bytes).event(version)
 }
 
 /// The number in the eight bytes from a place.

@@ -2,10 +2,16 @@
 
 ghost use Rattle.std.specs.Prelude.{◌≡◌};
 ghost use Rattle.trace_record.specs.Spelling.{record_length};
+ghost use Rattle.trace_record.specs.Stream.{version_of};
 
-/// The eight bytes that every stream begins with: `ASTR`, and the version 1 as a number of four
-/// bytes.
+use crate::version::Version;
+
+/// The eight bytes that a stream of version 1 begins with: `ASTR`, and the version as a number of
+/// four bytes.
 pub const HEADER: [u8; 8] = [b'A', b'S', b'T', b'R', 1, 0, 0, 0];
+
+/// The eight bytes that a stream of version 2 begins with.
+pub const HEADER_2: [u8; 8] = [b'A', b'S', b'T', b'R', 2, 0, 0, 0];
 
 /// The byte that closes a stream. No record begins with it.
 pub const CLOSE: u8 = 7;
@@ -32,21 +38,41 @@ pub const UNPOISON: u8 = 6;
 /// How many bytes the record of a load or a store has: its code, a width and an address.
 pub const ACCESS_LENGTH: usize = 10;
 
-/// How many bytes the record of a malloc, a poison or an unpoison has: its code, an address and a
-/// size.
+/// How many bytes the record of a malloc, an unpoison or a poison of version 1 has: its code, an
+/// address and a size.
 pub const REGION_LENGTH: usize = 17;
+
+/// How many bytes the record of a poison of version 2 has: its code, a kind, an address and a size.
+pub const SHADE_LENGTH: usize = 18;
 
 /// How many bytes the record of a free has: its code and an address.
 pub const PLACE_LENGTH: usize = 9;
 
-/// How many bytes a record of this code has, or 0 where no record has it.
-pub fn length_of(code: u8) -> usize
-    ensures { result ≡ record_length code }
+/// The version of a stream that begins with these bytes, if they begin with a header.
+pub fn read_header(bytes: &[u8]) -> Option<Version>
+    ensures { result ≡ version_of bytes.now }
+{
+    if bytes.starts_with(&HEADER) {
+        Some(Version::One)
+    } else if bytes.starts_with(&HEADER_2) {
+        Some(Version::Two)
+    } else {
+        None
+    }
+}
+
+/// How many bytes a record of this code has in a version, or 0 where no record has it.
+pub fn length_of(version: Version, code: u8) -> usize
+    ensures { result ≡ record_length version code }
 {
     match code {
         LOAD | STORE => ACCESS_LENGTH,
-        MALLOC | POISON | UNPOISON => REGION_LENGTH,
+        MALLOC | UNPOISON => REGION_LENGTH,
         FREE => PLACE_LENGTH,
+        POISON => match version {
+            Version::One => REGION_LENGTH,
+            Version::Two => SHADE_LENGTH,
+        },
         _ => 0,
     }
 }

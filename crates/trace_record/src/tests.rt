@@ -2,6 +2,8 @@
 
 ghost use Rattle.std.specs.Prelude.{◌≤◌, length};
 
+mod version_2;
+
 use super::*;
 use std::alloc::{AllocError, Global};
 use std::test::Fail;
@@ -23,7 +25,7 @@ const LOADS: [u8; 39] = [
     0, 0, 1, 1, 0, 0x10, 0, 0, 0, 0, 0, 0, 7,
 ];
 
-fn end(fate: Fate, events: u64, offset: u64) -> End {
+fn an_end(fate: Fate, events: u64, offset: u64) -> End {
     End {
         fate,
         events,
@@ -77,7 +79,7 @@ fn end_of_record(alloc: Global, record: &[u8]) -> Result<End, Fail> {
 fn cut_anywhere(rt: HostRuntime) -> Result<(), Fail> {
     let malloc = Event::Malloc(Region::new(0x1000, 5)?);
     let store = Event::Store(Access::new(0x1004, 4)?);
-    let closed = end(Fate::Closed, 2, 36);
+    let closed = an_end(Fate::Closed, 2, 36);
     for cut in 0..=STREAM.len() {
         let (decoder, events) = read(rt.alloc(), 1 << 24, &STREAM, cut)?;
         assert_eq!(rt;
@@ -104,7 +106,7 @@ fn cut_anywhere(rt: HostRuntime) -> Result<(), Fail> {
     assert_eq!(rt; decoder.at_fault(), closed);
     let (decoder, events) = read(rt.alloc(), 1 << 24, &STREAM[..30], 0)?;
     assert_eq!(rt; events.as_slice(), [malloc].as_slice());
-    assert_eq!(rt; decoder.at_fault(), end(Fate::ReadFailed, 1, 25));
+    assert_eq!(rt; decoder.at_fault(), an_end(Fate::ReadFailed, 1, 25));
     Ok(())
 }
 
@@ -113,10 +115,10 @@ fn empty_and_header_alone(rt: HostRuntime) -> Result<(), Fail> {
     let mut other = HEADER;
     other[3] = 0x58;
     let ends = [
-        (&HEADER[..0], end(Fate::Truncated, 0, 0)),
-        (&HEADER[..], end(Fate::NoClose, 0, 8)),
-        (&other[..], end(Fate::Malformed(Flaw::Header), 0, 0)),
-        (&other[..7], end(Fate::Truncated, 0, 0)),
+        (&HEADER[..0], an_end(Fate::Truncated, 0, 0)),
+        (&HEADER[..], an_end(Fate::NoClose, 0, 8)),
+        (&other[..], an_end(Fate::Malformed(Flaw::Header), 0, 0)),
+        (&other[..7], an_end(Fate::Truncated, 0, 0)),
     ];
     for (text, want) in ends {
         let (decoder, _) = read(rt.alloc(), 1, text, 0)?;
@@ -129,7 +131,7 @@ fn empty_and_header_alone(rt: HostRuntime) -> Result<(), Fail> {
 fn unknown_code(rt: HostRuntime) -> Result<(), Fail> {
     let mut text = STREAM;
     text[25] = 9;
-    let unknown = end(Fate::Malformed(Flaw::Code), 1, 25);
+    let unknown = an_end(Fate::Malformed(Flaw::Code), 1, 25);
     for cut in 0..=text.len() {
         let (decoder, events) = read(rt.alloc(), 1 << 24, &text, cut)?;
         assert_eq!(rt; events.len(), 1, "cut at {cut}");
@@ -147,10 +149,10 @@ fn record_limit(rt: HostRuntime) -> Result<(), Fail> {
     let mut unknown = LOADS;
     unknown[28] = 9;
     let ends = [
-        (&closed[..], end(Fate::Closed, 2, 29)),
-        (&LOADS[..], end(Fate::TooMany, 2, 28)),
-        (&unknown[..], end(Fate::TooMany, 2, 28)),
-        (&LOADS[..28], end(Fate::NoClose, 2, 28)),
+        (&closed[..], an_end(Fate::Closed, 2, 29)),
+        (&LOADS[..], an_end(Fate::TooMany, 2, 28)),
+        (&unknown[..], an_end(Fate::TooMany, 2, 28)),
+        (&LOADS[..28], an_end(Fate::NoClose, 2, 28)),
     ];
     for (text, want) in ends {
         let (decoder, events) = read(rt.alloc(), 2, text, 0)?;
@@ -199,7 +201,7 @@ fn reading_ahead_leaves_the_rest_for_next(rt: HostRuntime) -> Result<(), Fail> {
     assert_eq!(rt; decoder.next_events(&STREAM[30..], &mut events), none);
     assert_eq!(rt; decoder.next(&STREAM[30..]).out, Out::Got(store));
     assert_eq!(rt; decoder.next_events(&STREAM[35..], &mut events), none);
-    let closed = Out::Stop(end(Fate::Closed, 2, 36));
+    let closed = Out::Stop(an_end(Fate::Closed, 2, 36));
     assert_eq!(rt; decoder.next(&STREAM[35..]).out, closed);
     assert_eq!(rt; decoder.next_events(&STREAM[8..], &mut events), none);
     assert_eq!(rt; decoder.next(&STREAM).out, closed);
@@ -211,41 +213,41 @@ fn ends_of_ranges(rt: HostRuntime) -> Result<(), Fail> {
     let records: [(&[u8], End); 9] = [
         (
             &[1, 8, 0xf8, 0xff, 0xff, 0xff, 0xff, 0x7f, 0, 0],
-            end(Fate::Closed, 1, 19),
+            an_end(Fate::Closed, 1, 19),
         ),
         (
             &[1, 8, 0xf9, 0xff, 0xff, 0xff, 0xff, 0x7f, 0, 0],
-            end(Fate::Malformed(Flaw::Range), 0, 8),
+            an_end(Fate::Malformed(Flaw::Range), 0, 8),
         ),
         (
             &[1, 3, 0, 0x10, 0, 0, 0, 0, 0, 0],
-            end(Fate::Malformed(Flaw::Width), 0, 8),
+            an_end(Fate::Malformed(Flaw::Width), 0, 8),
         ),
         (
             &[1, 3, 0, 0, 0, 0, 0, 0x80, 0, 0],
-            end(Fate::Malformed(Flaw::Width), 0, 8),
+            an_end(Fate::Malformed(Flaw::Width), 0, 8),
         ),
         (
             &[3, 4, 0x10, 0, 0, 0, 0, 0, 0, 0, 0, 0, 0x10, 0, 0, 0, 0],
-            end(Fate::Closed, 1, 26),
+            an_end(Fate::Closed, 1, 26),
         ),
         (
             &[3, 4, 0x10, 0, 0, 0, 0, 0, 0, 1, 0, 0, 0x10, 0, 0, 0, 0],
-            end(Fate::Malformed(Flaw::Size), 0, 8),
+            an_end(Fate::Malformed(Flaw::Size), 0, 8),
         ),
         (
             &[
                 3, 0xe0, 0xff, 0xff, 0xff, 0xff, 0x7f, 0, 0, 8, 0, 0, 0, 0, 0, 0, 0,
             ],
-            end(Fate::Closed, 1, 26),
+            an_end(Fate::Closed, 1, 26),
         ),
         (
             &[3, 0, 0, 0, 0, 0, 0x80, 0, 0, 0, 0, 0, 0, 0, 0, 0, 0],
-            end(Fate::Closed, 1, 26),
+            an_end(Fate::Closed, 1, 26),
         ),
         (
             &[4, 0, 0, 0, 0, 0, 0x80, 0, 0],
-            end(Fate::Malformed(Flaw::Range), 0, 8),
+            an_end(Fate::Malformed(Flaw::Range), 0, 8),
         ),
     ];
     for (record, want) in records {
@@ -274,7 +276,7 @@ fn encoded_events(rt: HostRuntime) -> Result<(), Fail> {
             &[4, 0, 0x10, 0, 0, 0, 0, 0, 0],
         ),
         (
-            Event::Poison(Region::new(0x2000, 10)?),
+            Event::Poison(Shade::new(0x2000, 10, 0)?),
             &[5, 0, 0x20, 0, 0, 0, 0, 0, 0, 10, 0, 0, 0, 0, 0, 0, 0],
         ),
         (
@@ -288,7 +290,7 @@ fn encoded_events(rt: HostRuntime) -> Result<(), Fail> {
     ];
     for (event, record) in records {
         let mut out = [0xee; RECORD_ROOM];
-        let length = encode(&event, &mut out);
+        let length = encode(Version::One, &event, &mut out);
         assert!(rt; out.starts_with(record));
         assert_eq!(rt; length, record.len());
         assert!(rt; out.ends_with(&[0xee; 7]));

@@ -75,12 +75,14 @@ pub fn kind_word(store: bool) -> &'static str
 /// The word for a class.
 pub fn class_word(class: Class) -> &'static str
     ensures word { result.now ≡ class_text class }
-    ensures short { length (class_text class) ≤ 20 }
+    ensures short { length (class_text class) ≤ 22 }
 {
     match class {
         Class::HeapBufferOverflow => "heap-buffer-overflow",
         Class::HeapUseAfterFree => "heap-use-after-free",
         Class::UseAfterPoison => "use-after-poison",
+        Class::StackBufferOverflow => "stack-buffer-overflow",
+        Class::GlobalBufferOverflow => "global-buffer-overflow",
         Class::UnknownCrash => "unknown-crash",
     }
 }
@@ -96,5 +98,6 @@ pub fn flaw_word(flaw: Flaw) -> &'static str
         Flaw::Width => "width",
         Flaw::Size => "size",
         Flaw::Range => "range",
+        Flaw::Kind => "kind",
     }
 }

@@ -37,6 +37,24 @@ fn bad_accesses(rt: HostRuntime) -> Result<(), Fail> {
         access(2, true, 4, 0x1004, 0x1005, Class::HeapBufferOverflow, 0x05),
         access(2, false, 8, 0x1004, 0x1005, Class::HeapBufferOverflow, 0x05),
         access(3, false, 1, 0x2000, 0x2000, Class::UseAfterPoison, 0xf7),
+        access(
+            3,
+            false,
+            1,
+            0x2008,
+            0x2008,
+            Class::StackBufferOverflow,
+            0xf2,
+        ),
+        access(
+            4,
+            true,
+            4,
+            0x2010,
+            0x2010,
+            Class::GlobalBufferOverflow,
+            0xf9,
+        ),
         access(6, false, 1, 0x2003, 0x2003, Class::UnknownCrash, 0x03),
         access(6, false, 1, 0x2000, 0x2000, Class::HeapUseAfterFree, 0xfd),
         access(
@@ -55,6 +73,8 @@ fn bad_accesses(rt: HostRuntime) -> Result<(), Fail> {
 p0 #2 store 4 at 000000001004 bad 000000001005 heap-buffer-overflow shadow 05
 p0 #2 load 8 at 000000001004 bad 000000001005 heap-buffer-overflow shadow 05
 p0 #3 load 1 at 000000002000 bad 000000002000 use-after-poison shadow f7
+p0 #3 load 1 at 000000002008 bad 000000002008 stack-buffer-overflow shadow f2
+p0 #4 store 4 at 000000002010 bad 000000002010 global-buffer-overflow shadow f9
 p0 #6 load 1 at 000000002003 bad 000000002003 unknown-crash shadow 03
 p0 #6 load 1 at 000000002000 bad 000000002000 heap-use-after-free shadow fd
 p0 #2 load 1 at 7ffffffffffe bad 7ffffffffffe unknown-crash shadow 04
@@ -151,6 +171,7 @@ fn ends_of_streams(rt: HostRuntime) -> Result<(), Fail> {
         (Fate::Malformed(Flaw::Width), 0, 8),
         (Fate::Malformed(Flaw::Size), 0, 8),
         (Fate::Malformed(Flaw::Range), 0, 8),
+        (Fate::Malformed(Flaw::Kind), 0, 8),
         (Fate::Truncated, 0, 0),
         (Fate::NoClose, 0, 8),
         (Fate::ReadFailed, 1, 25),
@@ -170,6 +191,7 @@ p1 end malformed code events 1 offset 25 reports 1
 p1 end malformed width events 0 offset 8 reports 1
 p1 end malformed size events 0 offset 8 reports 1
 p1 end malformed range events 0 offset 8 reports 1
+p1 end malformed kind events 0 offset 8 reports 1
 p1 end truncated events 0 offset 0 reports 1
 p1 end no-close events 0 offset 8 reports 1
 p1 end read-failed events 1 offset 25 reports 1

@@ -1,7 +1,7 @@
 //! A checker and the plain model, driven by the same events.
 
 use super::model::{Model, State, state_of};
-use super::{USUAL, free, load, malloc, poison, step, store, unpoison};
+use super::{USUAL, free, load, malloc, poison_of, step, store, unpoison};
 use crate::{Checker, report_text};
 use std::test::Fail;
 use test_draws::Draws;
@@ -52,7 +52,7 @@ fn drawn_event(draws: &mut Draws, base: u64) -> Result<Event, Flaw> {
         3..6 => store(width, at),
         6..9 => malloc(block, size),
         9..12 => free(block),
-        12..14 => poison(at, size),
+        12..14 => poison_of(draws.below(3) as u8, at, size),
         _ => unpoison(at, size),
     }
 }
@@ -100,6 +100,8 @@ fn checker_agrees_with_the_model(rt: HostRuntime) -> Result<(), Fail> {
         "heap-buffer-overflow",
         "heap-use-after-free",
         "use-after-poison",
+        "stack-buffer-overflow",
+        "global-buffer-overflow",
         "unknown-crash",
         "double-free",
         "bad-free",

@@ -1,12 +1,14 @@
 //! Worked examples: events, and the lines of the reports on them.
-use super::{USUAL, free, load, malloc, poison, step, store, unpoison};
+use super::streams::{spelled, text_of};
+use super::{USUAL, free, load, malloc, poison, poison_of, step, store, unpoison};
 use crate::{Bound, Checker, report_text};
 use std::alloc::Global;
 use std::process::Abort;
 use std::test::Fail;
-use trace_record::{Event, Flaw};
+use trace_record::{Event, Flaw, Version};
 
-/// The lines of the reports of a checker with this bound on its quarantine, after these events.
+/// The lines of the reports of a checker with this bound on its quarantine, after these events. A
+/// stream of them, in each version in which they spell, comes to the same lines, and is closed.
 fn lines(rt: &impl Abort, alloc: Global, bound: u64, events: &[Event]) -> Result<String, Fail> {
     let mut checker = Checker::new(alloc, bound)?;
     for event in events {
@@ -16,6 +18,13 @@ fn lines(rt: &impl Abort, alloc: Global, bound: u64, events: &[Event]) -> Result
     let mut text = String::new(alloc);
     for report in &checker.into_reports() {
         report_text(0, report, &mut text)?;
+    }
+    for version in [Version::One, Version::Two] {
+        if let Some(stream) = spelled(alloc, version, events)? {
+            let whole = text_of(rt, alloc, bound, &stream)?;
+            let end = whole.as_str().strip_prefix(text.as_str()).unwrap_or("");
+            assert!(rt; end.starts_with("p0 end closed events "), "{whole}");
+        }
     }
     Ok(text)
 }
@@ -173,6 +182,69 @@ fn two_kinds_in_a_granule(rt: HostRuntime) -> Result<(), Fail> {
 p0 #3 load 1 at 000000001006 bad 000000001006 use-after-poison shadow f7
 ";
     assert_eq!(rt; lines(&rt, rt.alloc(), USUAL, &events)?.as_str(), wanted);
+    Ok(())
+}
+
+#[test]
+fn first_byte_tells_the_kind(rt: HostRuntime) -> Result<(), Fail> {
+    let events = [
+        malloc(0x1000, 5)?,
+        poison_of(1, 0x1000, 5)?,
+        load(1, 0x1006)?,
+    ];
+    let wanted = "\
+p0 #3 load 1 at 000000001006 bad 000000001006 stack-buffer-overflow shadow f2
+";
+    assert_eq!(rt; lines(&rt, rt.alloc(), USUAL, &events)?.as_str(), wanted);
+    Ok(())
+}
+
+/// Poison of a part of a granule that has no addressable byte leaves it its code, whatever its kind.
+#[test]
+fn part_of_a_redzone_keeps_its_kind(rt: HostRuntime) -> Result<(), Fail> {
+    let events = [
+        poison_of(1, 0x1000, 8)?,
+        poison_of(2, 0x1000, 7)?,
+        poison(0x1001, 7)?,
+        load(1, 0x1003)?,
+        unpoison(0x1000, 4)?,
+        poison_of(2, 0x1000, 7)?,
+        load(1, 0x1003)?,
+    ];
+    let wanted = "\
+p0 #4 load 1 at 000000001003 bad 000000001003 stack-buffer-overflow shadow f2
+p0 #7 load 1 at 000000001003 bad 000000001003 global-buffer-overflow shadow f9
+";
+    assert_eq!(rt; lines(&rt, rt.alloc(), USUAL, &events)?.as_str(), wanted);
+    Ok(())
+}
+
+/// A malloc, a free and a release paint over poison of each kind.
+#[test]
+fn blocks_paint_over_redzones(rt: HostRuntime) -> Result<(), Fail> {
+    let events = [
+        poison_of(1, 0xfe0, 72)?,
+        malloc(0x1000, 8)?,
+        load(8, 0x1000)?,
+        load(1, 0xff8)?,
+        poison_of(2, 0x1000, 8)?,
+        load(1, 0x1000)?,
+        free(0x1000)?,
+        load(1, 0x1000)?,
+        poison_of(1, 0x1000, 8)?,
+        load(1, 0x1000)?,
+        malloc(0x2000, 8)?,
+        free(0x2000)?,
+        load(1, 0x1000)?,
+    ];
+    let wanted = "\
+p0 #4 load 1 at 000000000ff8 bad 000000000ff8 heap-buffer-overflow shadow fa
+p0 #6 load 1 at 000000001000 bad 000000001000 global-buffer-overflow shadow f9
+p0 #8 load 1 at 000000001000 bad 000000001000 heap-use-after-free shadow fd
+p0 #10 load 1 at 000000001000 bad 000000001000 stack-buffer-overflow shadow f2
+p0 #13 load 1 at 000000001000 bad 000000001000 heap-buffer-overflow shadow fa
+";
+    assert_eq!(rt; lines(&rt, rt.alloc(), 72, &events)?.as_str(), wanted);
     Ok(())
 }
 

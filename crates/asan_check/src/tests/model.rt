@@ -2,7 +2,7 @@
 //! worked out anew from it.
 use crate::{Class, Fault, NoMemory, Report};
 use std::alloc::Global;
-use trace_record::{Access, Event};
+use trace_record::{Access, Event, Kind};
 
 /// How many bytes a redzone has.
 const REDZONE: u64 = 32;
@@ -17,6 +17,8 @@ pub enum State {
     HeapRedzone,
     Freed,
     UserPoison,
+    StackRedzone,
+    GlobalRedzone,
 }
 
 /// A block that was admitted.
@@ -33,7 +35,7 @@ struct Block {
 pub enum Mark {
     Fill { from: u64, to: u64, state: State },
     Block { at: u64, size: u64 },
-    Poison { at: u64, end: u64 },
+    Poison { at: u64, end: u64, state: State },
     Unpoison { at: u64, end: u64 },
 }
 
@@ -200,9 +202,14 @@ impl Model {
                     }
                 }
                 Event::Free(free) => self.mark_free(place, free.at(), &admitted, &mut marks)?,
-                Event::Poison(region) => marks.push(Mark::Poison {
-                    at: region.at(),
-                    end: region.at().saturating_add(region.size()),
+                Event::Poison(shade) => marks.push(Mark::Poison {
+                    at: shade.at(),
+                    end: shade.at().saturating_add(shade.size()),
+                    state: match shade.kind() {
+                        Kind::User => State::UserPoison,
+                        Kind::Stack => State::StackRedzone,
+                        Kind::Global => State::GlobalRedzone,
+                    },
                 })?,
                 Event::Unpoison(region) => marks.push(Mark::Unpoison {
                     at: region.at(),
@@ -310,13 +317,17 @@ fn given(mark: &Mark, before: &[State; 8], first: u64, place: usize) -> Option<S
                 None
             }
         }
-        Mark::Poison { at, end } => {
+        Mark::Poison {
+            at,
+            end,
+            state: poison,
+        } => {
             let is_whole = at <= first && address(8) <= end;
             let is_addressable = before.get(place) == Some(&State::Addressable);
             let none_past_it = before.iter().enumerate().all(|(other, state)| address(other) < end
                 || *state != State::Addressable);
             let covers = is_whole || lies_in(at, end, byte) && is_addressable && none_past_it;
-            covers.then_some(State::UserPoison)
+            covers.then_some(poison)
         }
         Mark::Unpoison { at, end } => (place..8)
             .any(|later| lies_in(at, end, address(later)))
@@ -341,6 +352,8 @@ fn shadow_byte(states: &[State; 8]) -> u8 {
         (0, State::HeapRedzone) => 0xfa,
         (0, State::Freed) => 0xfd,
         (0, State::UserPoison) => 0xf7,
+        (0, State::StackRedzone) => 0xf2,
+        (0, State::GlobalRedzone) => 0xf9,
         _ => front as u8,
     }
 }
@@ -369,6 +382,8 @@ fn access_fault(marks: &[Mark], store: bool, access: &Access) -> Option<Fault> {
             State::HeapRedzone => Class::HeapBufferOverflow,
             State::Freed => Class::HeapUseAfterFree,
             State::UserPoison => Class::UseAfterPoison,
+            State::StackRedzone => Class::StackBufferOverflow,
+            State::GlobalRedzone => Class::GlobalBufferOverflow,
         },
         shadow: shadow_byte(&states),
     })

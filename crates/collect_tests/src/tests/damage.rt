@@ -2,7 +2,7 @@
 //! threads, and ends as a slow reading of the whole stream says.
 
 use super::reading::end_of;
-use super::{STREAM, Senders, feed_of};
+use super::{POISON, STREAM, Senders, feed_of};
 use asan_check::Ending;
 use asan_collect::{OpenGate, Options, Outcome, check_feed, collect};
 use std::alloc::{AllocError, Global};
@@ -14,9 +14,9 @@ use std::time::Clock;
 use test_draws::Draws;
 use trace_feed::MemFeed;
 
-/// Each place of the stream.
-fn each_place() -> [u64; STREAM.len()] {
-    let mut places = [0; STREAM.len()];
+/// Each place of the longest stream.
+fn each_place() -> [u64; POISON.len()] {
+    let mut places = [0; POISON.len()];
     for (index, place) in places.iter_mut().enumerate() {
         *place = index as u64;
     }
@@ -74,21 +74,35 @@ fn expect_one_outcome<R: Threads + Wait + Clock + Sync + Abort>(
     Ok(())
 }
 
-#[test]
-fn each_prefix_has_one_outcome(rt: HostRuntime) -> Result<(), Fail> {
-    let mut prefixes = Vec::new(rt.alloc());
-    for length in 0..=STREAM.len() {
-        prefixes.push(STREAM[..length].to_vec(rt.alloc())?)?;
+/// Asserts that each prefix of the stream has one outcome.
+fn expect_of_each_prefix<R: Threads + Wait + Clock + Sync + Abort>(
+    rt: &R,
+    alloc: Global,
+    stream: &[u8],
+) -> Result<(), Fail> {
+    let mut prefixes = Vec::new(alloc);
+    for length in 0..=stream.len() {
+        prefixes.push(stream[..length].to_vec(alloc)?)?;
     }
-    expect_one_outcome(&rt, rt.alloc(), &prefixes, &mut Draws::new())
+    expect_one_outcome(rt, alloc, &prefixes, &mut Draws::new())
 }
 
-/// The stream with the byte at one place set to each of its 255 other values.
-fn damaged(alloc: Global, place: usize) -> Result<Vec<Vec<u8>>, AllocError> {
+#[test]
+fn each_prefix_has_one_outcome(rt: HostRuntime) -> Result<(), Fail> {
+    expect_of_each_prefix(&rt, rt.alloc(), &STREAM)
+}
+
+#[test]
+fn each_prefix_of_version_2_has_one_outcome(rt: HostRuntime) -> Result<(), Fail> {
+    expect_of_each_prefix(&rt, rt.alloc(), &POISON)
+}
+
+/// A stream with the byte at one place set to each of its 255 other values.
+fn damaged(alloc: Global, sound: &[u8], place: usize) -> Result<Vec<Vec<u8>>, AllocError> {
     let mut streams = Vec::new(alloc);
     for value in 0..=u8::MAX {
-        if STREAM.get(place) != Some(&value) {
-            let mut stream = STREAM.to_vec(alloc)?;
+        if sound.get(place) != Some(&value) {
+            let mut stream = sound.to_vec(alloc)?;
             if let Some(byte) = stream.get_mut(place) {
                 *byte = value;
             }
@@ -98,13 +112,27 @@ fn damaged(alloc: Global, place: usize) -> Result<Vec<Vec<u8>>, AllocError> {
     Ok(streams)
 }
 
-#[test]
-fn each_damaged_stream_has_one_outcome(rt: HostRuntime) -> Result<(), Fail> {
+/// Asserts that each stream with one byte of this one damaged has one outcome.
+fn expect_of_each_damaged<R: Threads + Wait + Clock + Sync + Abort>(
+    rt: &R,
+    alloc: Global,
+    sound: &[u8],
+) -> Result<(), Fail> {
     let mut draws = Draws::new();
-    for place in 0..STREAM.len() {
-        let streams = damaged(rt.alloc(), place)?;
+    for place in 0..sound.len() {
+        let streams = damaged(alloc, sound, place)?;
         assert_eq!(rt; streams.len(), 255);
-        expect_one_outcome(&rt, rt.alloc(), &streams, &mut draws)?;
+        expect_one_outcome(rt, alloc, &streams, &mut draws)?;
     }
     Ok(())
+}
+
+#[test]
+fn each_damaged_stream_has_one_outcome(rt: HostRuntime) -> Result<(), Fail> {
+    expect_of_each_damaged(&rt, rt.alloc(), &STREAM)
+}
+
+#[test]
+fn each_damaged_stream_of_version_2_has_one_outcome(rt: HostRuntime) -> Result<(), Fail> {
+    expect_of_each_damaged(&rt, rt.alloc(), &POISON)
 }

@@ -4,8 +4,11 @@
 use std::process::Abort;
 use trace_record::{End, Fate, Flaw};
 
-/// The header.
-const HEADER: [u8; 8] = [0x41, 0x53, 0x54, 0x52, 0x01, 0x00, 0x00, 0x00];
+/// The header of version 1.
+const HEADER_1: [u8; 8] = [0x41, 0x53, 0x54, 0x52, 0x01, 0x00, 0x00, 0x00];
+
+/// The header of version 2.
+const HEADER_2: [u8; 8] = [0x41, 0x53, 0x54, 0x52, 0x02, 0x00, 0x00, 0x00];
 
 /// The end of each address.
 const PAST_ADDRESSES: u128 = 1 << 47;
@@ -13,12 +16,28 @@ const PAST_ADDRESSES: u128 = 1 << 47;
 /// The greatest size of a region.
 const GREATEST_SIZE: u128 = 268_435_456;
 
+/// The greatest kind of a poison.
+const GREATEST_KIND: u128 = 2;
+
+/// The version of a stream, by its first eight bytes.
+fn version_of(text: &[u8]) -> Option<u8> {
+    if text.starts_with(&HEADER_1) {
+        Some(1)
+    } else if text.starts_with(&HEADER_2) {
+        Some(2)
+    } else {
+        None
+    }
+}
+
 /// How many bytes the record of each code has in all.
-fn length_of(code: u8) -> Option<usize> {
+fn length_of(version: u8, code: u8) -> Option<usize> {
     match code {
         0x01 | 0x02 => Some(10),
-        0x03 | 0x05 | 0x06 => Some(17),
+        0x03 | 0x06 => Some(17),
         0x04 => Some(9),
+        0x05 if version == 1 => Some(17),
+        0x05 => Some(18),
         _ => None,
     }
 }
@@ -32,8 +51,22 @@ fn number(record: &[u8], from: usize, to: usize) -> u128 {
     number
 }
 
+/// The first flaw of an address and a size that stand in a record from this byte on.
+fn region_flaw(record: &[u8], from: usize) -> Option<Flaw> {
+    let middle = from.wrapping_add(8);
+    let address = number(record, from, middle);
+    let size = number(record, middle, from.wrapping_add(16));
+    if size > GREATEST_SIZE {
+        Some(Flaw::Size)
+    } else if address.wrapping_add(size) > PAST_ADDRESSES {
+        Some(Flaw::Range)
+    } else {
+        None
+    }
+}
+
 /// The first flaw of a whole record, in the order in which they are tried.
-fn flaw_of(code: u8, record: &[u8]) -> Option<Flaw> {
+fn flaw_of(version: u8, code: u8, record: &[u8]) -> Option<Flaw> {
     match code {
         0x01 | 0x02 => {
             let width = number(record, 1, 2);
@@ -48,17 +81,9 @@ fn flaw_of(code: u8, record: &[u8]) -> Option<Flaw> {
         }
         0x04 if number(record, 1, 9) >= PAST_ADDRESSES => Some(Flaw::Range),
         0x04 => None,
-        _ => {
-            let address = number(record, 1, 9);
-            let size = number(record, 9, 17);
-            if size > GREATEST_SIZE {
-                Some(Flaw::Size)
-            } else if address.wrapping_add(size) > PAST_ADDRESSES {
-                Some(Flaw::Range)
-            } else {
-                None
-            }
-        }
+        0x05 if version == 2 && number(record, 1, 2) > GREATEST_KIND => Some(Flaw::Kind),
+        0x05 if version == 2 => region_flaw(record, 2),
+        _ => region_flaw(record, 1),
     }
 }
 
@@ -72,9 +97,9 @@ pub(super) fn end_of(rt: &impl Abort, text: &[u8], limit: u64) -> End {
     if text.len() < 8 {
         return end(Fate::Truncated, 0, 0);
     }
-    if !text.starts_with(&HEADER) {
+    let Some(version) = version_of(text) else {
         return end(Fate::Malformed(Flaw::Header), 0, 0);
-    }
+    };
     let mut offset = 8usize;
     for events in 0..=limit {
         let here = offset as u64;
@@ -88,13 +113,13 @@ pub(super) fn end_of(rt: &impl Abort, text: &[u8], limit: u64) -> End {
         if events == limit {
             return end(Fate::TooMany, events, here);
         }
-        let Some(length) = length_of(code) else {
+        let Some(length) = length_of(version, code) else {
             return end(Fate::Malformed(Flaw::Code), events, here);
         };
         let Some(record) = rest.get(..length) else {
             return end(Fate::Truncated, events, here);
         };
-        if let Some(flaw) = flaw_of(code, record) {
+        if let Some(flaw) = flaw_of(version, code, record) {
             return end(Fate::Malformed(flaw), events, here);
         }
         offset = offset.wrapping_add(length);

@@ -1,13 +1,28 @@
 //! What poison and unpoison make of a granule, beside rules that say it byte by byte.
-ghost use Rattle.std.specs.Prelude.{◌≤◌};
+ghost use Rattle.std.specs.Prelude.{◌≤◌, IsTrue};
+ghost use Rattle.shadow_map.specs.Calls.{is_poison_code};
 
 use super::values;
-use crate::{FREED, HEAP_REDZONE, NoMemory, Shadow, USER_POISON};
+use crate::{FREED, GLOBAL_REDZONE, HEAP_REDZONE, NoMemory, STACK_REDZONE, Shadow, USER_POISON};
 use std::alloc::Global;
 use std::test::Fail;
 
 /// The shadow bytes that a granule can have.
-const SHADOWS: [u8; 11] = [0, 1, 2, 3, 4, 5, 6, 7, 0xfa, 0xfd, 0xf7];
+const SHADOWS: [u8; 13] = [0, 1, 2, 3, 4, 5, 6, 7, 0xfa, 0xfd, 0xf7, 0xf2, 0xf9];
+
+/// How many codes poison can have.
+const POISONS: u64 = 3;
+
+/// The codes of poison, in turn.
+fn poison_code(number: u64) -> u8
+    ensures { IsTrue (is_poison_code result) }
+{
+    match number % POISONS {
+        0 => USER_POISON,
+        1 => STACK_REDZONE,
+        _ => GLOBAL_REDZONE,
+    }
+}
 
 /// A shadow whose granule at 0x1000 has one of these shadow bytes, between two that are
 /// addressable.
@@ -17,6 +32,8 @@ fn shadow_of_granule(alloc: Global, byte: u8) -> Result<Shadow, NoMemory> {
         0 => {}
         HEAP_REDZONE => shadow.mark(0x1000, 0x1008, HEAP_REDZONE)?,
         USER_POISON => shadow.mark(0x1000, 0x1008, USER_POISON)?,
+        STACK_REDZONE => shadow.mark(0x1000, 0x1008, STACK_REDZONE)?,
+        GLOBAL_REDZONE => shadow.mark(0x1000, 0x1008, GLOBAL_REDZONE)?,
         FREED => shadow.mark(0x1000, 0x1008, FREED)?,
         front => {
             shadow.mark(0x1000, 0x1008, FREED)?;
@@ -35,13 +52,13 @@ fn front(byte: u8) -> u8 {
     }
 }
 
-/// The shadow byte after poison of the bytes from one place of a granule up to another.
-fn poisoned(byte: u8, from: u8, to: u8) -> u8 {
+/// The shadow byte after poison, of a code, of the bytes from one place of a granule up to another.
+fn poisoned(code: u8, byte: u8, from: u8, to: u8) -> u8 {
     match (from, to) {
-        (0, 8) => 0xf7,
+        (0, 8) => code,
         _ if to < front(byte) => byte,
         _ if from >= front(byte) => byte,
-        (0, _) => 0xf7,
+        (0, _) => code,
         _ => from,
     }
 }
@@ -55,23 +72,27 @@ fn unpoisoned(byte: u8, to: u8) -> u8 {
     }
 }
 
-/// Whether poison of the bytes from one place of such a granule up to another gives the right
-/// shadow bytes, and unpoison of them too, to the granule and to its neighbours.
+/// Whether poison, of each code, of the bytes from one place of such a granule up to another gives
+/// the right shadow bytes, and unpoison of them too, to the granule and to its neighbours.
 fn is_right(alloc: Global, byte: u8, from: u8, to: u8) -> Result<bool, NoMemory>
     requires order { from ≤ to }
     requires end { to ≤ 8 }
 {
     let (at, size) = (0x1000 + from as u64, (to - from) as u64);
-    let mut first = shadow_of_granule(alloc, byte)?;
-    let mut second = shadow_of_granule(alloc, byte)?;
-    let is_made = values(&first, 0x1ff) == [0, byte, 0];
-    first.poison(at, size)?;
-    second.unpoison(at, size)?;
-    Ok(
-        is_made
-            && values(&first, 0x1ff) == [0, poisoned(byte, from, to), 0]
-            && values(&second, 0x1ff) == [0, unpoisoned(byte, to), 0],
-    )
+    for number in 0..POISONS {
+        let code = poison_code(number);
+        let mut shadow = shadow_of_granule(alloc, byte)?;
+        if values(&shadow, 0x1ff) != [0, byte, 0] {
+            return Ok(false);
+        }
+        shadow.poison(at, size, code)?;
+        if values(&shadow, 0x1ff) != [0, poisoned(code, byte, from, to), 0] {
+            return Ok(false);
+        }
+    }
+    let mut shadow = shadow_of_granule(alloc, byte)?;
+    shadow.unpoison(at, size)?;
+    Ok(values(&shadow, 0x1ff) == [0, unpoisoned(byte, to), 0])
 }
 
 /// The first places for which that is not so.
@@ -102,8 +123,8 @@ fn one_granule(rt: HostRuntime) -> Result<(), Fail> {
 /// addressable.
 const BYTES: usize = 48;
 
-/// Poisons bytes by the rule, each by itself.
-fn poison_bytes(bytes: &mut [u8; BYTES], from: usize, to: usize) {
+/// Poisons bytes with a code by the rule, each by itself.
+fn poison_bytes(bytes: &mut [u8; BYTES], from: usize, to: usize, code: u8) {
     let before = *bytes;
     for (place, byte) in bytes.iter_mut().enumerate() {
         let whole = from <= place / 8 * 8 && place / 8 * 8 + 8 <= to;
@@ -112,7 +133,7 @@ fn poison_bytes(bytes: &mut [u8; BYTES], from: usize, to: usize) {
             || other < to
             || *state != 0);
         if whole || inside && *byte == 0 && none_past {
-            *byte = 0xf7;
+            *byte = code;
         }
     }
 }
@@ -159,8 +180,9 @@ fn change_both(
         unpoison_bytes(bytes, from, to);
         shadow.unpoison(at, size)
     } else {
-        poison_bytes(bytes, from, to);
-        shadow.poison(at, size)
+        let code = poison_code(to as u64);
+        poison_bytes(bytes, from, to, code);
+        shadow.poison(at, size, code)
     }
 }
 

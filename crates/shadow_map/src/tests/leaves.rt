@@ -37,7 +37,7 @@ impl Both {
         let (at, end) = (from * 8, to * 8);
         match self.fills % 4 {
             0 => self.shadow.mark(at, end, FREED)?,
-            1 => self.shadow.poison(at, end - at)?,
+            1 => self.shadow.poison(at, end - at, USER_POISON)?,
             2 => self.shadow.unpoison(at, end - at)?,
             _ => self.shadow.mark(at, end, HEAP_REDZONE)?,
         }
@@ -131,7 +131,7 @@ fn whole_leaves_and_branches(rt: HostRuntime) -> Result<(), Fail> {
 #[test]
 fn widest_poison(rt: HostRuntime) -> Result<(), Fail> {
     let mut shadow = Shadow::new(rt.alloc());
-    shadow.poison(0x4000_0000, 1 << 28)?;
+    shadow.poison(0x4000_0000, 1 << 28, USER_POISON)?;
     assert_eq!(rt; values(&shadow, 0x9ff_ffff), [0xf7, 0]);
     assert_eq!(rt;
         [
@@ -180,11 +180,11 @@ fn largest_block(rt: HostRuntime) -> Result<(), Fail> {
 fn first_poisoned_of_all_memory(rt: HostRuntime) -> Result<(), Fail> {
     let mut shadow = Shadow::new(rt.alloc());
     assert_eq!(rt; shadow.first_poisoned(0, 1 << 47), None);
-    shadow.poison(0x7fff_ffff_fffc, 4)?;
+    shadow.poison(0x7fff_ffff_fffc, 4, USER_POISON)?;
     assert_eq!(rt; shadow.first_poisoned(0, 1 << 47), Some(0x7fff_ffff_fffc));
     assert_eq!(rt; shadow.first_poisoned(3, 0x7fff_ffff_fff9), None);
     shadow.unpoison(0x1000_0000, 1 << 28)?;
-    shadow.poison(0x4000_1007, 1)?;
+    shadow.poison(0x4000_1007, 1, USER_POISON)?;
     assert_eq!(rt; shadow.first_poisoned(1, (1 << 47) - 1), Some(0x4000_1007));
     Ok(())
 }

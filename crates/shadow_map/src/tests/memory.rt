@@ -1,7 +1,7 @@
 //! What one record asks memory for, in the states and at the places where it asks for the most.
 ghost use Rattle.std.specs.Prelude.{◌≤◌};
 
-use crate::{FREED, NoMemory, Shadow};
+use crate::{FREED, NoMemory, Shadow, USER_POISON};
 use refusing_allocator::RefusingAllocator;
 use std::alloc::{Allocator, Global};
 use std::test::Fail;
@@ -61,13 +61,13 @@ fn prepare<A: Allocator + Copy>(shadow: &mut Shadow<A>, record: usize) -> Result
         2 => shadow.block(0x4000_0808, 0xfff_0000),
         3 => {
             shadow.block(0x4000_0808, 0xfff_0000)?;
-            shadow.poison(0x4000_0000, LARGEST)
+            shadow.poison(0x4000_0000, LARGEST, USER_POISON)
         }
         6 => {
-            shadow.poison(END - LARGEST, LARGEST)?;
-            shadow.poison(END, LARGEST)
+            shadow.poison(END - LARGEST, LARGEST, USER_POISON)?;
+            shadow.poison(END, LARGEST, USER_POISON)
         }
-        9 => shadow.poison(0x4000_8000, 0x8000),
+        9 => shadow.poison(0x4000_8000, 0x8000, USER_POISON),
         _ => Ok(()),
     }
 }
@@ -77,11 +77,11 @@ fn mark_record<A: Allocator + Copy>(shadow: &mut Shadow<A>, record: usize) -> Re
     match record {
         1 => shadow.block(END + 8, 0x7ff_fff0),
         2 | 3 => shadow.mark(0x4000_0808, 0x4fff_0808, FREED),
-        4 => shadow.poison(END - 0x7ff_f7fd, LARGEST),
-        5 => shadow.poison(END - 0x800_0000, LARGEST),
+        4 => shadow.poison(END - 0x7ff_f7fd, LARGEST, USER_POISON),
+        5 => shadow.poison(END - 0x800_0000, LARGEST, USER_POISON),
         6 | 7 => shadow.unpoison(END - 0x7ff_f7fd, LARGEST),
-        8 => shadow.poison(0x4000_8000, 0x8000),
-        9 => shadow.poison(0x4000_8008, 8),
+        8 => shadow.poison(0x4000_8000, 0x8000, USER_POISON),
+        9 => shadow.poison(0x4000_8008, 8, USER_POISON),
         _ => {
             let _ = (shadow.bad_byte(END, 8), shadow.value(0));
             Ok(())
@@ -124,7 +124,7 @@ fn memory_of_a_record(rt: HostRuntime) -> Result<(), Fail> {
 fn poison_is_refused_at(alloc: Global, turn: u64) -> bool {
     let heap = RefusingAllocator::at_turn(alloc, turn);
     let mut shadow = Shadow::new(&heap);
-    shadow.poison(0x4000_0000, LARGEST).is_err()
+    shadow.poison(0x4000_0000, LARGEST, USER_POISON).is_err()
 }
 
 #[test]
@@ -139,10 +139,10 @@ fn asked_after(alloc: Global, size: u64) -> Result<u64, NoMemory>
 {
     let heap = RefusingAllocator::counting(alloc);
     let mut shadow = Shadow::new(&heap);
-    shadow.poison(0x4000_0008, 8)?;
+    shadow.poison(0x4000_0008, 8, USER_POISON)?;
     shadow.unpoison(0x4000_0000, size)?;
     let before = heap.requests_made();
-    shadow.poison(0x4000_0008, 8)?;
+    shadow.poison(0x4000_0008, 8, USER_POISON)?;
     Ok(heap.requests_made().wrapping_sub(before))
 }
 

@@ -1,6 +1,6 @@
 //! A growth that is refused.
 use super::values;
-use crate::{FREED, NoMemory, Shadow};
+use crate::{FREED, NoMemory, Shadow, USER_POISON};
 use refusing_allocator::RefusingAllocator;
 use std::alloc::{Allocator, Global};
 use std::test::Fail;
@@ -23,9 +23,9 @@ fn mark_call<A: Allocator + Copy>(shadow: &mut Shadow<A>, place: usize) -> Resul
     match place {
         0 => shadow.block(END, 5),
         1 => shadow.unpoison(END + 6, 1),
-        2 => shadow.poison(END, 8),
+        2 => shadow.poison(END, 8, USER_POISON),
         3 => shadow.mark(END, END + 8, FREED),
-        _ => shadow.poison(END - 0x7e, 0xfc),
+        _ => shadow.poison(END - 0x7e, 0xfc, USER_POISON),
     }
 }
 

@@ -6,8 +6,8 @@ use Rattle.trace_record.proofs.encoding.encode_region.Goals as goal
 pub returns-clause-front : goal.returns-clause-front
 returns-clause-front c =
     let first = take_more_set c.args.out.now 0 c.args.code (omega arith) in
-    let nine = c.put_number.ensures.front ∙ ap (λ (front : List ℕ). front ++ to_le_bytes w64 c.args.region.now.at) first in
-    c.put_number-2.ensures.front ∙ ap (λ (front : List ℕ). front ++ to_le_bytes w64 c.args.region.now.size) nine
+    let nine = c.put_number.ensures.front ∙ ap (λ (front : List ℕ). front ++ to_le_bytes w64 c.args.at) first in
+    c.put_number-2.ensures.front ∙ ap (λ (front : List ℕ). front ++ to_le_bytes w64 c.args.size) nine
 
 pub returns-clause-rest : goal.returns-clause-rest
 returns-clause-rest c =

@@ -1,14 +1,13 @@
 use Rattle.std.proofs.lemmas.Result.{on_ok_weaker, on_err_weaker}
-use Rattle.shadow_map.specs.States.{Poison}
-use Rattle.shadow_map.proofs.Adds.{adds, adds_in_part}
-use Rattle.shadow_map.proofs.Bytes.{poison_makes}
-use Rattle.shadow_map.proofs.Cuts.{poison_leaves}
+use Rattle.shadow_map.proofs.Adds.{poison_adds, poison_adds_in_part}
 use Rattle.shadow_map.proofs.shadow.Shadow.poison.Goals as goal
 
 pub returns : goal.returns
 returns g c =
-    let makes = poison_makes c.args.at c.args.size c.requires in
+    let r = c.requires in
     record {
-      ok = on_ok_weaker c.change.result (adds c.args.self.now c.change.new.self (Poison c.args.at c.args.size) _ c.requires makes) c.change.ensures.ok;
-      err = on_err_weaker c.change.result (adds_in_part c.args.self.now c.change.new.self (Poison c.args.at c.args.size) _ c.requires makes (poison_leaves c.args.at c.args.size c.requires)) c.change.ensures.err;
+      ok = on_ok_weaker c.change.result
+          (λ each state code. poison_adds c.args.self.now c.change.new.self c.args.at c.args.size c.args.code state code r.end r.code each) c.change.ensures.ok;
+      err = on_err_weaker c.change.result
+          (λ torn state code. poison_adds_in_part c.args.self.now c.change.new.self c.args.at c.args.size c.args.code state code r.end r.code torn) c.change.ensures.err;
     }

@@ -1,5 +1,6 @@
 use Rattle.std.proofs.Common.{rules, ◌≡◌, ◌≢◌, ◌<◌, ℕ, List, [], take, get_or, sym, ◌∙◌, arith, subst}
 use Rattle.std.proofs.lemmas.List.{take_more}
+use Rattle.trace_record.specs.Reading.{Says}
 use Rattle.trace_record.specs.Standing.{Standing, StandsAt}
 use Rattle.trace_record.proofs.Steps.{too_many, bad_code}
 use Rattle.trace_record.proofs.decoder.Decoder.take_whole.Goals as goal
@@ -43,5 +44,6 @@ returns-clause-takes c = record {
   stop = search rules;
   answers = λ text events h.
       let at = subst (λ (rest : List ℕ). StandsAt (record c.args.self.now { rest = rest }) text events) c.requires.none_cut h in
-      rw c.finish.ensures.used (c.finish.ensures.answers text events [] (take c.args.size c.args.piece.now) at c.read_record-said.ensures);
+      let says = subst (λ (d : Standing). Says d.version (take c.args.size c.args.piece.now) c.read_record-said.result) c.self.view_is c.read_record-said.ensures in
+      rw c.finish.ensures.used (c.finish.ensures.answers text events [] (take c.args.size c.args.piece.now) at says);
 }

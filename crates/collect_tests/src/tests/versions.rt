@@ -1,0 +1,50 @@
+//! Tests of senders of both versions of the format in one collection.
+
+use super::{MISS, POISON, STREAM, feed_of};
+use asan_collect::{OpenGate, Options, collect, exit_status, write_outcomes};
+use std::test::Fail;
+use trace_feed::{Arrival, ListDoor};
+
+/// A poison of 8 bytes at 0x1000, which is a user's, a load of a byte there, and the close.
+const USERS_POISON: [u8; 36] = [
+    0x41, 0x53, 0x54, 0x52, 1, 0, 0, 0, 5, 0, 0x10, 0, 0, 0, 0, 0, 0, 8, 0, 0, 0, 0, 0, 0, 0, 1, 1,
+    0, 0x10, 0, 0, 0, 0, 0, 0, 7,
+];
+
+/// What is printed of five senders: of version 1, 2 and 1, of one that says version 3, and of one
+/// that says version 2 and has no poison.
+const TEXT: &str = "\
+p0 #2 store 4 at 000000001004 bad 000000001005 heap-buffer-overflow shadow 05
+p0 end closed events 2 offset 36 reports 1
+p1 #2 load 8 at 000000001000 bad 000000001004 stack-buffer-overflow shadow 04
+p1 end closed events 2 offset 37 reports 1
+p2 #2 load 1 at 000000001000 bad 000000001000 use-after-poison shadow f7
+p2 end closed events 2 offset 36 reports 1
+p3 end malformed header events 0 offset 0 reports 0
+p4 end closed events 2 offset 36 reports 0
+";
+
+#[test]
+fn senders_of_both_versions(rt: HostRuntime) -> Result<(), Fail> {
+    let alloc = rt.alloc();
+    let mut third = POISON;
+    third[4] = 3;
+    let mut second = MISS;
+    second[4] = 2;
+    let streams: [&[u8]; 5] = [&STREAM, &POISON, &USERS_POISON, &third, &second];
+    for workers in 1..=3 {
+        for ring in [1, 1024] {
+            let options = Options::new(1 << 28, ring, workers, 1 << 24)?;
+            let mut arrivals = Vec::new(alloc);
+            for stream in streams {
+                arrivals.push(Arrival::Came(feed_of(alloc, stream, &[11, 20], None)?))?;
+            }
+            let outcomes = collect(&rt, alloc, &mut ListDoor::new(arrivals), &OpenGate, options)?;
+            let mut text = Vec::new(alloc);
+            write_outcomes(alloc, &mut text, &outcomes)?;
+            assert_eq!(rt; String::from_utf8(text)?.as_str(), TEXT);
+            assert_eq!(rt; exit_status(&outcomes, true), 3);
+        }
+    }
+    Ok(())
+}
