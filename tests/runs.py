@@ -27,6 +27,7 @@ PATIENCE = 60
 
 # Traces, which are put together here by hand and not by the program's own encoder.
 HEADER = b"ASTR\x01\0\0\0"
+HEADER_2 = b"ASTR\x02\0\0\0"
 CLOSE = b"\x07"
 
 
@@ -50,12 +51,22 @@ def free(at):
     return b"\x04" + number(at)
 
 
+def poison(at, size, kind=None):
+    """A poison of version 1, or one of version 2, which has a kind."""
+    said = b"" if kind is None else bytes([kind])
+    return b"\x05" + said + number(at) + number(size)
+
+
+def unpoison(at, size):
+    return b"\x06" + number(at) + number(size)
+
+
 # What is said where a word is no command.
 HINT = "\nTo check a trace in a file: asancol check FILE\n"
 
 
-def closed(*records):
-    return HEADER + b"".join(records) + CLOSE
+def closed(*records, header=HEADER):
+    return header + b"".join(records) + CLOSE
 
 
 # A malloc of 5 bytes and a store of 4 that ends one byte past them.
@@ -250,6 +261,72 @@ def worked_traces(program):
             1,
             "p0 #1 malloc 8 at 7fffffffffe0 bad-malloc\n"
             "p0 end closed events 1 offset 26 reports 1\n",
+        ),
+    ]:
+        program.expect([], status, text, given=data)
+
+
+def both_versions(program):
+    """Poison with a kind and without one, behind the header of its version and of the other."""
+    redzones = [
+        poison(0x2000, 16, 1),
+        poison(0x2010, 16, 2),
+        load(1, 0x2008),
+        store(4, 0x2010),
+        unpoison(0x2000, 32),
+        load(8, 0x2000),
+    ]
+    written_for_1 = [malloc(0x1000, 8), poison(0x1002, 6), load(1, 0x1003)]
+    for data, status, text in [
+        (
+            closed(*redzones, header=HEADER_2),
+            1,
+            "p0 #3 load 1 at 000000002008 bad 000000002008 stack-buffer-overflow shadow f2\n"
+            "p0 #4 store 4 at 000000002010 bad 000000002010 global-buffer-overflow shadow f9\n"
+            "p0 end closed events 6 offset 92 reports 2\n",
+        ),
+        (
+            closed(poison(0x1004, 12, 1), load(8, 0x1000), header=HEADER_2),
+            1,
+            "p0 #2 load 8 at 000000001000 bad 000000001004 stack-buffer-overflow shadow 04\n"
+            "p0 end closed events 2 offset 37 reports 1\n",
+        ),
+        (
+            closed(malloc(0x1000, 5), poison(0x1000, 5, 1), load(1, 0x1006), header=HEADER_2),
+            1,
+            "p0 #3 load 1 at 000000001006 bad 000000001006 stack-buffer-overflow shadow f2\n"
+            "p0 end closed events 3 offset 54 reports 1\n",
+        ),
+        (
+            closed(poison(0x1000, (1 << 28) + 1, 3), header=HEADER_2),
+            3,
+            "p0 end malformed kind events 0 offset 8 reports 0\n",
+        ),
+        (
+            closed(*written_for_1),
+            1,
+            "p0 #3 load 1 at 000000001003 bad 000000001003 heap-buffer-overflow shadow 02\n"
+            "p0 end closed events 3 offset 53 reports 1\n",
+        ),
+        (
+            closed(*written_for_1, header=HEADER_2),
+            3,
+            "p0 end malformed size events 1 offset 25 reports 0\n",
+        ),
+        (
+            closed(poison(0x2000, 16, 1)),
+            3,
+            "p0 end malformed code events 1 offset 25 reports 0\n",
+        ),
+        (
+            closed(malloc(0x1000, 5), store(4, 0x1004), header=HEADER_2),
+            1,
+            past_the_end(),
+        ),
+        (
+            closed(header=b"ASTR\x03\0\0\0"),
+            3,
+            "p0 end malformed header events 0 offset 0 reports 0\n",
         ),
     ]:
         program.expect([], status, text, given=data)
@@ -864,6 +941,7 @@ def file_that_says_ready(program):
 CASES = [
     one_file,
     worked_traces,
+    both_versions,
     input_that_cannot_be_read,
     closed_streams,
     many_reports,

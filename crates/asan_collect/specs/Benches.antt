@@ -57,7 +57,7 @@ module _ {A : Type 0} where
   HasReported b reports = HasPut b.outbox reports
 
   -- a turn of a bench leaves it the same process, lane and bound, and its report lane if that is
-  -- still taken from; reports come only after those that it had
+  -- still there; reports come only after those that it had
   pub record Turns (before : Bench A) (did : Turn) (after : Bench A) : Type 0 where
     pub process : process_of after ≡ process_of before
     pub lane : lane_of after ≡ lane_of before
@@ -67,7 +67,7 @@ module _ {A : Type 0} where
     pub taken : Takes did (taken_of before) (taken_of after)
 
   -- a bench has the process, the lane and the bound that it had, and its report lane if that is
-  -- still taken from; it has taken some more items, and found some more reports
+  -- still there; it has taken some more items, and found some more reports
   pub record Later (before after : Bench A) : Type 0 where
     pub process : process_of after ≡ process_of before
     pub lane : lane_of after ≡ lane_of before

@@ -98,7 +98,8 @@ impl<A: Allocator + Copy> Bench<A> {
     ///
     /// Who takes from the report lane sees the reports in their order, before the gate is called
     /// for their events. While a report waits for room there, the bench takes no item. Once nobody
-    /// takes from it any more, the bench lets it go, and works on as one of [`Bench::new`].
+    /// takes from it any more, the bench lets it go, and works on as one of [`Bench::new`]. No
+    /// clause says when: a report lane that is still there is the one that it was given.
     pub fn with_reports(
         process: u32,
         lane: LaneOut<Item, A>,

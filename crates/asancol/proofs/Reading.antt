@@ -1,11 +1,14 @@
 -- What is read of the values that were found.
-use Rattle.std.proofs.Common.{◌≡◌, ℕ, List, Option, None, Some, refl, ap}
-use Rattle.std.specs.Prelude.{Result, Ok, Err, IfOk, MatchResult, codes, unwrap_or}
+use Rattle.std.proofs.Common.{◌≡◌, ℕ, List, Option, None, Some, refl, ap, sym, inl, inr}
+use Rattle.std.specs.Prelude.{Result, Ok, Err, IfErr, IfOk, MatchResult, codes, is_ok, unwrap_or}
 use Rattle.std.specs.Str.Parse.{ParsesUnsigned}
 use Rattle.clap.specs.Matches.{ReadsOne, one_text}
+use Rattle.asan_collect.specs.BadOptions.{bad_option_of, is_memory_bound}
+use Rattle.asan_collect.specs.declared.options.BadOption.{BadOption}
+use Rattle.asan_collect.specs.declared.options.BadOption.TheVariants as option
 use Rattle.asan_collect.specs.declared.options.Options.{Options}
 use Rattle.clap.specs.declared.parser.matches.Found.{Found}
-use Rattle.asancol.specs.Settings.{AreOptionsOf, AreSizesOf, IsGiven, IsSet, IsSetIfGiven, IsReadAs}
+use Rattle.asancol.specs.Settings.{AreOptionsOf, AreSizesOf, IsBadOption, IsBadSize, IsGiven, IsSet, IsSetIfGiven, IsReadAs}
 use Rattle.asan_collect.specs.Ranges.{usual_quarantine, usual_limit, usual_ring, usual_workers}
 
 module _ {E : Type 0} (gives : List ℕ → Result ℕ E → Type 0) (bits : ℕ)
@@ -50,6 +53,17 @@ pub made_of : {E : Type 0} (P : E → Type 0) (r : Result Options E) (found : Fo
 made_of P (Ok o) found quarantine ring workers limit so a b c d = (rw so.0 a, rw so.1 b, rw so.2 c, rw so.3 d)
 made_of P (Err e) found quarantine ring workers limit so a b c d = tt
 
+-- and where they weren't made, the first that is out of its range is one of those that were found
+pub refused_of : (P : Options → Type 0) (r : Result Options BadOption) (found : Found) (quarantine ring workers limit : ℕ)
+    → MatchResult r P (λ bad. bad_option_of quarantine ring workers limit ≡ Some bad)
+    → IsSet 64 (one_text found (codes "quarantine")) usual_quarantine quarantine
+    → IsSet 32 (one_text found (codes "ring")) usual_ring ring
+    → IsSet 32 (one_text found (codes "workers")) usual_workers workers
+    → IsSet 32 (one_text found (codes "limit")) usual_limit limit
+    → IfErr r (IsBadSize found)
+refused_of P (Ok o) found quarantine ring workers limit so a b c d = tt
+refused_of P (Err bad) found quarantine ring workers limit so a b c d = (quarantine, ring, workers, limit, (a, b, c, d), so)
+
 -- with a bound on memory that was found they are all that was found
 pub bounded_of : {E : Type 0} (r : Result Options E) (o : Options) (found : Found) (bytes : ℕ)
     → IfOk r (λ p. p.memory ≡ Some bytes)
@@ -59,7 +73,21 @@ bounded_of (Ok p) o found bytes memory same sizes given =
     ((rw same.0 sizes.0, rw same.1 sizes.1, rw same.2 sizes.2, rw same.3 sizes.3), rw memory given)
 bounded_of (Err e) o found bytes memory same sizes given = tt
 
+-- a bound that they cannot have is out of its range
+pub bad_memory_of : (r : Result Options BadOption) (o : Options) (found : Found) (bytes : ℕ)
+    → is_ok r ≡ is_memory_bound bytes → IfErr r (λ bad. bad ≡ option.Memory)
+    → AreSizesOf found o → IsSetIfGiven 64 (one_text found (codes "memory")) (Some bytes) → IfErr r (IsBadOption found)
+bad_memory_of (Ok p) o found bytes range is sizes given = tt
+bad_memory_of (Err bad) o found bytes range is sizes given = inr (is, ((o, sizes), (bytes, given, sym range)))
+
+-- an option with a default that is out of its range is an option that is
+pub bad_size_of : (found : Found) (bad : BadOption) → IsBadSize found bad → IsBadOption found bad
+bad_size_of found bad first = inl first
+
 -- and without one they are, where none was found
 pub unbounded_of : (o : Options) (found : Found)
     → AreSizesOf found o → o.memory ≡ None → IsSetIfGiven 64 (one_text found (codes "memory")) None → AreOptionsOf found o
 unbounded_of o found sizes none given = (sizes, rw none given)
+
+-- what is read of all the options
+pub ruleset options_read = (bounded_of, unbounded_of, bad_memory_of, bad_size_of)

@@ -1,5 +1,6 @@
 -- What the words of the command line ask for.
-use Rattle.std.specs.Prelude.{◌≡◌, ◌≤◌, Bool, false, List, String, codes, length, string_bytes}
+use Rattle.std.specs.Prelude.{◌≡◌, ◌≤◌, ℕ, ◌+◌, Bool, false, List, String, codes, length}
+use Rattle.std.specs.Prelude.{string_bytes}
 use Rattle.std.specs.List.{list_any}
 use Rattle.std.specs.Str.{bytes_eq}
 use Rattle.std.specs.declared.alloc.Global.{Global}
@@ -16,6 +17,13 @@ HasFewFiles (request.Serve serving) = Unit {0}
 -- whether `--verbose` is one of the words
 abbrev pub is_verbose : List (String Global) → Bool
 is_verbose words = list_any (λ word. bytes_eq (string_bytes word) (codes "--verbose")) words
+
+-- how many threads it starts at most: a reader for each sender, and the checkers; none where it
+-- checks standard input alone
+abbrev pub threads_of : Request → ℕ
+threads_of request.Input = 0
+threads_of (request.Files names options verbose) = length names.items + options.workers
+threads_of (request.Serve serving) = serving.count + serving.options.workers
 
 -- no line is asked for on what became of each file
 abbrev pub IsQuiet : Request → Type 0

@@ -1,9 +1,12 @@
 -- What the words of the command line set, by what was found among them.
-use Rattle.std.specs.Prelude.{◌≡◌, ℕ, ◌<◌, ◌^◌, List, [], Option, None, Some, codes, map}
-use Rattle.std.specs.Prelude.{string_bytes}
+use Rattle.std.specs.Prelude.{◌≡◌, ℕ, ◌<◌, ◌^◌, ◌⊎◌, false, List, [], Option, None, Some}
+use Rattle.std.specs.Prelude.{codes, map, string_bytes}
 use Rattle.std.specs.Option.{option_map_or}
 use Rattle.std.specs.Str.Parse.{IsNumeral, digits_value, without_leading_plus}
 use Rattle.asan_collect.specs.Ranges.{usual_quarantine, usual_ring, usual_workers, usual_limit}
+use Rattle.asan_collect.specs.BadOptions.{bad_option_of, is_memory_bound}
+use Rattle.asan_collect.specs.declared.options.BadOption.{BadOption}
+use Rattle.asan_collect.specs.declared.options.BadOption.TheVariants as option
 use Rattle.asan_collect.specs.declared.options.Options.{Options}
 use Rattle.asancol.specs.declared.command_line.Request.{Request}
 use Rattle.asancol.specs.declared.command_line.Request.TheVariants as request
@@ -30,19 +33,42 @@ IsSetIfGiven bits (Some text) number =
     → digits_value 10 (without_leading_plus text) < 2 ^ bits
     → number ≡ Some (digits_value 10 (without_leading_plus text))
 
--- each option that has a default has the value that was found, or its default
+-- these are the values of the options that have a default: each is the one that was found, or the
+-- default
+abbrev pub AreSizes : Found → (quarantine ring workers limit : ℕ) → Type 0
+AreSizes found quarantine ring workers limit =
+    IsSet 64 (one_text found (codes "quarantine")) usual_quarantine quarantine
+    × IsSet 32 (one_text found (codes "ring")) usual_ring ring
+    × IsSet 32 (one_text found (codes "workers")) usual_workers workers
+    × IsSet 32 (one_text found (codes "limit")) usual_limit limit
+
+-- each option that has a default has such a value
 abbrev pub AreSizesOf : Found → Options → Type 0
 AreSizesOf found options =
-    IsSet 64 (one_text found (codes "quarantine")) usual_quarantine options.quarantine
-    × IsSet 32 (one_text found (codes "ring")) usual_ring options.ring
-    × IsSet 32 (one_text found (codes "workers")) usual_workers options.workers
-    × IsSet 32 (one_text found (codes "limit")) usual_limit options.limit
+    AreSizes found options.quarantine options.ring options.workers options.limit
 
 -- and memory has the bound that was found, or none
 abbrev pub AreOptionsOf : Found → Options → Type 0
 AreOptionsOf found options =
     AreSizesOf found options
     × IsSetIfGiven 64 (one_text found (codes "memory")) options.memory
+
+-- it is the first of these options whose value is out of its range
+abbrev pub IsBadSize : Found → BadOption → Type 0
+IsBadSize found bad =
+    (quarantine ring workers limit : ℕ) × AreSizes found quarantine ring workers limit
+    × (bad_option_of quarantine ring workers limit ≡ Some bad)
+
+-- the bound on memory that was found is out of its range, and the other options are in theirs
+abbrev pub IsBadMemory : Found → Type 0
+IsBadMemory found =
+    ((options : Options) × AreSizesOf found options)
+    × ((bytes : ℕ) × IsSetIfGiven 64 (one_text found (codes "memory")) (Some bytes)
+    × (is_memory_bound bytes ≡ false))
+
+-- it is the first of all options whose value is out of its range; memory is the last of them
+abbrev pub IsBadOption : Found → BadOption → Type 0
+IsBadOption found bad = IsBadSize found bad ⊎ ((bad ≡ option.Memory) × IsBadMemory found)
 
 -- each option has its default
 abbrev pub AreUsual : Options → Type 0

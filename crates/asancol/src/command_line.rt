@@ -1,7 +1,7 @@
 //! What the words of the command line ask for.
 
-ghost use Rattle.std.specs.Prelude.{◌≡◌, ◌<◌, ◌≤◌, ◌↔◌, [], Ok, Err, IfOk, IfSome, Some, false};
-ghost use Rattle.std.specs.Prelude.{None, codes, length, map, option_map, string_bytes};
+ghost use Rattle.std.specs.Prelude.{◌≡◌, ◌<◌, ◌≤◌, ◌↔◌, [], Ok, Err, IfErr, IfOk, IfSome, Some};
+ghost use Rattle.std.specs.Prelude.{None, false, codes, length, map, option_map, string_bytes};
 ghost use Rattle.asan_collect.specs.Ranges.{most_senders};
 ghost use Rattle.asancol.specs.declared.command_line.Refusal.TheVariants.{NoMemory};
 ghost use Rattle.asancol.specs.declared.command_line.Refusal.TheVariants.{OptionOutOfRange};
@@ -9,8 +9,9 @@ ghost use Rattle.clap.specs.Values.{kind_of};
 ghost use Rattle.clap.specs.Words.{first_value, found_of, one_text};
 ghost use Rattle.asancol.specs.Refusals.{refusal_of};
 ghost use Rattle.asancol.specs.Requests.{HasFewFiles, IsQuiet, is_verbose as is_verbose_of};
+ghost use Rattle.asancol.specs.Requests.{threads_of};
 ghost use Rattle.asancol.specs.Settings.{AreFilesOf, AreOptionsOf, AreSizesOf, IsGiven};
-ghost use Rattle.asancol.specs.Settings.{IsSetIfGiven};
+ghost use Rattle.asancol.specs.Settings.{IsBadOption, IsBadSize, IsSetIfGiven};
 
 use crate::arguments::{
     CHECK, COUNT, FILES, HelpTexts, LIMIT, MEMORY, QUARANTINE, READY, RING, SERVE, SOCKET, VERBOSE,
@@ -41,14 +42,16 @@ pub enum Request {
 }
 
 impl Request {
-    /// How many threads it starts at most.
-    pub fn threads(&self) -> usize {
+    /// How many threads it starts at most: a reader for each sender, and the checkers.
+    pub fn threads(&self) -> usize
+        ensures { result ≡ threads_of self.now }
+    {
         let (senders, options) = match self {
             Request::Input => return 0,
             Request::Files { names, options, .. } => (names.len(), options),
             Request::Serve(serving) => (serving.count as usize, &serving.options),
         };
-        senders.saturating_add(options.workers as usize)
+        senders + options.workers as usize
     }
 }
 
@@ -207,9 +210,10 @@ fn serving_of(alloc: Global, matches: &ArgMatches<'_>) -> Result<Option<Serving>
 }
 
 /// The options that were found, and the usual ones in place of those that were not.
-#[tactic(auto, using(crate::proofs::Reading::bounded_of, crate::proofs::Reading::unbounded_of))]
+#[tactic(auto, using(crate::proofs::Reading::options_read))]
 fn options_of(matches: &ArgMatches<'_>) -> Result<Options, BadOption>
     ensures found { IfOk result (AreOptionsOf (found_of matches.now)) }
+    ensures refused { IfErr result (IsBadOption (found_of matches.now)) }
 {
     let options = sizes_of(matches)?;
     match memory_of(matches) {
@@ -221,6 +225,7 @@ fn options_of(matches: &ArgMatches<'_>) -> Result<Options, BadOption>
 /// The options that were found, but for a bound on memory.
 fn sizes_of(matches: &ArgMatches<'_>) -> Result<Options, BadOption>
     ensures found { IfOk result (AreSizesOf (found_of matches.now)) }
+    ensures refused { IfErr result (IsBadSize (found_of matches.now)) }
     ensures unbounded { IfOk result (λ o. o.memory ≡ None) }
 {
     let usual = Options::usual();

@@ -34,8 +34,8 @@ const _: () = prove!(size_of::<Level5<Global>>() == 32);
 /// A byte for each granule below 2^44.
 ///
 /// The memory that one fill takes depends on its two ends alone: for each of them the 4,096 bytes
-/// of a leaf, the 2,048 of the leaves beside it and the 4,096 of a branch of each level above, where
-/// these are not there yet.
+/// of a leaf, the 2,048 of the leaves beside it and the 4,096 of a branch of each level above,
+/// where these are not there yet.
 #[derive(Drop)]
 pub struct PageTable<A: Allocator + Copy = Global> {
     root: Level5<A>,
@@ -54,7 +54,7 @@ impl<A: Allocator + Copy> PageTable<A> {
         }
     }
 
-    /// The byte of a granule: seven array steps at most.
+    /// The byte of a granule: six array steps at most.
     #[inline]
     #[tactic(auto, unfolding(crate::specs::Tables::byte_of))]
     pub fn byte(&self, granule: u64) -> u8

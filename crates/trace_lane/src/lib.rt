@@ -12,7 +12,13 @@
 //! - **The end.** `finish` drops the putting end and gives a `LaneEnd`, which knows all that was
 //!   put. With it `settle` says how many items are left, and that many takes then succeed: every
 //!   item that was put is taken.
-#![tactic(auto, unfolding(crate::specs::Lanes::in_lane, crate::specs::Lanes::out_lane, crate::specs::Lanes::end_lane, crate::specs::Lanes::put_list, crate::specs::Lanes::taken_list, crate::specs::Lanes::waiting, crate::specs::Lanes::end_list))]
+#![tactic(auto, unfolding(
+// what contracts say of the putting end
+crate::specs::Lanes::in_lane, crate::specs::Lanes::put_list,
+// of the taking end
+crate::specs::Lanes::out_lane, crate::specs::Lanes::taken_list, crate::specs::Lanes::waiting,
+// and of what is left of the putting end
+crate::specs::Lanes::end_lane, crate::specs::Lanes::end_list))]
 
 mod lane_end;
 mod lane_in;

@@ -5,7 +5,7 @@ use Rattle.trace_record.specs.declared.end.End.{End}
 use Rattle.trace_record.specs.declared.end.Fate.{Fate}
 use Rattle.trace_record.specs.declared.end.Fate.TheVariants as fate
 use Rattle.trace_record.specs.declared.version.Version.{Version}
-use Rattle.trace_record.specs.Stream.{version_of, MayEnd, Spells, IsDecidedFate, header_and_records, offset_of, close_length}
+use Rattle.trace_record.specs.Stream.{MayEnd, Spells, IsDecidedFate, header_and_records, offset_of, close_length}
 use Rattle.trace_record.specs.Reading.{Reads}
 use Rattle.trace_record.proofs.Readings.{one_reading, stands, decided_long, version_same}
 

@@ -14,7 +14,7 @@ use Rattle.trace_record.specs.declared.end.Flaw.{Flaw}
 use Rattle.trace_record.specs.declared.end.Flaw.TheVariants as flaw
 use Rattle.trace_record.specs.declared.fields.Fields.{Fields}
 use Rattle.trace_record.specs.declared.version.Version.{Version}
-use Rattle.trace_record.specs.Spelling.{header, close, record_bytes, bytes_of, FitBytes, Fit, fields_of, flaw_of, spelling, spellings, poison_length, record_length, spells_in, AllSpellIn}
+use Rattle.trace_record.specs.Spelling.{header, close, record_bytes, bytes_of, FitBytes, Fit, fields_of, flaw_of, spelling, spellings, record_length, AllSpellIn}
 use Rattle.trace_record.specs.Reading.{AreBytes, IsWholeRecord, Says, Reads}
 use Rattle.trace_record.specs.Stream.{version_of, IsFlawedRecord}
 use Rattle.trace_record.proofs.Numbers.{number, numbers_at, fields_at, same_fields}

@@ -1,5 +1,5 @@
 -- The kinds of poison, and the numbers that stand for them in a record of version 2 (profile).
-use Rattle.std.specs.Prelude.{ℕ, ◌*◌, ◌+◌, ◌/◌, ◌%◌, ◌==◌, if◌then◌else◌}
+use Rattle.std.specs.Prelude.{ℕ, ◌==◌, if◌then◌else◌}
 use Rattle.trace_record.specs.declared.shade.Kind.{Kind}
 use Rattle.trace_record.specs.declared.shade.Kind.TheVariants as kind
 

@@ -17,7 +17,7 @@ const KINDS: u64 = 4;
 pub enum Kind {
     /// The traced program poisoned the bytes itself.
     User,
-    /// They lie beside a variable on the stack, or in a frame or a scope that has ended.
+    /// They lie beside a variable on the stack, or are one whose scope has ended.
     Stack,
     /// They lie beside a global variable.
     Global,
@@ -36,8 +36,8 @@ pub struct Shade {
 }
 
 impl Kind {
-    ghost use Rattle.std.specs.Prelude.{MatchOption, ◌<◌};
-    ghost use Rattle.trace_record.specs.Kinds.{kind_number, kind_of, largest_kind};
+    ghost use Rattle.std.specs.Prelude.{MatchOption};
+    ghost use Rattle.trace_record.specs.Kinds.{kind_number, largest_kind};
 
     /// The kind with this number, or `None` if there is none.
     fn numbered(number: u8) -> Option<Kind>

@@ -199,7 +199,7 @@ p0 #3 load 1 at 000000001006 bad 000000001006 stack-buffer-overflow shadow f2
     Ok(())
 }
 
-/// Poison of a part of a granule that has no addressable byte leaves it its code, whatever its kind.
+/// Poison of a part of a granule that has no addressable byte leaves its code, whatever its kind.
 #[test]
 fn part_of_a_redzone_keeps_its_kind(rt: HostRuntime) -> Result<(), Fail> {
     let events = [

@@ -214,10 +214,10 @@ fn the_257th_sender_stays_at_the_door(rt: HostRuntime) -> Result<(), Fail> {
 
 /// A door of senders that all send a missed store.
 #[derive(Drop)]
-struct Repeated {
-    alloc: Global,
-    left: u32,
-    refusals: u64,
+pub(super) struct Repeated {
+    pub(super) alloc: Global,
+    pub(super) left: u32,
+    pub(super) refusals: u64,
 }
 
 impl Door for Repeated {

@@ -2,8 +2,9 @@
 
 ghost use Rattle.std.specs.Prelude.{◌≡◌, IfOk};
 
+use super::collect::Repeated;
 use super::{STREAM, feed_of};
-use crate::{BadOption, OpenGate, Options, Outcome, collect_within};
+use crate::{BadOption, MOST_SENDERS, OpenGate, Options, Outcome, collect_within};
 use refusing_allocator::RefusingAllocator;
 use std::alloc::Global;
 use std::test::Fail;
@@ -81,6 +82,30 @@ fn senders_past_the_list_share_the_memory(rt: HostRuntime) -> Result<(), Fail> {
     let of_one = own.held();
     assert!(rt; of_one > 0);
     assert!(rt; shared.held() > of_one);
+    Ok(())
+}
+
+#[test]
+fn each_sender_has_its_own_memory(rt: HostRuntime) -> Result<(), Fail> {
+    let mut heaps = Vec::new(rt.alloc());
+    for _ in 0..MOST_SENDERS {
+        heaps.push(RefusingAllocator::counting(rt.alloc()))?;
+    }
+    let own = heaps.iter().collect::<Vec<_>>(rt.alloc())?;
+    let shared = RefusingAllocator::counting(rt.alloc());
+    let mut door = Repeated {
+        alloc: rt.alloc(),
+        left: MOST_SENDERS as u32,
+        refusals: 0,
+    };
+    let outcomes = collect_within(&rt, &shared, &own, &mut door, &OpenGate, Options::usual())?;
+    assert_eq!(rt; outcomes.len(), MOST_SENDERS);
+    // All senders send the same, so that their checkers ask for the same.
+    let requests = heaps.first().map_or(0, |heap| heap.requests_made());
+    assert!(rt; requests > 0);
+    for (sender, heap) in heaps.iter().enumerate() {
+        assert_eq!(rt; heap.requests_made(), requests, "sender {sender}");
+    }
     Ok(())
 }
 

@@ -73,6 +73,8 @@ fn a_report_waits_after_the_end(rt: HostRuntime) -> Result<(), Fail> {
     assert!(rt; into.finish().is_some());
     let mut room = Room::new();
     assert_eq!(rt; bench.work(&gate, &mut room), Found::Items);
+    // It has put the first report, and called the gate for its event.
+    assert_eq!(rt; gate.heard.load(Ordering::SeqCst), 1);
     assert_eq!(rt; bench.work(&gate, &mut room), Found::None);
     assert_eq!(rt; bench.turn(&gate), Turn::Empty);
     assert_eq!(rt; gate.heard.load(Ordering::SeqCst), 1);

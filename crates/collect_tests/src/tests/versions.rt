@@ -1,9 +1,8 @@
 //! Tests of senders of both versions of the format in one collection.
 
-use super::{MISS, POISON, STREAM, feed_of};
+use super::{MISS, POISON, STREAM, Senders};
 use asan_collect::{OpenGate, Options, collect, exit_status, write_outcomes};
 use std::test::Fail;
-use trace_feed::{Arrival, ListDoor};
 
 /// A poison of 8 bytes at 0x1000, which is a user's, a load of a byte there, and the close.
 const USERS_POISON: [u8; 36] = [
@@ -32,14 +31,15 @@ fn senders_of_both_versions(rt: HostRuntime) -> Result<(), Fail> {
     let mut second = MISS;
     second[4] = 2;
     let streams: [&[u8]; 5] = [&STREAM, &POISON, &USERS_POISON, &third, &second];
+    let mut sent = Vec::new(alloc);
+    for stream in streams {
+        sent.push(stream.to_vec(alloc)?)?;
+    }
     for workers in 1..=3 {
         for ring in [1, 1024] {
             let options = Options::new(1 << 28, ring, workers, 1 << 24)?;
-            let mut arrivals = Vec::new(alloc);
-            for stream in streams {
-                arrivals.push(Arrival::Came(feed_of(alloc, stream, &[11, 20], None)?))?;
-            }
-            let outcomes = collect(&rt, alloc, &mut ListDoor::new(arrivals), &OpenGate, options)?;
+            let mut door = Senders::new(alloc, &sent, &[11, 20]);
+            let outcomes = collect(&rt, alloc, &mut door, &OpenGate, options)?;
             let mut text = Vec::new(alloc);
             write_outcomes(alloc, &mut text, &outcomes)?;
             assert_eq!(rt; String::from_utf8(text)?.as_str(), TEXT);

@@ -3,7 +3,7 @@ use Rattle.std.specs.Str.Parse.{ExplainsUnsignedError, HasUnsignedDigitsIfOk, Pa
 use Rattle.clap.specs.Words.{found_of, one_text}
 use Rattle.asancol.specs.Settings.{IsSet}
 use Rattle.asan_collect.specs.Ranges.{usual_quarantine, usual_limit, usual_ring, usual_workers}
-use Rattle.asancol.proofs.Reading.{made_of, set_of}
+use Rattle.asancol.proofs.Reading.{made_of, refused_of, set_of}
 use Rattle.asancol.proofs.command_line.sizes_of.Goals as goal
 
 pub returns : goal.returns
@@ -23,5 +23,6 @@ returns c =
     (one_text found (codes "limit")) c.get_one-4.result _ usual_limit _ c.unwrap_or-4.ensures c.usual-usual.ensures.limit c.get_one-4.ensures.none c.get_one-4.ensures.value in
     record {
       found = made_of _ c.new.result found c.unwrap_or.result c.unwrap_or-2.result c.unwrap_or-3.result c.unwrap_or-4.result c.new.ensures.each quarantine ring workers limit;
+      refused = refused_of _ c.new.result found c.unwrap_or.result c.unwrap_or-2.result c.unwrap_or-3.result c.unwrap_or-4.result c.new.ensures.each quarantine ring workers limit;
       unbounded = c.new.ensures.unbounded;
     }
