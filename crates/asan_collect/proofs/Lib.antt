@@ -8,6 +8,9 @@ mod Draining
 mod Later
 mod Senders
 mod Dealing
+mod ReportLanes
+mod LastLines
+mod Going
 mod Arriving
 mod Counting
 mod Reporting

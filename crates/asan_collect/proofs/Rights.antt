@@ -17,7 +17,7 @@ use Rattle.asan_collect.specs.declared.sender.Sender.{Sender}
 use Rattle.asan_collect.specs.declared.sender.Sender.TheVariants as sender
 use Rattle.asan_collect.specs.declared.bench.Bench.{Bench}
 use Rattle.asan_collect.specs.declared.reader.ReaderDone.{ReaderDone}
-use Rattle.asan_collect.specs.Benches.{bench_bound}
+use Rattle.asan_collect.specs.Benches.{bench_bound, lane_of}
 use Rattle.asan_collect.specs.Items.{items_of}
 use Rattle.asan_collect.specs.Outcomes.{IsSpelled, Tells}
 use Rattle.asan_collect.specs.Ranges.{most_events, most_reports}
@@ -63,6 +63,18 @@ module _ {F A : Type 0} (seen : F → FeedState) where
   settled_came options arrival.Refused done bench result none some came = absurd (false≢true (ap was_refused came))
   settled_came options (arrival.Came feed) done bench result none some came =
       settled_by options feed done.feed done.end done.lane_end result none (rw came.0 at some) came.2
+
+  -- a bench whose report lane was ended, and nothing else
+  pub finished_came : (options : Options) (a : Arrival F) (done : ReaderDone F A) (bench finished : Bench A) → bench_bound finished ≡ bench_bound bench → lane_of finished ≡ lane_of bench
+      → Came seen options a (sender.Joined done bench) → Came seen options a (sender.Joined done finished)
+  finished_came options arrival.Over done bench finished bound lane came = absurd came
+  finished_came options arrival.Refused done bench finished bound lane came = absurd (false≢true (ap was_refused came))
+  finished_came options (arrival.Came feed) done bench finished bound lane came = (rw bound came.0, rw lane came.1, came.2)
+
+  pub unsettled_came : (options : Options) (a : Arrival F) (done : ReaderDone F A) (bench : Bench A) → Came seen options a (sender.Joined done bench) → IsAnswerTo {F = F} {A = A} seen options a outcome.Unsettled
+  unsettled_came options arrival.Over done bench came = absurd came
+  unsettled_came options arrival.Refused done bench came = absurd (false≢true (ap was_refused came))
+  unsettled_came options (arrival.Came feed) done bench came = tt
 
   -- a bench that came back fits
   came_met : (options : Options) (a : Arrival F) (s : Sender F A) → Came seen options a s → IsJoined s

@@ -185,3 +185,10 @@ module _ {F A : Type 0} (seen : F → FeedState) where
     same_length = r.same_length ∙ h.same_length;
     each = λ i d e below. r.each i sender.NotOpened e (let l = h.same_length in omega arith) options (slice_index_or arrivals i d) (h.each i d sender.NotOpened below);
   }
+
+  -- senders that were read, and whose benches came back
+  pub pairs_back : (options : Options) (arrivals : List (Arrival F)) (xs ys zs : List (Sender F A)) → Pairwise (Came seen options) arrivals xs
+      → Each (Becomes seen options.limit) 0 xs ys → Each (Rejoins seen options.quarantine) 0 ys zs → Pairwise (Came seen options) arrivals zs
+  pairs_back options arrivals xs ys zs h read placed =
+      pairs_on options (Rejoins seen options.quarantine) (λ a s t c r. r.came options a refl c) arrivals ys zs
+      (pairs_on options (Becomes seen options.limit) (came_on options) arrivals xs ys h read) placed

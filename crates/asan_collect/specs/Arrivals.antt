@@ -1,8 +1,9 @@
 -- Who arrived at a door.
 use Rattle.std.specs.Prelude.{◌≡◌, ℕ, ◌<◌, List, ◌++◌, Option, None, Some, length, min}
-use Rattle.std.specs.Prelude.{slice_index_or}
+use Rattle.std.specs.Prelude.{slice_index_or, IsTrue, ◌⊎◌}
 use Rattle.trace_feed.specs.declared.door.Arrival.{Arrival}
 use Rattle.trace_feed.specs.declared.door.Arrival.TheVariants as arrival
+use Rattle.trace_feed.specs.Doors.{DoorState}
 use Rattle.trace_feed.specs.Feeds.{FeedState}
 use Rattle.asan_collect.specs.declared.options.Options.{Options}
 use Rattle.asan_collect.specs.declared.outcome.Outcome.{Outcome}
@@ -51,3 +52,12 @@ module _ {F A : Type 0} (seen : F → FeedState) (options : Options) where
   IsAnswerTo (arrival.Came feed) result = IsAnswerToFeed feed result
   IsAnswerTo arrival.Refused result = result ≡ outcome.NotOpened
   IsAnswerTo arrival.Over result = ⊥
+
+  -- these are the outcomes of all that arrived between two states of a door, in order: of all that
+  -- it had, or of as many as one call takes
+  abbrev pub AreAnswers : DoorState F → DoorState F → List (Outcome F A) → Type 0
+  AreAnswers before after outcomes =
+      (arrivals : List (Arrival F))
+      × Arrived before.to_arrive after.to_arrive arrivals
+      × (IsTrue after.is_shut ⊎ (length arrivals ≡ most_senders))
+      × Pairwise IsAnswerTo arrivals outcomes

@@ -13,7 +13,9 @@ pub mod Benches
 pub mod Arrivals
 pub mod Senders
 pub mod Shares
+pub mod ReportLanes
 pub mod Counts
 pub mod Statuses
 pub mod Texts
-pub mod Printing
+pub mod Live
+pub mod Closings

@@ -5,6 +5,7 @@ ghost use Rattle.asan_collect.specs.Benches.{EachLater};
 ghost use Rattle.asan_collect.specs.Senders.{AllFresh, Becomes, Each};
 ghost use Rattle.asan_collect.specs.Shares.{Share, ComesBack, WillComeBack, GivesUp};
 
+use crate::at_work::AtWork;
 use crate::bench::Bench;
 use crate::checker::run_checker;
 use crate::foreground::Foreground;
@@ -48,7 +49,13 @@ fn begin<
     G: Gate + Sync,
     A: Allocator + Copy + Send + 's,
     R: Threads + Wait + Clock + Sync,
->(scope: &'s Scope<'s, &'e ()>, rt: &'e R, gate: &'e G, share: Vec<Bench<A>, A>) -> CheckerThread<A>
+>(
+    scope: &'s Scope<'s, &'e ()>,
+    rt: &'e R,
+    gate: &'e G,
+    at_work: &'e AtWork,
+    share: Vec<Bench<A>, A>,
+) -> CheckerThread<A>
     ensures { WillComeBack share result }
 {
     if share.is_empty() {
@@ -59,10 +66,18 @@ fn begin<
     };
     let work = move || -> Vec<Bench<A>, A>
         ensures { EachLater share.items result.items }
-    { run_checker(rt, share, gate) };
+    {
+        let benches = run_checker(rt, share, gate);
+        at_work.end();
+        benches
+    };
+    at_work.begin();
     match scope.spawn_with(promise, work) {
         Ok(handle) => CheckerThread::Running(handle),
-        Err(_) => CheckerThread::Lost,
+        Err(_) => {
+            at_work.end();
+            CheckerThread::Lost
+        }
     }
 }
 
@@ -126,6 +141,7 @@ pub(crate) fn check_from<
     rt: &'e R,
     alloc: A,
     gate: &'e G,
+    at_work: &'e AtWork,
     senders: &mut Vec<Sender<F, A>, A>,
     shares: &mut Vec<Vec<Bench<A>, A>, A>,
     at: usize,
@@ -144,13 +160,14 @@ pub(crate) fn check_from<
         return;
     }
     let share = mem::replace(&mut shares[at], Vec::new(alloc));
-    let running = begin(scope, rt, gate, share);
+    let running = begin(scope, rt, gate, at_work, share);
     give_up_senders(senders, &running, at, shares.len());
     check_from(
         scope,
         rt,
         alloc,
         gate,
+        at_work,
         senders,
         shares,
         at + 1,

@@ -1,9 +1,7 @@
 //! Collecting: all senders of a door are read and checked, each on its own lane.
 
-ghost use Rattle.std.specs.Prelude.{◌≡◌, ◌+◌, ◌≤◌, ◌⊎◌, ◌^◌, All, List, IfOk, IsTrue, OnErr};
-ghost use Rattle.std.specs.Prelude.{length};
-ghost use Rattle.trace_feed.specs.declared.door.Arrival.{Arrival as AnArrival};
-ghost use Rattle.asan_collect.specs.Arrivals.{Arrived, IsAllThatCame, IsAnswerTo, Pairwise};
+ghost use Rattle.std.specs.Prelude.{◌≡◌, ◌+◌, ◌≤◌, ◌^◌, All, IfOk, OnErr, length};
+ghost use Rattle.asan_collect.specs.Arrivals.{AreAnswers, IsAllThatCame};
 ghost use Rattle.asan_collect.specs.Counts.{not_opened_among};
 ghost use Rattle.asan_collect.specs.Ranges.{most_senders, most_reports};
 ghost use Rattle.asan_collect.specs.Texts.{reports_of};
@@ -11,7 +9,7 @@ ghost use Rattle.asan_collect.specs.Texts.{reports_of};
 use crate::NoMemory;
 use crate::arrivals::{MOST_SENDERS, ask};
 use crate::gate::Gate;
-use crate::lanes::{no_shares, open_all};
+use crate::lanes::{Opened, Rooms, open_all};
 use crate::options::Options;
 use crate::outcome::Outcome;
 use crate::returns::{place_all, settle_all};
@@ -55,10 +53,8 @@ pub fn collect<
 where
     D::Feed: Send + Drop,
     requires { (D.seen door.old).refusals ≤ 2 ^ 32 }
-    ensures each { IfOk result (λ outcomes. (arrivals : List (AnArrival D.Feed))
-        × Arrived (D.seen door.old).to_arrive (D.seen door.new).to_arrive arrivals
-        × (IsTrue (D.seen door.new).is_shut ⊎ (length arrivals ≡ most_senders))
-        × Pairwise (IsAnswerTo D.Feed.seen options) arrivals outcomes.items) }
+    ensures each { IfOk result (λ outcomes.
+        AreAnswers D.Feed.seen options (D.seen door.old) (D.seen door.new) outcomes.items) }
     ensures count { IfOk result (λ outcomes.
         IsAllThatCame (D.seen door.old).left (length outcomes.items)) }
     ensures refused { IfOk result (λ outcomes.
@@ -98,10 +94,8 @@ pub fn collect_within<
 where
     D::Feed: Send + Drop,
     requires { (D.seen door.old).refusals ≤ 2 ^ 32 }
-    ensures each { IfOk result (λ outcomes. (arrivals : List (AnArrival D.Feed))
-        × Arrived (D.seen door.old).to_arrive (D.seen door.new).to_arrive arrivals
-        × (IsTrue (D.seen door.new).is_shut ⊎ (length arrivals ≡ most_senders))
-        × Pairwise (IsAnswerTo D.Feed.seen options) arrivals outcomes.items) }
+    ensures each { IfOk result (λ outcomes.
+        AreAnswers D.Feed.seen options (D.seen door.old) (D.seen door.new) outcomes.items) }
     ensures count { IfOk result (λ outcomes.
         IsAllThatCame (D.seen door.old).left (length outcomes.items)) }
     ensures refused { IfOk result (λ outcomes.
@@ -112,11 +106,15 @@ where
     ensures unasked { OnErr result (door.new ≡ door.old) }
 {
     let arrival_room = Vec::with_capacity(alloc, MOST_SENDERS)?;
-    let sender_room = Vec::with_capacity(alloc, MOST_SENDERS)?;
     let outcome_room = Vec::with_capacity(alloc, MOST_SENDERS)?;
-    let share_room = no_shares(alloc, options.workers as usize)?;
+    let rooms = Rooms::new(alloc, options)?;
     let arrivals = ask(door, arrival_room);
-    let (senders, shares) = open_all(alloc, own, arrivals, sender_room, share_room, options);
+    let opened = open_all(alloc, own, arrivals, rooms, options, false);
+    let Opened {
+        senders,
+        shares,
+        ports: _,
+    } = opened;
     let Returned { senders, shares } = run_all(rt, alloc, gate, senders, shares, options);
     let mut senders = senders;
     place_all(&mut senders, shares, options.quarantine);

@@ -1,10 +1,14 @@
 //! A lane and a bench for each sender, and the share of the benches that each checker gets.
 
-ghost use Rattle.std.specs.Prelude.{◌≡◌, ◌<◌, ◌≤◌, ◌%◌, [], All, IfOk, IfSome, length, vec_len};
-ghost use Rattle.std.specs.Prelude.{vec_capacity};
+ghost use Rattle.std.specs.Prelude.{◌≡◌, ◌<◌, ◌≤◌, ◌%◌, [], All, IfOk, IfSome, None, length};
+ghost use Rattle.std.specs.Prelude.{vec_len};
+ghost use Rattle.asan_print.specs.Ports.{lane_at, taken_at};
 ghost use Rattle.asan_collect.specs.Arrivals.{IsArrived, Pairwise};
-ghost use Rattle.asan_collect.specs.Benches.{lane_of, process_of, bench_bound};
+ghost use Rattle.asan_collect.specs.Benches.{lane_of, process_of, bench_bound, report_lane_of};
+ghost use Rattle.asan_collect.specs.Outboxes.{KeepsLane};
 ghost use Rattle.asan_collect.specs.Ranges.{most_senders, most_workers};
+ghost use Rattle.asan_collect.specs.ReportLanes.{AllFit, AreRooms, Fits, NoneTaken, SharesHave};
+ghost use Rattle.asan_collect.specs.ReportLanes.{lanes_of};
 ghost use Rattle.asan_collect.specs.Senders.{AllFresh, Came, HasLane, IsFresh};
 ghost use Rattle.asan_collect.specs.Shares.{AreEmpty, Deals, HasRoom, SharesAt};
 
@@ -14,6 +18,7 @@ use crate::bench::Bench;
 use crate::options::Options;
 use crate::sender::Sender;
 use asan_check::Checker;
+use asan_print::Port;
 use std::alloc::Allocator;
 use std::mem;
 use trace_feed::{Arrival, Feed};
@@ -37,36 +42,74 @@ pub(crate) fn no_shares<A: Allocator + Copy>(
     Ok(shares)
 }
 
-/// A lane and a bench for a sender whose feed came. The lane takes its memory from `alloc`, and the
-/// checker from `own`.
+/// What there is for a sender at the start.
+#[derive(Drop)]
+struct Seat<F, A: Allocator + Copy> {
+    sender: Sender<F, A>,
+    bench: Option<Bench<A>>,
+    /// Where its reports are taken, if they are printed as they come.
+    port: Option<Port<A>>,
+}
+
+impl<F, A: Allocator + Copy> Seat<F, A> {
+    /// A sender that has no bench.
+    fn without_bench(sender: Sender<F, A>) -> Seat<F, A>
+        ensures sender { result.sender ≡ sender }
+        ensures bench { result.bench ≡ None }
+        ensures port { result.port ≡ None }
+    {
+        Seat {
+            sender,
+            bench: None,
+            port: None,
+        }
+    }
+}
+
+/// A lane and a bench for a sender whose feed came, and a report lane too where the reports are
+/// printed as they come. The lanes take their memory from `alloc`, and the checker from `own`.
 fn open<F: Feed + Drop, A: Allocator + Copy>(
     alloc: A,
     own: A,
     arrival: Arrival<F>,
     process: u32,
     options: Options,
-) -> (Sender<F, A>, Option<Bench<A>>)
+    is_live: bool,
+) -> Seat<F, A>
     requires { IsArrived F.seen arrival }
-    ensures came { Came F.seen options arrival result.0 }
-    ensures fresh { IsFresh F.seen result.0 }
-    ensures bench { IfSome result.1 (λ b. (process_of b ≡ process)
+    ensures came { Came F.seen options arrival result.sender }
+    ensures fresh { IsFresh F.seen result.sender }
+    ensures bench { IfSome result.bench (λ b. (process_of b ≡ process)
         × (bench_bound b ≡ options.quarantine)
-        × HasLane result.0 (lane_of b)) }
+        × HasLane result.sender (lane_of b)) }
+    ensures report_lane { IfSome result.bench (λ b.
+        KeepsLane (lane_at result.port) (report_lane_of b)) }
+    ensures fits { Fits (lane_at result.port) result.sender }
+    ensures untaken { taken_at result.port ≡ [] }
 {
     let feed = match arrival {
         Arrival::Came(feed) => feed,
-        Arrival::Refused => return (Sender::NotOpened, None),
+        Arrival::Refused => return Seat::without_bench(Sender::NotOpened),
         Arrival::Over => unreachable!(),
     };
-    match lane(alloc, options.ring as usize) {
-        Ok((into, out)) => {
-            let checker = Checker::new(own, options.quarantine).unwrap();
-            (
-                Sender::Ready(feed, into),
-                Some(Bench::new(process, out, checker)),
-            )
-        }
-        Err(_) => (Sender::NotStarted, None),
+    let Ok((into, out)) = lane(alloc, options.ring as usize) else {
+        return Seat::without_bench(Sender::NotStarted);
+    };
+    let checker = Checker::new(own, options.quarantine).unwrap();
+    if !is_live {
+        return Seat {
+            sender: Sender::Ready(feed, into),
+            bench: Some(Bench::new(process, out, checker)),
+            port: None,
+        };
+    }
+    let Ok((reports, taken)) = lane(alloc, options.ring as usize) else {
+        return Seat::without_bench(Sender::NotStarted);
+    };
+    Seat {
+        sender: Sender::Ready(feed, into),
+        bench: Some(Bench::with_reports(process, out, checker, reports)),
+        port: Some(Port::new(taken)),
     }
 }
 
@@ -80,36 +123,85 @@ fn deal<A: Allocator + Copy>(shares: &mut Vec<Vec<Bench<A>, A>, A>, process: usi
     shares[at].push(bench).unwrap();
 }
 
+/// What there is for all senders at the start.
+pub(crate) struct Opened<F, A: Allocator + Copy> {
+    pub senders: Vec<Sender<F, A>, A>,
+    /// The benches of each checker.
+    pub shares: Vec<Vec<Bench<A>, A>, A>,
+    /// For each sender where its reports are taken, if they are printed as they come.
+    pub ports: Vec<Option<Port<A>>, A>,
+}
+
+/// Room for what there is for all senders, and no sender yet.
+pub(crate) struct Rooms<F, A: Allocator + Copy> {
+    pub senders: Vec<Sender<F, A>, A>,
+    pub shares: Vec<Vec<Bench<A>, A>, A>,
+    pub ports: Vec<Option<Port<A>>, A>,
+}
+
+impl<F: Drop, A: Allocator + Copy> Rooms<F, A> {
+    /// Room for 256 senders.
+    pub(crate) fn new(alloc: A, options: Options) -> Result<Rooms<F, A>, NoMemory>
+        ensures { IfOk result AreRooms }
+    {
+        let senders = Vec::with_capacity(alloc, MOST_SENDERS)?;
+        let shares = no_shares(alloc, options.workers as usize)?;
+        let ports = Vec::with_capacity(alloc, MOST_SENDERS)?;
+        Ok(Rooms {
+            senders,
+            shares,
+            ports,
+        })
+    }
+}
+
 /// Each arrival becomes a sender, and the benches of those that came are dealt out to the checkers
 /// in turn. The checker of sender i takes its memory from `own[i]`, where there is one, and else
-/// from `alloc`.
+/// from `alloc`. Where the reports are printed as they come, each bench has a report lane.
 pub(crate) fn open_all<F: Feed + Drop, A: Allocator + Copy>(
     alloc: A,
     own: &[A],
     arrivals: Vec<Arrival<F>, A>,
-    sender_room: Vec<Sender<F, A>, A>,
-    shares: Vec<Vec<Bench<A>, A>, A>,
+    rooms: Rooms<F, A>,
     options: Options,
-) -> (Vec<Sender<F, A>, A>, Vec<Vec<Bench<A>, A>, A>)
+    is_live: bool,
+) -> Opened<F, A>
     requires arrived { All (IsArrived F.seen) arrivals.items }
     requires few { length arrivals.items ≤ most_senders }
-    requires senders { (sender_room.items ≡ []) × (most_senders ≤ vec_capacity sender_room) }
-    requires some { 0 < vec_len shares }
-    requires shares { AreEmpty (vec_len shares) shares.items }
-    ensures came { Pairwise (Came F.seen options) arrivals.items result.0.items }
-    ensures fresh { AllFresh F.seen result.0.items }
-    ensures shares { SharesAt options.quarantine result.0.items result.1.items }
-    ensures some { 0 < vec_len result.1 }
+    requires rooms { AreRooms rooms }
+    ensures came { Pairwise (Came F.seen options) arrivals.items result.senders.items }
+    ensures fresh { AllFresh F.seen result.senders.items }
+    ensures shares { SharesAt options.quarantine result.senders.items result.shares.items }
+    ensures some { 0 < vec_len result.shares }
+    ensures ports { length result.ports.items ≡ length result.senders.items }
+    ensures untaken { NoneTaken result.ports.items }
+    ensures fits { AllFit (lanes_of result.ports.items) result.senders.items }
+    ensures have { SharesHave (lanes_of result.ports.items) result.shares.items }
 {
-    let (mut arrivals, mut senders, mut shares) = (arrivals, sender_room, shares);
+    let mut arrivals = arrivals;
+    let Rooms {
+        mut senders,
+        mut shares,
+        mut ports,
+    } = rooms;
     for i in 0..arrivals.len() {
         let arrival = mem::replace(&mut arrivals[i], Arrival::Refused);
         let of_checker = own.get(i).copied().unwrap_or(alloc);
-        let (sender, bench) = open(alloc, of_checker, arrival, i as u32, options);
+        let seat = open(alloc, of_checker, arrival, i as u32, options, is_live);
+        let Seat {
+            sender,
+            bench,
+            port,
+        } = seat;
         senders.push(sender).unwrap();
+        ports.push(port).unwrap();
         if let Some(bench) = bench {
             deal(&mut shares, i, bench);
         }
     }
-    (senders, shares)
+    Opened {
+        senders,
+        shares,
+        ports,
+    }
 }

@@ -1,16 +1,23 @@
 //! The benches come back to their senders, and each sender is settled.
 
-ghost use Rattle.std.specs.Prelude.{◌≡◌, ◌≤◌, [], ℕ, vec_len, vec_capacity};
+ghost use Rattle.std.specs.Prelude.{◌≡◌, ◌≤◌, [], ℕ, IfSome, Option, Some, vec_len, vec_capacity};
+ghost use Rattle.trace_lane.specs.Lanes.{Lane};
+ghost use Rattle.asan_print.specs.Ports.{port_lane, taken_at};
 ghost use Rattle.asan_collect.specs.Arrivals.{Pairwise};
-ghost use Rattle.asan_collect.specs.Benches.{lane_of, bench_bound};
+ghost use Rattle.asan_collect.specs.Benches.{lane_of, bench_bound, report_lane_of};
+ghost use Rattle.asan_collect.specs.Closings.{WerePrinted};
+ghost use Rattle.asan_collect.specs.Outboxes.{KeepsLane};
+ghost use Rattle.asan_collect.specs.ReportLanes.{AllFit, AllHave, Fits, SharesHave};
 ghost use Rattle.asan_collect.specs.Senders.{AllJoined, AreAt, Each, Gets, HasLane, IsJoined};
 ghost use Rattle.asan_collect.specs.Senders.{Rejoins};
 ghost use Rattle.asan_collect.specs.Shares.{SharesAt};
 
 use crate::bench::Bench;
 use crate::outcome::Outcome;
+use crate::reader::ReaderDone;
 use crate::sender::Sender;
 use crate::settlement::settle;
+use asan_print::Port;
 use std::alloc::Allocator;
 use std::mem;
 use trace_feed::Feed;
@@ -21,7 +28,9 @@ fn rejoin<F: Feed + Drop, A: Allocator + Copy>(
     bench: Bench<A>,
 ) -> Sender<F, A>
     requires { HasLane sender (lane_of bench) }
-    ensures { Rejoins F.seen (bench_bound bench) sender result }
+    ensures rejoins { Rejoins F.seen (bench_bound bench) sender result }
+    ensures fits { (lane : Option (Lane A)) → Fits lane sender →
+        KeepsLane lane (report_lane_of bench) → Fits lane result }
 {
     match sender {
         Sender::Read(done) => Sender::Joined(done, bench),
@@ -32,7 +41,9 @@ fn rejoin<F: Feed + Drop, A: Allocator + Copy>(
 /// A bench comes back to the sender at this place.
 fn rejoin_at<F: Feed + Drop, A: Allocator + Copy>(sender: &mut Sender<F, A>, bench: Bench<A>)
     requires { HasLane sender.old (lane_of bench) }
-    ensures { Rejoins F.seen (bench_bound bench) sender.old sender.new }
+    ensures rejoins { Rejoins F.seen (bench_bound bench) sender.old sender.new }
+    ensures fits { (lane : Option (Lane A)) → Fits lane sender.old →
+        KeepsLane lane (report_lane_of bench) → Fits lane sender.new }
 {
     let was = mem::replace(sender, Sender::NotStarted);
     let _ = mem::replace(sender, rejoin(was, bench));
@@ -45,7 +56,9 @@ pub(crate) fn place<F: Feed + Drop, A: Allocator + Copy>(
     bound: u64,
 )
     requires { AreAt bound senders.old.items benches.items }
-    ensures { Each (Rejoins F.seen bound) 0 senders.old.items senders.new.items }
+    ensures rejoins { Each (Rejoins F.seen bound) 0 senders.old.items senders.new.items }
+    ensures fit { (lanes : ℕ → Option (Lane A)) → AllFit lanes senders.old.items →
+        AllHave lanes benches.items → AllFit lanes senders.new.items }
 {
     let mut benches = benches;
     while let Some(bench) = benches.pop() {
@@ -61,7 +74,9 @@ pub(crate) fn place_all<F: Feed + Drop, A: Allocator + Copy>(
     bound: u64,
 )
     requires { SharesAt bound senders.old.items shares.items }
-    ensures { Each (Rejoins F.seen bound) 0 senders.old.items senders.new.items }
+    ensures rejoins { Each (Rejoins F.seen bound) 0 senders.old.items senders.new.items }
+    ensures fit { (lanes : ℕ → Option (Lane A)) → AllFit lanes senders.old.items →
+        SharesHave lanes shares.items → AllFit lanes senders.new.items }
 {
     let mut shares = shares;
     while let Some(share) = shares.pop() {
@@ -69,16 +84,66 @@ pub(crate) fn place_all<F: Feed + Drop, A: Allocator + Copy>(
     }
 }
 
-/// What became of a sender, once the benches are back.
-fn settle_sender<F: Feed + Drop, A: Allocator + Copy>(sender: Sender<F, A>) -> Outcome<F, A>
-    requires { IsJoined sender }
-    ensures { Gets F.seen sender result }
+/// What became of a sender, and how many of its reports were printed before.
+#[derive(Drop)]
+pub(crate) struct Answer<F, A: Allocator + Copy> {
+    pub outcome: Outcome<F, A>,
+    pub printed: u64,
+}
+
+impl<F, A: Allocator + Copy> Answer<F, A> {
+    /// What became of a sender that has no reports.
+    fn without_reports(outcome: Outcome<F, A>) -> Answer<F, A>
+        ensures outcome { result.outcome ≡ outcome }
+        ensures printed { result.printed ≡ 0 }
+    {
+        Answer {
+            outcome,
+            printed: 0,
+        }
+    }
+}
+
+/// What became of a sender whose bench is back, and whose reports were printed from this port. It
+/// is `Unsettled` where the report lane has no end.
+fn settle_joined<F: Feed + Drop, A: Allocator + Copy>(
+    done: ReaderDone<F, A>,
+    bench: Bench<A>,
+    port: Option<Port<A>>,
+) -> Answer<F, A>
+    requires joined { IsJoined (Sender.Joined done bench) }
+    requires port { IfSome port (λ p. KeepsLane (Some (port_lane p)) (report_lane_of bench)) }
+    ensures outcome { Gets F.seen (Sender.Joined done bench) result.outcome }
+    ensures printed { WerePrinted (taken_at port) result.printed result.outcome }
+{
+    let mut bench = bench;
+    let printed = match (port, bench.finish_reports()) {
+        (None, _) => 0,
+        (Some(port), Some(end)) => port.settle(end),
+        (Some(_), None) => return Answer::without_reports(Outcome::Unsettled),
+    };
+    Answer {
+        outcome: settle(bench, done),
+        printed,
+    }
+}
+
+/// What became of a sender, once the benches are back, whose reports were printed from this port,
+/// if they were.
+pub(crate) fn settle_sender<F: Feed + Drop, A: Allocator + Copy>(
+    sender: Sender<F, A>,
+    port: Option<Port<A>>,
+) -> Answer<F, A>
+    requires joined { IsJoined sender }
+    requires port { IfSome port (λ p. Fits (Some (port_lane p)) sender) }
+    ensures outcome { Gets F.seen sender result.outcome }
+    ensures printed { WerePrinted (taken_at port) result.printed result.outcome }
 {
     match sender {
-        Sender::NotOpened => Outcome::NotOpened,
-        Sender::NotStarted | Sender::Ready(_, _) => Outcome::NotStarted,
-        Sender::Read(_) => Outcome::Unsettled,
-        Sender::Joined(done, bench) => settle(bench, done),
+        Sender::NotOpened => Answer::without_reports(Outcome::NotOpened),
+        Sender::NotStarted | Sender::Ready(_, _) => Answer::without_reports(Outcome::NotStarted),
+        Sender::Read(_) => Answer::without_reports(Outcome::Unsettled),
+        Sender::Joined(done, bench) => settle_joined(done, bench, port),
     }
 }
 
@@ -95,7 +160,7 @@ pub(crate) fn settle_all<F: Feed + Drop, A: Allocator + Copy>(
     let (mut senders, mut outcomes) = (senders, room);
     for i in 0..senders.len() {
         let sender = mem::replace(&mut senders[i], Sender::NotStarted);
-        let Ok(()) = outcomes.push(settle_sender(sender)) else {
+        let Ok(()) = outcomes.push(settle_sender(sender, None).outcome) else {
             unreachable!()
         };
     }

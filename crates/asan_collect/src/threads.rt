@@ -1,17 +1,21 @@
-//! All threads of one call of `collect`: the checkers, the readers, and the first checker on the
-//! calling thread.
+//! All threads of one collection: the checkers, the readers, and the calling thread.
 
-ghost use Rattle.std.specs.Prelude.{◌<◌, vec_len};
+ghost use Rattle.std.specs.Prelude.{◌≡◌, ◌<◌, vec_len};
+ghost use Rattle.asan_collect.specs.Closings.{HasPrinted};
 ghost use Rattle.asan_collect.specs.Senders.{AllFresh, Becomes, Each};
 ghost use Rattle.asan_collect.specs.Shares.{ComesBack};
 
+use crate::at_work::AtWork;
 use crate::bench::Bench;
 use crate::checker::FirstChecker;
 use crate::checker_threads::check_from;
 use crate::gate::Gate;
 use crate::options::Options;
+use crate::printers::Printers;
+use crate::printing::Printing;
 use crate::sender::Sender;
 use std::alloc::Allocator;
+use std::io::Write;
 use std::sync::Wait;
 use std::thread::{Scope, Threads};
 use std::time::Clock;
@@ -38,6 +42,7 @@ fn run_in<
     rt: &'e R,
     alloc: A,
     gate: &'e G,
+    at_work: &'e AtWork,
     senders: &mut Vec<Sender<F, A>, A>,
     shares: &mut Vec<Vec<Bench<A>, A>, A>,
     options: Options,
@@ -51,7 +56,7 @@ fn run_in<
     let benches = mem::replace(&mut shares[0], Vec::new(alloc));
     let mut first = FirstChecker { benches, gate };
     check_from(
-        scope, rt, alloc, gate, senders, shares, 1, &mut first, options,
+        scope, rt, alloc, gate, at_work, senders, shares, 1, &mut first, options,
     );
     let FirstChecker { benches, gate: _ } = first;
     shares[0] = benches;
@@ -76,6 +81,7 @@ pub(crate) fn run_all<
         senders.items result.senders.items }
     ensures shares { Each ComesBack 0 shares.items result.shares.items }
 {
+    let at_work = &AtWork::new();
     thread::scope(
         thread::scope_env(),
         rt,
@@ -86,8 +92,127 @@ pub(crate) fn run_all<
             ensures shares { Each ComesBack 0 shares.items result.shares.items }
         {
             let (mut senders, mut shares) = (senders, shares);
-            run_in(scope, rt, alloc, gate, &mut senders, &mut shares, options);
+            run_in(
+                scope,
+                rt,
+                alloc,
+                gate,
+                at_work,
+                &mut senders,
+                &mut shares,
+                options,
+            );
             Returned { senders, shares }
         },
     )
+}
+
+/// Runs the readers and all checkers on threads of their own, and prints on this one.
+fn print_in<
+    's,
+    'e: 's,
+    F: Feed + Send + Drop + 's,
+    G: Gate + Sync,
+    W: Write,
+    A: Allocator + Copy + Send + 's,
+    R: Threads + Wait + Clock + Sync,
+>(
+    scope: &'s Scope<'s, &'e ()>,
+    rt: &'e R,
+    alloc: A,
+    gate: &'e G,
+    at_work: &'e AtWork,
+    senders: &mut Vec<Sender<F, A>, A>,
+    shares: &mut Vec<Vec<Bench<A>, A>, A>,
+    w: &mut W,
+    printers: Printers<A>,
+    options: Options,
+) -> Printers<A>
+    requires fresh { AllFresh F.seen senders.old.items }
+    ensures senders { Each (Becomes F.seen options.limit) 0
+        senders.old.items senders.new.items }
+    ensures shares { Each ComesBack 0 shares.old.items shares.new.items }
+    ensures printed { HasPrinted (W.contents w.old) (W.contents w.new) printers result }
+{
+    let mut printing = Printing {
+        w: &mut *w,
+        printers,
+        at_work,
+    };
+    check_from(
+        scope,
+        rt,
+        alloc,
+        gate,
+        at_work,
+        senders,
+        shares,
+        0,
+        &mut printing,
+        options,
+    );
+    let Printing {
+        w: lent,
+        printers,
+        at_work: _,
+    } = printing;
+    let _ = lent;
+    printers
+}
+
+/// Runs the readers and all checkers on threads of their own, and prints on this one what comes
+/// through the ports. The benches come back to their places.
+pub(crate) fn run_printing<
+    F: Feed + Send + Drop,
+    G: Gate + Sync,
+    W: Write,
+    A: Allocator + Copy + Send,
+    R: Threads + Wait + Clock + Sync,
+>(
+    rt: &R,
+    alloc: A,
+    gate: &G,
+    w: &mut W,
+    senders: Vec<Sender<F, A>, A>,
+    shares: Vec<Vec<Bench<A>, A>, A>,
+    printers: Printers<A>,
+    options: Options,
+) -> (Returned<F, A>, Printers<A>)
+    requires { AllFresh F.seen senders.items }
+    ensures senders { Each (Becomes F.seen options.limit) 0
+        senders.items result.0.senders.items }
+    ensures shares { Each ComesBack 0 shares.items result.0.shares.items }
+    ensures printed { HasPrinted (W.contents w.old) (W.contents w.new) printers result.1 }
+{
+    let at_work = &AtWork::new();
+    let (back, returned, printers) = thread::scope(
+        thread::scope_env(),
+        rt,
+        move |scope| -> (&mut W, Returned<F, A>, Printers<A>)
+            requires { AllFresh F.seen senders.items }
+            ensures same { result.0.ghost_name ≡ w.entry.ghost_name }
+            ensures senders { Each (Becomes F.seen options.limit) 0
+                senders.items result.1.senders.items }
+            ensures shares { Each ComesBack 0 shares.items result.1.shares.items }
+            ensures printed { HasPrinted (W.contents w.entry.now) (W.contents result.0.now)
+                printers result.2 }
+        {
+            let (mut senders, mut shares) = (senders, shares);
+            let printers = print_in(
+                scope,
+                rt,
+                alloc,
+                gate,
+                at_work,
+                &mut senders,
+                &mut shares,
+                &mut *w,
+                printers,
+                options,
+            );
+            (w, Returned { senders, shares }, printers)
+        },
+    );
+    let _ = back;
+    (returned, printers)
 }

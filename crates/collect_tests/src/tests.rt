@@ -4,12 +4,14 @@ ghost use Rattle.std.specs.Prelude.{◌≡◌, IfOk};
 
 mod damage;
 mod failures;
+mod live;
 mod reading;
 mod refusals;
 mod versions;
 
 use std::alloc::{AllocError, Global};
-use trace_feed::{Arrival, Door, MemFeed};
+use std::test::Fail;
+use trace_feed::{Arrival, Door, ListDoor, MemFeed};
 
 /// A malloc of 5 bytes at 0x1000, a store of 4 bytes at 0x1004, and the close.
 const STREAM: [u8; 36] = [
@@ -40,6 +42,18 @@ fn feed_of(
     ensures { IfOk result (λ f. f.faults ≡ 0) }
 {
     Ok(MemFeed::new(bytes.to_vec(alloc)?, cuts.to_vec(alloc)?, fail_at))
+}
+
+/// A door of three senders: a whole stream, its first 30 bytes with a failing read after them, and
+/// no bytes.
+fn three_arrivals(alloc: Global) -> Result<ListDoor<MemFeed>, Fail>
+    ensures { IfOk result (λ d. d.refusals ≡ 0) }
+{
+    let mut arrivals = Vec::new(alloc);
+    arrivals.push(Arrival::Came(feed_of(alloc, &STREAM, &[], None)?))?;
+    arrivals.push(Arrival::Came(feed_of(alloc, &STREAM, &[], Some(30))?))?;
+    arrivals.push(Arrival::Came(feed_of(alloc, &[], &[], None)?))?;
+    Ok(ListDoor::new(arrivals))
 }
 
 /// A door of senders that send these streams, in order, all cut at the same places.

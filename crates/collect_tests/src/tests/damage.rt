@@ -112,14 +112,17 @@ fn damaged(alloc: Global, sound: &[u8], place: usize) -> Result<Vec<Vec<u8>>, Al
     Ok(streams)
 }
 
-/// Asserts that each stream with one byte of this one damaged has one outcome.
+/// Asserts that each stream with one byte of this one damaged has one outcome, for the bytes from
+/// one place to another.
 fn expect_of_each_damaged<R: Threads + Wait + Clock + Sync + Abort>(
     rt: &R,
     alloc: Global,
     sound: &[u8],
+    from: usize,
+    to: usize,
 ) -> Result<(), Fail> {
     let mut draws = Draws::new();
-    for place in 0..sound.len() {
+    for place in from..to {
         let streams = damaged(alloc, sound, place)?;
         assert_eq!(rt; streams.len(), 255);
         expect_one_outcome(rt, alloc, &streams, &mut draws)?;
@@ -127,12 +130,27 @@ fn expect_of_each_damaged<R: Threads + Wait + Clock + Sync + Abort>(
     Ok(())
 }
 
+// A test may take a minute, so each stream has two.
+
+/// Where the first event ends.
+const HALF: usize = 25;
+
 #[test]
-fn each_damaged_stream_has_one_outcome(rt: HostRuntime) -> Result<(), Fail> {
-    expect_of_each_damaged(&rt, rt.alloc(), &STREAM)
+fn damage_up_to_the_first_event(rt: HostRuntime) -> Result<(), Fail> {
+    expect_of_each_damaged(&rt, rt.alloc(), &STREAM, 0, HALF)
 }
 
 #[test]
-fn each_damaged_stream_of_version_2_has_one_outcome(rt: HostRuntime) -> Result<(), Fail> {
-    expect_of_each_damaged(&rt, rt.alloc(), &POISON)
+fn damage_after_the_first_event(rt: HostRuntime) -> Result<(), Fail> {
+    expect_of_each_damaged(&rt, rt.alloc(), &STREAM, HALF, STREAM.len())
+}
+
+#[test]
+fn damage_of_version_2_up_to_the_first_event(rt: HostRuntime) -> Result<(), Fail> {
+    expect_of_each_damaged(&rt, rt.alloc(), &POISON, 0, HALF)
+}
+
+#[test]
+fn damage_of_version_2_after_the_first_event(rt: HostRuntime) -> Result<(), Fail> {
+    expect_of_each_damaged(&rt, rt.alloc(), &POISON, HALF, POISON.len())
 }

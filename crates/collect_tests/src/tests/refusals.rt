@@ -1,9 +1,9 @@
-//! A test that refuses each growth of `collect` in turn, over its threads.
+//! Tests that refuse each growth of `collect` and of `collect_live` in turn, over their threads.
 
-ghost use Rattle.std.specs.Prelude.{◌≡◌, IfOk};
+ghost use Rattle.std.specs.Prelude.{◌≡◌};
 
-use super::{STREAM, feed_of};
-use asan_collect::{OpenGate, Options, Outcome, collect};
+use super::three_arrivals;
+use asan_collect::{Live, OpenGate, Options, Outcome, Why, collect, collect_live};
 use refusing_allocator::RefusingAllocator;
 use std::alloc::{Allocator, Global};
 use std::process::Abort;
@@ -12,18 +12,6 @@ use trace_feed::{Arrival, Door, ListDoor, MemFeed};
 
 /// How many times each turn is made. Which thread asks first is not the same each time.
 const REPEATS: u32 = 20;
-
-/// A door of three senders: a whole stream, its first 30 bytes with a failing read after them, and
-/// no bytes.
-fn three_arrivals(alloc: Global) -> Result<ListDoor<MemFeed>, Fail>
-    ensures { IfOk result (λ d. d.refusals ≡ 0) }
-{
-    let mut arrivals = Vec::new(alloc);
-    arrivals.push(Arrival::Came(feed_of(alloc, &STREAM, &[], None)?))?;
-    arrivals.push(Arrival::Came(feed_of(alloc, &STREAM, &[], Some(30))?))?;
-    arrivals.push(Arrival::Came(feed_of(alloc, &[], &[], None)?))?;
-    Ok(ListDoor::new(arrivals))
-}
 
 /// Asserts that the outcome is that of ample memory, or one that a refused growth explains. Answers
 /// whether it is that of ample memory.
@@ -62,6 +50,35 @@ fn is_ample<A: Allocator + Copy>(
     }
 }
 
+/// Asserts that no sender was asked for.
+fn expect_all_to_come(rt: &impl Abort, door: &mut ListDoor<MemFeed>)
+    requires { door.old.refusals ≡ 0 }
+{
+    for arrived in 0..4 {
+        assert_eq!(rt; door.refusals(), 0);
+        let arrival = door.next();
+        assert_eq!(rt; matches!(arrival, Arrival::Came(_)), arrived < 3);
+    }
+    assert_eq!(rt; door.refusals(), 0);
+}
+
+/// How many outcomes are not those of ample memory. Each has to be one that a refused growth
+/// explains.
+fn count_hit<A: Allocator + Copy>(
+    rt: &impl Abort,
+    ample: &[Outcome<MemFeed>],
+    outcomes: &[Outcome<MemFeed, A>],
+) -> u32 {
+    assert_eq!(rt; outcomes.len(), 3);
+    let mut hit = 0u32;
+    for (ample, outcome) in ample.iter().zip(outcomes) {
+        if !is_ample(rt, ample, outcome) {
+            hit = hit.saturating_add(1);
+        }
+    }
+    hit
+}
+
 #[test]
 fn each_growth_refused_in_turn(rt: HostRuntime) -> Result<(), Fail> {
     let options = Options::new(1 << 28, 1, 3, 1 << 24)?;
@@ -75,20 +92,46 @@ fn each_growth_refused_in_turn(rt: HostRuntime) -> Result<(), Fail> {
             match collect(&rt, &heap, &mut door, &OpenGate, options) {
                 Err(_) => {
                     assert!(rt; heap.has_refused());
-                    for arrived in 0..4 {
-                        assert_eq!(rt; door.refusals(), 0);
-                        let arrival = door.next();
-                        assert_eq!(rt; matches!(arrival, Arrival::Came(_)), arrived < 3);
-                    }
-                    assert_eq!(rt; door.refusals(), 0);
+                    expect_all_to_come(&rt, &mut door);
                 }
                 Ok(outcomes) => {
-                    assert_eq!(rt; outcomes.len(), 3);
-                    let mut hit = 0u32;
-                    for (ample, outcome) in ample.iter().zip(&outcomes) {
-                        if !is_ample(&rt, ample, outcome) {
-                            hit = hit.saturating_add(1);
-                        }
+                    let hit = count_hit(&rt, &ample, &outcomes);
+                    assert_eq!(rt; hit, u32::from(heap.has_refused()), "turn {turn}");
+                }
+            }
+            refused = refused || heap.has_refused();
+        }
+        if !refused {
+            assert!(rt; turn > 20, "only {turn} turns");
+            return Ok(());
+        }
+    }
+    panic!(rt; "always refused")
+}
+
+#[test]
+fn each_growth_refused_in_turn_while_printing(rt: HostRuntime) -> Result<(), Fail> {
+    let options = Options::new(1 << 28, 1, 3, 1 << 24)?;
+    let mut door = three_arrivals(rt.alloc())?;
+    let ample = collect(&rt, rt.alloc(), &mut door, &OpenGate, options)?;
+    for turn in 1..200u64 {
+        let mut refused = false;
+        for _ in 0..REPEATS {
+            let heap = RefusingAllocator::at_turn(rt.alloc(), turn);
+            let mut door = three_arrivals(rt.alloc())?;
+            let mut text = Vec::new(rt.alloc());
+            match collect_live(&rt, &heap, &mut door, &OpenGate, options, &mut text) {
+                Err(_) => {
+                    assert!(rt; heap.has_refused());
+                    assert!(rt; text.is_empty());
+                    expect_all_to_come(&rt, &mut door);
+                }
+                Ok(Live { outcomes, wrote }) => {
+                    let mut hit = count_hit(&rt, &ample, &outcomes);
+                    if let Err(fault) = wrote {
+                        assert_eq!(rt; fault.why, Why::NoMemory);
+                        assert_eq!(rt; fault.written, text.len() as u64);
+                        hit = hit.saturating_add(1);
                     }
                     assert_eq!(rt; hit, u32::from(heap.has_refused()), "turn {turn}");
                 }

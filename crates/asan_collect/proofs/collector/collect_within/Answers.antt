@@ -1,8 +1,8 @@
-use Rattle.std.proofs.Common.{◌+◌, rules, ap, refl, sym, ◌∙◌}
-use Rattle.asan_collect.specs.Senders.{Becomes, Rejoins}
+use Rattle.std.proofs.Common.{◌+◌, rules, ap, sym, ◌∙◌}
+use Rattle.asan_collect.specs.Senders.{Becomes}
 use Rattle.asan_collect.proofs.Rights.{all_few, pairs_joined}
 use Rattle.asan_collect.proofs.Dealing.{shares_back, shares_kept}
-use Rattle.asan_collect.proofs.Senders.{becomes_keeps, came_on, pairs_on, pairs_fit}
+use Rattle.asan_collect.proofs.Senders.{becomes_keeps, pairs_back, pairs_fit}
 use Rattle.asan_collect.proofs.Counting.{all_counted}
 use Rattle.asan_collect.proofs.collector.collect_within.Goals as goal
 
@@ -10,57 +10,45 @@ pub place_all-requires : goal.place_all-requires
 place_all-requires g c =
     let seen = g.D.Feed.Feed.seen in
     let limit = c.args.options.limit in
-    let senders = c.open_all-senders.result.0.items in
+    let opened = c.open_all-opened.result in
     let back = c.run_all-senders.result in
-    shares_kept (Becomes seen limit) (becomes_keeps seen limit) c.args.options.quarantine senders back.senders.items back.shares.items c.run_all-senders.ensures.senders
-    (shares_back c.args.options.quarantine senders c.open_all-senders.result.1.items back.shares.items c.run_all-senders.ensures.shares c.open_all-senders.ensures.shares)
+    shares_kept (Becomes seen limit) (becomes_keeps seen limit) c.args.options.quarantine opened.senders.items back.senders.items back.shares.items c.run_all-senders.ensures.senders
+    (shares_back c.args.options.quarantine opened.senders.items opened.shares.items back.shares.items c.run_all-senders.ensures.shares c.open_all-opened.ensures.shares)
 
 pub settle_all-requires-clause-room : goal.settle_all-requires-clause-room
 settle_all-requires-clause-room g c =
-    let a = c.open_all-senders.ensures.came.same_length in
+    let a = c.open_all-opened.ensures.came.same_length in
     let few = c.ask-arrivals.ensures.few in
     let b = c.run_all-senders.ensures.senders.same_length in
-    let d = c.place_all.ensures.same_length in
+    let d = c.place_all.ensures.rejoins.same_length in
     let room = c.in_ok-outcome_room.ensures.capacity in
     search rules
 
 pub settle_all-requires-clause-joined : goal.settle_all-requires-clause-joined
 settle_all-requires-clause-joined g c =
     let seen = g.D.Feed.Feed.seen in
-    let options = c.args.options in
-    let bound = options.quarantine in
-    let arrivals = c.ask-arrivals.result.items in
-    let senders = c.open_all-senders.result.0.items in
-    let back = c.run_all-senders.result in
-    pairs_joined seen options arrivals c.place_all.new.senders.items
-    (pairs_on seen options (Rejoins seen bound) (λ a s t h r. r.came options a refl h) arrivals back.senders.items c.place_all.new.senders.items
-    (pairs_on seen options (Becomes seen options.limit) (came_on seen options) arrivals senders back.senders.items c.open_all-senders.ensures.came c.run_all-senders.ensures.senders)
-    c.place_all.ensures)
+    pairs_joined seen c.args.options c.ask-arrivals.result.items c.place_all.new.senders.items
+    (pairs_back seen c.args.options c.ask-arrivals.result.items c.open_all-opened.result.senders.items c.run_all-senders.result.senders.items c.place_all.new.senders.items
+    c.open_all-opened.ensures.came c.run_all-senders.ensures.senders c.place_all.ensures.rejoins)
 
 pub returns-clause-each : goal.returns-clause-each
 returns-clause-each g c =
-    let seen = g.D.Feed.Feed.seen in
-    let options = c.args.options in
-    let bound = options.quarantine in
-    let arrivals = c.ask-arrivals.result.items in
-    let senders = c.open_all-senders.result.0.items in
-    let back = c.run_all-senders.result in (
-      arrivals,
+    let seen = g.D.Feed.Feed.seen in (
+      c.ask-arrivals.result.items,
       c.ask-arrivals.ensures.arrived,
       c.ask-arrivals.ensures.all,
-      pairs_fit seen options arrivals c.place_all.new.senders.items c.settle_all.result.items
-          (pairs_on seen options (Rejoins seen bound) (λ a s t h r. r.came options a refl h) arrivals back.senders.items c.place_all.new.senders.items
-          (pairs_on seen options (Becomes seen options.limit) (came_on seen options) arrivals senders back.senders.items c.open_all-senders.ensures.came c.run_all-senders.ensures.senders)
-          c.place_all.ensures)
+      pairs_fit seen c.args.options c.ask-arrivals.result.items c.place_all.new.senders.items c.settle_all.result.items
+          (pairs_back seen c.args.options c.ask-arrivals.result.items c.open_all-opened.result.senders.items c.run_all-senders.result.senders.items c.place_all.new.senders.items
+          c.open_all-opened.ensures.came c.run_all-senders.ensures.senders c.place_all.ensures.rejoins)
           c.settle_all.ensures,
     )
 
 pub returns-clause-few : goal.returns-clause-few
 returns-clause-few g c =
-    let a = c.open_all-senders.ensures.came.same_length in
+    let a = c.open_all-opened.ensures.came.same_length in
     let few = c.ask-arrivals.ensures.few in
     let b = c.run_all-senders.ensures.senders.same_length in
-    let d = c.place_all.ensures.same_length in
+    let d = c.place_all.ensures.rejoins.same_length in
     let e = c.settle_all.ensures.same_length in
     search rules
 

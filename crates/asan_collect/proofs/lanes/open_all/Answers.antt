@@ -3,16 +3,20 @@ use Rattle.std.proofs.lemmas.Bool.{cases_eq}
 use Rattle.std.proofs.lemmas.List.{get_or_default, get_or-set_other, get_or_append_left, get_or_at}
 use Rattle.asan_collect.specs.Arrivals.{IsArrived}
 use Rattle.asan_collect.specs.Benches.{process_of}
+use Rattle.asan_collect.specs.ReportLanes.{SharesHave, lanes_of}
 use Rattle.asan_collect.specs.Shares.{SharesAt}
 use Rattle.std.proofs.Math.Nat.{mod-lt}
 use Rattle.asan_collect.proofs.Dealing.{shares_more, shares_none, shares_dealt, room_first, room_on, room_dealt, dealt_length}
+use Rattle.asan_collect.proofs.ReportLanes.{untaken_push, have_none, have_more, have_new, have_dealt, fit_push}
 use Rattle.asan_collect.proofs.Senders.{at_new, fresh_push}
 use Rattle.asan_collect.proofs.lanes.open_all.Goals.{in-Some, in_default}
 use Rattle.asan_collect.proofs.lanes.open_all.Goals as goal
 
 pub loop-i-init : goal.loop-i-init
 loop-i-init g c =
-    let none = c.requires.senders.0 in
+    let rooms = c.requires.rooms in
+    let none = rooms.no_senders in
+    let empty = rooms.no_ports in
     record {
       same = refl;
       going = record {
@@ -21,13 +25,18 @@ loop-i-init g c =
         each = λ k d e below. absurd (omega arith);
       };
       fresh = record { each = λ i d below. absurd (let no = rw none at below in omega arith) };
-      benches = shares_none c.args.options.quarantine (vec_len c.args.shares) c.args.sender_room.items c.args.shares.items c.requires.shares;
-      sender_room = c.requires.senders.1;
-      room = room_first (vec_len c.args.shares) c.args.shares.items c.requires.some (search rules) c.requires.shares;
+      benches = shares_none c.args.options.quarantine (vec_len c.args.rooms.shares) c.args.rooms.senders.items c.args.rooms.shares.items rooms.no_benches;
+      sender_room = rooms.for_senders;
+      room = room_first (vec_len c.args.rooms.shares) c.args.rooms.shares.items rooms.some_shares (search rules) rooms.no_benches;
+      long = search rules;
+      port_room = rooms.for_ports;
+      untaken = record { each = λ i d below. absurd (let no = rw empty at below in omega arith) };
+      fits = record { each = λ i d below. absurd (let no = rw none at below in omega arith) };
+      have = have_none (lanes_of c.args.rooms.ports.items) (vec_len c.args.rooms.shares) c.args.rooms.shares.items rooms.no_benches;
     }
 
-pub open-sender-requires : goal.open-sender-requires
-open-sender-requires g c =
+pub open-seat-requires : goal.open-seat-requires
+open-seat-requires g c =
     let inv = c.loop-i.invariant in
     let now = c.loop-i.arrivals.items in
     let i = c.loop-i.i in
@@ -43,15 +52,21 @@ loop-i-preserved g c =
     let now = c.loop-i.arrivals.items in
     let i = c.loop-i.i in
     let senders = c.loop-i.senders.items in
-    let s = c.open-sender.result.0 in
+    let ports = c.loop-i.ports.items in
+    let s = c.open-seat.result.sender in
+    let p = c.open-seat.result.port in
     let bound = c.args.options.quarantine in
     let low : i < length now = search rules in
     let is : (d : _) → c.replace-arrival.result ≡ slice_index_or c.args.arrivals.items i d =
     λ d. c.replace-arrival.ensures.value ∙ (c.index_mut.ensures.value ∙ (get_or_default now i c.index_mut.result.now d low ∙ inv.going.rest i d (omega arith))) in
     let long : length senders ≡ i = search rules in
+    let wide : length ports ≡ i = search rules in
+    let same : length ports ≡ length senders = wide ∙ sym long in
     let pushed : c.push.new.self.items ≡ senders ++ s ∷ [] = search rules in
+    let opened : c.push-in-loop-i.new.self.items ≡ ports ++ p ∷ [] = search rules in
     let shares = c.loop-i.shares.items in
     let more : SharesAt bound c.push.new.self.items shares = rw pushed (shares_more bound senders s shares inv.benches) in
+    let have : SharesHave (lanes_of c.push-in-loop-i.new.self.items) shares = rw opened (have_more bound senders ports p shares same inv.benches inv.have) in
     let at_low : i % vec_len c.loop-i.shares < length shares = rw inv.room.all (mod-lt i inv.room.some) in
     record {
       same = inv.same;
@@ -59,14 +74,14 @@ loop-i-preserved g c =
         done = search rules;
         rest = λ k d above. get_or-set_other now i k c.replace-arrival.new.dest d (λ e. omega arith) ∙ inv.going.rest k d (omega arith);
         each = λ k d e below. elim (cases_eq k i) [
-          | inl same ↦ rw (same, ← is d, pushed, get_or_at senders s [] e i long) c.open-sender.ensures.came
+          | inl here ↦ rw (here, ← is d, pushed, get_or_at senders s [] e i long) c.open-seat.ensures.came
           | inr other ↦ let first : k < length senders = omega arith in rw (pushed, get_or_append_left senders (s ∷ []) e k first) (inv.going.each k d e (omega arith))
         ];
       };
-      fresh = rw pushed (fresh_push g.F.Feed.seen senders s inv.fresh c.open-sender.ensures.fresh);
+      fresh = rw pushed (fresh_push g.F.Feed.seen senders s inv.fresh c.open-seat.ensures.fresh);
       benches = elim c.match-bench.branch [
         | in-Some w ↦
-            let is_new = rw w.in-Some.is at c.open-sender.ensures.bench in
+            let is_new = rw w.in-Some.is at c.open-seat.ensures.bench in
             let at : process_of w.in-Some.bench ≡ length senders = let e = is_new.0 in let f = long in search rules in
             rw w.shares-is (shares_dealt bound (i % vec_len c.loop-i.shares) c.push.new.self.items w.in-Some.bench shares w.deal.new.shares.items at_low more
             (rw pushed (at_new bound senders s w.in-Some.bench at is_new.1 is_new.2)) w.deal.ensures)
@@ -75,10 +90,23 @@ loop-i-preserved g c =
       sender_room = search rules;
       room = elim c.match-bench.branch [
         | in-Some w ↦
-            let same : length w.deal.new.shares.items ≡ length shares = dealt_length (i % vec_len c.loop-i.shares) w.in-Some.bench shares w.deal.new.shares.items w.deal.ensures in
-            let wide : vec_len w.deal.new.shares ≡ vec_len c.loop-i.shares = search rules in
-            rw (w.shares-is, wide) (room_dealt (vec_len c.loop-i.shares) i w.in-Some.bench shares w.deal.new.shares.items inv.room w.deal.ensures)
+            let kept : length w.deal.new.shares.items ≡ length shares = dealt_length (i % vec_len c.loop-i.shares) w.in-Some.bench shares w.deal.new.shares.items w.deal.ensures in
+            let all : vec_len w.deal.new.shares ≡ vec_len c.loop-i.shares = search rules in
+            rw (w.shares-is, all) (room_dealt (vec_len c.loop-i.shares) i w.in-Some.bench shares w.deal.new.shares.items inv.room w.deal.ensures)
         | in_default w ↦ rw w.shares-is (room_on (vec_len c.loop-i.shares) i shares inv.room)
+      ];
+      long = search rules;
+      port_room = search rules;
+      untaken = rw opened (untaken_push ports p inv.untaken c.open-seat.ensures.untaken);
+      fits = rw (opened, pushed) (fit_push senders s ports p same inv.fits c.open-seat.ensures.fits);
+      have = elim c.match-bench.branch [
+        | in-Some w ↦
+            let is_new = rw w.in-Some.is at c.open-seat.ensures.bench in
+            let keeps = rw w.in-Some.is at c.open-seat.ensures.report_lane in
+            let at : process_of w.in-Some.bench ≡ length ports = let e = is_new.0 in let f = wide in search rules in
+            rw w.shares-is (have_dealt (lanes_of c.push-in-loop-i.new.self.items) (i % vec_len c.loop-i.shares) w.in-Some.bench shares w.deal.new.shares.items at_low have
+            (rw opened (have_new ports p w.in-Some.bench at keeps)) w.deal.ensures)
+        | in_default w ↦ rw w.shares-is have
       ];
     }
 
@@ -90,3 +118,15 @@ returns-clause-came g c = record {
 
 pub returns-clause-some : goal.returns-clause-some
 returns-clause-some g c = c.loop-i.invariant.room.some
+
+pub returns-clause-ports : goal.returns-clause-ports
+returns-clause-ports g c = let long = c.loop-i.invariant.long in let done = c.loop-i.invariant.going.done in search rules
+
+pub returns-clause-untaken : goal.returns-clause-untaken
+returns-clause-untaken g c = c.loop-i.invariant.untaken
+
+pub returns-clause-fits : goal.returns-clause-fits
+returns-clause-fits g c = c.loop-i.invariant.fits
+
+pub returns-clause-have : goal.returns-clause-have
+returns-clause-have g c = c.loop-i.invariant.have

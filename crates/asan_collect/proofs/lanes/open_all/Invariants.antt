@@ -1,5 +1,6 @@
 use Rattle.std.proofs.Common.{◌≡◌, ◌≤◌, ◌<◌, ℕ, vec_len, slice_index_or}
 use Rattle.std.specs.Vec.{vec_capacity}
+use Rattle.asan_collect.specs.ReportLanes.{AllFit, NoneTaken, SharesHave, lanes_of}
 use Rattle.asan_collect.specs.Shares.{SharesAt, HasRoom}
 use Rattle.asan_collect.specs.Senders.{Came, AllFresh}
 use Rattle.asan_collect.proofs.lanes.open_all.Given as goal
@@ -18,4 +19,9 @@ invariant-loop-i g l = record {
   benches : SharesAt l.options.quarantine l.senders.items l.shares.items;
   sender_room : 256 ≤ vec_capacity l.senders;
   room : HasRoom (vec_len l.shares) l.i l.shares.items;
+  long : vec_len l.ports ≡ l.i;
+  port_room : 256 ≤ vec_capacity l.ports;
+  untaken : NoneTaken l.ports.items;
+  fits : AllFit (lanes_of l.ports.items) l.senders.items;
+  have : SharesHave (lanes_of l.ports.items) l.shares.items;
 }

@@ -1,0 +1,144 @@
+//! Collecting with live printing: each report is printed while its process still runs.
+
+ghost use Rattle.std.specs.Prelude.{◌≡◌, ◌+◌, ◌≤◌, ◌^◌, All, IfOk, OnErr, length};
+ghost use Rattle.asan_collect.specs.Arrivals.{AreAnswers, IsAllThatCame};
+ghost use Rattle.asan_collect.specs.Counts.{not_opened_among};
+ghost use Rattle.asan_collect.specs.Live.{ArePrinted};
+ghost use Rattle.asan_collect.specs.Ranges.{most_senders, most_reports};
+ghost use Rattle.asan_collect.specs.Texts.{reports_of};
+
+use crate::NoMemory;
+use crate::arrivals::{MOST_SENDERS, ask};
+use crate::closing::close_all;
+use crate::gate::Gate;
+use crate::lanes::{Opened, Rooms, open_all};
+use crate::options::Options;
+use crate::outcome::Outcome;
+use crate::printers::Printers;
+use crate::returns::place_all;
+use crate::threads::{Returned, run_printing};
+use asan_print::{LivePrinter, WriteFault};
+use std::alloc::{Allocator, Global};
+use std::io::Write;
+use std::sync::Wait;
+use std::thread::Threads;
+use std::time::Clock;
+use trace_feed::Door;
+
+/// What became of all senders, and whether all lines went out.
+#[derive(Drop)]
+pub struct Live<F, A: Allocator + Copy = Global> {
+    /// In the order of the answers of the door, as those of [`collect`](crate::collect).
+    pub outcomes: Vec<Outcome<F, A>, A>,
+    /// `Ok` where all lines went out. In a fault exactly the first `written` bytes of them did.
+    pub wrote: Result<(), WriteFault>,
+}
+
+/// Does what [`collect`](crate::collect) does, and prints each report while its process still runs.
+/// All checkers work on threads of their own, and the calling thread prints. A report reaches it
+/// through a lane of `ring` reports.
+///
+/// The lines of a process are in order those of its text, its end line last. How the lines of
+/// several processes are mixed is not promised. The end lines come last of all, in the order of the
+/// outcomes, once all threads have ended. Of a process that is `NotStarted` or `Unsettled` some
+/// reports may stand before its end line.
+///
+/// Where a line can't be written, nothing more is: the checks go on, and `wrote` says it. A writer
+/// that waits holds up the checkers, then the readers, and then who writes to them: nothing is
+/// lost. The writer isn't flushed.
+///
+/// # Errors
+///
+/// `NoMemory` where there was no room for the lists of 256 senders. The door was not asked then,
+/// and nothing was written.
+pub fn collect_live<
+    D: Door,
+    G: Gate + Sync,
+    W: Write,
+    A: Allocator + Copy + Send,
+    R: Threads + Wait + Clock + Sync,
+>(
+    rt: &R,
+    alloc: A,
+    door: &mut D,
+    gate: &G,
+    options: Options,
+    w: &mut W,
+) -> Result<Live<D::Feed, A>, NoMemory>
+where
+    D::Feed: Send + Drop,
+    requires { (D.seen door.old).refusals ≤ 2 ^ 32 }
+    ensures each { IfOk result (λ live.
+        AreAnswers D.Feed.seen options (D.seen door.old) (D.seen door.new) live.outcomes.items) }
+    ensures count { IfOk result (λ live.
+        IsAllThatCame (D.seen door.old).left (length live.outcomes.items)) }
+    ensures refused { IfOk result (λ live. (D.seen door.new).refusals
+        ≡ not_opened_among live.outcomes.items + (D.seen door.old).refusals) }
+    ensures few { IfOk result (λ live. length live.outcomes.items ≤ most_senders) }
+    ensures few_reports { IfOk result (λ live.
+        All (λ o. length (reports_of o) ≤ most_reports) live.outcomes.items) }
+    ensures printed { IfOk result (λ live.
+        ArePrinted (W.contents w.old) (W.contents w.new) live.outcomes.items live.wrote) }
+    ensures unasked { OnErr result (door.new ≡ door.old) }
+    ensures unwritten { OnErr result (w.new ≡ w.old) }
+{
+    collect_live_within(rt, alloc, &[], door, gate, options, w)
+}
+
+/// Does what [`collect_live`] does, with an allocator of its own for each sender's checker, as
+/// [`collect_within`](crate::collect_within) has them.
+///
+/// # Errors
+///
+/// `NoMemory` where there was no room for the lists of 256 senders. The door was not asked then,
+/// and nothing was written.
+pub fn collect_live_within<
+    D: Door,
+    G: Gate + Sync,
+    W: Write,
+    A: Allocator + Copy + Send,
+    R: Threads + Wait + Clock + Sync,
+>(
+    rt: &R,
+    alloc: A,
+    own: &[A],
+    door: &mut D,
+    gate: &G,
+    options: Options,
+    w: &mut W,
+) -> Result<Live<D::Feed, A>, NoMemory>
+where
+    D::Feed: Send + Drop,
+    requires { (D.seen door.old).refusals ≤ 2 ^ 32 }
+    ensures each { IfOk result (λ live.
+        AreAnswers D.Feed.seen options (D.seen door.old) (D.seen door.new) live.outcomes.items) }
+    ensures count { IfOk result (λ live.
+        IsAllThatCame (D.seen door.old).left (length live.outcomes.items)) }
+    ensures refused { IfOk result (λ live. (D.seen door.new).refusals
+        ≡ not_opened_among live.outcomes.items + (D.seen door.old).refusals) }
+    ensures few { IfOk result (λ live. length live.outcomes.items ≤ most_senders) }
+    ensures few_reports { IfOk result (λ live.
+        All (λ o. length (reports_of o) ≤ most_reports) live.outcomes.items) }
+    ensures printed { IfOk result (λ live.
+        ArePrinted (W.contents w.old) (W.contents w.new) live.outcomes.items live.wrote) }
+    ensures unasked { OnErr result (door.new ≡ door.old) }
+    ensures unwritten { OnErr result (w.new ≡ w.old) }
+{
+    let arrival_room = Vec::with_capacity(alloc, MOST_SENDERS)?;
+    let outcome_room = Vec::with_capacity(alloc, MOST_SENDERS)?;
+    let rooms = Rooms::new(alloc, options)?;
+    let arrivals = ask(door, arrival_room);
+    let opened = open_all(alloc, own, arrivals, rooms, options, true);
+    let Opened {
+        senders,
+        shares,
+        ports,
+    } = opened;
+    let printer = LivePrinter::new(alloc);
+    let printers = Printers { printer, ports };
+    let (back, printers) = run_printing(rt, alloc, gate, w, senders, shares, printers, options);
+    let Returned { senders, shares } = back;
+    let mut senders = senders;
+    place_all(&mut senders, shares, options.quarantine);
+    Ok(close_all(w, senders, printers, outcome_room))
+}

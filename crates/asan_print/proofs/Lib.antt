@@ -1,0 +1,3 @@
+pub mod Prints
+mod Logging
+mod Rounds

@@ -1,0 +1,45 @@
+-- The lanes that reports come through, in the order of their processes.
+use Rattle.std.specs.Prelude.{◌≡◌, ℕ, ◌<◌, ◌≤◌, List, [], length, Option, None, Some}
+use Rattle.std.specs.Prelude.{slice_index_or}
+use Rattle.trace_lane.specs.Lanes.{Lane, out_lane, taken_list}
+use Rattle.asan_check.specs.declared.report.Report.{Report}
+use Rattle.asan_print.specs.declared.live_printer.LivePrinter.{LivePrinter}
+use Rattle.asan_print.specs.declared.port.Port.{Port}
+use Rattle.asan_print.specs.Logs.{Line, lines_of, report_lines, Printed}
+
+module _ {A : Type 0} where
+  -- what a contract sees of a port: its lane, and the reports taken from it
+  abbrev pub port_lane : Port A → Lane A
+  port_lane port = out_lane port.lane
+
+  abbrev pub taken_from : Port A → List Report
+  taken_from port = taken_list port.lane
+
+  -- which lane it is, where there is a port
+  abbrev pub lane_at : Option (Port A) → Option (Lane A)
+  lane_at None = None
+  lane_at (Some port) = Some (port_lane port)
+
+  -- what was taken, where there is a port
+  abbrev pub taken_at : Option (Port A) → List Report
+  taken_at None = []
+  taken_at (Some port) = taken_from port
+
+  -- the same lanes, in order
+  pub record SameLanes (before after : List (Option (Port A))) : Type 0 where
+    pub same_length : length after ≡ length before
+    pub each :
+        (i : ℕ) (d : Option (Port A)) → i < length before →
+        lane_at (slice_index_or after i d) ≡ lane_at (slice_index_or before i d)
+
+  -- lines were printed, and those of each process are the lines of the reports that were taken from
+  -- its port
+  pub record Follows
+      (start now : Option (List ℕ)) (p : LivePrinter A) (ports : List (Option (Port A)))
+      : Type 0 where
+    pub log : List Line
+    pub printed : Printed start now p log
+    pub lines :
+        (i : ℕ) (d : Option (Port A)) → i < length ports →
+        lines_of i log ≡ report_lines i (taken_at (slice_index_or ports i d))
+    pub others : (i : ℕ) → length ports ≤ i → lines_of i log ≡ []

@@ -1,0 +1,179 @@
+//! Printing lines of several processes as they come.
+
+ghost use Rattle.std.specs.Prelude.{◌≡◌, ℕ, ◌+◌, ◌<◌, ◌≤◌, ◌^◌, ◌∷◌, ◌++◌, List, [], Option, OnOk};
+ghost use Rattle.std.specs.Prelude.{IfErr, IsTrue, None, false, length, take};
+ghost use Rattle.std.specs.Io.KnownBytes.{Appends};
+ghost use Rattle.asan_check.specs.Lines.{report_line, end_line, longest_line};
+ghost use Rattle.asan_print.specs.Printing.{printed_of};
+
+use crate::fault::{Why, WriteFault};
+use crate::port::Port;
+use crate::printer::Printer;
+use asan_check::{Ending, Report};
+use std::alloc::Allocator;
+use std::io::Write;
+
+/// How many reports are taken from one lane at most before the next lane's turn.
+const MOST_AT_ONCE: usize = 64;
+
+/// Prints lines of several processes to a writer as they come. After the first line that can't be
+/// printed it prints nothing more, and keeps why.
+#[derive(Drop)]
+pub struct LivePrinter<A: Allocator + Copy> {
+    printer: Printer<A>,
+    fault: Option<WriteFault>,
+    ghost counts: { fault ≡ None → printed_of printer < 2 ^ 64 },
+}
+
+impl<A: Allocator + Copy> LivePrinter<A> {
+    ghost use Rattle.asan_print.specs.Logs.{Line, Printed, Adds, joined, lines_of, report_lines};
+    ghost use Rattle.asan_print.specs.Ports.{Follows, SameLanes, lane_at, taken_at};
+
+    /// A printer that has printed nothing.
+    pub fn new(alloc: A) -> LivePrinter<A>
+        ensures { (start : Option (List ℕ)) → Printed start start result [] }
+    {
+        LivePrinter {
+            printer: Printer::new(alloc),
+            fault: None,
+        }
+    }
+
+    /// Prints the line of a report.
+    pub fn report<W: Write>(&mut self, w: &mut W, process: u32, report: &Report)
+        ensures { (start : Option (List ℕ)) (log : List Line) →
+            Printed start (W.contents w.old) self.old log → Printed start (W.contents w.new)
+            self.new (log ++ (process, report_line process report.now) ∷ []) }
+    {
+        if !self.is_ready() {
+            return;
+        }
+        self.fault = self.printer.report(w, process, report).err();
+    }
+
+    /// Prints the line of an end.
+    fn end<W: Write>(&mut self, w: &mut W, process: u32, ending: &Ending)
+        ensures { (start : Option (List ℕ)) (log : List Line) →
+            Printed start (W.contents w.old) self.old log → Printed start (W.contents w.new)
+            self.new (log ++ (process, end_line process ending.now) ∷ []) }
+    {
+        if !self.is_ready() {
+            return;
+        }
+        self.fault = self.printer.end(w, process, ending).err();
+    }
+
+    /// Whether the next line can be printed. It can't once a line was lost. Where its bytes can't be
+    /// counted, it is lost.
+    fn is_ready(&mut self) -> bool
+        ensures same { IsTrue result → self.new ≡ self.old }
+        ensures open { IsTrue result → self.old.fault ≡ None }
+        ensures room { IsTrue result → printed_of self.old.printer + longest_line < 2 ^ 64 }
+        ensures lost { result ≡ false → (start now : Option (List ℕ)) (log : List Line)
+            (process : ℕ) (line : List ℕ) → 0 < length line → Printed start now self.old log →
+            Printed start now self.new (log ++ (process, line) ∷ []) }
+    {
+        if self.fault.is_some() {
+            return false;
+        }
+        if self.printer.has_room() {
+            return true;
+        }
+        self.fault = Some(WriteFault {
+            written: self.printer.written(),
+            why: Why::Write,
+        });
+        false
+    }
+
+    /// Writes the lines that are held back.
+    fn flush<W: Write>(&mut self, w: &mut W)
+        ensures { (start : Option (List ℕ)) (log : List Line) →
+            Printed start (W.contents w.old) self.old log →
+            Printed start (W.contents w.new) self.new log }
+    {
+        if self.fault.is_some() {
+            return;
+        }
+        self.fault = self.printer.send(w).err();
+    }
+
+    /// Prints the lines of reports that wait at the ports of processes 0, 1 and so on, at most 64
+    /// from each, and then writes what is held back. Whether there were any.
+    pub fn round<W: Write>(&mut self, w: &mut W, ports: &mut [Option<Port<A>>]) -> bool
+        requires few { length ports.old < 2 ^ 32 }
+        ensures lanes { SameLanes ports.old ports.new }
+        ensures lines { (start : Option (List ℕ)) →
+            Follows start (W.contents w.old) self.old ports.old →
+            Follows start (W.contents w.new) self.new ports.new }
+    {
+        let mut any = false;
+        for process in 0..ports.len() {
+            if self.print_from(w, process as u32, &mut ports[process]) {
+                any = true;
+            }
+        }
+        self.flush(w);
+        any
+    }
+
+    /// Prints the lines of reports that wait at the port of a process, at most 64. Whether there
+    /// were any.
+    fn print_from<W: Write>(&mut self, w: &mut W, process: u32, port: &mut Option<Port<A>>) -> bool
+        ensures lane { lane_at port.new ≡ lane_at port.old }
+        ensures lines { (start : Option (List ℕ)) (log : List Line) →
+            Printed start (W.contents w.old) self.old log →
+            lines_of process log ≡ report_lines process (taken_at port.old) →
+            Adds start (W.contents w.new) self.new process
+            (report_lines process (taken_at port.new)) log }
+    {
+        let Some(port) = port else {
+            return false;
+        };
+        for count in 0..MOST_AT_ONCE {
+            let Some(report) = port.take() else {
+                return count > 0;
+            };
+            self.report(w, process, &report);
+        }
+        true
+    }
+
+    /// Prints the last lines of a process: those of the reports that were not printed yet, and the
+    /// line of its end.
+    pub fn close<W: Write>(&mut self, w: &mut W, process: u32, rest: &[Report], ending: &Ending)
+        ensures { (start : Option (List ℕ)) (log : List Line) (lines : List (List ℕ)) →
+            Printed start (W.contents w.old) self.old log → lines_of process log ≡ lines →
+            Adds start (W.contents w.new) self.new process
+            ((lines ++ report_lines process rest.now) ++ end_line process ending.now ∷ []) log }
+    {
+        for report in rest {
+            self.report(w, process, report);
+        }
+        self.end(w, process, ending);
+    }
+
+    /// Writes what is held back, and answers whether all lines went out.
+    ///
+    /// # Errors
+    ///
+    /// `WriteFault` where a line was lost. Exactly the first `written` bytes of the lines went out
+    /// then, which are not all.
+    pub fn finish<W: Write>(self, w: &mut W) -> Result<(), WriteFault>
+        ensures ok { OnOk result ((start : Option (List ℕ)) (log : List Line) →
+            Printed start (W.contents w.old) self log →
+            Appends start (W.contents w.new) (joined log)) }
+        ensures fault { IfErr result (λ e. (start : Option (List ℕ)) (log : List Line) →
+            Printed start (W.contents w.old) self log →
+            Appends start (W.contents w.new) (take e.written (joined log))) }
+        ensures short { IfErr result (λ e. (start : Option (List ℕ)) (log : List Line) →
+            Printed start (W.contents w.old) self log →
+            e.written < length (joined log)) }
+    {
+        let LivePrinter { mut printer, fault } = self;
+        if let Some(fault) = fault {
+            return Err(fault);
+        }
+        printer.send(w)
+    }
+}
