@@ -554,6 +554,8 @@ def refused_words(program):
         ["-V"],
         ["--verbose"],
         ["serve", "--count", "1", "--verbose", "socket"],
+        ["--live"],
+        ["check", "--live", "--live", "past"],
         ["check", "--version", "trace"],
         ["check", "-1"],
         ["--quarantine", "0"],
@@ -611,6 +613,7 @@ def help_texts(program):
         (["check", "--help"], "1 to 64 [default: 2]\n"),
         (["check", "--help"], "1 to 16777216 [default: 16777216]\n"),
         (["check", "--help"], "1048576 to 1099511627776 [default: no bound]\n"),
+        (["check", "--help"], "Print each report when it is found, and the end lines last\n"),
         (["serve", "--help"], "Usage: " + serve),
     ]:
         status, output, faults = program.run(words)
@@ -938,6 +941,51 @@ def file_that_says_ready(program):
         os.remove("ready")
 
 
+# ---- reports as they come
+
+
+def lines_of_each(output):
+    """The lines of each process, in order, by its number."""
+    lines = {}
+    for line in output.decode().splitlines(keepends=True):
+        lines.setdefault(line.split()[0], []).append(line)
+    return {process: "".join(own) for process, own in lines.items()}
+
+
+def live_files(program):
+    """The lines of each process are as without --live, and the end lines come last."""
+    frees = closed(*[free(0x2000)] * 3000)
+    names = [put("past", PAST_THE_END), put("frees", frees), put("cut", CUT), "missing", "frees"]
+    status, output, _ = program.run(["check", *names])
+    wanted = lines_of_each(output)
+    for ring, workers in [("1", "1"), ("1", "64"), ("1024", "2")]:
+        words = ["check", "--live", "--ring", ring, "--workers", workers, *names]
+        got = program.run(words)
+        same(words, (got[0], lines_of_each(got[1]), got[2]), (status, wanted, b""))
+        last = got[1].decode().splitlines()[-len(names) :]
+        holds(words, all(" end " in line for line in last), "\n".join(last))
+    program.expect(["check", "--live", "past"], 1, past_the_end())
+    program.expect(["check", "--live", "-"], 0, sound(), given=SOUND)
+    program.expect_unwritten(["check", "--live", "past", "frees"])
+    words = ["check", "--live", "--memory", str(1 << 20), put("far", FAR_APART), "past"]
+    status, output, _ = program.run(words)
+    same(words, (status, lines_of_each(output)["p1"]), (3, past_the_end(1)))
+
+
+def live_peers(program):
+    """A report is read while its process still runs."""
+    served = Served(program, "--live", "--count", "2")
+    silent, peer = served.connect(), served.connect()
+    peer.sendall(PAST_THE_END[:-1])
+    report = past_the_end(1).splitlines(keepends=True)[0]
+    same(served.words, served.program.stdout.readline().decode(), report)
+    peer.sendall(CLOSE)
+    peer.close()
+    silent.sendall(SOUND)
+    silent.close()
+    served.expect(1, sound(0) + past_the_end(1)[len(report) :])
+
+
 CASES = [
     one_file,
     worked_traces,
@@ -971,6 +1019,8 @@ CASES = [
     checkers_that_work,
     paths_that_cannot_be_served,
     file_that_says_ready,
+    live_files,
+    live_peers,
 ]
 
 

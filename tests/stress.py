@@ -5,10 +5,11 @@ process with that of its trace checked alone.
 usage: tests/stress.py [--minutes M] [--seed S] [--runs N] [--patience SECONDS] PROGRAM
 
 `check` gets up to 256 files and `serve` up to 256 peers, with rings of 1 and of 1,024 events and
-with 1, 2 and 64 checkers. The peers write at the same time, in pieces of any lengths. A run that
-does not end in time is ended, and what its threads were doing is printed. Each run is drawn by its
-own seed, which is printed where it failed, so that `--seed S --runs 1` makes it again. The last
-line counts the runs, and the status is 1 where one failed.
+with 1, 2 and 64 checkers, half of the runs with `--live`. The peers write at the same time, in
+pieces of any lengths. A run that does not end in time is ended, and what its threads were doing is
+printed. Each run is drawn by its own seed, which is printed where it failed, so that
+`--seed S --runs 1` makes it again. The last line counts the runs, and the status is 1 where one
+failed.
 """
 
 import argparse
@@ -186,6 +187,12 @@ def first_difference(got, wanted):
     return f"got {len(got)} bytes, wanted {len(wanted)}"
 
 
+def by_process(output):
+    """The lines of each process, process after process, as they are without --live."""
+    lines = output.splitlines(keepends=True)
+    return b"".join(sorted(lines, key=lambda line: int(line.split(b" ")[0][1:])))
+
+
 class Stress:
     """The program, its traces, and the folder that they lie in."""
 
@@ -226,11 +233,14 @@ class Stress:
         draw = random.Random(seed)
         chosen = draw.choices(self.traces, k=draw.choice([1, 2, 3, 7, 20, 64, 255, MOST]))
         options = ["--ring", draw.choice(RINGS), "--workers", draw.choice(WORKERS)]
+        options += draw.choice([[], ["--live"]])
         command = draw.choice(["check", "serve"])
         if command == "check":
             output, faults, status = self.check(options, chosen)
         else:
             output, faults, status = self.serve(options, chosen, draw)
+        if "--live" in options:
+            output = by_process(output)
         text = b"".join(trace.as_process(process) for process, trace in enumerate(chosen))
         # Of the statuses 0, 1 and 3 the greatest counts.
         wanted = max(trace.status for trace in chosen)

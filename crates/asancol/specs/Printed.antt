@@ -1,19 +1,19 @@
 -- What the program prints, and the status that it ends with.
-use Rattle.std.specs.Prelude.{◌≡◌, ◌≢◌, ℕ, ◌+◌, ◌⊎◌, true, IsTrue, Option, None, Some}
+use Rattle.std.specs.Prelude.{◌≡◌, ◌≢◌, ℕ, ◌+◌, ◌⊎◌, Bool, true, false, Option, None, Some}
 use Rattle.std.specs.Prelude.{List, [], ◌∷◌, length, take}
 use Rattle.std.specs.Borrow.{Bor}
 use Rattle.std.specs.Io.KnownBytes.{Appends}
 use Rattle.std.specs.declared.alloc.Global.{Global}
 use Rattle.refusing_allocator.specs.declared.RefusingAllocator.{RefusingAllocator}
-use Rattle.trace_feed.specs.declared.door.Arrival.{Arrival}
+use Rattle.asan_print.specs.Logs.{Line, joined}
 use Rattle.trace_feed.specs.Doors.{DoorState}
 use Rattle.trace_feed.specs.Feeds.{FeedState}
 use Rattle.asan_collect.specs.declared.options.Options.{Options}
 use Rattle.asan_collect.specs.declared.outcome.Outcome.{Outcome}
-use Rattle.asan_collect.specs.Arrivals.{Arrived, IsAllThatCame, Pairwise, IsAnswerTo}
+use Rattle.asan_collect.specs.Arrivals.{AreAnswers, IsAllThatCame}
 use Rattle.asan_collect.specs.Counts.{not_opened_among}
+use Rattle.asan_collect.specs.Live.{AreLinesOf}
 use Rattle.asan_collect.specs.Outcomes.{IsOutcomeOf}
-use Rattle.asan_collect.specs.Ranges.{most_senders}
 use Rattle.asan_collect.specs.Statuses.{status_of, unwritten}
 use Rattle.asan_collect.specs.Texts.{texts_from}
 use Rattle.asancol.specs.Settings.{AreUsual}
@@ -29,13 +29,30 @@ CheckersMemory (Some bytes) = BoundedMemory
 
 -- A writer holds some bytes before and after.
 module _ {F A : Type 0} where
-  -- these outcomes were printed: some first part of their texts went out, and all of it unless the
+  -- a text of these outcomes was printed: some first part of it went out, and all of it unless the
   -- status is that of a print that failed; any other status is the outcomes' own
-  pub record IsPrinted (before after : Option (List ℕ)) (outcomes : List (Outcome F A))
-      (status : ℕ) : Type 0 where
-    pub part : (written : ℕ) × Appends before after (take written (texts_from 0 outcomes))
-    pub whole : status ≢ unwritten → Appends before after (texts_from 0 outcomes)
+  pub record HasGoneOut (before after : Option (List ℕ)) (text : List ℕ)
+      (outcomes : List (Outcome F A)) (status : ℕ) : Type 0 where
+    pub part : (written : ℕ) × Appends before after (take written text)
+    pub whole : status ≢ unwritten → Appends before after text
     pub status_is : (status ≡ unwritten) ⊎ (status ≡ status_of outcomes true)
+
+  -- these outcomes were printed, text after text
+  abbrev pub IsPrinted : (before after : Option (List ℕ)) → List (Outcome F A) → ℕ → Type 0
+  IsPrinted before after outcomes status =
+      HasGoneOut before after (texts_from 0 outcomes) outcomes status
+
+  -- these outcomes were printed as their reports came: lines of all of them, mixed in some order
+  abbrev pub IsPrintedLive : (before after : Option (List ℕ)) → List (Outcome F A) → ℕ → Type 0
+  IsPrintedLive before after outcomes status =
+      (log : List Line) × AreLinesOf outcomes log
+      × HasGoneOut before after (joined log) outcomes status
+
+  -- these outcomes were printed, as their reports came or else text after text
+  abbrev pub IsPrintedAs :
+      Bool → (before after : Option (List ℕ)) → List (Outcome F A) → ℕ → Type 0
+  IsPrintedAs true before after outcomes status = IsPrintedLive before after outcomes status
+  IsPrintedAs false before after outcomes status = IsPrinted before after outcomes status
 
 -- The function says what is seen of a feed.
 module _ {F : Type 0} (seen : F → FeedState) where
@@ -58,13 +75,17 @@ module _ {F : Type 0} (seen : F → FeedState) (A : Type 0) where
   -- was shut, or as many as one call takes. Of a known number of arrivals that were left all came,
   -- or as many as one call takes. The door counts one refusal more for each outcome of a sender
   -- that was not opened. The outcomes were printed.
-  abbrev pub AreSendersPrinted :
-      Options → (old new : DoorState F) → (before after : Option (List ℕ)) → ℕ → Type 0
-  AreSendersPrinted options old new before after status =
-      (arrivals : List (Arrival F)) × (outcomes : List (Outcome F A))
-      × Arrived old.to_arrive new.to_arrive arrivals
-      × (IsTrue new.is_shut ⊎ (length arrivals ≡ most_senders))
+  abbrev pub AreOutcomesPrinted :
+      Options → Bool → (old new : DoorState F) → (before after : Option (List ℕ)) →
+      List (Outcome F A) → ℕ → Type 0
+  AreOutcomesPrinted options is_live old new before after outcomes status =
+      AreAnswers seen options old new outcomes
       × IsAllThatCame old.left (length outcomes)
-      × Pairwise (IsAnswerTo seen options) arrivals outcomes
       × (new.refusals ≡ not_opened_among outcomes + old.refusals)
-      × IsPrinted before after outcomes status
+      × IsPrintedAs is_live before after outcomes status
+
+  abbrev pub AreSendersPrinted :
+      Options → Bool → (old new : DoorState F) → (before after : Option (List ℕ)) → ℕ → Type 0
+  AreSendersPrinted options is_live old new before after status =
+      (outcomes : List (Outcome F A))
+      × AreOutcomesPrinted options is_live old new before after outcomes status

@@ -11,7 +11,7 @@ use Rattle.asancol.specs.declared.command_line.Request.TheVariants as request
 -- the files are no more than one call takes
 abbrev pub HasFewFiles : Request → Type 0
 HasFewFiles request.Input = Unit {0}
-HasFewFiles (request.Files names options verbose) = length names.items ≤ most_senders
+HasFewFiles (request.Files names options verbose is_live) = length names.items ≤ most_senders
 HasFewFiles (request.Serve serving) = Unit {0}
 
 -- whether `--verbose` is one of the words
@@ -22,11 +22,11 @@ is_verbose words = list_any (λ word. bytes_eq (string_bytes word) (codes "--ver
 -- checks standard input alone
 abbrev pub threads_of : Request → ℕ
 threads_of request.Input = 0
-threads_of (request.Files names options verbose) = length names.items + options.workers
+threads_of (request.Files names options verbose is_live) = length names.items + options.workers
 threads_of (request.Serve serving) = serving.count + serving.options.workers
 
 -- no line is asked for on what became of each file
 abbrev pub IsQuiet : Request → Type 0
 IsQuiet request.Input = Unit {0}
-IsQuiet (request.Files names options verbose) = verbose ≡ false
+IsQuiet (request.Files names options verbose is_live) = verbose ≡ false
 IsQuiet (request.Serve serving) = Unit {0}

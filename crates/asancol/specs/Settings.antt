@@ -1,6 +1,6 @@
 -- What the words of the command line set, by what was found among them.
-use Rattle.std.specs.Prelude.{◌≡◌, ℕ, ◌<◌, ◌^◌, ◌⊎◌, false, List, [], Option, None, Some}
-use Rattle.std.specs.Prelude.{codes, map, string_bytes}
+use Rattle.std.specs.Prelude.{◌≡◌, ℕ, ◌<◌, ◌^◌, ◌⊎◌, Bool, true, false, List, [], Option, None}
+use Rattle.std.specs.Prelude.{Some, codes, map, string_bytes}
 use Rattle.std.specs.Option.{option_map_or}
 use Rattle.std.specs.Str.Parse.{IsNumeral, digits_value, without_leading_plus}
 use Rattle.asan_collect.specs.Ranges.{usual_quarantine, usual_ring, usual_workers, usual_limit}
@@ -32,6 +32,12 @@ IsSetIfGiven bits (Some text) number =
     IsNumeral 10 (without_leading_plus text)
     → digits_value 10 (without_leading_plus text) < 2 ^ bits
     → number ≡ Some (digits_value 10 (without_leading_plus text))
+
+-- whether a flag is set: what was found says so, and nothing was found where it is not given
+pub record IsFlag (text : Option (List ℕ)) (flag : Bool) : Type 0 where
+  pub set : text ≡ Some (codes "true") → flag ≡ true
+  pub unset : text ≡ Some (codes "false") → flag ≡ false
+  pub missing : text ≡ None → flag ≡ false
 
 -- these are the values of the options that have a default: each is the one that was found, or the
 -- default
@@ -80,9 +86,10 @@ AreUsual options =
 -- the files that were found, in order, with their options
 abbrev pub AreFilesOf : Found → Request → Type 0
 AreFilesOf found request.Input = ⊥
-AreFilesOf found (request.Files names options verbose) =
+AreFilesOf found (request.Files names options verbose is_live) =
     (map string_bytes names.items ≡ option_map_or raw_values (matched_of found (codes "files")) [])
     × AreOptionsOf found options
+    × IsFlag (one_text found (codes "live")) is_live
 AreFilesOf found (request.Serve serving) = ⊥
 
 -- the number is the one that was given

@@ -31,6 +31,8 @@ pub const LIMIT: &str = "limit";
 
 pub const MEMORY: &str = "memory";
 
+pub const LIVE: &str = "live";
+
 pub const READY: &str = "ready";
 
 pub const VERBOSE: &str = "verbose";
@@ -184,7 +186,8 @@ fn with_options<'a>(
         ).range(1..=i64::from(MOST_EVENTS))))?
         .arg(number(alloc, MEMORY, "BYTES", texts.memory.as_str()).value_parser(value_parser!(
             u64
-        ).range(LEAST_MEMORY as i64..=MOST_MEMORY as i64)))
+        ).range(LEAST_MEMORY as i64..=MOST_MEMORY as i64)))?
+        .arg(live(alloc))
 }
 
 fn count<'a>(alloc: Global, texts: &'a HelpTexts) -> Arg<'a> {
@@ -202,6 +205,13 @@ fn number<'a>(alloc: Global, name: &'static str, value: &'static str, help: &'a 
         .help(help)
         .allow_negative_numbers(true)
         .action(ArgAction::Set)
+}
+
+fn live<'a>(alloc: Global) -> Arg<'a> {
+    Arg::new(alloc, LIVE)
+        .long(LIVE)
+        .help("Print each report when it is found, and the end lines last")
+        .action(ArgAction::SetTrue)
 }
 
 fn ready<'a>(alloc: Global) -> Arg<'a> {

@@ -10,12 +10,12 @@ ghost use Rattle.clap.specs.Words.{first_value, found_of, one_text};
 ghost use Rattle.asancol.specs.Refusals.{refusal_of};
 ghost use Rattle.asancol.specs.Requests.{HasFewFiles, IsQuiet, is_verbose as is_verbose_of};
 ghost use Rattle.asancol.specs.Requests.{threads_of};
-ghost use Rattle.asancol.specs.Settings.{AreFilesOf, AreOptionsOf, AreSizesOf, IsGiven};
+ghost use Rattle.asancol.specs.Settings.{AreFilesOf, AreOptionsOf, AreSizesOf, IsFlag, IsGiven};
 ghost use Rattle.asancol.specs.Settings.{IsBadOption, IsBadSize, IsSetIfGiven};
 
 use crate::arguments::{
-    CHECK, COUNT, FILES, HelpTexts, LIMIT, MEMORY, QUARANTINE, READY, RING, SERVE, SOCKET, VERBOSE,
-    WORKERS, command,
+    CHECK, COUNT, FILES, HelpTexts, LIMIT, LIVE, MEMORY, QUARANTINE, READY, RING, SERVE, SOCKET,
+    VERBOSE, WORKERS, command,
 };
 use crate::input_door::INPUT;
 use crate::serve::Serving;
@@ -36,6 +36,8 @@ pub enum Request {
         options: Options,
         /// Whether to say at the end what became of each file.
         verbose: bool,
+        /// Whether to print each report when it is found.
+        is_live: bool,
     },
     /// Check the traces that come through a socket.
     Serve(Serving),
@@ -145,6 +147,7 @@ fn files_of(alloc: Global, matches: &ArgMatches<'_>, words: &[String]) -> Result
         options: options_of(matches)?,
         // Where the flag is set, it is also among the words.
         verbose: matches.get_flag(VERBOSE) && is_verbose(words),
+        is_live: matches.get_flag(LIVE),
     })
 }
 
@@ -190,6 +193,8 @@ fn serving_of(alloc: Global, matches: &ArgMatches<'_>) -> Result<Option<Serving>
         first_value (found_of matches.now) (codes "ready") ≡ option_map string_bytes s.ready)) }
     ensures options { IfOk result (λ serving. IfSome serving (λ s.
         AreOptionsOf (found_of matches.now) s.options)) }
+    ensures live { IfOk result (λ serving. IfSome serving (λ s.
+        IsFlag (one_text (found_of matches.now) (codes "live")) s.is_live)) }
 {
     let (Some(socket), Some(count)) = (matches.get_str(SOCKET), matches.get_one(COUNT)) else {
         return Ok(None);
@@ -206,6 +211,7 @@ fn serving_of(alloc: Global, matches: &ArgMatches<'_>) -> Result<Option<Serving>
         count,
         ready,
         options: options_of(matches)?,
+        is_live: matches.get_flag(LIVE),
     }))
 }
 

@@ -1,17 +1,21 @@
 //! What is printed of the traces, and the status that follows from it.
 
 ghost use Rattle.std.specs.Prelude.{◌≡◌, ◌<◌, ◌≤◌, ◌⊎◌, ◌^◌, All, IfOk, None, OnErr, length};
+ghost use Rattle.std.specs.Prelude.{IfErr, List, OnOk, Option, false, take, true, ℕ};
+ghost use Rattle.std.specs.Io.KnownBytes.{Appends};
 ghost use Rattle.refusing_allocator.specs.Rules.{bound_of};
 ghost use Rattle.asan_collect.specs.Ranges.{most_senders, most_reports};
 ghost use Rattle.asan_collect.specs.Statuses.{unchecked, unwritten};
 ghost use Rattle.asan_collect.specs.Texts.{reports_of};
-ghost use Rattle.asancol.specs.Printed.{IsPrinted, IsFeedPrinted, AreSendersPrinted};
+ghost use Rattle.asancol.specs.Printed.{AreOutcomesPrinted, AreSendersPrinted, HasGoneOut};
+ghost use Rattle.asancol.specs.Printed.{IsPrinted, IsFeedPrinted};
 ghost use Rattle.asancol.specs.Printed.{BoundedMemory, CheckersMemory};
 
 use crate::memory::bounded_heaps;
 use asan_check::end_text;
 use asan_collect::{
-    OpenGate, Options, Outcome, check_feed, collect_within, exit_status, write_outcomes,
+    Live, OpenGate, Options, Outcome, WriteFault, check_feed, collect_live_within, collect_within,
+    exit_status, write_outcomes,
 };
 use refusing_allocator::RefusingAllocator;
 use std::alloc::{AllocError, Allocator, Global};
@@ -44,7 +48,8 @@ pub fn report_feed<F: Feed + Drop, W: Write>(
 
 /// Checks the feeds of the senders that come through a door, which are read side by side, prints
 /// what became of all of them, and gives the status to end with. Reading starts once the door is
-/// over or has given 256 other answers.
+/// over or has given 256 other answers. Where it is live, each report is printed when it is found,
+/// and else all that is printed is printed at the end.
 ///
 /// Where the options bound the memory of the checkers, each checker has an allocator of its own
 /// with that bound. Where the senders have names, what became of each of them is then said on
@@ -57,6 +62,7 @@ pub fn report_each<D: Door, W: Write, E: Write, R: Threads + Wait + Clock + Sync
     alloc: Global,
     door: &mut D,
     options: Options,
+    is_live: bool,
     output: &mut W,
     names: Option<&[String]>,
     faults: &mut E,
@@ -66,7 +72,7 @@ where
     requires { (D.seen door.old).refusals ≤ 2 ^ 32 }
     ensures ok { IfOk result (λ status.
         AreSendersPrinted D.Feed.seen (CheckersMemory options.memory)
-        options (D.seen door.old) (D.seen door.new)
+        options is_live (D.seen door.old) (D.seen door.new)
         (W.contents output.old) (W.contents output.new) status) }
     ensures refused { IfOk result (λ status. (D.seen door.old).refusals < (D.seen door.new).refusals
         → (status ≡ unchecked) ⊎ (status ≡ unwritten)) }
@@ -75,10 +81,22 @@ where
     ensures quiet { names.entry ≡ None → faults.new ≡ faults.old }
 {
     match options.memory {
-        None => report_all(rt, alloc, &[], door, options, output, names, faults),
+        None => report_all(
+            rt,
+            alloc,
+            &[],
+            door,
+            options,
+            is_live,
+            output,
+            names,
+            faults,
+        ),
         Some(bytes) => {
             let heaps = bounded_heaps(alloc, bytes)?;
-            report_within(rt, alloc, &heaps, door, options, output, names, faults)
+            report_within(
+                rt, alloc, &heaps, door, options, is_live, output, names, faults,
+            )
         }
     }
 }
@@ -90,6 +108,7 @@ fn report_within<D: Door, W: Write, E: Write, R: Threads + Wait + Clock + Sync>(
     heaps: &[RefusingAllocator<Global>],
     door: &mut D,
     options: Options,
+    is_live: bool,
     output: &mut W,
     names: Option<&[String]>,
     faults: &mut E,
@@ -100,7 +119,8 @@ where
     requires bound { All (λ heap. options.memory ≡ bound_of heap) heaps.now }
     requires each_has_one { length heaps.now ≡ most_senders }
     ensures ok { IfOk result (λ status.
-        AreSendersPrinted D.Feed.seen BoundedMemory options (D.seen door.old) (D.seen door.new)
+        AreSendersPrinted D.Feed.seen BoundedMemory
+        options is_live (D.seen door.old) (D.seen door.new)
         (W.contents output.old) (W.contents output.new) status) }
     ensures refused { IfOk result (λ status. (D.seen door.old).refusals < (D.seen door.new).refusals
         → (status ≡ unchecked) ⊎ (status ≡ unwritten)) }
@@ -111,7 +131,9 @@ where
     // What all senders share has no bound.
     let shared = RefusingAllocator::counting(alloc);
     let own = heaps.iter().collect::<Vec<_>>(alloc)?;
-    report_all(rt, &shared, &own, door, options, output, names, faults)
+    report_all(
+        rt, &shared, &own, door, options, is_live, output, names, faults,
+    )
 }
 
 /// Does what [`report_each`] does. The checker of sender i takes its memory from `own[i]`, where
@@ -128,6 +150,7 @@ fn report_all<
     own: &[A],
     door: &mut D,
     options: Options,
+    is_live: bool,
     output: &mut W,
     names: Option<&[String]>,
     faults: &mut E,
@@ -136,7 +159,7 @@ where
     D::Feed: Send + Drop,
     requires { (D.seen door.old).refusals ≤ 2 ^ 32 }
     ensures ok { IfOk result (λ status.
-        AreSendersPrinted D.Feed.seen A options (D.seen door.old) (D.seen door.new)
+        AreSendersPrinted D.Feed.seen A options is_live (D.seen door.old) (D.seen door.new)
         (W.contents output.old) (W.contents output.new) status) }
     ensures refused { IfOk result (λ status. (D.seen door.old).refusals < (D.seen door.new).refusals
         → (status ≡ unchecked) ⊎ (status ≡ unwritten)) }
@@ -144,12 +167,108 @@ where
     ensures err { OnErr result (output.new ≡ output.old) }
     ensures quiet { names.entry ≡ None → faults.new ≡ faults.old }
 {
-    let outcomes = collect_within(rt, alloc, own, door, &OpenGate, options)?;
-    let status = print(alloc, output, &outcomes);
+    let printed = print_senders(rt, alloc, own, door, options, is_live, output)?;
+    let Printed { outcomes, status } = printed;
     if let Some(names) = names {
         name_each(alloc, names, &outcomes, faults);
     }
     Ok(status)
+}
+
+/// What became of all senders, and the status to end with.
+struct Printed<F, A: Allocator + Copy> {
+    outcomes: Vec<Outcome<F, A>, A>,
+    status: u8,
+}
+
+/// Checks the feeds, and prints each report when it is found, or else what became of all of them at
+/// the end.
+fn print_senders<D: Door, W: Write, A: Allocator + Copy + Send, R: Threads + Wait + Clock + Sync>(
+    rt: &R,
+    alloc: A,
+    own: &[A],
+    door: &mut D,
+    options: Options,
+    is_live: bool,
+    output: &mut W,
+) -> Result<Printed<D::Feed, A>, AllocError>
+where
+    D::Feed: Send + Drop,
+    requires { (D.seen door.old).refusals ≤ 2 ^ 32 }
+    ensures ok { IfOk result (λ printed. AreOutcomesPrinted D.Feed.seen A
+        options is_live (D.seen door.old) (D.seen door.new)
+        (W.contents output.old) (W.contents output.new) printed.outcomes.items printed.status) }
+    ensures few { IfOk result (λ printed. length printed.outcomes.items ≤ most_senders) }
+    ensures refused { IfOk result (λ printed.
+        (D.seen door.old).refusals < (D.seen door.new).refusals
+        → (printed.status ≡ unchecked) ⊎ (printed.status ≡ unwritten)) }
+    ensures unasked { OnErr result (door.new ≡ door.old) }
+    ensures err { OnErr result (output.new ≡ output.old) }
+{
+    if is_live {
+        return print_live(rt, alloc, own, door, options, output);
+    }
+    print_at_the_end(rt, alloc, own, door, options, output)
+}
+
+/// Checks the feeds, and prints what became of all of them at the end.
+fn print_at_the_end<
+    D: Door,
+    W: Write,
+    A: Allocator + Copy + Send,
+    R: Threads + Wait + Clock + Sync,
+>(
+    rt: &R,
+    alloc: A,
+    own: &[A],
+    door: &mut D,
+    options: Options,
+    output: &mut W,
+) -> Result<Printed<D::Feed, A>, AllocError>
+where
+    D::Feed: Send + Drop,
+    requires { (D.seen door.old).refusals ≤ 2 ^ 32 }
+    ensures ok { IfOk result (λ printed. AreOutcomesPrinted D.Feed.seen A
+        options false (D.seen door.old) (D.seen door.new)
+        (W.contents output.old) (W.contents output.new) printed.outcomes.items printed.status) }
+    ensures few { IfOk result (λ printed. length printed.outcomes.items ≤ most_senders) }
+    ensures refused { IfOk result (λ printed.
+        (D.seen door.old).refusals < (D.seen door.new).refusals
+        → (printed.status ≡ unchecked) ⊎ (printed.status ≡ unwritten)) }
+    ensures unasked { OnErr result (door.new ≡ door.old) }
+    ensures err { OnErr result (output.new ≡ output.old) }
+{
+    let outcomes = collect_within(rt, alloc, own, door, &OpenGate, options)?;
+    let status = print(alloc, output, &outcomes);
+    Ok(Printed { outcomes, status })
+}
+
+/// Checks the feeds, and prints each report when it is found.
+fn print_live<D: Door, W: Write, A: Allocator + Copy + Send, R: Threads + Wait + Clock + Sync>(
+    rt: &R,
+    alloc: A,
+    own: &[A],
+    door: &mut D,
+    options: Options,
+    output: &mut W,
+) -> Result<Printed<D::Feed, A>, AllocError>
+where
+    D::Feed: Send + Drop,
+    requires { (D.seen door.old).refusals ≤ 2 ^ 32 }
+    ensures ok { IfOk result (λ printed. AreOutcomesPrinted D.Feed.seen A
+        options true (D.seen door.old) (D.seen door.new)
+        (W.contents output.old) (W.contents output.new) printed.outcomes.items printed.status) }
+    ensures few { IfOk result (λ printed. length printed.outcomes.items ≤ most_senders) }
+    ensures refused { IfOk result (λ printed.
+        (D.seen door.old).refusals < (D.seen door.new).refusals
+        → (printed.status ≡ unchecked) ⊎ (printed.status ≡ unwritten)) }
+    ensures unasked { OnErr result (door.new ≡ door.old) }
+    ensures err { OnErr result (output.new ≡ output.old) }
+{
+    let live = collect_live_within(rt, alloc, own, door, &OpenGate, options, output)?;
+    let Live { outcomes, wrote } = live;
+    let status = flush(output, &outcomes, wrote);
+    Ok(Printed { outcomes, status })
 }
 
 /// Writes a line for each sender that has a name: its number, its name and what became of it. A
@@ -183,6 +302,24 @@ fn print<F, A: Allocator + Copy, W: Write>(
     requires few_reports { All (λ o. length (reports_of o) ≤ most_reports) outcomes.now }
     ensures { IsPrinted (W.contents output.old) (W.contents output.new) outcomes.now result }
 {
-    let wrote = write_outcomes(alloc, output, outcomes).is_ok() && output.flush().is_ok();
+    let wrote = write_outcomes(alloc, output, outcomes);
+    flush(output, outcomes, wrote)
+}
+
+/// Flushes what was printed of outcomes, unless it could not be written, and gives the status to
+/// end with.
+fn flush<F, A: Allocator + Copy, W: Write>(
+    output: &mut W,
+    outcomes: &[Outcome<F, A>],
+    wrote: Result<(), WriteFault>,
+) -> u8
+    ensures ok { OnOk wrote ((before : Option (List ℕ)) (text : List ℕ) →
+        Appends before (W.contents output.old) text →
+        HasGoneOut before (W.contents output.new) text outcomes.now result) }
+    ensures fault { IfErr wrote (λ e. (before : Option (List ℕ)) (text : List ℕ) →
+        Appends before (W.contents output.old) (take e.written text) →
+        HasGoneOut before (W.contents output.new) text outcomes.now result) }
+{
+    let wrote = wrote.is_ok() && output.flush().is_ok();
     exit_status(outcomes, wrote)
 }

@@ -9,7 +9,7 @@ ghost use Rattle.asancol.specs.Requests.{is_verbose};
 use crate::command_line::{Refusal, Request, read_words};
 use crate::input_door::door_of;
 use crate::print::{report_each, report_feed};
-use crate::serve::listen;
+use crate::serve::{Serving, listen};
 use crate::stack::make_room;
 use asan_collect::{UNCHECKED, UNWRITTEN};
 use clap::error::ErrorKind;
@@ -67,16 +67,24 @@ where
             names,
             options,
             verbose,
+            is_live,
         } => match door_of(rt, alloc, &names, input) {
             Ok(mut door) => {
                 let names = verbose.then_some(names.as_slice());
-                report_each(rt, alloc, &mut door, options, output, names, faults)
+                report_each(
+                    rt, alloc, &mut door, options, is_live, output, names, faults,
+                )
             }
             Err(error) => Err(error),
         },
         Request::Serve(serving) => match listen(rt, &serving) {
             Ok(mut door) => {
-                report_each(rt, alloc, &mut door, serving.options, output, None, faults)
+                let Serving {
+                    options,
+                    is_live,
+                    ..
+                } = serving;
+                report_each(rt, alloc, &mut door, options, is_live, output, None, faults)
             }
             Err(error) => return say(faults, &error, UNCHECKED),
         },

@@ -22,6 +22,8 @@ pub struct Serving {
     pub ready: Option<String>,
     /// How their traces are checked.
     pub options: Options,
+    /// Whether to print each report when it is found.
+    pub is_live: bool,
     pub ghost some_sender: { 0 < count },
     pub ghost count_in_range: { count ≤ most_senders },
 }

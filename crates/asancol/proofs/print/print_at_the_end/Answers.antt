@@ -1,7 +1,7 @@
 use Rattle.std.proofs.Common.{◌<◌, arith}
 use Rattle.asan_collect.specs.Counts.{not_opened_among}
 use Rattle.asancol.proofs.Refusing.{status_of_refused}
-use Rattle.asancol.proofs.print.report_all.Goals as goal
+use Rattle.asancol.proofs.print.print_at_the_end.Goals as goal
 
 pub returns-clause-refused : goal.returns-clause-refused
 returns-clause-refused g c more =
