@@ -1,5 +1,8 @@
 //! Tests of reports that are printed as they come.
 
+ghost use Rattle.std.specs.Prelude.{◌≡◌};
+ghost use Rattle.trace_feed.specs.Doors.{IfCame};
+
 use super::{STREAM, feed_of, three_arrivals};
 use asan_collect::{Live, OpenGate, Options, Why, WriteFault, collect_live, write_outcomes};
 use std::alloc::Global;
@@ -100,10 +103,12 @@ fn wait_for(flag: &AtomicU64) -> bool {
     false
 }
 
-/// A feed that gives all but the close, and the close only once a line was printed. Where it waits
-/// in vain, the read fails.
+/// A feed that gives the first bytes of the stream, if it is to give any, and the rest only once a
+/// line was printed. Where it waits in vain, the read fails.
 #[derive(Drop)]
 struct Patient<'a> {
+    /// How many bytes it gives before it waits.
+    first: usize,
     place: usize,
     printed: &'a AtomicU64,
     faults: u64,
@@ -115,12 +120,12 @@ impl<'a> Feed for Patient<'a> {
     ghost seen = { λ p. record { to_come = None; faults = p.faults } };
 
     fn next(&mut self, buf: &mut [u8]) -> Result<usize, FeedFault> {
-        let is_first = self.place == 0;
-        if !is_first && !wait_for(self.printed) {
+        let waits = self.first <= self.place;
+        if waits && !wait_for(self.printed) {
             self.faults += 1;
             return Err(FeedFault);
         }
-        let stop = if is_first { 35 } else { STREAM.len() };
+        let stop = if waits { STREAM.len() } else { self.first };
         let piece = STREAM.get(self.place..stop).unwrap_or(&[]);
         let count = piece.len().min(buf.len());
         buf[..count].copy_from_slice(&piece[..count]);
@@ -154,31 +159,41 @@ impl<'a> Write for Telling<'a> {
     }
 }
 
+/// A sender whose feed gives so many bytes before it waits for the first line.
+fn sender_of(first: usize, printed: &AtomicU64) -> Arrival<Patient<'_>>
+    ensures { IfCame (λ p. p.faults ≡ 0) result }
+{
+    Arrival::Came(Patient {
+        first,
+        place: 0,
+        printed,
+        faults: 0,
+    })
+}
+
 #[test]
 fn printed_before_the_end(rt: HostRuntime) -> Result<(), Fail> {
     let alloc = rt.alloc();
-    let printed = AtomicU64::new(0);
-    let mut arrivals = Vec::new(alloc);
-    arrivals.push(Arrival::Came(Patient {
-        place: 0,
-        printed: &printed,
-        faults: 0,
-    }))?;
-    let mut door = ListDoor::new(arrivals);
-    let mut output = Telling {
-        text: Vec::new(alloc),
-        printed: &printed,
-    };
-    let live = collect_live(
-        &rt,
-        alloc,
-        &mut door,
-        &OpenGate,
-        Options::usual(),
-        &mut output,
-    )?;
-    assert_eq!(rt; live.wrote, Ok(()));
-    assert_eq!(rt; String::from_utf8(output.text)?.as_str(), THREE_TEXTS[0]);
+    for (first, workers) in [(35, 1), (35, 2), (0, 1), (0, 2)] {
+        let printed = AtomicU64::new(0);
+        let mut arrivals = Vec::new(alloc);
+        arrivals.push(sender_of(first, &printed))?;
+        arrivals.push(sender_of(35, &printed))?;
+        arrivals.push(sender_of(first, &printed))?;
+        let mut door = ListDoor::new(arrivals);
+        let mut output = Telling {
+            text: Vec::new(alloc),
+            printed: &printed,
+        };
+        let options = Options::new(1 << 28, 1024, workers, 1 << 24)?;
+        let live = collect_live(&rt, alloc, &mut door, &OpenGate, options, &mut output)?;
+        assert_eq!(rt; live.wrote, Ok(()));
+        let text = String::from_utf8(output.text)?;
+        expect_lines(&rt, text.as_str(), "p0 ", THREE_TEXTS[0]);
+        for prefix in ["p1 end closed ", "p2 end closed "] {
+            assert!(rt; text.lines().any(|line| line.starts_with(prefix)));
+        }
+    }
     Ok(())
 }
 
