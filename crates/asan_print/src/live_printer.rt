@@ -63,8 +63,8 @@ impl<A: Allocator + Copy> LivePrinter<A> {
         self.fault = self.printer.end(w, process, ending).err();
     }
 
-    /// Whether the next line can be printed. It can't once a line was lost. Where its bytes can't be
-    /// counted, it is lost.
+    /// Whether the next line can be printed. It can't once a line was lost. Where its bytes can't
+    /// be counted, it is lost.
     fn is_ready(&mut self) -> bool
         ensures same { IsTrue result → self.new ≡ self.old }
         ensures open { IsTrue result → self.old.fault ≡ None }
