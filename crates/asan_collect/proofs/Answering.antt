@@ -4,12 +4,12 @@ use Rattle.std.specs.Prelude.{IsTrue}
 use Rattle.std.proofs.lemmas.Bool.{false≢true}
 use Rattle.trace_feed.specs.declared.door.Arrival.TheVariants as arrival
 use Rattle.trace_feed.specs.Feeds.{FeedState}
-use Rattle.asan_collect.specs.declared.options.Options.{Options}
-use Rattle.asan_collect.specs.declared.outcome.Outcome.{Outcome}
-use Rattle.asan_collect.specs.declared.outcome.Outcome.TheVariants as outcome
-use Rattle.asan_collect.specs.Agreement.{IsOutcomeOfBytes}
+use Rattle.asan_stream.specs.declared.options.Options.{Options}
+use Rattle.asan_stream.specs.declared.outcome.Outcome.{Outcome}
+use Rattle.asan_stream.specs.declared.outcome.Outcome.TheVariants as outcome
+use Rattle.asan_stream.specs.Agreement.{IsOutcomeOfBytes}
 use Rattle.asan_collect.specs.Arrivals.{IsAnswerTo}
-use Rattle.asan_collect.specs.Outcomes.{is_read}
+use Rattle.asan_stream.specs.Outcomes.{is_read}
 
 module _ {F A : Type 0} where
   pub outcome_of_bytes : (seen : F → FeedState) (options : Options) (bytes : List ℕ) (feed : F) (result : Outcome F A)

@@ -5,7 +5,7 @@ use Rattle.std.proofs.Math.Nat.{div-add-mod, mod-lt, mul-le-mul_left, lt_of_mul-
 use Rattle.std.proofs.lemmas.Bool.{cases_eq}
 use Rattle.std.proofs.lemmas.List.{length-set, get_or-set_same, get_or-set_other, get_or_append_left, get_or_at}
 use Rattle.trace_feed.specs.Feeds.{FeedState}
-use Rattle.asan_collect.specs.declared.bench.Bench.{Bench}
+use Rattle.asan_stream.specs.declared.bench.Bench.{Bench}
 use Rattle.asan_collect.specs.declared.sender.Sender.{Sender}
 use Rattle.asan_collect.specs.declared.sender.Sender.TheVariants as sender
 use Rattle.asan_collect.specs.Shares.{Share, ComesBack, GivesUp, SharesAt, AreEmpty, HasRoom, Deals}

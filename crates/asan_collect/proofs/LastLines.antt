@@ -1,5 +1,5 @@
 -- The last lines of each process.
-use Rattle.std.proofs.Common.{ℕ, ◌-◌, ◌≡◌, ◌≢◌, ◌<◌, ◌≤◌, ◌++◌, ◌∷◌, [], List, length, length-append, take, drop, map, refl, ◌∙◌, sym, ap, subst, arith, slice_index_or, Option, None, Some, inl, inr, append_assoc, append-nil}
+use Rattle.std.proofs.Common.{ℕ, ◌-◌, ◌≡◌, ◌<◌, ◌++◌, ◌∷◌, [], List, length, length-append, take, drop, refl, ◌∙◌, sym, ap, arith, Option, None, Some, inl, inr, append-nil}
 use Rattle.std.specs.Prelude.{min, IfSome, IsTrue, Result, OnOk, IfErr}
 use Rattle.std.specs.Io.KnownBytes.{Appends}
 use Rattle.std.proofs.lemmas.Bool.{cases_eq, false≢true}
@@ -9,19 +9,19 @@ use Rattle.asan_check.specs.Lines.{end_line, report_line}
 use Rattle.asan_print.specs.declared.fault.WriteFault.{WriteFault}
 use Rattle.asan_print.specs.declared.live_printer.LivePrinter.{LivePrinter}
 use Rattle.asan_print.specs.declared.port.Port.{Port}
-use Rattle.asan_print.specs.Logs.{Adds, Line, Printed, joined, lines_of, report_lines}
-use Rattle.asan_print.specs.Ports.{Follows, lane_at, port_lane, taken_at}
+use Rattle.asan_print.specs.Logs.{Line, Printed, joined, report_lines}
+use Rattle.asan_print.specs.Ports.{Follows, lane_at, port_lane}
 use Rattle.asan_print.proofs.Prints.{on_ok, if_err}
 use Rattle.asan_collect.specs.declared.sender.Sender.{Sender}
-use Rattle.asan_collect.specs.declared.outcome.Outcome.{Outcome}
-use Rattle.asan_collect.specs.declared.outcome.Outcome.TheVariants as outcome
+use Rattle.asan_stream.specs.declared.outcome.Outcome.{Outcome}
+use Rattle.asan_stream.specs.declared.outcome.Outcome.TheVariants as outcome
 use Rattle.asan_collect.specs.Closings.{WerePrinted, Closes, HasClosed}
 use Rattle.asan_collect.specs.Live.{ArePrinted, ArePrintedOf}
-use Rattle.asan_collect.specs.Outboxes.{IsFront}
-use Rattle.asan_collect.specs.Outcomes.{is_read}
+use Rattle.asan_stream.specs.Outboxes.{IsFront}
+use Rattle.asan_stream.specs.Outcomes.{is_read}
 use Rattle.asan_collect.specs.ReportLanes.{Fits, NoneTaken}
-use Rattle.asan_collect.specs.Texts.{reports_of, ending_of}
-use Rattle.asan_collect.proofs.Reporting.{front_trans}
+use Rattle.asan_stream.specs.Outcomes.{reports_of, ending_of}
+use Rattle.asan_stream.proofs.Reporting.{front_trans}
 
 lines_append : (process : ℕ) (xs ys : List Report) → report_lines process (xs ++ ys) ≡ report_lines process xs ++ report_lines process ys
 lines_append process [] ys = refl

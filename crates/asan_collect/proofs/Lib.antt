@@ -1,11 +1,3 @@
-mod Stepping
-mod Sending
-mod Fates
-mod Reading
-mod Readers
-mod Checking
-mod Draining
-mod Later
 mod Senders
 mod Dealing
 mod ReportLanes
@@ -13,11 +5,7 @@ mod LastLines
 mod Going
 mod Arriving
 mod Counting
-mod Reporting
 mod Rights
-mod Lengths
-mod Told
 mod Prints
-mod Agreeing
 mod Answering
 pub mod Refuted

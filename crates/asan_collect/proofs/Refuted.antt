@@ -1,55 +1,25 @@
--- Outcomes, lists, texts and statuses that the contracts refuse.
+-- Outcomes, texts and statuses that the contracts refuse.
 -- Each lemma is named for what would have gone wrong.
-use Rattle.std.proofs.Common.{◌≡◌, ◌⊎◌, inl, inr, ℕ, true, false, List, [], ◌∷◌, Some, refl, sym, ap, ◌∙◌, arith}
-use Rattle.std.specs.Prelude.{◌≢◌, ◌≤◌, IsTrue, length, take, Vec}
-use Rattle.std.specs.Coded.{le_prop}
+use Rattle.std.proofs.Common.{◌≡◌, ◌⊎◌, inl, inr, ℕ, true, false, [], ◌∷◌, Some, sym, ap, ◌∙◌, arith}
+use Rattle.std.specs.Prelude.{◌≢◌, IsTrue, length, take, Vec}
 use Rattle.std.specs.Io.KnownBytes.{Appends}
-use Rattle.std.proofs.Math.Logic.{∥∥₁_elim}
-use Rattle.std.proofs.lemmas.Bool.{false≢true}
-use Rattle.trace_record.specs.declared.event.Event.{Event}
 use Rattle.trace_record.specs.declared.end.End.{End}
 use Rattle.trace_record.specs.declared.end.Fate.{Fate}
 use Rattle.trace_record.specs.declared.end.Fate.TheVariants as fate
 use Rattle.trace_feed.specs.Feeds.{FeedState}
 use Rattle.trace_feed.specs.declared.door.Arrival.TheVariants as arrival
-use Rattle.asan_check.specs.declared.checker.Checker.{Checker}
-use Rattle.asan_check.specs.declared.report.Fault.TheVariants as fault
 use Rattle.asan_check.specs.declared.report.Report.{Report}
-use Rattle.asan_check.specs.Standing.{Stands}
-use Rattle.asan_check.proofs.Examples.{malloc, store, free, report, usual}
-use Rattle.asan_check.proofs.Refuted.{differ, bad_access_is_passed_over}
-use Rattle.asan_collect.specs.declared.item.Item.{Item}
-use Rattle.asan_collect.specs.declared.item.Item.TheVariants as item
-use Rattle.asan_collect.specs.declared.bench.Turn.TheVariants as turn
-use Rattle.asan_collect.specs.declared.options.Options.{Options}
-use Rattle.asan_collect.specs.declared.outcome.Outcome.TheVariants as outcome
+use Rattle.asan_stream.specs.declared.options.Options.{Options}
+use Rattle.asan_stream.specs.declared.outcome.Outcome.TheVariants as outcome
 use Rattle.asan_collect.specs.Arrivals.{IsAnswerTo}
-use Rattle.asan_collect.specs.Benches.{Takes}
-use Rattle.asan_collect.specs.Checking.{StandsAfter}
-use Rattle.asan_collect.specs.Items.{items_of}
-use Rattle.asan_collect.specs.Outcomes.{IsSpelled, Tells, faults_of, is_read}
+use Rattle.asan_stream.specs.Outcomes.{faults_of}
 use Rattle.asan_collect.specs.Ranges.{most_senders}
 use Rattle.asan_collect.specs.Statuses.{clean, reported, status_of}
 
 abbrev end_as : Fate → ℕ → ℕ → End
 end_as fate events offset = record { fate = fate; events = events; offset = offset }
 
--- ---- ends
-
--- the stream is said to end without its close, and bytes of the feed are left
-says_no_close_unread :
-    (limit n offset byte : ℕ) (left : List ℕ) (before : FeedState) (events : List Event) →
-    ¬ IsSpelled limit before (record { to_come = Some (byte ∷ left); faults = 0 }) events
-    (end_as fate.NoClose n offset)
-says_no_close_unread limit n offset byte left before events spelled =
-    let none_left : byte ∷ left ≡ [] = spelled.no_more tt in absurd cc
-
--- the end is a failed read, and no read of the feed failed
-says_read_failed_unread :
-    (limit n offset : ℕ) (before after : FeedState) (events : List Event) → after.faults ≡ 0 →
-    ¬ IsSpelled limit before after events (end_as fate.ReadFailed n offset)
-says_read_failed_unread limit n offset before after events none spelled =
-    let none_is_one : ◌≡◌ {A = ℕ} 0 1 = sym none ∙ spelled.faults_are in absurd (omega arith)
+-- ---- answers
 
 module _ {F A : Type 0} (seen : F → FeedState) (options : Options) where
   -- another sender's failed read ends this one, of whose feed no read failed
@@ -69,96 +39,12 @@ not_opened_for_a_feed_that_came :
     ¬ IsAnswerTo {F = F} {A = A} seen options (arrival.Came feed) outcome.NotOpened
 not_opened_for_a_feed_that_came F A seen options feed answer = answer
 
-module _ {F A : Type 0} (feed : F) (end : End) (reports : Vec Report A) where
-  -- the last of the decoded events is not checked
-  decoded_event_is_dropped :
-      reports.items ≡ [] →
-      ¬ Tells usual (malloc 0x1000 5 refl ∷ store 0x1004 4 refl ∷ []) feed end
-      (outcome.Settled feed end reports)
-  decoded_event_is_dropped none tells = bad_access_is_passed_over (sym tells.2 ∙ none)
-
-  -- an event is checked twice
-  event_is_stepped_again :
-      reports.items ≡ report 1 (fault.BadFree 0x1000) ∷ report 2 (fault.BadFree 0x1000) ∷ [] →
-      ¬ Tells usual (free 0x1000 refl ∷ []) feed end (outcome.Settled feed end reports)
-  event_is_stepped_again twice tells = differ _ _ refl refl (sym tells.2 ∙ twice)
-
-  -- an event is checked that no byte of the stream spells
-  event_after_the_end_is_stepped :
-      reports.items ≡ report 1 (fault.BadFree 0x1000) ∷ [] →
-      ¬ Tells usual [] feed end (outcome.Settled feed end reports)
-  event_after_the_end_is_stepped one tells = differ _ _ refl refl (sym tells.2 ∙ one)
-
-  -- memory was refused to the malloc, and the free after it is checked in its place
-  skips_event_after_refusal :
-      reports.items ≡ report 1 (fault.BadFree 0x1000) ∷ [] →
-      ¬ Tells usual (malloc 0x1000 8 refl ∷ free 0x1000 refl ∷ []) feed end
-      (outcome.NoMemory feed end 1 reports)
-  skips_event_after_refusal one tells = differ _ _ refl refl (sym tells.3 ∙ one)
-
--- an end came, and the outcome says that none did
-unsettled_where_an_end_came : (F A : Type 0) → ¬ IsTrue (is_read {F = F} {A = A} outcome.Unsettled)
-unsettled_where_an_end_came F A read = absurd cc
-
 -- ---- arrivals
 
 -- no more are asked for after 255, and the door is not over
 stops_asking_at_255 : ¬ (IsTrue false ⊎ ◌≡◌ {A = ℕ} 255 most_senders)
 stops_asking_at_255 (inl over) = absurd cc
 stops_asking_at_255 (inr all) = absurd (omega arith)
-
--- ---- lists
-
--- an item is put once more after it was put
-item_put_twice_after_retry :
-    (e : Event) (end : End) → item.Event e ∷ item.Event e ∷ item.End end ∷ []
-    ≢ items_of (e ∷ []) end
-item_put_twice_after_retry e end same =
-    let three_is_two : ◌≡◌ {A = ℕ} 3 2 = ap length same in absurd (omega arith)
-
--- an event is not put
-event_is_not_put : (e : Event) (end : End) → item.End end ∷ [] ≢ items_of (e ∷ []) end
-event_is_not_put e end same =
-    let one_is_two : ◌≡◌ {A = ℕ} 1 2 = ap length same in absurd (omega arith)
-
--- an event is put after the end
-puts_record_after_close :
-    (e : Event) (end other : End) (events : List Event) → item.End end ∷ item.Event e ∷ []
-    ≢ items_of events other
-puts_record_after_close e end other [] same =
-    let two_is_one : ◌≡◌ {A = ℕ} 2 1 = ap length same in absurd (omega arith)
-puts_record_after_close e end other (first ∷ events) same = absurd cc
-
--- a turn takes two items
-turn_takes_two : (x y : Item) → ¬ Takes turn.Took [] (x ∷ y ∷ [])
-turn_takes_two x y took =
-    let two_is_one : ◌≡◌ {A = ℕ} 2 1 = ap length took.1 in absurd (omega arith)
-
--- ---- benches
-
-module _ {A : Type 0} (c : Checker A) (bound : ℕ) (e : Event) where
-  other_number_was_checked :
-      (past : List Event) → length past ≢ 1 → Stands bound c past →
-      ¬ StandsAfter c (item.Event e ∷ [])
-  other_number_was_checked past other stands after =
-      let wrong : 2 ≤ 1 = ∥∥₁_elim after le_prop (λ s. elim s [
-        | inl one ↦ absurd (other (sym stands.count ∙ one.count))
-        | inr failed ↦ absurd (false≢true (sym stands.running ∙ failed.failed))
-      ])
-      in absurd (omega arith)
-
-  -- the only event of a batch is checked twice
-  batch_is_checked_twice :
-      Stands bound c (e ∷ e ∷ []) → ¬ StandsAfter c (item.Event e ∷ [])
-  batch_is_checked_twice =
-      other_number_was_checked (e ∷ e ∷ [])
-      (λ same. let two_is_one : ◌≡◌ {A = ℕ} 2 1 = same in absurd (omega arith))
-
-  -- the last event of a batch is not handed on
-  last_event_is_not_handed_on : Stands bound c [] → ¬ StandsAfter c (item.Event e ∷ [])
-  last_event_is_not_handed_on =
-      other_number_was_checked []
-      (λ same. let none_is_one : ◌≡◌ {A = ℕ} 0 1 = same in absurd (omega arith))
 
 -- ---- texts
 

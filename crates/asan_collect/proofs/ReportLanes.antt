@@ -1,22 +1,21 @@
 -- Report lanes, as senders and benches go on.
-use Rattle.std.proofs.Common.{ℕ, ◌≡◌, ◌<◌, ◌≤◌, ◌++◌, ◌∷◌, [], List, length, length-append, take, drop, refl, ◌∙◌, sym, ap, subst, arith, slice_index_or, slice_set, Option, None, Some, inl, inr}
+use Rattle.std.proofs.Common.{ℕ, ◌≡◌, ◌<◌, ◌++◌, ◌∷◌, [], List, length, length-append, take, drop, refl, ◌∙◌, sym, ap, arith, slice_index_or, slice_set, Option, None, inl, inr}
 use Rattle.std.proofs.Math.Seq.{take-append_seam}
 use Rattle.std.proofs.lemmas.Bool.{cases_eq}
-use Rattle.std.proofs.lemmas.List.{length-set, get_or-set_same, get_or-set_other, get_or_append_left, get_or_at, get_or_default}
+use Rattle.std.proofs.lemmas.List.{length-set, get_or-set_same, get_or-set_other, get_or_append_left, get_or_at}
 use Rattle.trace_feed.specs.Feeds.{FeedState}
 use Rattle.trace_lane.specs.Lanes.{Lane}
 use Rattle.asan_print.specs.declared.port.Port.{Port}
-use Rattle.asan_print.specs.Ports.{SameLanes, lane_at, taken_at, port_lane}
-use Rattle.asan_check.specs.declared.report.Report.{Report}
-use Rattle.asan_collect.specs.declared.bench.Bench.{Bench}
+use Rattle.asan_print.specs.Ports.{SameLanes, lane_at, taken_at}
+use Rattle.asan_stream.specs.declared.bench.Bench.{Bench}
 use Rattle.asan_collect.specs.declared.sender.Sender.{Sender}
 use Rattle.asan_collect.specs.declared.sender.Sender.TheVariants as sender
-use Rattle.asan_collect.specs.Benches.{process_of, report_lane_of, EachLater}
-use Rattle.asan_collect.specs.Outboxes.{KeepsLane, IsFront}
+use Rattle.asan_stream.specs.Benches.{process_of, report_lane_of, EachLater}
+use Rattle.asan_stream.specs.Outboxes.{KeepsLane}
 use Rattle.asan_collect.specs.ReportLanes.{lanes_of, NoneTaken, HasLaneOf, AllHave, SharesHave, Fits, AllFit}
 use Rattle.asan_collect.specs.Senders.{Each, Becomes}
 use Rattle.asan_collect.specs.Shares.{Share, ComesBack, SharesAt, AreEmpty, Deals}
-use Rattle.asan_collect.proofs.Reporting.{keeps_trans}
+use Rattle.asan_stream.proofs.Reporting.{keeps_trans}
 
 -- a slice of a whole Vec is written back
 pub written_back : {X : Type 0} (n : ℕ) (xs ys : List X) → length ys ≡ length xs → n ≡ length xs → take n (ys ++ drop (length ys) xs) ≡ ys

@@ -6,26 +6,26 @@ use Rattle.trace_feed.specs.declared.door.Arrival.{Arrival}
 use Rattle.trace_feed.specs.declared.door.Arrival.TheVariants as arrival
 use Rattle.trace_feed.specs.Feeds.{FeedState}
 use Rattle.trace_lane.specs.Lanes.{end_list}
-use Rattle.asan_collect.specs.declared.options.Options.{Options}
+use Rattle.asan_stream.specs.declared.options.Options.{Options}
 use Rattle.trace_lane.specs.declared.lane_end.LaneEnd.{LaneEnd}
-use Rattle.asan_collect.specs.declared.item.Item.{Item}
+use Rattle.asan_stream.specs.declared.item.Item.{Item}
 use Rattle.trace_record.specs.declared.event.Event.{Event}
 use Rattle.trace_record.specs.declared.end.End.{End}
-use Rattle.asan_collect.specs.declared.outcome.Outcome.{Outcome}
-use Rattle.asan_collect.specs.declared.outcome.Outcome.TheVariants as outcome
+use Rattle.asan_stream.specs.declared.outcome.Outcome.{Outcome}
+use Rattle.asan_stream.specs.declared.outcome.Outcome.TheVariants as outcome
 use Rattle.asan_collect.specs.declared.sender.Sender.{Sender}
 use Rattle.asan_collect.specs.declared.sender.Sender.TheVariants as sender
-use Rattle.asan_collect.specs.declared.bench.Bench.{Bench}
-use Rattle.asan_collect.specs.declared.reader.ReaderDone.{ReaderDone}
-use Rattle.asan_collect.specs.Benches.{bench_bound, lane_of}
-use Rattle.asan_collect.specs.Items.{items_of}
-use Rattle.asan_collect.specs.Outcomes.{IsSpelled, Tells}
-use Rattle.asan_collect.specs.Ranges.{most_events, most_reports}
-use Rattle.asan_collect.specs.Readers.{IsPut}
+use Rattle.asan_stream.specs.declared.bench.Bench.{Bench}
+use Rattle.asan_stream.specs.declared.reader.ReaderDone.{ReaderDone}
+use Rattle.asan_stream.specs.Benches.{bench_bound, lane_of}
+use Rattle.asan_stream.specs.Items.{items_of}
+use Rattle.asan_stream.specs.Outcomes.{IsSpelled, Tells}
+use Rattle.asan_stream.specs.Ranges.{most_events, most_reports}
+use Rattle.asan_stream.specs.Readers.{IsPut}
 use Rattle.asan_collect.specs.Senders.{AllJoined, Came, IsJoined}
 use Rattle.asan_collect.specs.Arrivals.{Pairwise, IsAnswerTo, IsAnswerToFeed}
-use Rattle.asan_collect.specs.Texts.{reports_of}
-use Rattle.asan_collect.proofs.Told.{ended_within, few_reports}
+use Rattle.asan_stream.specs.Outcomes.{reports_of}
+use Rattle.asan_stream.proofs.Told.{ended_within, few_reports}
 
 module _ {F A : Type 0} (seen : F → FeedState) where
   -- what has the verdicts on the events of a feed is its outcome

@@ -5,16 +5,16 @@ use Rattle.std.proofs.lemmas.List.{length-set, get_or-set_same, get_or-set_other
 use Rattle.trace_feed.specs.declared.door.Arrival.{Arrival}
 use Rattle.trace_feed.specs.declared.door.Arrival.TheVariants as arrival
 use Rattle.trace_feed.specs.Feeds.{FeedState}
-use Rattle.asan_collect.specs.declared.options.Options.{Options}
-use Rattle.asan_collect.specs.declared.bench.Bench.{Bench}
-use Rattle.asan_collect.specs.declared.outcome.Outcome.{Outcome}
+use Rattle.asan_stream.specs.declared.options.Options.{Options}
+use Rattle.asan_stream.specs.declared.bench.Bench.{Bench}
+use Rattle.asan_stream.specs.declared.outcome.Outcome.{Outcome}
 use Rattle.asan_collect.specs.declared.sender.Sender.{Sender}
 use Rattle.asan_collect.specs.declared.sender.Sender.TheVariants as sender
-use Rattle.asan_collect.specs.Benches.{lane_of, process_of, bench_bound}
-use Rattle.asan_collect.specs.Benches.{EachLater}
+use Rattle.asan_stream.specs.Benches.{lane_of, process_of, bench_bound}
+use Rattle.asan_stream.specs.Benches.{EachLater}
 use Rattle.asan_collect.specs.Senders.{Each, Came, IsFresh, AllFresh, Becomes, HasLane, Keeps, IsAt, AreAt, Rejoins, Gets}
 use Rattle.asan_collect.specs.Arrivals.{Pairwise, IsAnswerTo}
-use Rattle.asan_collect.proofs.Readers.{if_some}
+use Rattle.asan_stream.proofs.Readers.{if_some}
 
 -- a place of a list is one of a Vec that has as many elements
 pub low_after : {X Z : Type 0} (xs : List X) (v : Vec X Z) (at : ℕ) → at < length xs → length v.items ≡ length xs → at < vec_len v

@@ -6,10 +6,10 @@ use Rattle.asan_print.specs.declared.port.Port.{Port}
 use Rattle.asan_print.specs.Logs.{Adds, Line, Printed, lines_of, report_lines}
 use Rattle.asan_print.specs.Ports.{Follows, SameLanes, taken_at}
 use Rattle.asan_collect.specs.declared.printers.Printers.{Printers}
-use Rattle.asan_collect.specs.declared.outcome.Outcome.{Outcome}
-use Rattle.asan_collect.specs.declared.outcome.Outcome.TheVariants as outcome
+use Rattle.asan_stream.specs.declared.outcome.Outcome.{Outcome}
+use Rattle.asan_stream.specs.declared.outcome.Outcome.TheVariants as outcome
 use Rattle.asan_collect.specs.Live.{ArePrintedOf}
-use Rattle.asan_collect.specs.Texts.{reports_of}
+use Rattle.asan_stream.specs.Outcomes.{reports_of}
 
 module _ {A : Type 0} where
   -- reports were taken from the same ports as before, and printed

@@ -6,9 +6,9 @@ use Rattle.asan_check.specs.declared.report.Report.{Report}
 use Rattle.asan_check.specs.Lines.{end_line}
 use Rattle.asan_print.specs.declared.fault.WriteFault.{WriteFault}
 use Rattle.asan_print.specs.Logs.{Line, joined, lines_of, report_lines}
-use Rattle.asan_collect.specs.declared.outcome.Outcome.{Outcome}
-use Rattle.asan_collect.specs.declared.outcome.Outcome.TheVariants as outcome
-use Rattle.asan_collect.specs.Texts.{ending_of, reports_of}
+use Rattle.asan_stream.specs.declared.outcome.Outcome.{Outcome}
+use Rattle.asan_stream.specs.declared.outcome.Outcome.TheVariants as outcome
+use Rattle.asan_stream.specs.Outcomes.{ending_of, reports_of}
 
 module _ {F A : Type 0} where
   -- the lines of the text of an outcome: those of its reports, and then that of its end

@@ -4,12 +4,12 @@ use Rattle.std.specs.Prelude.{vec_len, vec_capacity}
 use Rattle.trace_lane.specs.Lanes.{Lane}
 use Rattle.asan_print.specs.declared.port.Port.{Port}
 use Rattle.asan_print.specs.Ports.{lane_at, taken_at}
-use Rattle.asan_collect.specs.declared.bench.Bench.{Bench}
+use Rattle.asan_stream.specs.declared.bench.Bench.{Bench}
 use Rattle.asan_collect.specs.declared.lanes.Rooms.{Rooms}
 use Rattle.asan_collect.specs.declared.sender.Sender.{Sender}
 use Rattle.asan_collect.specs.declared.sender.Sender.TheVariants as sender
-use Rattle.asan_collect.specs.Benches.{process_of, report_lane_of}
-use Rattle.asan_collect.specs.Outboxes.{KeepsLane}
+use Rattle.asan_stream.specs.Benches.{process_of, report_lane_of}
+use Rattle.asan_stream.specs.Outboxes.{KeepsLane}
 use Rattle.asan_collect.specs.Ranges.{most_senders}
 use Rattle.asan_collect.specs.Shares.{AreEmpty, Share}
 

@@ -4,17 +4,17 @@ use Rattle.trace_feed.specs.declared.door.Arrival.{Arrival}
 use Rattle.trace_feed.specs.declared.door.Arrival.TheVariants as arrival
 use Rattle.trace_feed.specs.Feeds.{FeedState}
 use Rattle.trace_lane.specs.Lanes.{Lane, in_lane, end_lane, put_list, end_list}
-use Rattle.asan_collect.specs.declared.options.Options.{Options}
-use Rattle.asan_collect.specs.declared.outcome.Outcome.{Outcome}
-use Rattle.asan_collect.specs.declared.bench.Bench.{Bench}
+use Rattle.asan_stream.specs.declared.options.Options.{Options}
+use Rattle.asan_stream.specs.declared.outcome.Outcome.{Outcome}
+use Rattle.asan_stream.specs.declared.bench.Bench.{Bench}
 use Rattle.asan_collect.specs.declared.sender.Sender.{Sender}
 use Rattle.asan_collect.specs.declared.sender.Sender.TheVariants as sender
 use Rattle.asan_collect.specs.declared.reader_threads.ReaderThread.{ReaderThread}
 use Rattle.asan_collect.specs.declared.reader_threads.ReaderThread.TheVariants as running
-use Rattle.asan_collect.specs.declared.reader.ReaderDone.{ReaderDone}
-use Rattle.asan_collect.specs.Benches.{lane_of, process_of, bench_bound}
+use Rattle.asan_stream.specs.declared.reader.ReaderDone.{ReaderDone}
+use Rattle.asan_stream.specs.Benches.{lane_of, process_of, bench_bound}
 use Rattle.asan_collect.specs.Arrivals.{IsAnswerTo}
-use Rattle.asan_collect.specs.Readers.{IsPut, IsReaderOf}
+use Rattle.asan_stream.specs.Readers.{IsPut, IsReaderOf}
 
 -- from a place on each element has become that of the other list, and below it nothing changed
 pub record Each {X : Type 0} (Becomes : X → X → Type 0) (from : ℕ) (xs ys : List X) : Type 0 where

@@ -1,13 +1,13 @@
 -- The benches of each checker.
 use Rattle.std.specs.Prelude.{◌≡◌, ℕ, ◌<◌, ◌≤◌, ◌+◌, ◌*◌, ◌⊎◌, ◌++◌, ◌∷◌, List, [], Vec, length}
 use Rattle.std.specs.Prelude.{slice_index_or, slice_set, vec_capacity}
-use Rattle.asan_collect.specs.declared.bench.Bench.{Bench}
+use Rattle.asan_stream.specs.declared.bench.Bench.{Bench}
 use Rattle.asan_collect.specs.declared.checker_threads.CheckerThread.{CheckerThread}
 use Rattle.asan_collect.specs.declared.checker_threads.CheckerThread.TheVariants as running
 use Rattle.asan_collect.specs.declared.sender.Sender.{Sender}
 use Rattle.asan_collect.specs.declared.sender.Sender.TheVariants as sender
 use Rattle.asan_collect.specs.Ranges.{most_senders}
-use Rattle.asan_collect.specs.Benches.{EachLater}
+use Rattle.asan_stream.specs.Benches.{EachLater}
 use Rattle.asan_collect.specs.Senders.{AreAt}
 
 -- the benches of one checker

@@ -1,18 +1,15 @@
 //! Checkers on threads of their own: each is started, the rest is done, and then it is joined.
 
 ghost use Rattle.std.specs.Prelude.{◌≡◌, ◌<◌, ◌≤◌, vec_len};
-ghost use Rattle.asan_collect.specs.Benches.{EachLater};
+ghost use Rattle.asan_stream.specs.Benches.{EachLater};
 ghost use Rattle.asan_collect.specs.Senders.{AllFresh, Becomes, Each};
 ghost use Rattle.asan_collect.specs.Shares.{Share, ComesBack, WillComeBack, GivesUp};
 
 use crate::at_work::AtWork;
-use crate::bench::Bench;
-use crate::checker::run_checker;
 use crate::foreground::Foreground;
-use crate::gate::Gate;
-use crate::options::Options;
 use crate::reader_threads::read_from;
 use crate::sender::Sender;
+use asan_stream::{Bench, Gate, Options, run_checker};
 use std::alloc::Allocator;
 use std::mem;
 use std::snapshot::Snapshot;

@@ -13,11 +13,11 @@ ghost use Rattle.asan_collect.specs.ReportLanes.{AllFit, Fits, lanes_of};
 ghost use Rattle.asan_collect.specs.Senders.{AllJoined, Gets, IsJoined};
 
 use crate::live::Live;
-use crate::outcome::Outcome;
 use crate::printers::Printers;
 use crate::returns::{Answer, settle_sender};
 use crate::sender::Sender;
 use asan_print::{LivePrinter, Port};
+use asan_stream::Outcome;
 use std::alloc::Allocator;
 use std::io::Write;
 use std::mem;

@@ -3,17 +3,16 @@
 ghost use Rattle.std.specs.Prelude.{◌≡◌, ◌+◌, ◌≤◌, ◌^◌, All, IfOk, OnErr, length};
 ghost use Rattle.asan_collect.specs.Arrivals.{AreAnswers, IsAllThatCame};
 ghost use Rattle.asan_collect.specs.Counts.{not_opened_among};
-ghost use Rattle.asan_collect.specs.Ranges.{most_senders, most_reports};
-ghost use Rattle.asan_collect.specs.Texts.{reports_of};
+ghost use Rattle.asan_stream.specs.Ranges.{most_reports};
+ghost use Rattle.asan_collect.specs.Ranges.{most_senders};
+ghost use Rattle.asan_stream.specs.Outcomes.{reports_of};
 
 use crate::NoMemory;
 use crate::arrivals::{MOST_SENDERS, ask};
-use crate::gate::Gate;
 use crate::lanes::{Opened, Rooms, open_all};
-use crate::options::Options;
-use crate::outcome::Outcome;
 use crate::returns::{place_all, settle_all};
 use crate::threads::{Returned, run_all};
+use asan_stream::{Gate, Options, Outcome};
 use std::alloc::Allocator;
 use std::sync::Wait;
 use std::thread::Threads;

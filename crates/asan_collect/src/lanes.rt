@@ -4,9 +4,10 @@ ghost use Rattle.std.specs.Prelude.{◌≡◌, ◌<◌, ◌≤◌, ◌%◌, [], 
 ghost use Rattle.std.specs.Prelude.{vec_len};
 ghost use Rattle.asan_print.specs.Ports.{lane_at, taken_at};
 ghost use Rattle.asan_collect.specs.Arrivals.{IsArrived, Pairwise};
-ghost use Rattle.asan_collect.specs.Benches.{lane_of, process_of, bench_bound, report_lane_of};
-ghost use Rattle.asan_collect.specs.Outboxes.{KeepsLane};
-ghost use Rattle.asan_collect.specs.Ranges.{most_senders, most_workers};
+ghost use Rattle.asan_stream.specs.Benches.{lane_of, process_of, bench_bound, report_lane_of};
+ghost use Rattle.asan_stream.specs.Outboxes.{KeepsLane};
+ghost use Rattle.asan_stream.specs.Ranges.{most_workers};
+ghost use Rattle.asan_collect.specs.Ranges.{most_senders};
 ghost use Rattle.asan_collect.specs.ReportLanes.{AllFit, AreRooms, Fits, NoneTaken, SharesHave};
 ghost use Rattle.asan_collect.specs.ReportLanes.{lanes_of};
 ghost use Rattle.asan_collect.specs.Senders.{AllFresh, Came, HasLane, IsFresh};
@@ -14,11 +15,10 @@ ghost use Rattle.asan_collect.specs.Shares.{AreEmpty, Deals, HasRoom, SharesAt};
 
 use crate::NoMemory;
 use crate::arrivals::MOST_SENDERS;
-use crate::bench::Bench;
-use crate::options::Options;
 use crate::sender::Sender;
 use asan_check::Checker;
 use asan_print::Port;
+use asan_stream::{Bench, Options};
 use std::alloc::Allocator;
 use std::mem;
 use trace_feed::{Arrival, Feed};

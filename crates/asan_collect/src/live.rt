@@ -4,20 +4,19 @@ ghost use Rattle.std.specs.Prelude.{◌≡◌, ◌+◌, ◌≤◌, ◌^◌, All,
 ghost use Rattle.asan_collect.specs.Arrivals.{AreAnswers, IsAllThatCame};
 ghost use Rattle.asan_collect.specs.Counts.{not_opened_among};
 ghost use Rattle.asan_collect.specs.Live.{ArePrinted};
-ghost use Rattle.asan_collect.specs.Ranges.{most_senders, most_reports};
-ghost use Rattle.asan_collect.specs.Texts.{reports_of};
+ghost use Rattle.asan_stream.specs.Ranges.{most_reports};
+ghost use Rattle.asan_collect.specs.Ranges.{most_senders};
+ghost use Rattle.asan_stream.specs.Outcomes.{reports_of};
 
 use crate::NoMemory;
 use crate::arrivals::{MOST_SENDERS, ask};
 use crate::closing::close_all;
-use crate::gate::Gate;
 use crate::lanes::{Opened, Rooms, open_all};
-use crate::options::Options;
-use crate::outcome::Outcome;
 use crate::printers::Printers;
 use crate::returns::place_all;
 use crate::threads::{Returned, run_printing};
 use asan_print::{LivePrinter, WriteFault};
+use asan_stream::{Gate, Options, Outcome};
 use std::alloc::{Allocator, Global};
 use std::io::Write;
 use std::sync::Wait;

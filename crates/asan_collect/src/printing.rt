@@ -5,8 +5,8 @@ ghost use Rattle.asan_collect.specs.Closings.{HasPrinted};
 
 use crate::at_work::AtWork;
 use crate::foreground::Foreground;
-use crate::pause::Pause;
 use crate::printers::Printers;
+use asan_stream::Pause;
 use std::alloc::Allocator;
 use std::io::Write;
 use std::sync::Wait;

@@ -2,15 +2,13 @@
 
 ghost use Rattle.std.specs.Prelude.{◌≡◌, ◌<◌, ◌≤◌, ℕ, vec_len};
 ghost use Rattle.asan_collect.specs.declared.sender.Sender.{Sender as ASender};
-ghost use Rattle.asan_collect.specs.Ranges.{most_events};
-ghost use Rattle.asan_collect.specs.Readers.{IsReaderOf};
+ghost use Rattle.asan_stream.specs.Ranges.{most_events};
+ghost use Rattle.asan_stream.specs.Readers.{IsReaderOf};
 ghost use Rattle.asan_collect.specs.Senders.{AllFresh, Becomes, Each, IsFresh, WillBe};
 
 use crate::foreground::Foreground;
-use crate::item::Item;
-use crate::options::Options;
-use crate::reader::{ReaderDone, run_reader};
 use crate::sender::Sender;
+use asan_stream::{Item, Options, ReaderDone, run_reader};
 use std::alloc::Allocator;
 use std::mem;
 use std::snapshot::Snapshot;

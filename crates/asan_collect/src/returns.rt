@@ -4,20 +4,17 @@ ghost use Rattle.std.specs.Prelude.{◌≡◌, ◌≤◌, [], ℕ, IfSome, Optio
 ghost use Rattle.trace_lane.specs.Lanes.{Lane};
 ghost use Rattle.asan_print.specs.Ports.{port_lane, taken_at};
 ghost use Rattle.asan_collect.specs.Arrivals.{Pairwise};
-ghost use Rattle.asan_collect.specs.Benches.{lane_of, bench_bound, report_lane_of};
+ghost use Rattle.asan_stream.specs.Benches.{lane_of, bench_bound, report_lane_of};
 ghost use Rattle.asan_collect.specs.Closings.{WerePrinted};
-ghost use Rattle.asan_collect.specs.Outboxes.{KeepsLane};
+ghost use Rattle.asan_stream.specs.Outboxes.{KeepsLane};
 ghost use Rattle.asan_collect.specs.ReportLanes.{AllFit, AllHave, Fits, SharesHave};
 ghost use Rattle.asan_collect.specs.Senders.{AllJoined, AreAt, Each, Gets, HasLane, IsJoined};
 ghost use Rattle.asan_collect.specs.Senders.{Rejoins};
 ghost use Rattle.asan_collect.specs.Shares.{SharesAt};
 
-use crate::bench::Bench;
-use crate::outcome::Outcome;
-use crate::reader::ReaderDone;
 use crate::sender::Sender;
-use crate::settlement::settle;
 use asan_print::Port;
+use asan_stream::{Bench, Outcome, ReaderDone, settle};
 use std::alloc::Allocator;
 use std::mem;
 use trace_feed::Feed;

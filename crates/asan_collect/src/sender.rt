@@ -1,8 +1,6 @@
 //! A sender, from its arrival until it is settled.
 
-use crate::bench::Bench;
-use crate::item::Item;
-use crate::reader::ReaderDone;
+use asan_stream::{Bench, Item, ReaderDone};
 use std::alloc::Allocator;
 use trace_lane::LaneIn;
 

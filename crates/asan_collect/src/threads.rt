@@ -6,14 +6,12 @@ ghost use Rattle.asan_collect.specs.Senders.{AllFresh, Becomes, Each};
 ghost use Rattle.asan_collect.specs.Shares.{ComesBack};
 
 use crate::at_work::AtWork;
-use crate::bench::Bench;
-use crate::checker::FirstChecker;
 use crate::checker_threads::check_from;
-use crate::gate::Gate;
-use crate::options::Options;
+use crate::first_checker::FirstChecker;
 use crate::printers::Printers;
 use crate::printing::Printing;
 use crate::sender::Sender;
+use asan_stream::{Bench, Gate, Options};
 use std::alloc::Allocator;
 use std::io::Write;
 use std::sync::Wait;
@@ -54,11 +52,19 @@ fn run_in<
     ensures shares { Each ComesBack 0 shares.old.items shares.new.items }
 {
     let benches = mem::replace(&mut shares[0], Vec::new(alloc));
-    let mut first = FirstChecker { benches, gate };
+    let mut first = FirstChecker {
+        benches,
+        gate,
+        alloc,
+    };
     check_from(
         scope, rt, alloc, gate, at_work, senders, shares, 1, &mut first, options,
     );
-    let FirstChecker { benches, gate: _ } = first;
+    let FirstChecker {
+        benches,
+        gate: _,
+        alloc: _,
+    } = first;
     shares[0] = benches;
 }
 

@@ -5,7 +5,7 @@ use Rattle.std.proofs.lemmas.Bool.{false≢true}
 use Rattle.std.specs.Io.KnownBytes.{Appends, Keeps}
 use Rattle.std.proofs.KnownBytes.{Appends-kept}
 use Rattle.std.proofs.lemmas.List.{take_all}
-use Rattle.asan_collect.specs.declared.outcome.Outcome.{Outcome}
+use Rattle.asan_stream.specs.declared.outcome.Outcome.{Outcome}
 use Rattle.asan_collect.specs.Statuses.{status_of, unwritten}
 use Rattle.asan_print.specs.declared.fault.WriteFault.{WriteFault}
 use Rattle.asan_print.specs.Logs.{joined}

@@ -3,13 +3,13 @@ use Rattle.std.proofs.Common.{◌≡◌, ℕ, List, Option, None, Some, refl, ap
 use Rattle.std.specs.Prelude.{Result, Ok, Err, IfErr, IfOk, MatchResult, codes, is_ok, unwrap_or}
 use Rattle.std.specs.Str.Parse.{ParsesUnsigned}
 use Rattle.clap.specs.Matches.{ReadsOne, one_text}
-use Rattle.asan_collect.specs.BadOptions.{bad_option_of, is_memory_bound}
-use Rattle.asan_collect.specs.declared.options.BadOption.{BadOption}
-use Rattle.asan_collect.specs.declared.options.BadOption.TheVariants as option
-use Rattle.asan_collect.specs.declared.options.Options.{Options}
+use Rattle.asan_stream.specs.BadOptions.{bad_option_of, is_memory_bound}
+use Rattle.asan_stream.specs.declared.options.BadOption.{BadOption}
+use Rattle.asan_stream.specs.declared.options.BadOption.TheVariants as option
+use Rattle.asan_stream.specs.declared.options.Options.{Options}
 use Rattle.clap.specs.declared.parser.matches.Found.{Found}
 use Rattle.asancol.specs.Settings.{AreOptionsOf, AreSizesOf, IsBadOption, IsBadSize, IsGiven, IsSet, IsSetIfGiven, IsReadAs}
-use Rattle.asan_collect.specs.Ranges.{usual_quarantine, usual_limit, usual_ring, usual_workers}
+use Rattle.asan_stream.specs.Ranges.{usual_quarantine, usual_limit, usual_ring, usual_workers}
 
 module _ {E : Type 0} (gives : List ℕ → Result ℕ E → Type 0) (bits : ℕ)
     (parses : (text : List ℕ) (r : Result ℕ E) → gives text r → ParsesUnsigned bits 10 text r) where

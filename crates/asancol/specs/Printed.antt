@@ -8,12 +8,12 @@ use Rattle.refusing_allocator.specs.declared.RefusingAllocator.{RefusingAllocato
 use Rattle.asan_print.specs.Logs.{Line, joined}
 use Rattle.trace_feed.specs.Doors.{DoorState}
 use Rattle.trace_feed.specs.Feeds.{FeedState}
-use Rattle.asan_collect.specs.declared.options.Options.{Options}
-use Rattle.asan_collect.specs.declared.outcome.Outcome.{Outcome}
+use Rattle.asan_stream.specs.declared.options.Options.{Options}
+use Rattle.asan_stream.specs.declared.outcome.Outcome.{Outcome}
 use Rattle.asan_collect.specs.Arrivals.{AreAnswers, IsAllThatCame}
 use Rattle.asan_collect.specs.Counts.{not_opened_among}
 use Rattle.asan_collect.specs.Live.{AreLinesOf}
-use Rattle.asan_collect.specs.Outcomes.{IsOutcomeOf}
+use Rattle.asan_stream.specs.Outcomes.{IsOutcomeOf}
 use Rattle.asan_collect.specs.Statuses.{status_of, unwritten}
 use Rattle.asan_collect.specs.Texts.{texts_from}
 use Rattle.asancol.specs.Settings.{AreUsual}

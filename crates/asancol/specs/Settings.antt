@@ -3,11 +3,11 @@ use Rattle.std.specs.Prelude.{◌≡◌, ℕ, ◌<◌, ◌^◌, ◌⊎◌, Bool,
 use Rattle.std.specs.Prelude.{Some, codes, map, string_bytes}
 use Rattle.std.specs.Option.{option_map_or}
 use Rattle.std.specs.Str.Parse.{IsNumeral, digits_value, without_leading_plus}
-use Rattle.asan_collect.specs.Ranges.{usual_quarantine, usual_ring, usual_workers, usual_limit}
-use Rattle.asan_collect.specs.BadOptions.{bad_option_of, is_memory_bound}
-use Rattle.asan_collect.specs.declared.options.BadOption.{BadOption}
-use Rattle.asan_collect.specs.declared.options.BadOption.TheVariants as option
-use Rattle.asan_collect.specs.declared.options.Options.{Options}
+use Rattle.asan_stream.specs.Ranges.{usual_quarantine, usual_ring, usual_workers, usual_limit}
+use Rattle.asan_stream.specs.BadOptions.{bad_option_of, is_memory_bound}
+use Rattle.asan_stream.specs.declared.options.BadOption.{BadOption}
+use Rattle.asan_stream.specs.declared.options.BadOption.TheVariants as option
+use Rattle.asan_stream.specs.declared.options.Options.{Options}
 use Rattle.asancol.specs.declared.command_line.Request.{Request}
 use Rattle.asancol.specs.declared.command_line.Request.TheVariants as request
 use Rattle.clap.specs.Words.{matched_of, one_text, raw_values}

@@ -4,9 +4,10 @@ ghost use Rattle.std.specs.Prelude.{◌≡◌, ◌<◌, ◌≤◌, ◌⊎◌, �
 ghost use Rattle.std.specs.Prelude.{IfErr, List, OnOk, Option, false, take, true, ℕ};
 ghost use Rattle.std.specs.Io.KnownBytes.{Appends};
 ghost use Rattle.refusing_allocator.specs.Rules.{bound_of};
-ghost use Rattle.asan_collect.specs.Ranges.{most_senders, most_reports};
+ghost use Rattle.asan_stream.specs.Ranges.{most_reports};
+ghost use Rattle.asan_collect.specs.Ranges.{most_senders};
 ghost use Rattle.asan_collect.specs.Statuses.{unchecked, unwritten};
-ghost use Rattle.asan_collect.specs.Texts.{reports_of};
+ghost use Rattle.asan_stream.specs.Outcomes.{reports_of};
 ghost use Rattle.asancol.specs.Printed.{AreOutcomesPrinted, AreSendersPrinted, HasGoneOut};
 ghost use Rattle.asancol.specs.Printed.{IsPrinted, IsFeedPrinted};
 ghost use Rattle.asancol.specs.Printed.{BoundedMemory, CheckersMemory};

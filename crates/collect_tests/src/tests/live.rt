@@ -4,7 +4,7 @@ ghost use Rattle.std.specs.Prelude.{◌≡◌};
 ghost use Rattle.trace_feed.specs.Doors.{IfCame};
 
 use super::{STREAM, feed_of, three_arrivals};
-use asan_collect::{Live, OpenGate, Options, Why, WriteFault, collect_live, write_outcomes};
+use asan_collect::{Gate, Live, OpenGate, Options, Why, WriteFault, collect_live, write_outcomes};
 use std::alloc::Global;
 use std::io::Write;
 use std::process::Abort;
@@ -207,6 +207,24 @@ fn frees(alloc: Global, count: u32) -> Result<Vec<u8>, Fail> {
     Ok(bytes)
 }
 
+/// A gate that counts the events that it hears of for each of three processes, as long as they come
+/// in order.
+#[derive(Drop)]
+struct Counters {
+    heard: [AtomicU64; 3],
+}
+
+impl Gate for Counters {
+    fn checked(&self, process: u32, event: u64) {
+        let Some(heard) = self.heard.get(process as usize) else {
+            return;
+        };
+        if event == heard.load(Ordering::SeqCst).wrapping_add(1) {
+            heard.store(event, Ordering::SeqCst);
+        }
+    }
+}
+
 #[test]
 fn many_reports_through_small_lanes(rt: HostRuntime) -> Result<(), Fail> {
     let alloc = rt.alloc();
@@ -218,8 +236,15 @@ fn many_reports_through_small_lanes(rt: HostRuntime) -> Result<(), Fail> {
     let mut door = ListDoor::new(arrivals);
     let options = Options::new(1 << 28, 1, 2, 1 << 24)?;
     let mut text = Vec::new(alloc);
-    let live = collect_live(&rt, alloc, &mut door, &OpenGate, options, &mut text)?;
+    let gate = Counters {
+        heard: [AtomicU64::new(0), AtomicU64::new(0), AtomicU64::new(0)],
+    };
+    let live = collect_live(&rt, alloc, &mut door, &gate, options, &mut text)?;
     assert_eq!(rt; live.wrote, Ok(()));
+    // The last reports waited for room after the end was taken, and the gate's calls with them.
+    for heard in &gate.heard {
+        assert_eq!(rt; heard.load(Ordering::SeqCst), 1000);
+    }
     let mut wanted = Vec::new(alloc);
     write_outcomes(alloc, &mut wanted, &live.outcomes)?;
     let (text, wanted) = (String::from_utf8(text)?, String::from_utf8(wanted)?);

@@ -1,8 +1,8 @@
-use Rattle.std.proofs.Common.{◌≡◌, ◌++◌, ◌∷◌, [], drop, length}
+use Rattle.std.proofs.Common.{◌++◌, ◌∷◌, [], drop}
 use Rattle.asan_check.specs.Lines.{end_line}
 use Rattle.asan_print.specs.Logs.{report_lines}
 use Rattle.asan_print.specs.Ports.{taken_at}
-use Rattle.asan_collect.specs.Texts.{reports_of, ending_of}
+use Rattle.asan_stream.specs.Outcomes.{reports_of, ending_of}
 use Rattle.asan_collect.proofs.LastLines.{printed_whole, rest_whole}
 use Rattle.asan_collect.proofs.closing.close.Goals as goal
 

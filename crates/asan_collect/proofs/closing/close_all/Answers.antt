@@ -1,4 +1,4 @@
-use Rattle.std.proofs.Common.{◌≡◌, ◌<◌, ◌∙◌, ◌++◌, ◌∷◌, [], None, sym, subst, refl, ap, length, arith, rules, slice_index_or, vec_len, inl, inr}
+use Rattle.std.proofs.Common.{◌≡◌, ◌<◌, ◌∙◌, ◌++◌, ◌∷◌, [], None, sym, subst, refl, ap, length, arith, rules, slice_index_or, inl, inr}
 use Rattle.std.proofs.lemmas.Bool.{cases_eq}
 use Rattle.std.proofs.lemmas.List.{get_or_default, get_or-set_other}
 use Rattle.asan_print.specs.Logs.{lines_of, report_lines}

@@ -2,7 +2,7 @@ use Rattle.std.proofs.Common.{◌≡◌, ◌<◌, ◌∙◌, ◌++◌, ◌∷◌
 use Rattle.std.proofs.lemmas.Bool.{cases_eq}
 use Rattle.std.proofs.lemmas.List.{get_or_default, get_or-set_other, get_or_append_left, get_or_at}
 use Rattle.asan_collect.specs.Arrivals.{IsArrived}
-use Rattle.asan_collect.specs.Benches.{process_of}
+use Rattle.asan_stream.specs.Benches.{process_of}
 use Rattle.asan_collect.specs.ReportLanes.{SharesHave, lanes_of}
 use Rattle.asan_collect.specs.Shares.{SharesAt}
 use Rattle.std.proofs.Math.Nat.{mod-lt}

@@ -1,4 +1,3 @@
-use Rattle.std.proofs.Common.{◌≡◌, ◌++◌, length, take, drop}
 use Rattle.asan_print.specs.Ports.{SameLanes}
 use Rattle.asan_collect.proofs.ReportLanes.{same_lanes, same_lanes_on, written_back}
 use Rattle.asan_collect.proofs.printing.print_to_the_end.Goals as goal

@@ -1,8 +1,8 @@
 use Rattle.std.proofs.Common.{◌≡◌, ◌<◌, ◌∙◌, sym, subst, length, arith, slice_index_or}
 use Rattle.std.proofs.lemmas.List.{get_or_default}
-use Rattle.asan_collect.specs.Benches.{lane_of}
-use Rattle.asan_collect.specs.Benches.{report_lane_of}
-use Rattle.asan_collect.specs.Outboxes.{KeepsLane}
+use Rattle.asan_stream.specs.Benches.{lane_of}
+use Rattle.asan_stream.specs.Benches.{report_lane_of}
+use Rattle.asan_stream.specs.Outboxes.{KeepsLane}
 use Rattle.asan_collect.specs.ReportLanes.{Fits}
 use Rattle.asan_collect.specs.Senders.{Rejoins, HasLane, IsAt}
 use Rattle.asan_collect.proofs.ReportLanes.{fit_set, have_front, have_last}

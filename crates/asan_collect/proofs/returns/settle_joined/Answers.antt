@@ -2,10 +2,10 @@ use Rattle.std.proofs.Common.{◌≡◌, ap}
 use Rattle.trace_lane.specs.Lanes.{end_list}
 use Rattle.asan_check.specs.Standing.{bound_of, reports_of}
 use Rattle.asan_print.specs.Ports.{taken_from}
-use Rattle.asan_collect.specs.Benches.{found_of}
-use Rattle.asan_collect.specs.Outboxes.{IsFront}
+use Rattle.asan_stream.specs.Benches.{found_of}
+use Rattle.asan_stream.specs.Outboxes.{IsFront}
 use Rattle.asan_collect.proofs.LastLines.{none_printed, were_printed}
-use Rattle.asan_collect.proofs.Rights.{finished_came, settled_came, unsettled_came}
+use Rattle.asan_collect.proofs.Rights.{finished_came, settled_came}
 use Rattle.asan_collect.proofs.returns.settle_joined.Goals.{in-None-default+in-Some-1, in-None-default+in-None-1, in-Some-Some}
 use Rattle.asan_collect.proofs.returns.settle_joined.Goals as goal
 

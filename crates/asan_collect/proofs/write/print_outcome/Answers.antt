@@ -6,7 +6,7 @@ use Rattle.asan_check.specs.declared.report.Report.{Report}
 use Rattle.asan_check.specs.declared.report.Class.TheVariants as class
 use Rattle.asan_check.specs.declared.report.Fault.TheVariants as fault
 use Rattle.asan_check.specs.Lines.{report_line, end_line}
-use Rattle.asan_collect.specs.Texts.{ending_of}
+use Rattle.asan_stream.specs.Outcomes.{ending_of}
 use Rattle.asan_print.proofs.Prints.{prints_then, breaks_then, breaks_more, flat_more, flat_rest, on_ok, if_err}
 use Rattle.asan_collect.proofs.write.print_outcome.Goals as goal
 

@@ -1,7 +1,7 @@
 use Rattle.std.proofs.Common.{◌≡◌, ◌+◌, ◌*◌, ◌≤◌, take}
 use Rattle.std.specs.List.{flat_map}
 use Rattle.asan_check.specs.Lines.{longest_line, report_line}
-use Rattle.asan_collect.specs.Texts.{reports_of}
+use Rattle.asan_stream.specs.Outcomes.{reports_of}
 use Rattle.asan_print.specs.Printing.{Prints, printed_of}
 use Rattle.asan_collect.proofs.write.print_outcome.Given as goal
 

@@ -2,7 +2,7 @@ use Rattle.std.specs.Prelude.{codes}
 use Rattle.std.specs.Str.Parse.{ExplainsUnsignedError, HasUnsignedDigitsIfOk, ParsesUnsigned}
 use Rattle.clap.specs.Words.{found_of, one_text}
 use Rattle.asancol.specs.Settings.{IsSet}
-use Rattle.asan_collect.specs.Ranges.{usual_quarantine, usual_limit, usual_ring, usual_workers}
+use Rattle.asan_stream.specs.Ranges.{usual_quarantine, usual_limit, usual_ring, usual_workers}
 use Rattle.asancol.proofs.Reading.{made_of, refused_of, set_of}
 use Rattle.asancol.proofs.command_line.sizes_of.Goals as goal
 

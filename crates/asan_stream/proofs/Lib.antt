@@ -1,0 +1,13 @@
+mod Stepping
+mod Sending
+mod Fates
+mod Reading
+pub mod Readers
+pub mod Told
+mod Checking
+mod Draining
+pub mod Reporting
+mod Later
+mod Lengths
+mod Agreeing
+pub mod Refuted

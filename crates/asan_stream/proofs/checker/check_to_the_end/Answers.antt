@@ -1,0 +1,14 @@
+use Rattle.asan_stream.proofs.Later.{each_refl, each_trans}
+use Rattle.asan_stream.proofs.checker.check_to_the_end.Goals as goal
+
+pub loop-init : goal.loop-init
+loop-init g c = each_refl c.args.benches.now.items
+
+pub returns-then-round : goal.returns-then-round
+returns-then-round g c = each_trans c.args.benches.now.items c.loop.benches.items c.go_round-round.new.benches.items c.loop.invariant c.go_round-round.ensures
+
+pub loop-preserved : goal.loop-preserved
+loop-preserved g c = each_trans c.args.benches.now.items c.loop.benches.items c.go_round-round.new.benches.items c.loop.invariant c.go_round-round.ensures
+
+pub loop-preserved-then-round-2 : goal.loop-preserved-then-round-2
+loop-preserved-then-round-2 g c = each_trans c.args.benches.now.items c.loop.benches.items c.go_round-round.new.benches.items c.loop.invariant c.go_round-round.ensures

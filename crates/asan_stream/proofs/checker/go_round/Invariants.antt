@@ -1,0 +1,5 @@
+use Rattle.asan_stream.specs.Benches.{EachLater}
+use Rattle.asan_stream.proofs.checker.go_round.Given as goal
+
+abbrev pub invariant-loop-i : goal.invariant-loop-i
+invariant-loop-i g l = EachLater l.initial.benches.items l.benches.items

@@ -1,0 +1,12 @@
+pub mod Ranges
+pub mod BadOptions
+pub mod Outcomes
+pub mod Agreement
+pub mod Items
+pub mod Pieces
+pub mod Decoding
+pub mod Sources
+pub mod Readers
+pub mod Outboxes
+pub mod Checking
+pub mod Benches

@@ -1,0 +1,84 @@
+//! A checker: it goes round its benches, a turn each, until all are done.
+
+ghost use Rattle.asan_stream.specs.Benches.{EachLater};
+
+use crate::bench::{Bench, Found};
+use crate::gate::Gate;
+use crate::pause::Pause;
+use crate::room::Room;
+use std::alloc::Allocator;
+use std::sync::Wait;
+use std::time::Clock;
+
+/// What a round of turns found.
+#[derive(Drop)]
+struct Round {
+    /// Whether items were taken.
+    took: bool,
+    /// Whether each bench is over, or its lane was left and is empty.
+    ended: bool,
+}
+
+/// Goes round the benches, a turn each, until each is over, or its lane was left and is empty.
+/// Where it finds nothing to take it waits. The benches come back in order.
+pub fn run_checker<A: Allocator + Copy, G: Gate, R: Wait + Clock>(
+    rt: &R,
+    benches: Vec<Bench<A>, A>,
+    gate: &G,
+) -> Vec<Bench<A>, A>
+    ensures { EachLater benches.items result.items }
+{
+    let mut benches = benches;
+    check_to_the_end(rt, &mut benches, gate);
+    benches
+}
+
+/// Does what [`run_checker`] does, in place.
+fn check_to_the_end<A: Allocator + Copy, G: Gate, R: Wait + Clock>(
+    rt: &R,
+    benches: &mut Vec<Bench<A>, A>,
+    gate: &G,
+)
+    ensures { EachLater benches.old.items benches.new.items }
+{
+    let mut pause = Pause::new();
+    let mut room = Room::new();
+    for _ in rt.forever() {
+        let round = go_round(benches, gate, &mut room);
+        if round.ended {
+            return;
+        }
+        if round.took {
+            pause.reset();
+        } else {
+            pause.wait(rt);
+        }
+    }
+    unreachable!()
+}
+
+/// Gives each bench a turn.
+fn go_round<A: Allocator + Copy, G: Gate>(
+    benches: &mut Vec<Bench<A>, A>,
+    gate: &G,
+    room: &mut Room,
+) -> Round
+    ensures { EachLater benches.old.items benches.new.items }
+{
+    let mut round = Round {
+        took: false,
+        ended: true,
+    };
+    for i in 0..benches.len() {
+        let bench = &mut benches[i];
+        match bench.work(gate, room) {
+            Found::Items => {
+                round.took = true;
+                round.ended = false;
+            }
+            Found::None => round.ended = false,
+            Found::End => {}
+        }
+    }
+    round
+}

@@ -1,0 +1,198 @@
+//! Tests of `check_feed` over feeds that are cut, that fail and that end early.
+
+ghost use Rattle.std.specs.Prelude.{◌≡◌};
+
+use super::{LENGTH, LOADS, STREAM_AND_MORE, TEXT, feed_of};
+use asan_collect::{BadOption, Options, Outcome, check_feed, exit_status, write_outcomes};
+use std::alloc::Global;
+use std::test::Fail;
+use trace_feed::{Feed, FeedFault, MemFeed};
+use trace_record::{End, Fate};
+
+/// What is printed of the first process whose feed is this one, and the status.
+fn printed(alloc: Global, feed: MemFeed, options: Options) -> Result<(String, u8), Fail>
+    requires { feed.faults ≡ 0 }
+{
+    let outcomes = [check_feed(alloc, feed, options)];
+    let mut text = Vec::new(alloc);
+    write_outcomes(alloc, &mut text, &outcomes)?;
+    Ok((String::from_utf8(text)?, exit_status(&outcomes, true)))
+}
+
+#[test]
+fn cut_anywhere(rt: HostRuntime) -> Result<(), Fail> {
+    let alloc = rt.alloc();
+    let options = Options::usual();
+    for cut in 0..=56u64 {
+        for (length, fail_at) in [
+            (LENGTH, None),
+            (STREAM_AND_MORE.len(), None),
+            (STREAM_AND_MORE.len(), Some(36)),
+        ] {
+            let feed = feed_of(alloc, &STREAM_AND_MORE[..length], &[cut], fail_at)?;
+            let (text, status) = printed(alloc, feed, options)?;
+            assert_eq!(rt; text.as_str(), TEXT, "cut at {cut}");
+            assert_eq!(rt; status, 1);
+        }
+    }
+    let mut places = [0; LENGTH];
+    for (index, place) in places.iter_mut().enumerate() {
+        *place = index as u64;
+    }
+    let (text, _) = printed(
+        alloc,
+        feed_of(alloc, &STREAM_AND_MORE, &places, None)?,
+        options,
+    )?;
+    assert_eq!(rt; text.as_str(), TEXT, "byte by byte");
+    Ok(())
+}
+
+#[test]
+fn unknown_code(rt: HostRuntime) -> Result<(), Fail> {
+    let alloc = rt.alloc();
+    let mut bytes = STREAM_AND_MORE;
+    bytes[25] = 9;
+    for cut in 0..=56u64 {
+        for (length, fail_at) in [(26, None), (bytes.len(), None), (26, Some(26))] {
+            let feed = feed_of(alloc, &bytes[..length], &[cut], fail_at)?;
+            let (text, status) = printed(alloc, feed, Options::usual())?;
+            assert_eq!(rt;
+                text.as_str(),
+                "p0 end malformed code events 1 offset 25 reports 0\n",
+                "cut at {cut}"
+            );
+            assert_eq!(rt; status, 3);
+        }
+    }
+    Ok(())
+}
+
+#[test]
+fn record_limit(rt: HostRuntime) -> Result<(), Fail> {
+    let alloc = rt.alloc();
+    let mut closed = LOADS;
+    closed[28] = 7;
+    let mut unknown = LOADS;
+    unknown[28] = 9;
+    for (bytes, text) in [
+        (&closed[..], "p0 end closed events 2 offset 29 reports 0\n"),
+        (&LOADS[..], "p0 end too-many events 2 offset 28 reports 0\n"),
+        (
+            &unknown[..],
+            "p0 end too-many events 2 offset 28 reports 0\n",
+        ),
+        (
+            &LOADS[..28],
+            "p0 end no-close events 2 offset 28 reports 0\n",
+        ),
+    ] {
+        let options = Options::new(1 << 28, 1024, 2, 2)?;
+        let (line, _) = printed(alloc, feed_of(alloc, bytes, &[], None)?, options)?;
+        assert_eq!(rt; line.as_str(), text);
+    }
+    Ok(())
+}
+
+/// How the first bytes of the stream end where no more come, and how many reports they have.
+fn end_of_first(length: usize) -> (End, usize) {
+    let (fate, events, offset, reports) = match length {
+        0..8 => (Fate::Truncated, 0, 0, 0),
+        8 => (Fate::NoClose, 0, 8, 0),
+        9..25 => (Fate::Truncated, 0, 8, 0),
+        25 => (Fate::NoClose, 1, 25, 0),
+        26..35 => (Fate::Truncated, 1, 25, 0),
+        35 => (Fate::NoClose, 2, 35, 1),
+        _ => (Fate::Closed, 2, 36, 1),
+    };
+    let end = End {
+        fate,
+        events,
+        offset,
+    };
+    (end, reports)
+}
+
+#[test]
+fn every_truncation(rt: HostRuntime) -> Result<(), Fail> {
+    let alloc = rt.alloc();
+    for length in 0..=LENGTH {
+        let (mut wanted, count) = end_of_first(length);
+        for fails in [false, true] {
+            let feed = if fails {
+                feed_of(alloc, &STREAM_AND_MORE, &[], Some(length as u64))?
+            } else {
+                feed_of(alloc, &STREAM_AND_MORE[..length], &[], None)?
+            };
+            if fails && length < LENGTH {
+                wanted.fate = Fate::ReadFailed;
+            }
+            match check_feed(alloc, feed, Options::usual()) {
+                Outcome::Settled { feed, end, reports } => {
+                    assert_eq!(rt; end, wanted, "{length} bytes");
+                    assert_eq!(rt; reports.len(), count, "{length} bytes");
+                    assert_eq!(rt; feed.faults(), u64::from(end.fate == Fate::ReadFailed));
+                }
+                _ => panic!(rt; "memory is ample"),
+            }
+        }
+    }
+    Ok(())
+}
+
+#[test]
+fn refused_arguments(rt: HostRuntime) {
+    for (quarantine, ring, workers, limit, bad) in [
+        ((1 << 40) + 1, 0, 0, 0, Some(BadOption::Quarantine)),
+        (0, 0, 0, 0, Some(BadOption::Ring)),
+        (0, 65_537, 0, 0, Some(BadOption::Ring)),
+        (0, 1, 0, 0, Some(BadOption::Workers)),
+        (0, 1, 65, 0, Some(BadOption::Workers)),
+        (0, 1, 1, 0, Some(BadOption::Limit)),
+        (0, 1, 1, (1 << 24) + 1, Some(BadOption::Limit)),
+        (0, 1, 1, 1, None),
+        (1 << 40, 65_536, 64, 1 << 24, None),
+    ] {
+        assert_eq!(rt; Options::new(quarantine, ring, workers, limit).err(), bad);
+    }
+}
+
+/// A feed that counts its reads.
+#[derive(Drop)]
+struct Counted {
+    feed: MemFeed,
+    reads: u64,
+}
+
+impl Feed for Counted {
+    ghost use Rattle.std.specs.Prelude.{None};
+
+    ghost seen = { λ c. record { to_come = None; faults = c.feed.faults } };
+
+    fn next(&mut self, buf: &mut [u8]) -> Result<usize, FeedFault> {
+        self.reads = self.reads.saturating_add(1);
+        self.feed.next(buf)
+    }
+
+    fn faults(&self) -> u64 {
+        self.feed.faults()
+    }
+}
+
+/// 1,000 frees at 0 and the close, of 9,009 bytes in all, come by three reads.
+#[test]
+fn few_reads_take_many_records(rt: HostRuntime) -> Result<(), Fail> {
+    let mut bytes = STREAM_AND_MORE[..8].to_vec(rt.alloc())?;
+    for _ in 0..1000 {
+        bytes.extend_from_slice(&[4, 0, 0, 0, 0, 0, 0, 0, 0])?;
+    }
+    bytes.push(7)?;
+    let feed = feed_of(rt.alloc(), &bytes, &[], None)?;
+    let outcome = check_feed(rt.alloc(), Counted { feed, reads: 0 }, Options::usual());
+    let Outcome::Settled { feed, end, .. } = outcome else {
+        panic!(rt; "it was read");
+    };
+    assert_eq!(rt; (end.fate, end.events), (Fate::Closed, 1000));
+    assert_eq!(rt; feed.reads, 3);
+    Ok(())
+}
