@@ -1,5 +1,5 @@
 -- The last lines of each process.
-use Rattle.std.proofs.Common.{ℕ, ◌-◌, ◌≡◌, ◌<◌, ◌++◌, ◌∷◌, [], List, length, length-append, take, drop, refl, ◌∙◌, sym, ap, arith, Option, None, Some, inl, inr, append-nil}
+use Rattle.std.proofs.Common.{true, ℕ, ◌-◌, ◌≡◌, ◌<◌, ◌++◌, ◌∷◌, [], List, length, length-append, take, drop, refl, ◌∙◌, sym, ap, arith, Option, None, Some, inl, inr, append-nil}
 use Rattle.std.specs.Prelude.{min, IfSome, IsTrue, Result, OnOk, IfErr}
 use Rattle.std.specs.Io.KnownBytes.{Appends}
 use Rattle.std.proofs.lemmas.Bool.{cases_eq, false≢true}
@@ -16,7 +16,7 @@ use Rattle.asan_collect.specs.declared.sender.Sender.{Sender}
 use Rattle.asan_stream.specs.declared.outcome.Outcome.{Outcome}
 use Rattle.asan_stream.specs.declared.outcome.Outcome.TheVariants as outcome
 use Rattle.asan_collect.specs.Closings.{WerePrinted, Closes, HasClosed}
-use Rattle.asan_collect.specs.Live.{ArePrinted, ArePrintedOf}
+use Rattle.asan_collect.specs.Live.{ArePrinted, ArePrintedOf, has_lost_reports}
 use Rattle.asan_stream.specs.Outboxes.{IsFront}
 use Rattle.asan_stream.specs.Outcomes.{is_read}
 use Rattle.asan_collect.specs.ReportLanes.{Fits, NoneTaken}
@@ -54,37 +54,42 @@ module _ {A : Type 0} where
 module _ {F A : Type 0} where
   -- nothing was printed of an outcome
   pub none_printed : (result : Outcome F A) → WerePrinted [] 0 result
-  none_printed (outcome.Settled feed end reports) = refl
-  none_printed (outcome.NoMemory feed end checked reports) = refl
-  none_printed outcome.NotOpened = refl
-  none_printed outcome.NotStarted = tt
-  none_printed outcome.Unsettled = tt
-
-  read_printed : (result : Outcome F A) (printed : List Report) → IsTrue (is_read result) → IsFront printed (reports_of result) → WerePrinted printed (length printed) result
-  read_printed (outcome.Settled feed end reports) printed read front = front
-  read_printed (outcome.NoMemory feed end checked reports) printed read front = front
-  read_printed outcome.NotOpened printed read front = absurd (false≢true read)
-  read_printed outcome.NotStarted printed read front = tt
-  read_printed outcome.Unsettled printed read front = tt
+  none_printed result = λ own. refl
 
   -- what was taken of what was put of what the checker had found, by the clauses of `settle`
   pub were_printed : {X : Type 0} (lane_end : Option X) (result : Outcome F A) (taken put found : List Report)
-      → (lane_end ≡ None → result ≡ outcome.Unsettled) → IfSome lane_end (λ e. IsTrue (is_read result)) → IfSome lane_end (λ e. IsFront found (reports_of result))
+      → (lane_end ≡ None → result ≡ outcome.Unsettled) → IfSome lane_end (λ e. IsFront found (reports_of result))
       → IsFront taken put → IsFront put found → WerePrinted taken (length taken) result
-  were_printed None result taken put found none read begins first second = rw (none refl) tt
-  were_printed (Some e) result taken put found none read begins first second =
-      read_printed result taken read (front_trans taken found (reports_of result) (front_trans taken put found first second) begins)
+  were_printed None result taken put found none begins first second =
+      λ own. absurd (false≢true (sym own ∙ ap has_lost_reports (none refl)))
+  were_printed (Some e) result taken put found none begins first second =
+      λ own. front_trans taken found (reports_of result) (front_trans taken put found first second) begins
 
-  -- the lines of what was printed, of the rest and of the end
+  -- the lines of what was printed, of the rest and of the end, where the reports are the outcome's own
+  own_whole : (process count : ℕ) (printed : List Report) (result : Outcome F A) → take count (reports_of result) ≡ printed
+      → ArePrintedOf process result ((report_lines process printed ++ report_lines process (drop count (reports_of result))) ++ end_line process (ending_of result) ∷ [])
+  own_whole process count printed result front = record {
+    reports = reports_of result;
+    lines_are = ap (λ lines. lines ++ end_line process (ending_of result) ∷ []) (lines_whole process count printed (reports_of result) front);
+    own = λ own. refl;
+  }
+
+  -- and where the outcome has none
+  lost_whole : (process count : ℕ) (printed : List Report) (result : Outcome F A) → reports_of result ≡ [] → has_lost_reports result ≡ true
+      → ArePrintedOf process result ((report_lines process printed ++ report_lines process (drop count (reports_of result))) ++ end_line process (ending_of result) ∷ [])
+  lost_whole process count printed result none lost = record {
+    reports = printed;
+    lines_are = rw (none, drop_none count, append-nil (report_lines process printed)) refl;
+    own = λ own. absurd (false≢true (sym own ∙ lost));
+  }
+
   pub printed_whole : (process count : ℕ) (printed : List Report) (result : Outcome F A) → WerePrinted printed count result
       → ArePrintedOf process result ((report_lines process printed ++ report_lines process (drop count (reports_of result))) ++ end_line process (ending_of result) ∷ [])
-  printed_whole process count printed (outcome.Settled feed end reports) front =
-      ap (λ lines. lines ++ end_line process (ending_of (outcome.Settled feed end reports)) ∷ []) (lines_whole process count printed reports.items front)
-  printed_whole process count printed (outcome.NoMemory feed end checked reports) front =
-      ap (λ lines. lines ++ end_line process (ending_of (outcome.NoMemory feed end checked reports)) ∷ []) (lines_whole process count printed reports.items front)
-  printed_whole process count printed outcome.NotOpened none = rw (sym none, drop_none count) refl
-  printed_whole process count printed outcome.NotStarted any = (printed, rw (drop_none count, append-nil (report_lines process printed)) refl)
-  printed_whole process count printed outcome.Unsettled any = (printed, rw (drop_none count, append-nil (report_lines process printed)) refl)
+  printed_whole process count printed (outcome.Settled feed end reports) front = own_whole process count printed (outcome.Settled feed end reports) (front refl)
+  printed_whole process count printed (outcome.NoMemory feed end checked reports) front = own_whole process count printed (outcome.NoMemory feed end checked reports) (front refl)
+  printed_whole process count printed outcome.NotOpened front = own_whole process count printed outcome.NotOpened (front refl)
+  printed_whole process count printed outcome.NotStarted front = lost_whole process count printed outcome.NotStarted refl refl
+  printed_whole process count printed outcome.Unsettled front = lost_whole process count printed outcome.Unsettled refl refl
 
   -- a sender's report lane is that of its port
   pub fits_at_port : (port : Option (Port A)) (s : Sender F A) → Fits (lane_at port) s → IfSome port (λ p. Fits (Some (port_lane p)) s)

@@ -19,28 +19,28 @@ use Rattle.asan_stream.specs.declared.bench.Bench.{Bench}
 use Rattle.asan_stream.specs.declared.reader.ReaderDone.{ReaderDone}
 use Rattle.asan_stream.specs.Benches.{bench_bound, lane_of}
 use Rattle.asan_stream.specs.Items.{items_of}
-use Rattle.asan_stream.specs.Outcomes.{IsSpelled, Tells}
+use Rattle.asan_stream.specs.Outcomes.{IsSpelled, HasResults}
 use Rattle.asan_stream.specs.Ranges.{most_events, most_reports}
 use Rattle.asan_stream.specs.Readers.{IsPut}
 use Rattle.asan_collect.specs.Senders.{AllJoined, Came, IsJoined}
 use Rattle.asan_collect.specs.Arrivals.{Pairwise, IsAnswerTo, IsAnswerToFeed}
 use Rattle.asan_stream.specs.Outcomes.{reports_of}
-use Rattle.asan_stream.proofs.Told.{ended_within, few_reports}
+use Rattle.asan_stream.proofs.Consequences.{ended_within, few_reports}
 
 module _ {F A : Type 0} (seen : F → FeedState) where
   -- what has the verdicts on the events of a feed is its outcome
   right_of : (options : Options) (feed after : F) (end : End) (events : List Event) (result : Outcome F A)
-      → IsSpelled options.limit (seen feed) (seen after) events end → Tells options.quarantine events after end result → IsAnswerToFeed seen options feed result
-  right_of options feed after end events (outcome.Settled f n rs) spelled tells = (after, events, end, spelled, tells)
-  right_of options feed after end events (outcome.NoMemory f n k rs) spelled tells = (after, events, end, spelled, tells)
-  right_of options feed after end events outcome.NotOpened spelled tells = absurd tells
-  right_of options feed after end events outcome.NotStarted spelled tells = absurd tells
-  right_of options feed after end events outcome.Unsettled spelled tells = absurd tells
+      → IsSpelled options.limit (seen feed) (seen after) events end → HasResults options.quarantine events after end result → IsAnswerToFeed seen options feed result
+  right_of options feed after end events (outcome.Settled f n rs) spelled results = (after, events, end, spelled, results)
+  right_of options feed after end events (outcome.NoMemory f n k rs) spelled results = (after, events, end, spelled, results)
+  right_of options feed after end events outcome.NotOpened spelled results = absurd results
+  right_of options feed after end events outcome.NotStarted spelled results = absurd results
+  right_of options feed after end events outcome.Unsettled spelled results = absurd results
 
   -- what came of a reader that is done, by the clause of `settle`
   settled_by : (options : Options) (feed after : F) (end : End) (lane_end : Option (LaneEnd Item A)) (result : Outcome F A)
       → (lane_end ≡ None → result ≡ outcome.Unsettled)
-      → IfSome lane_end (λ e. (events : List Event) → end_list e ≡ items_of events end → length events ≤ most_events → Tells options.quarantine events after end result)
+      → IfSome lane_end (λ e. (events : List Event) → end_list e ≡ items_of events end → length events ≤ most_events → HasResults options.quarantine events after end result)
       → IfSome lane_end (λ e. IsPut seen options.limit feed after end [] (end_list e)) → IsAnswerToFeed seen options feed result
   settled_by options feed after end None result none some came = rw (none refl) tt
   settled_by options feed after end (Some e) result none some came =
@@ -57,7 +57,7 @@ module _ {F A : Type 0} (seen : F → FeedState) where
 
   pub settled_came : (options : Options) (a : Arrival F) (done : ReaderDone F A) (bench : Bench A) (result : Outcome F A)
       → (done.lane_end ≡ None → result ≡ outcome.Unsettled)
-      → IfSome done.lane_end (λ e. (events : List Event) → end_list e ≡ items_of events done.end → length events ≤ most_events → Tells (bench_bound bench) events done.feed done.end result)
+      → IfSome done.lane_end (λ e. (events : List Event) → end_list e ≡ items_of events done.end → length events ≤ most_events → HasResults (bench_bound bench) events done.feed done.end result)
       → Came seen options a (sender.Joined done bench) → IsAnswerTo seen options a result
   settled_came options arrival.Over done bench result none some came = absurd came
   settled_came options arrival.Refused done bench result none some came = absurd (false≢true (ap was_refused came))

@@ -1,5 +1,5 @@
 -- How the lines of the processes are printed, as their reports come and at the end.
-use Rattle.std.specs.Prelude.{◌≡◌, ℕ, ◌<◌, ◌≤◌, List, [], length, take, Option, slice_index_or}
+use Rattle.std.specs.Prelude.{◌≡◌, ℕ, ◌<◌, ◌≤◌, false, List, [], length, take, Option, slice_index_or}
 use Rattle.asan_check.specs.declared.report.Report.{Report}
 use Rattle.asan_print.specs.declared.live_printer.LivePrinter.{LivePrinter}
 use Rattle.asan_print.specs.declared.port.Port.{Port}
@@ -7,8 +7,7 @@ use Rattle.asan_print.specs.Logs.{Adds, Line, Printed, lines_of, report_lines}
 use Rattle.asan_print.specs.Ports.{Follows, SameLanes, taken_at}
 use Rattle.asan_collect.specs.declared.printers.Printers.{Printers}
 use Rattle.asan_stream.specs.declared.outcome.Outcome.{Outcome}
-use Rattle.asan_stream.specs.declared.outcome.Outcome.TheVariants as outcome
-use Rattle.asan_collect.specs.Live.{ArePrintedOf}
+use Rattle.asan_collect.specs.Live.{ArePrintedOf, has_lost_reports}
 use Rattle.asan_stream.specs.Outcomes.{reports_of}
 
 module _ {A : Type 0} where
@@ -21,16 +20,11 @@ module _ {A : Type 0} where
         Follows start after new.printer new.ports.items
 
 module _ {F A : Type 0} where
-  -- of the reports of an outcome these were printed before: its first ones, as many as counted; and
-  -- any where it has none
+  -- of the reports of an outcome these were printed before: its first ones, as many as counted,
+  -- unless it has lost its reports
   abbrev pub WerePrinted : List Report → ℕ → Outcome F A → Type 0
-  WerePrinted printed count (outcome.Settled feed end reports) =
-      take count (reports_of (outcome.Settled feed end reports)) ≡ printed
-  WerePrinted printed count (outcome.NoMemory feed end checked reports) =
-      take count (reports_of (outcome.NoMemory feed end checked reports)) ≡ printed
-  WerePrinted printed count outcome.NotOpened = [] ≡ printed
-  WerePrinted printed count outcome.NotStarted = Unit {0}
-  WerePrinted printed count outcome.Unsettled = Unit {0}
+  WerePrinted printed count result =
+      has_lost_reports result ≡ false → take count (reports_of result) ≡ printed
 
   -- the last lines of a process were added to a log
   pub record Closes

@@ -1,6 +1,6 @@
 -- What is printed of several processes as their reports come (profile).
-use Rattle.std.specs.Prelude.{◌≡◌, ℕ, ◌<◌, ◌≤◌, List, [], ◌∷◌, ◌++◌, length, take, Option, Result}
-use Rattle.std.specs.Prelude.{OnOk, IfErr, slice_index_or}
+use Rattle.std.specs.Prelude.{◌≡◌, ℕ, ◌<◌, ◌≤◌, Bool, true, false, List, [], ◌∷◌, ◌++◌, length}
+use Rattle.std.specs.Prelude.{take, Option, Result, OnOk, IfErr, slice_index_or}
 use Rattle.std.specs.Io.KnownBytes.{Appends}
 use Rattle.asan_check.specs.declared.report.Report.{Report}
 use Rattle.asan_check.specs.Lines.{end_line}
@@ -11,28 +11,20 @@ use Rattle.asan_stream.specs.declared.outcome.Outcome.TheVariants as outcome
 use Rattle.asan_stream.specs.Outcomes.{ending_of, reports_of}
 
 module _ {F A : Type 0} where
-  -- the lines of the text of an outcome: those of its reports, and then that of its end
-  abbrev pub outcome_lines : ℕ → Outcome F A → List (List ℕ)
-  outcome_lines process result =
-      report_lines process (reports_of result) ++ end_line process (ending_of result) ∷ []
+  -- whether reports may have been printed of a process whose outcome has none: of one that is
+  -- NotStarted or Unsettled
+  abbrev pub has_lost_reports : Outcome F A → Bool
+  has_lost_reports outcome.NotStarted = true
+  has_lost_reports outcome.Unsettled = true
+  has_lost_reports _ = false
 
-  -- lines of some reports, and then that of the outcome's end
-  abbrev pub EndsAfterReports : ℕ → Outcome F A → List (List ℕ) → Type 0
-  EndsAfterReports process result lines =
-      (reports : List Report)
-      × (lines ≡ report_lines process reports ++ end_line process (ending_of result) ∷ [])
-
-  -- what is printed of a process: the lines of its text; where it was not settled, reports may have
-  -- been printed before its end line
-  abbrev pub ArePrintedOf : ℕ → Outcome F A → List (List ℕ) → Type 0
-  ArePrintedOf process (outcome.Settled feed end reports) lines =
-      lines ≡ outcome_lines process (outcome.Settled feed end reports)
-  ArePrintedOf process (outcome.NoMemory feed end checked reports) lines =
-      lines ≡ outcome_lines process (outcome.NoMemory feed end checked reports)
-  ArePrintedOf process outcome.NotOpened lines = lines ≡ outcome_lines process outcome.NotOpened
-  ArePrintedOf process outcome.NotStarted lines =
-      EndsAfterReports process outcome.NotStarted lines
-  ArePrintedOf process outcome.Unsettled lines = EndsAfterReports process outcome.Unsettled lines
+  -- what is printed of a process: the lines of some reports, and then that of its end; the reports
+  -- are those of its outcome, unless that has lost them
+  pub record ArePrintedOf
+      (process : ℕ) (result : Outcome F A) (lines : List (List ℕ)) : Type 0 where
+    pub reports : List Report
+    pub lines_are : lines ≡ report_lines process reports ++ end_line process (ending_of result) ∷ []
+    pub own : has_lost_reports result ≡ false → reports ≡ reports_of result
 
   -- these are the lines of all processes, mixed in some order
   pub record AreLinesOf (outcomes : List (Outcome F A)) (log : List Line) : Type 0 where

@@ -19,7 +19,7 @@ use Rattle.asan_check.proofs.Order.{verdicts_begin}
 use Rattle.asan_stream.specs.declared.outcome.Outcome.{Outcome}
 use Rattle.asan_stream.specs.declared.outcome.Outcome.TheVariants as outcome
 use Rattle.asan_stream.specs.Agreement.{IsOutcomeOfBytes, NoReadFailed, end_of, is_settled}
-use Rattle.asan_stream.specs.Outcomes.{IsSpelled, SaysNoMore, Tells}
+use Rattle.asan_stream.specs.Outcomes.{IsSpelled, SaysNoMore, HasResults}
 use Rattle.asan_stream.specs.Outcomes.{reports_of}
 
 -- what a text that has ended can be read as
@@ -80,36 +80,36 @@ begins bound events later =
 
 module _ {F A : Type 0} where
   -- an outcome has the verdicts on the first events, and where it is settled on all of them
-  reports_first : (bound : ℕ) (events : List Event) (feed : F) (end : End) (result : Outcome F A) → Tells bound events feed end result
+  reports_first : (bound : ℕ) (events : List Event) (feed : F) (end : End) (result : Outcome F A) → HasResults bound events feed end result
       → (n : ℕ) × (reports_of result ≡ verdicts bound (take n events))
-  reports_first bound events feed end (outcome.Settled f m reports) tells = (length events, tells.2 ∙ ap (verdicts bound) (sym (take_all (length events) events (omega arith))))
-  reports_first bound events feed end (outcome.NoMemory f m checked reports) tells = (checked, tells.3)
-  reports_first bound events feed end outcome.NotOpened tells = absurd tells
-  reports_first bound events feed end outcome.NotStarted tells = absurd tells
-  reports_first bound events feed end outcome.Unsettled tells = absurd tells
+  reports_first bound events feed end (outcome.Settled f m reports) results = (length events, results.2 ∙ ap (verdicts bound) (sym (take_all (length events) events (omega arith))))
+  reports_first bound events feed end (outcome.NoMemory f m checked reports) results = (checked, results.3)
+  reports_first bound events feed end outcome.NotOpened results = absurd results
+  reports_first bound events feed end outcome.NotStarted results = absurd results
+  reports_first bound events feed end outcome.Unsettled results = absurd results
 
-  reports_all : (bound : ℕ) (events : List Event) (feed : F) (end : End) (result : Outcome F A) → Tells bound events feed end result
+  reports_all : (bound : ℕ) (events : List Event) (feed : F) (end : End) (result : Outcome F A) → HasResults bound events feed end result
       → IsTrue (is_settled result) → reports_of result ≡ verdicts bound events
-  reports_all bound events feed end (outcome.Settled f m reports) tells settled = tells.2
-  reports_all bound events feed end (outcome.NoMemory f m checked reports) tells settled = absurd (false≢true settled)
-  reports_all bound events feed end outcome.NotOpened tells settled = absurd tells
-  reports_all bound events feed end outcome.NotStarted tells settled = absurd tells
-  reports_all bound events feed end outcome.Unsettled tells settled = absurd tells
+  reports_all bound events feed end (outcome.Settled f m reports) results settled = results.2
+  reports_all bound events feed end (outcome.NoMemory f m checked reports) results settled = absurd (false≢true settled)
+  reports_all bound events feed end outcome.NotOpened results settled = absurd results
+  reports_all bound events feed end outcome.NotStarted results settled = absurd results
+  reports_all bound events feed end outcome.Unsettled results settled = absurd results
 
-  end_same : (bound : ℕ) (events : List Event) (feed : F) (end n : End) (result : Outcome F A) → Tells bound events feed end result → end_of result ≡ Some n → end ≡ n
-  end_same bound events feed end n (outcome.Settled f m reports) tells is = let same = tells.1 in cc
-  end_same bound events feed end n (outcome.NoMemory f m checked reports) tells is = let same = tells.1 in cc
-  end_same bound events feed end n outcome.NotOpened tells is = absurd tells
-  end_same bound events feed end n outcome.NotStarted tells is = absurd tells
-  end_same bound events feed end n outcome.Unsettled tells is = absurd tells
+  end_same : (bound : ℕ) (events : List Event) (feed : F) (end n : End) (result : Outcome F A) → HasResults bound events feed end result → end_of result ≡ Some n → end ≡ n
+  end_same bound events feed end n (outcome.Settled f m reports) results is = let same = results.1 in cc
+  end_same bound events feed end n (outcome.NoMemory f m checked reports) results is = let same = results.1 in cc
+  end_same bound events feed end n outcome.NotOpened results is = absurd results
+  end_same bound events feed end n outcome.NotStarted results is = absurd results
+  end_same bound events feed end n outcome.Unsettled results is = absurd results
 
 module _ {F G A B : Type 0} where
   pub ends_agree : (limit bound other_bound : ℕ) (bytes : List ℕ) (result : Outcome F A) (other : Outcome G B) (end other_end : End)
       → IsOutcomeOfBytes limit bound bytes result → IsOutcomeOfBytes limit other_bound bytes other
       → end_of result ≡ Some end → end_of other ≡ Some other_end → NoReadFailed end → NoReadFailed other_end → end ≡ other_end
   ends_agree limit bound other_bound bytes result other end other_end a b is other_is sound other_sound =
-      let here = end_same bound a.events a.feed a.end end result a.tells is in
-      let there = end_same other_bound b.events b.feed b.end other_end other b.tells other_is in
+      let here = end_same bound a.events a.feed a.end end result a.results is in
+      let there = end_same other_bound b.events b.feed b.end other_end other b.results other_is in
       (one_spelled limit bytes a.before a.after b.before b.after a.events b.events end other_end a.bytes_are b.bytes_are (rw here at a.spelled) (rw there at b.spelled) sound other_sound).1
 
   pub reports_agree : (limit bound : ℕ) (bytes : List ℕ) (result : Outcome F A) (other : Outcome G B) (end other_end : End)
@@ -117,24 +117,24 @@ module _ {F G A B : Type 0} where
       → end_of result ≡ Some end → end_of other ≡ Some other_end → NoReadFailed end → NoReadFailed other_end
       → IsTrue (is_settled result) → IsTrue (is_settled other) → reports_of result ≡ reports_of other
   reports_agree limit bound bytes result other end other_end a b is other_is sound other_sound settled other_settled =
-      let here = end_same bound a.events a.feed a.end end result a.tells is in
-      let there = end_same bound b.events b.feed b.end other_end other b.tells other_is in
+      let here = end_same bound a.events a.feed a.end end result a.results is in
+      let there = end_same bound b.events b.feed b.end other_end other b.results other_is in
       let same = (one_spelled limit bytes a.before a.after b.before b.after a.events b.events end other_end a.bytes_are b.bytes_are (rw here at a.spelled) (rw there at b.spelled) sound other_sound).0 in
-      reports_all bound a.events a.feed a.end result a.tells settled ∙ ap (verdicts bound) same ∙ sym (reports_all bound b.events b.feed b.end other b.tells other_settled)
+      reports_all bound a.events a.feed a.end result a.results settled ∙ ap (verdicts bound) same ∙ sym (reports_all bound b.events b.feed b.end other b.results other_settled)
 
   pub reports_begin : (limit bound : ℕ) (bytes : List ℕ) (result : Outcome F A) (other : Outcome G B) (other_end : End)
       → IsOutcomeOfBytes limit bound bytes result → IsOutcomeOfBytes limit bound bytes other
       → end_of other ≡ Some other_end → NoReadFailed other_end → IsTrue (is_settled other)
       → (later : List Report) × (reports_of other ≡ reports_of result ++ later)
   reports_begin limit bound bytes result other other_end a b other_is other_sound other_settled =
-      let there = end_same bound b.events b.feed b.end other_end other b.tells other_is in
+      let there = end_same bound b.events b.feed b.end other_end other b.results other_is in
       let more = first_spelled limit bytes a.before a.after b.before b.after a.events b.events a.end other_end a.bytes_are b.bytes_are a.spelled (rw there at b.spelled) other_sound in
-      let some = reports_first bound a.events a.feed a.end result a.tells in
+      let some = reports_first bound a.events a.feed a.end result a.results in
       let first = begins bound a.events more.0 in
       let within = begins bound (take some.0 a.events) (drop some.0 a.events) in
       let whole : verdicts bound a.events ≡ reports_of result ++ within.0 =
       ap (verdicts bound) (sym (take-append-drop some.0 a.events)) ∙ within.1 ∙ ap (λ rs. rs ++ within.0) (sym some.1) in (
         within.0 ++ first.0,
-        reports_all bound b.events b.feed b.end other b.tells other_settled ∙ ap (verdicts bound) more.1 ∙ first.1
+        reports_all bound b.events b.feed b.end other b.results other_settled ∙ ap (verdicts bound) more.1 ∙ first.1
             ∙ ap (λ rs. rs ++ first.0) whole ∙ append_assoc (reports_of result) within.0 first.0,
       )

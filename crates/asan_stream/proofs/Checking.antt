@@ -20,7 +20,7 @@ use Rattle.asan_stream.specs.Ranges.{most_events}
 use Rattle.asan_stream.specs.Checking.{StandsAfter, HasChecked}
 use Rattle.asan_stream.specs.Outboxes.{IsFront}
 use Rattle.asan_stream.proofs.Stepping.{stepped, reverse-more, checked_within, reports_short, reports_whole}
-use Rattle.asan_stream.proofs.Told.{few_of}
+use Rattle.asan_stream.proofs.Consequences.{few_of}
 
 pub events_of-event : (items : List Item) (e : Event) → events_of (items ++ item.Event e ∷ []) ≡ events_of items ++ e ∷ []
 events_of-event [] e = refl

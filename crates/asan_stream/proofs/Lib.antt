@@ -3,7 +3,7 @@ mod Sending
 mod Fates
 mod Reading
 pub mod Readers
-pub mod Told
+pub mod Consequences
 mod Checking
 mod Draining
 pub mod Reporting

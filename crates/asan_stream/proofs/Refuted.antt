@@ -23,7 +23,7 @@ use Rattle.asan_stream.specs.declared.outcome.Outcome.TheVariants as outcome
 use Rattle.asan_stream.specs.Benches.{Takes}
 use Rattle.asan_stream.specs.Checking.{StandsAfter}
 use Rattle.asan_stream.specs.Items.{items_of}
-use Rattle.asan_stream.specs.Outcomes.{IsSpelled, Tells, is_read}
+use Rattle.asan_stream.specs.Outcomes.{IsSpelled, HasResults, is_read}
 
 abbrev end_as : Fate → ℕ → ℕ → End
 end_as fate events offset = record { fate = fate; events = events; offset = offset }
@@ -49,28 +49,28 @@ module _ {F A : Type 0} (feed : F) (end : End) (reports : Vec Report A) where
   -- the last of the decoded events is not checked
   decoded_event_is_dropped :
       reports.items ≡ [] →
-      ¬ Tells usual (malloc 0x1000 5 refl ∷ store 0x1004 4 refl ∷ []) feed end
+      ¬ HasResults usual (malloc 0x1000 5 refl ∷ store 0x1004 4 refl ∷ []) feed end
       (outcome.Settled feed end reports)
-  decoded_event_is_dropped none tells = bad_access_is_passed_over (sym tells.2 ∙ none)
+  decoded_event_is_dropped none results = bad_access_is_passed_over (sym results.2 ∙ none)
 
   -- an event is checked twice
   event_is_stepped_again :
       reports.items ≡ report 1 (fault.BadFree 0x1000) ∷ report 2 (fault.BadFree 0x1000) ∷ [] →
-      ¬ Tells usual (free 0x1000 refl ∷ []) feed end (outcome.Settled feed end reports)
-  event_is_stepped_again twice tells = differ _ _ refl refl (sym tells.2 ∙ twice)
+      ¬ HasResults usual (free 0x1000 refl ∷ []) feed end (outcome.Settled feed end reports)
+  event_is_stepped_again twice results = differ _ _ refl refl (sym results.2 ∙ twice)
 
   -- an event is checked that no byte of the stream spells
   event_after_the_end_is_stepped :
       reports.items ≡ report 1 (fault.BadFree 0x1000) ∷ [] →
-      ¬ Tells usual [] feed end (outcome.Settled feed end reports)
-  event_after_the_end_is_stepped one tells = differ _ _ refl refl (sym tells.2 ∙ one)
+      ¬ HasResults usual [] feed end (outcome.Settled feed end reports)
+  event_after_the_end_is_stepped one results = differ _ _ refl refl (sym results.2 ∙ one)
 
   -- memory was refused to the malloc, and the free after it is checked in its place
   skips_event_after_refusal :
       reports.items ≡ report 1 (fault.BadFree 0x1000) ∷ [] →
-      ¬ Tells usual (malloc 0x1000 8 refl ∷ free 0x1000 refl ∷ []) feed end
+      ¬ HasResults usual (malloc 0x1000 8 refl ∷ free 0x1000 refl ∷ []) feed end
       (outcome.NoMemory feed end 1 reports)
-  skips_event_after_refusal one tells = differ _ _ refl refl (sym tells.3 ∙ one)
+  skips_event_after_refusal one results = differ _ _ refl refl (sym results.3 ∙ one)
 
 -- an end came, and the outcome says that none did
 unsettled_where_an_end_came : (F A : Type 0) → ¬ IsTrue (is_read {F = F} {A = A} outcome.Unsettled)

@@ -6,7 +6,7 @@ use Rattle.trace_record.specs.declared.end.Fate.TheVariants as fate
 use Rattle.trace_feed.specs.Feeds.{FeedState}
 use Rattle.asan_stream.specs.declared.outcome.Outcome.{Outcome}
 use Rattle.asan_stream.specs.declared.outcome.Outcome.TheVariants as outcome
-use Rattle.asan_stream.specs.Outcomes.{IsSpelled, Tells}
+use Rattle.asan_stream.specs.Outcomes.{IsSpelled, HasResults}
 
 -- the end of a stream of which no read failed
 abbrev pub NoReadFailed : End → Type 0
@@ -40,4 +40,4 @@ module _ {F A : Type 0} where
     pub end : End
     pub bytes_are : before.to_come ≡ Some bytes
     pub spelled : IsSpelled limit before after events end
-    pub tells : Tells bound events feed end result
+    pub results : HasResults bound events feed end result

@@ -77,15 +77,15 @@ module _ {F A : Type 0} where
 
   -- the outcome has this feed and end, and the verdicts on these events; or on the first of them,
   -- where memory ran out
-  abbrev pub Tells : ℕ → List Event → F → End → Outcome F A → Type 0
-  Tells bound events feed end (outcome.Settled f n reports) =
+  abbrev pub HasResults : ℕ → List Event → F → End → Outcome F A → Type 0
+  HasResults bound events feed end (outcome.Settled f n reports) =
       (f ≡ feed) × (n ≡ end) × (reports.items ≡ verdicts bound events)
-  Tells bound events feed end (outcome.NoMemory f n checked reports) =
+  HasResults bound events feed end (outcome.NoMemory f n checked reports) =
       (f ≡ feed) × (n ≡ end) × (checked < length events)
       × (reports.items ≡ verdicts bound (take checked events))
-  Tells bound events feed end outcome.NotOpened = ⊥
-  Tells bound events feed end outcome.NotStarted = ⊥
-  Tells bound events feed end outcome.Unsettled = ⊥
+  HasResults bound events feed end outcome.NotOpened = ⊥
+  HasResults bound events feed end outcome.NotStarted = ⊥
+  HasResults bound events feed end outcome.Unsettled = ⊥
 
   -- the outcome of a feed that was read to the end of its stream, where the function says what is
   -- seen of a feed: its bytes spell some events and an end, and the outcome has these
@@ -93,7 +93,7 @@ module _ {F A : Type 0} where
   IsOutcomeOf seen options before result =
       (feed : F) × (events : List Event) × (end : End)
       × IsSpelled options.limit (seen before) (seen feed) events end
-      × Tells options.quarantine events feed end result
+      × HasResults options.quarantine events feed end result
 
   -- where a byte decided the end of an outcome, its feed was read no further than IsDecidedSoon
   -- says

@@ -86,8 +86,10 @@ impl<A: Allocator + Copy> Bench<A> {
         ensures process { process_of result ≡ process }
         ensures lane { lane_of result ≡ out_lane lane }
         ensures taken { taken_of result ≡ [] }
+        ensures checker { checker_of result ≡ checker }
         ensures bound { bench_bound result ≡ bound_of checker }
         ensures report_lane { report_lane_of result ≡ None }
+        ensures put { put_of result ≡ [] }
     {
         Bench::fresh(process, lane, checker, Outbox::closed())
     }
@@ -112,8 +114,10 @@ impl<A: Allocator + Copy> Bench<A> {
         ensures process { process_of result ≡ process }
         ensures lane { lane_of result ≡ out_lane lane }
         ensures taken { taken_of result ≡ [] }
+        ensures checker { checker_of result ≡ checker }
         ensures bound { bench_bound result ≡ bound_of checker }
         ensures report_lane { report_lane_of result ≡ Some (in_lane reports) }
+        ensures put { put_of result ≡ [] }
     {
         Bench::fresh(process, lane, checker, Outbox::open(reports))
     }

@@ -6,7 +6,7 @@ ghost use Rattle.trace_record.specs.declared.event.Event.{Event as AnEvent};
 ghost use Rattle.asan_check.specs.Standing.{StandsOrFailed, bound_of, checked_of};
 ghost use Rattle.asan_check.specs.Standing.{reports_of as checker_reports};
 ghost use Rattle.asan_stream.specs.Outboxes.{IsFront};
-ghost use Rattle.asan_stream.specs.Outcomes.{IsOutcomeOf, StopsSoon, Tells, is_read};
+ghost use Rattle.asan_stream.specs.Outcomes.{IsOutcomeOf, StopsSoon, HasResults, is_read};
 ghost use Rattle.asan_stream.specs.Ranges.{most_reports};
 ghost use Rattle.asan_stream.specs.Outcomes.{reports_of};
 
@@ -101,9 +101,9 @@ pub(crate) fn outcome_of<F, A: Allocator + Copy>(
     checker: Checker<A>,
     events: u64,
 ) -> Outcome<F, A>
-    ensures tells { (bound : ℕ) (handed : List AnEvent) →
+    ensures results { (bound : ℕ) (handed : List AnEvent) →
         ∥ StandsOrFailed bound checker (reverse handed) ∥₁ →
-        events ≡ length handed → Tells bound handed feed end result }
+        events ≡ length handed → HasResults bound handed feed end result }
     ensures reports { reports_of result ≡ checker_reports checker }
     ensures read { IsTrue (is_read result) }
 {

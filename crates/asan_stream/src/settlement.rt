@@ -6,7 +6,7 @@ ghost use Rattle.trace_lane.specs.Lanes.{end_lane, end_list};
 ghost use Rattle.asan_check.specs.Standing.{reports_of as checker_reports};
 ghost use Rattle.asan_stream.specs.Benches.{lane_of, bench_bound, checker_of};
 ghost use Rattle.asan_stream.specs.Items.{items_of};
-ghost use Rattle.asan_stream.specs.Outcomes.{Tells, is_read};
+ghost use Rattle.asan_stream.specs.Outcomes.{HasResults, is_read};
 ghost use Rattle.asan_stream.specs.Ranges.{most_events, most_reports};
 ghost use Rattle.asan_stream.specs.Outcomes.{reports_of};
 
@@ -30,7 +30,7 @@ pub fn settle<F: Drop, A: Allocator + Copy>(
     requires { IfSome done.lane_end (λ e. end_lane e ≡ lane_of bench) }
     ensures settled { IfSome done.lane_end (λ e.
         (events : List AnEvent) → end_list e ≡ items_of events done.end →
-        length events ≤ most_events → Tells (bench_bound bench) events done.feed done.end result) }
+        length events ≤ most_events → HasResults (bench_bound bench) events done.feed done.end result) }
     ensures unsettled { result ≡ Outcome.Unsettled ↔ done.lane_end ≡ None }
     ensures read { IfSome done.lane_end (λ _. IsTrue (is_read result)) }
     ensures begins { IfSome done.lane_end (λ _.

@@ -138,14 +138,14 @@ impl<'a> Feed for Patient<'a> {
     }
 }
 
-/// A writer that tells when it was given the end of a line.
+/// A writer that sets a flag when it is given the end of a line.
 #[derive(Drop)]
-struct Telling<'a> {
+struct Noticing<'a> {
     text: Vec<u8>,
     printed: &'a AtomicU64,
 }
 
-impl<'a> Write for Telling<'a> {
+impl<'a> Write for Noticing<'a> {
     fn write(&mut self, buf: &[u8]) -> io::Result<usize> {
         self.text.extend_from_slice(buf)?;
         if buf.contains(&b'\n') {
@@ -159,7 +159,7 @@ impl<'a> Write for Telling<'a> {
     }
 }
 
-/// A sender whose feed gives so many bytes before it waits for the first line.
+/// A sender whose feed gives this many bytes before it waits for the first line.
 fn sender_of(first: usize, printed: &AtomicU64) -> Arrival<Patient<'_>>
     ensures { IfCame (λ p. p.faults ≡ 0) result }
 {
@@ -181,7 +181,7 @@ fn printed_before_the_end(rt: HostRuntime) -> Result<(), Fail> {
         arrivals.push(sender_of(35, &printed))?;
         arrivals.push(sender_of(first, &printed))?;
         let mut door = ListDoor::new(arrivals);
-        let mut output = Telling {
+        let mut output = Noticing {
             text: Vec::new(alloc),
             printed: &printed,
         };

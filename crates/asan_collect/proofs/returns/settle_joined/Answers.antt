@@ -29,5 +29,5 @@ returns-clause-printed g c = elim c.match-port.branch [
       let first : IsFront taken put = rw count at w.settle-printed.ensures.front in
       let second : IsFront put (found_of finished) = rw same (w.in-Some-Some.ensures.front) in
       rw (w.in-Some-Some.is-0, w.printed-is, count)
-      (were_printed c.args.done.lane_end c.settle.result taken put (found_of finished) c.settle.ensures.unsettled.1 c.settle.ensures.read c.settle.ensures.begins first second)
+      (were_printed c.args.done.lane_end c.settle.result taken put (found_of finished) c.settle.ensures.unsettled.1 c.settle.ensures.begins first second)
 ]

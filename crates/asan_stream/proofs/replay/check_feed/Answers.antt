@@ -5,7 +5,7 @@ use Rattle.asan_check.specs.Standing.{StandsOrFailed}
 use Rattle.asan_stream.specs.Sources.{HasEnded, IsEndOf}
 use Rattle.asan_stream.proofs.Lengths.{fewer_left}
 use Rattle.asan_stream.proofs.Stepping.{checked_within, open_within, room_for_batch}
-use Rattle.asan_stream.proofs.Told.{few_reports, stops_soon}
+use Rattle.asan_stream.proofs.Consequences.{few_reports, stops_soon}
 use Rattle.asan_stream.proofs.replay.check_feed.Goals as goal
 
 pub check_each-requires : goal.check_each-requires
@@ -36,7 +36,7 @@ returns-then-batch-clause-outcome g c =
     let ended : HasEnded seen limit c.args.feed batch.new.self events = rw c.if-batch.true at (batch.ensures.read limit c.args.feed read.0 read.1 read.2) in
     let is_end : IsEndOf seen limit c.args.feed feed events end = c.into_end-feed.ensures limit c.args.feed events ended in
     let stands : StandsOrFailed bound c.check_each.new.checker (reverse events) = rw (reverse-append read.1 more) (c.check_each.ensures.stands bound (reverse read.1) read.3) in
-    (feed, events, end, is_end.spelled, c.outcome_of.ensures.tells bound events ∣ stands ∣₁ is_end.spelled.spells.count)
+    (feed, events, end, is_end.spelled, c.outcome_of.ensures.results bound events ∣ stands ∣₁ is_end.spelled.spells.count)
 
 pub returns-then-batch-clause-soon : goal.returns-then-batch-clause-soon
 unfolding returns-then-batch-clause-outcome

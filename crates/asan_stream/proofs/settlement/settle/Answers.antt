@@ -9,7 +9,7 @@ returns-clause-settled g c = rw c.in-Some.is (λ events is few.
     let first = c.args.bench.checker in
     let drained = c.drain-checker.result in
     let seen = stream_seen first drained.checker drained.events (end_list c.in-Some.lane_end) events c.args.done.end c.drain-checker.ensures is few in
-    c.outcome_of.ensures.tells (bound_of first) events seen.1 (c.from.ensures ∙ seen.0))
+    c.outcome_of.ensures.results (bound_of first) events seen.1 (c.from.ensures ∙ seen.0))
 
 pub returns-clause-few : goal.returns-clause-few
 returns-clause-few g c =

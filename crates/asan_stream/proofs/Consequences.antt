@@ -12,7 +12,7 @@ use Rattle.asan_check.specs.Verdicts.{verdict, verdicts_of, verdicts}
 use Rattle.asan_stream.specs.declared.options.Options.{Options}
 use Rattle.asan_stream.specs.declared.outcome.Outcome.{Outcome}
 use Rattle.asan_stream.specs.declared.outcome.Outcome.TheVariants as outcome
-use Rattle.asan_stream.specs.Outcomes.{IsOutcomeOf, IsDecidedSoon, StopsSoon, Tells}
+use Rattle.asan_stream.specs.Outcomes.{IsOutcomeOf, IsDecidedSoon, StopsSoon, HasResults}
 use Rattle.asan_stream.specs.Outcomes.{reports_of}
 use Rattle.asan_stream.proofs.Stepping.{open_within}
 
@@ -42,15 +42,15 @@ ended_within limit text events fate.NoClose ended = ended.1
 ended_within limit text events fate.ReadFailed ended = open_within limit text events ended.0 ended.1
 
 module _ {F A : Type 0} where
-  few_in : (bound : ℕ) (events : List Event) (feed : F) (end : End) (result : Outcome F A) → Tells bound events feed end result → length (reports_of result) ≤ length events
-  few_in bound events feed end (outcome.Settled f n reports) tells = rw tells.2 (few_verdicts bound events)
-  few_in bound events feed end (outcome.NoMemory f n checked reports) tells =
+  few_in : (bound : ℕ) (events : List Event) (feed : F) (end : End) (result : Outcome F A) → HasResults bound events feed end result → length (reports_of result) ≤ length events
+  few_in bound events feed end (outcome.Settled f n reports) results = rw results.2 (few_verdicts bound events)
+  few_in bound events feed end (outcome.NoMemory f n checked reports) results =
       let few = few_verdicts bound (take checked events) in
-      let some = tells.2 in
-      rw tells.3 (omega (arith, length-take-le checked events (omega arith)))
-  few_in bound events feed end outcome.NotOpened tells = absurd tells
-  few_in bound events feed end outcome.NotStarted tells = absurd tells
-  few_in bound events feed end outcome.Unsettled tells = absurd tells
+      let some = results.2 in
+      rw results.3 (omega (arith, length-take-le checked events (omega arith)))
+  few_in bound events feed end outcome.NotOpened results = absurd results
+  few_in bound events feed end outcome.NotStarted results = absurd results
+  few_in bound events feed end outcome.Unsettled results = absurd results
 
   -- the outcome of a feed has no more reports than the limit has events
   pub few_reports : (seen : F → FeedState) (options : Options) (before : F) (result : Outcome F A)
@@ -63,9 +63,9 @@ module _ {F A : Type 0} where
 
   -- an outcome stops soon where its feed and its end do
   pub stops_soon : (seen : F → FeedState) (options : Options) (before feed : F) (events : List Event) (end : End) (result : Outcome F A)
-      → Tells options.quarantine events feed end result → (IsDecidedFate end.fate → IsDecidedSoon options.limit (seen before) (seen feed) end) → StopsSoon seen options before result
-  stops_soon seen options before feed events end (outcome.Settled f n reports) tells soon = rw (tells.0, tells.1) soon
-  stops_soon seen options before feed events end (outcome.NoMemory f n checked reports) tells soon = rw (tells.0, tells.1) soon
-  stops_soon seen options before feed events end outcome.NotOpened tells soon = absurd tells
-  stops_soon seen options before feed events end outcome.NotStarted tells soon = absurd tells
-  stops_soon seen options before feed events end outcome.Unsettled tells soon = absurd tells
+      → HasResults options.quarantine events feed end result → (IsDecidedFate end.fate → IsDecidedSoon options.limit (seen before) (seen feed) end) → StopsSoon seen options before result
+  stops_soon seen options before feed events end (outcome.Settled f n reports) results soon = rw (results.0, results.1) soon
+  stops_soon seen options before feed events end (outcome.NoMemory f n checked reports) results soon = rw (results.0, results.1) soon
+  stops_soon seen options before feed events end outcome.NotOpened results soon = absurd results
+  stops_soon seen options before feed events end outcome.NotStarted results soon = absurd results
+  stops_soon seen options before feed events end outcome.Unsettled results soon = absurd results
