@@ -41,6 +41,7 @@ fn close<F: Feed + Drop, W: Write, A: Allocator + Copy>(
 {
     let Answer { outcome, printed } = settle_sender(sender, port);
     let reports = outcome.reports();
+    // An unsettled sender has none of the reports that were printed.
     let printed = (printed as usize).min(reports.len());
     printer.close(w, process, &reports[printed..], &outcome.ending());
     outcome

@@ -38,9 +38,9 @@ pub struct Live<F, A: Allocator + Copy = Global> {
 /// through a lane of `ring` reports.
 ///
 /// The lines of a process are in order those of its text, its end line last. How the lines of
-/// several processes are mixed is not promised. The end lines come last of all, in the order of the
-/// outcomes, once all threads have ended. Of a process that is `NotStarted` or `Unsettled` some
-/// reports may stand before its end line.
+/// several processes are mixed is not promised; as it is, the end lines come last, in the order of
+/// the outcomes, once all threads have ended. Of a process that is `Unsettled` some reports may
+/// stand before its end line.
 ///
 /// Where a line can't be written, nothing more is: the checks go on, and `wrote` says it. A writer
 /// that waits holds up the checkers, then the readers, and then who writes to them: nothing is

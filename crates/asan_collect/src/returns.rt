@@ -89,7 +89,7 @@ pub(crate) struct Answer<F, A: Allocator + Copy> {
 }
 
 impl<F, A: Allocator + Copy> Answer<F, A> {
-    /// What became of a sender that has no reports.
+    /// What became of a sender whose reports are not in its outcome.
     fn without_reports(outcome: Outcome<F, A>) -> Answer<F, A>
         ensures outcome { result.outcome ≡ outcome }
         ensures printed { result.printed ≡ 0 }

@@ -162,6 +162,7 @@ fn print_in<
         printers,
         at_work: _,
     } = printing;
+    // The writer goes back to who lent it.
     let _ = lent;
     printers
 }
@@ -219,6 +220,7 @@ pub(crate) fn run_printing<
             (w, Returned { senders, shares }, printers)
         },
     );
+    // And so it does here.
     let _ = back;
     (returned, printers)
 }

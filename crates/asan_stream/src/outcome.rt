@@ -32,7 +32,8 @@ pub enum Outcome<F, A: Allocator + Copy = Global> {
     NotOpened,
     /// A worker, a lane or the room for them was missing.
     NotStarted,
-    /// Its reader gave its lane up, since the checker was gone.
+    /// Its lane, or with live printing its report lane, has no end: the thread at the other side was
+    /// gone.
     Unsettled,
 }
 

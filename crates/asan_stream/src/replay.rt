@@ -74,8 +74,8 @@ pub(crate) fn check_each<A: Allocator + Copy>(checker: &mut Checker<A>, events: 
     }
 }
 
-/// Has the checker fetch the next events, if it has not fetched the first of them. How many of them
-/// it has fetched then.
+/// Has the checker fetch the next events, if it has not fetched the first of them. Returns how many
+/// of them it has fetched.
 #[inline]
 fn fetch_ahead<A: Allocator + Copy>(
     checker: &mut Checker<A>,
