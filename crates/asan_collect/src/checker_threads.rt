@@ -5,16 +5,16 @@ ghost use Rattle.asan_stream.specs.Benches.{EachLater};
 ghost use Rattle.asan_collect.specs.Senders.{AllFresh, Becomes, Each};
 ghost use Rattle.asan_collect.specs.Shares.{Share, ComesBack, WillComeBack, GivesUp};
 
-use crate::at_work::AtWork;
+use crate::crew::Crew;
 use crate::foreground::Foreground;
 use crate::reader_threads::read_from;
 use crate::sender::Sender;
-use asan_stream::{Bench, Gate, Options, run_checker};
+use asan_stream::{Bench, Gate, run_checker};
 use std::alloc::Allocator;
 use std::mem;
 use std::snapshot::Snapshot;
 use std::sync::Wait;
-use std::thread::{Promise, PromisedHandle, Scope, Threads};
+use std::thread::{Promise, PromisedHandle, Threads};
 use std::time::Clock;
 use trace_feed::Feed;
 
@@ -46,13 +46,7 @@ fn begin<
     G: Gate + Sync,
     A: Allocator + Copy + Send + 's,
     R: Threads + Wait + Clock + Sync,
->(
-    scope: &'s Scope<'s, &'e ()>,
-    rt: &'e R,
-    gate: &'e G,
-    at_work: &'e AtWork,
-    share: Vec<Bench<A>, A>,
-) -> CheckerThread<A>
+>(crew: &Crew<'s, 'e, G, R>, share: Vec<Bench<A>, A>) -> CheckerThread<A>
     ensures { WillComeBack share result }
 {
     if share.is_empty() {
@@ -61,6 +55,7 @@ fn begin<
     let promise = Checking {
         benches: Snapshot::of(&share),
     };
+    let (rt, gate, at_work) = (crew.rt, crew.gate, crew.at_work);
     let work = move || -> Vec<Bench<A>, A>
         ensures { EachLater share.items result.items }
     {
@@ -69,7 +64,7 @@ fn begin<
         benches
     };
     at_work.begin();
-    match scope.spawn_with(promise, work) {
+    match crew.scope.spawn_with(promise, work) {
         Ok(handle) => CheckerThread::Running(handle),
         Err(_) => {
             at_work.end();
@@ -134,42 +129,27 @@ pub(crate) fn check_from<
     M: Foreground,
     R: Threads + Wait + Clock + Sync,
 >(
-    scope: &'s Scope<'s, &'e ()>,
-    rt: &'e R,
+    crew: &Crew<'s, 'e, G, R>,
     alloc: A,
-    gate: &'e G,
-    at_work: &'e AtWork,
     senders: &mut Vec<Sender<F, A>, A>,
     shares: &mut Vec<Vec<Bench<A>, A>, A>,
     at: usize,
     foreground: &mut M,
-    options: Options,
 )
     requires at { at ≤ vec_len shares.old }
     requires fresh { AllFresh F.seen senders.old.items }
-    ensures senders { Each (Becomes F.seen options.limit) 0
+    ensures senders { Each (Becomes F.seen crew.now.options.limit) 0
         senders.old.items senders.new.items }
     ensures shares { Each ComesBack at shares.old.items shares.new.items }
     ensures does { M.does foreground.old foreground.new }
 {
     if at >= shares.len() {
-        read_from(scope, rt, senders, 0, foreground, options);
+        read_from(crew, senders, 0, foreground);
         return;
     }
     let share = mem::replace(&mut shares[at], Vec::new(alloc));
-    let running = begin(scope, rt, gate, at_work, share);
+    let running = begin(crew, share);
     give_up_senders(senders, &running, at, shares.len());
-    check_from(
-        scope,
-        rt,
-        alloc,
-        gate,
-        at_work,
-        senders,
-        shares,
-        at + 1,
-        foreground,
-        options,
-    );
-    shares[at] = end(rt, alloc, running);
+    check_from(crew, alloc, senders, shares, at + 1, foreground);
+    shares[at] = end(crew.rt, alloc, running);
 }

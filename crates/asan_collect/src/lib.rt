@@ -7,6 +7,7 @@ mod at_work;
 mod checker_threads;
 mod closing;
 mod collector;
+mod crew;
 mod first_checker;
 mod foreground;
 mod lanes;

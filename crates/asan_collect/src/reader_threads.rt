@@ -6,9 +6,10 @@ ghost use Rattle.asan_stream.specs.Ranges.{most_events};
 ghost use Rattle.asan_stream.specs.Readers.{IsReaderOf};
 ghost use Rattle.asan_collect.specs.Senders.{AllFresh, Becomes, Each, IsFresh, WillBe};
 
+use crate::crew::Crew;
 use crate::foreground::Foreground;
 use crate::sender::Sender;
-use asan_stream::{Item, Options, ReaderDone, run_reader};
+use asan_stream::{Gate, Item, ReaderDone, run_reader};
 use std::alloc::Allocator;
 use std::mem;
 use std::snapshot::Snapshot;
@@ -45,22 +46,18 @@ fn start<
     's,
     'e: 's,
     F: Feed + Send + Drop + 's,
+    G: Gate + Sync,
     A: Allocator + Copy + Send + 's,
     R: Threads + Wait + Clock + Sync,
->(
-    scope: &'s Scope<'s, &'e ()>,
-    rt: &'e R,
-    sender: Sender<F, A>,
-    options: Options,
-) -> ReaderThread<F, A>
+>(crew: &Crew<'s, 'e, G, R>, sender: Sender<F, A>) -> ReaderThread<F, A>
     requires fresh { IsFresh F.seen sender }
-    ensures { WillBe F.seen options.limit sender result }
+    ensures { WillBe F.seen crew.now.options.limit sender result }
 {
     let (feed, lane) = match sender {
         Sender::Ready(feed, lane) => (feed, lane),
         other => return ReaderThread::Kept(other),
     };
-    let limit = options.limit;
+    let (rt, limit) = (crew.rt, crew.options.limit);
     let promise = Reading {
         feed: Snapshot::of(&feed),
         lane: Snapshot::of(&lane),
@@ -71,7 +68,7 @@ fn start<
         requires limit { (0 < limit) × (limit ≤ most_events) }
         ensures { IsReaderOf F.seen limit feed lane result }
     { run_reader(rt, feed, lane, limit) };
-    match scope.spawn_with(promise, work) {
+    match crew.scope.spawn_with(promise, work) {
         Ok(handle) => ReaderThread::Running(handle),
         Err(_) => ReaderThread::Kept(Sender::NotStarted),
     }
@@ -97,29 +94,23 @@ pub(crate) fn read_from<
     's,
     'e: 's,
     F: Feed + Send + Drop + 's,
+    G: Gate + Sync,
     A: Allocator + Copy + Send + 's,
     M: Foreground,
     R: Threads + Wait + Clock + Sync,
->(
-    scope: &'s Scope<'s, &'e ()>,
-    rt: &'e R,
-    senders: &mut Vec<Sender<F, A>, A>,
-    at: usize,
-    foreground: &mut M,
-    options: Options,
-)
+>(crew: &Crew<'s, 'e, G, R>, senders: &mut Vec<Sender<F, A>, A>, at: usize, foreground: &mut M)
     requires at { at ≤ vec_len senders.old }
     requires fresh { AllFresh F.seen senders.old.items }
-    ensures read { Each (Becomes F.seen options.limit) at
+    ensures read { Each (Becomes F.seen crew.now.options.limit) at
         senders.old.items senders.new.items }
     ensures does { M.does foreground.old foreground.new }
 {
     if at >= senders.len() {
-        foreground.run(rt);
+        foreground.run(crew.rt);
         return;
     }
     let sender = mem::replace(&mut senders[at], Sender::NotStarted);
-    let running = start(scope, rt, sender, options);
-    read_from(scope, rt, senders, at + 1, foreground, options);
-    senders[at] = finish(rt, running);
+    let running = start(crew, sender);
+    read_from(crew, senders, at + 1, foreground);
+    senders[at] = finish(crew.rt, running);
 }

@@ -7,6 +7,7 @@ ghost use Rattle.asan_collect.specs.Shares.{ComesBack};
 
 use crate::at_work::AtWork;
 use crate::checker_threads::check_from;
+use crate::crew::Crew;
 use crate::first_checker::FirstChecker;
 use crate::printers::Printers;
 use crate::printing::Printing;
@@ -15,7 +16,7 @@ use asan_stream::{Bench, Gate, Options};
 use std::alloc::Allocator;
 use std::io::Write;
 use std::sync::Wait;
-use std::thread::{Scope, Threads};
+use std::thread::Threads;
 use std::time::Clock;
 use std::{mem, thread};
 use trace_feed::Feed;
@@ -36,30 +37,24 @@ fn run_in<
     A: Allocator + Copy + Send + 's,
     R: Threads + Wait + Clock + Sync,
 >(
-    scope: &'s Scope<'s, &'e ()>,
-    rt: &'e R,
+    crew: &Crew<'s, 'e, G, R>,
     alloc: A,
-    gate: &'e G,
-    at_work: &'e AtWork,
     senders: &mut Vec<Sender<F, A>, A>,
     shares: &mut Vec<Vec<Bench<A>, A>, A>,
-    options: Options,
 )
     requires some { 0 < vec_len shares.old }
     requires fresh { AllFresh F.seen senders.old.items }
-    ensures senders { Each (Becomes F.seen options.limit) 0
+    ensures senders { Each (Becomes F.seen crew.now.options.limit) 0
         senders.old.items senders.new.items }
     ensures shares { Each ComesBack 0 shares.old.items shares.new.items }
 {
     let benches = mem::replace(&mut shares[0], Vec::new(alloc));
     let mut first = FirstChecker {
         benches,
-        gate,
+        gate: crew.gate,
         alloc,
     };
-    check_from(
-        scope, rt, alloc, gate, at_work, senders, shares, 1, &mut first, options,
-    );
+    check_from(crew, alloc, senders, shares, 1, &mut first);
     let FirstChecker {
         benches,
         gate: _,
@@ -98,16 +93,14 @@ pub(crate) fn run_all<
             ensures shares { Each ComesBack 0 shares.items result.shares.items }
         {
             let (mut senders, mut shares) = (senders, shares);
-            run_in(
+            let crew = Crew {
                 scope,
                 rt,
-                alloc,
                 gate,
                 at_work,
-                &mut senders,
-                &mut shares,
                 options,
-            );
+            };
+            run_in(&crew, alloc, &mut senders, &mut shares);
             Returned { senders, shares }
         },
     )
@@ -123,19 +116,15 @@ fn print_in<
     A: Allocator + Copy + Send + 's,
     R: Threads + Wait + Clock + Sync,
 >(
-    scope: &'s Scope<'s, &'e ()>,
-    rt: &'e R,
+    crew: &Crew<'s, 'e, G, R>,
     alloc: A,
-    gate: &'e G,
-    at_work: &'e AtWork,
     senders: &mut Vec<Sender<F, A>, A>,
     shares: &mut Vec<Vec<Bench<A>, A>, A>,
     w: &mut W,
     printers: Printers<A>,
-    options: Options,
 ) -> Printers<A>
     requires fresh { AllFresh F.seen senders.old.items }
-    ensures senders { Each (Becomes F.seen options.limit) 0
+    ensures senders { Each (Becomes F.seen crew.now.options.limit) 0
         senders.old.items senders.new.items }
     ensures shares { Each ComesBack 0 shares.old.items shares.new.items }
     ensures printed { HasPrinted (W.contents w.old) (W.contents w.new) printers result }
@@ -143,20 +132,9 @@ fn print_in<
     let mut printing = Printing {
         w: &mut *w,
         printers,
-        at_work,
+        at_work: crew.at_work,
     };
-    check_from(
-        scope,
-        rt,
-        alloc,
-        gate,
-        at_work,
-        senders,
-        shares,
-        0,
-        &mut printing,
-        options,
-    );
+    check_from(crew, alloc, senders, shares, 0, &mut printing);
     let Printing {
         w: lent,
         printers,
@@ -205,18 +183,14 @@ pub(crate) fn run_printing<
                 printers result.2 }
         {
             let (mut senders, mut shares) = (senders, shares);
-            let printers = print_in(
+            let crew = Crew {
                 scope,
                 rt,
-                alloc,
                 gate,
                 at_work,
-                &mut senders,
-                &mut shares,
-                &mut *w,
-                printers,
                 options,
-            );
+            };
+            let printers = print_in(&crew, alloc, &mut senders, &mut shares, &mut *w, printers);
             (w, Returned { senders, shares }, printers)
         },
     );

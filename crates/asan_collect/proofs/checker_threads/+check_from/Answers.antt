@@ -18,7 +18,7 @@ returns-clause-shares g t c =
 pub returns-clause-senders : goal.returns-clause-senders
 returns-clause-senders g t c =
     let seen = g.F.Feed.seen in
-    let limit = c.args.options.limit in
+    let limit = c.args.crew.now.options.limit in
     each_after GivesUp (Becomes seen limit) (Becomes seen limit) (becomes_after seen limit) c.args.senders.now.items c.give_up_senders.new.senders.items c.check_from.new.senders.items c.give_up_senders.ensures c.check_from.ensures.senders
 
 pub check_from-requires-clause-fresh : goal.check_from-requires-clause-fresh

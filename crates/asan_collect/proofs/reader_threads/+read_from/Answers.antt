@@ -10,7 +10,7 @@ returns-clause-read g t c =
     let low : c.args.at < length xs = search rules in
     let was = c.replace-sender.result in
     let is : (d : _) → was ≡ slice_index_or xs c.args.at d = λ d. c.replace-sender.ensures.value ∙ (c.index_mut.ensures.value ∙ get_or_default xs c.args.at c.index_mut.result.now d low) in
-    each_put (Becomes g.F.Feed.seen c.args.options.limit) c.args.at xs c.read_from.new.senders.items c.replace-sender.new.dest c.finish.result low (λ d. rw (← is d) (c.finish.ensures c.args.options.limit was c.start-running.ensures)) c.read_from.ensures.read
+    each_put (Becomes g.F.Feed.seen c.args.crew.now.options.limit) c.args.at xs c.read_from.new.senders.items c.replace-sender.new.dest c.finish.result low (λ d. rw (← is d) (c.finish.ensures c.args.crew.now.options.limit was c.start-running.ensures)) c.read_from.ensures.read
 
 pub start-running-requires-clause-fresh : goal.start-running-requires-clause-fresh
 start-running-requires-clause-fresh g t c κs within =
