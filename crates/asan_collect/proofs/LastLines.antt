@@ -1,6 +1,6 @@
 -- The last lines of each process.
 use Rattle.std.proofs.Common.{true, ℕ, ◌-◌, ◌≡◌, ◌<◌, ◌++◌, ◌∷◌, [], List, length, length-append, take, drop, refl, ◌∙◌, sym, ap, arith, Option, None, Some, inl, inr, append-nil}
-use Rattle.std.specs.Prelude.{min, IfSome, IsTrue, Result, OnOk, IfErr}
+use Rattle.std.specs.Prelude.{min, IfSome, Result, OnOk, IfErr}
 use Rattle.std.specs.Io.KnownBytes.{Appends}
 use Rattle.std.proofs.lemmas.Bool.{cases_eq, false≢true}
 use Rattle.std.proofs.lemmas.List.{get_or_append_left, get_or_at, take-append-drop, take_all, drop_all, drop_min, length-drop}
@@ -18,7 +18,6 @@ use Rattle.asan_stream.specs.declared.outcome.Outcome.TheVariants as outcome
 use Rattle.asan_collect.specs.Closings.{WerePrinted, Closes, HasClosed}
 use Rattle.asan_collect.specs.Live.{ArePrinted, ArePrintedOf, has_lost_reports}
 use Rattle.asan_stream.specs.Outboxes.{IsFront}
-use Rattle.asan_stream.specs.Outcomes.{is_read}
 use Rattle.asan_collect.specs.ReportLanes.{Fits, NoneTaken}
 use Rattle.asan_stream.specs.Outcomes.{reports_of, ending_of}
 use Rattle.asan_stream.proofs.Reporting.{front_trans}

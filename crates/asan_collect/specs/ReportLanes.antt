@@ -5,7 +5,7 @@ use Rattle.trace_lane.specs.Lanes.{Lane}
 use Rattle.asan_print.specs.declared.port.Port.{Port}
 use Rattle.asan_print.specs.Ports.{lane_at, taken_at}
 use Rattle.asan_stream.specs.declared.bench.Bench.{Bench}
-use Rattle.asan_collect.specs.declared.lanes.Rooms.{Rooms}
+use Rattle.asan_collect.specs.declared.lanes.Seats.{Seats}
 use Rattle.asan_collect.specs.declared.sender.Sender.{Sender}
 use Rattle.asan_collect.specs.declared.sender.Sender.TheVariants as sender
 use Rattle.asan_stream.specs.Benches.{process_of, report_lane_of}
@@ -52,10 +52,10 @@ module _ {F A : Type 0} where
         (i : ℕ) (d : Sender F A) → i < length senders → Fits (lanes i) (slice_index_or senders i d)
 
   -- there is no sender yet, and room for all
-  pub record AreRooms (rooms : Rooms F A) : Type 0 where
-    pub no_senders : rooms.senders.items ≡ []
-    pub for_senders : most_senders ≤ vec_capacity rooms.senders
-    pub no_ports : rooms.ports.items ≡ []
-    pub for_ports : most_senders ≤ vec_capacity rooms.ports
-    pub some_shares : 0 < vec_len rooms.shares
-    pub no_benches : AreEmpty (vec_len rooms.shares) rooms.shares.items
+  pub record AreEmptySeats (seats : Seats F A) : Type 0 where
+    pub no_senders : seats.senders.items ≡ []
+    pub for_senders : most_senders ≤ vec_capacity seats.senders
+    pub no_ports : seats.ports.items ≡ []
+    pub for_ports : most_senders ≤ vec_capacity seats.ports
+    pub some_shares : 0 < vec_len seats.shares
+    pub no_benches : AreEmpty (vec_len seats.shares) seats.shares.items

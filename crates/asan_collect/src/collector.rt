@@ -9,7 +9,7 @@ ghost use Rattle.asan_stream.specs.Outcomes.{reports_of};
 
 use crate::NoMemory;
 use crate::arrivals::{MOST_SENDERS, ask};
-use crate::lanes::{Opened, Rooms, open_all};
+use crate::lanes::{Seats, open_all};
 use crate::returns::{place_all, settle_all};
 use crate::threads::{Returned, run_all};
 use asan_stream::{Gate, Options, Outcome};
@@ -27,9 +27,9 @@ use trace_feed::Door;
 /// their memory from `alloc`.
 ///
 /// The outcomes stand in the order of the answers: `NotOpened` for each sender that the door
-/// refused, `NotStarted` where a thread or a lane was missing, `Unsettled` where the lane came
-/// without its end, and else `Settled` or `NoMemory`. What becomes of one sender changes nothing of
-/// the others.
+/// refused, `NotStarted` where a thread or a lane was missing, `Unsettled` where the bench or the
+/// end of the lane was missing when all threads had ended, and else `Settled` or `NoMemory`. What
+/// becomes of one sender changes nothing of the others.
 ///
 /// The gate is called after each event that was checked. The door must have refused at most 2^32
 /// senders before.
@@ -106,10 +106,10 @@ where
 {
     let arrival_room = Vec::with_capacity(alloc, MOST_SENDERS)?;
     let outcome_room = Vec::with_capacity(alloc, MOST_SENDERS)?;
-    let rooms = Rooms::new(alloc, options)?;
+    let seats = Seats::new(alloc, options)?;
     let arrivals = ask(door, arrival_room);
-    let opened = open_all(alloc, own, arrivals, rooms, options, false);
-    let Opened {
+    let opened = open_all(alloc, own, arrivals, seats, options, false);
+    let Seats {
         senders,
         shares,
         ports: _,

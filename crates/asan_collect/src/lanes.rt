@@ -8,7 +8,7 @@ ghost use Rattle.asan_stream.specs.Benches.{lane_of, process_of, bench_bound, re
 ghost use Rattle.asan_stream.specs.Outboxes.{KeepsLane};
 ghost use Rattle.asan_stream.specs.Ranges.{most_workers};
 ghost use Rattle.asan_collect.specs.Ranges.{most_senders};
-ghost use Rattle.asan_collect.specs.ReportLanes.{AllFit, AreRooms, Fits, NoneTaken, SharesHave};
+ghost use Rattle.asan_collect.specs.ReportLanes.{AllFit, AreEmptySeats, Fits, NoneTaken, SharesHave};
 ghost use Rattle.asan_collect.specs.ReportLanes.{lanes_of};
 ghost use Rattle.asan_collect.specs.Senders.{AllFresh, Came, HasLane, IsFresh};
 ghost use Rattle.asan_collect.specs.Shares.{AreEmpty, Deals, HasRoom, SharesAt};
@@ -124,7 +124,7 @@ fn deal<A: Allocator + Copy>(shares: &mut Vec<Vec<Bench<A>, A>, A>, process: usi
 }
 
 /// What there is for all senders at the start.
-pub(crate) struct Opened<F, A: Allocator + Copy> {
+pub(crate) struct Seats<F, A: Allocator + Copy> {
     pub senders: Vec<Sender<F, A>, A>,
     /// The benches of each checker.
     pub shares: Vec<Vec<Bench<A>, A>, A>,
@@ -132,22 +132,15 @@ pub(crate) struct Opened<F, A: Allocator + Copy> {
     pub ports: Vec<Option<Port<A>>, A>,
 }
 
-/// Room for what there is for all senders, and no sender yet.
-pub(crate) struct Rooms<F, A: Allocator + Copy> {
-    pub senders: Vec<Sender<F, A>, A>,
-    pub shares: Vec<Vec<Bench<A>, A>, A>,
-    pub ports: Vec<Option<Port<A>>, A>,
-}
-
-impl<F: Drop, A: Allocator + Copy> Rooms<F, A> {
-    /// Room for 256 senders.
-    pub(crate) fn new(alloc: A, options: Options) -> Result<Rooms<F, A>, NoMemory>
-        ensures { IfOk result AreRooms }
+impl<F: Drop, A: Allocator + Copy> Seats<F, A> {
+    /// Room for 256 senders, and no sender yet.
+    pub(crate) fn new(alloc: A, options: Options) -> Result<Seats<F, A>, NoMemory>
+        ensures { IfOk result AreEmptySeats }
     {
         let senders = Vec::with_capacity(alloc, MOST_SENDERS)?;
         let shares = no_shares(alloc, options.workers as usize)?;
         let ports = Vec::with_capacity(alloc, MOST_SENDERS)?;
-        Ok(Rooms {
+        Ok(Seats {
             senders,
             shares,
             ports,
@@ -162,13 +155,13 @@ pub(crate) fn open_all<F: Feed + Drop, A: Allocator + Copy>(
     alloc: A,
     own: &[A],
     arrivals: Vec<Arrival<F>, A>,
-    rooms: Rooms<F, A>,
+    seats: Seats<F, A>,
     options: Options,
     is_live: bool,
-) -> Opened<F, A>
+) -> Seats<F, A>
     requires arrived { All (IsArrived F.seen) arrivals.items }
     requires few { length arrivals.items ≤ most_senders }
-    requires rooms { AreRooms rooms }
+    requires empty { AreEmptySeats seats }
     ensures came { Pairwise (Came F.seen options) arrivals.items result.senders.items }
     ensures fresh { AllFresh F.seen result.senders.items }
     ensures shares { SharesAt options.quarantine result.senders.items result.shares.items }
@@ -179,11 +172,11 @@ pub(crate) fn open_all<F: Feed + Drop, A: Allocator + Copy>(
     ensures have { SharesHave (lanes_of result.ports.items) result.shares.items }
 {
     let mut arrivals = arrivals;
-    let Rooms {
+    let Seats {
         mut senders,
         mut shares,
         mut ports,
-    } = rooms;
+    } = seats;
     for i in 0..arrivals.len() {
         let arrival = mem::replace(&mut arrivals[i], Arrival::Refused);
         let of_checker = own.get(i).copied().unwrap_or(alloc);
@@ -199,7 +192,7 @@ pub(crate) fn open_all<F: Feed + Drop, A: Allocator + Copy>(
             deal(&mut shares, i, bench);
         }
     }
-    Opened {
+    Seats {
         senders,
         shares,
         ports,

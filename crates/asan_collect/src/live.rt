@@ -11,7 +11,7 @@ ghost use Rattle.asan_stream.specs.Outcomes.{reports_of};
 use crate::NoMemory;
 use crate::arrivals::{MOST_SENDERS, ask};
 use crate::closing::close_all;
-use crate::lanes::{Opened, Rooms, open_all};
+use crate::lanes::{Seats, open_all};
 use crate::printers::Printers;
 use crate::returns::place_all;
 use crate::threads::{Returned, run_printing};
@@ -125,10 +125,10 @@ where
 {
     let arrival_room = Vec::with_capacity(alloc, MOST_SENDERS)?;
     let outcome_room = Vec::with_capacity(alloc, MOST_SENDERS)?;
-    let rooms = Rooms::new(alloc, options)?;
+    let seats = Seats::new(alloc, options)?;
     let arrivals = ask(door, arrival_room);
-    let opened = open_all(alloc, own, arrivals, rooms, options, true);
-    let Opened {
+    let opened = open_all(alloc, own, arrivals, seats, options, true);
+    let Seats {
         senders,
         shares,
         ports,

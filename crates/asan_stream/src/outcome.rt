@@ -32,8 +32,8 @@ pub enum Outcome<F, A: Allocator + Copy = Global> {
     NotOpened,
     /// A worker, a lane or the room for them was missing.
     NotStarted,
-    /// Its lane, or with live printing its report lane, has no end: the thread at the other side was
-    /// gone.
+    /// It was started, but its bench, the end of its lane or, with live printing, the end of its
+    /// report lane was missing: a thread was gone.
     Unsettled,
 }
 

@@ -14,9 +14,9 @@ use Rattle.asan_collect.proofs.lanes.open_all.Goals as goal
 
 pub loop-i-init : goal.loop-i-init
 loop-i-init g c =
-    let rooms = c.requires.rooms in
-    let none = rooms.no_senders in
-    let empty = rooms.no_ports in
+    let seats = c.requires.empty in
+    let none = seats.no_senders in
+    let empty = seats.no_ports in
     record {
       same = refl;
       going = record {
@@ -25,14 +25,14 @@ loop-i-init g c =
         each = λ k d e below. absurd (omega arith);
       };
       fresh = record { each = λ i d below. absurd (let no = rw none at below in omega arith) };
-      benches = shares_none c.args.options.quarantine (vec_len c.args.rooms.shares) c.args.rooms.senders.items c.args.rooms.shares.items rooms.no_benches;
-      sender_room = rooms.for_senders;
-      room = room_first (vec_len c.args.rooms.shares) c.args.rooms.shares.items rooms.some_shares (search rules) rooms.no_benches;
+      benches = shares_none c.args.options.quarantine (vec_len c.args.seats.shares) c.args.seats.senders.items c.args.seats.shares.items seats.no_benches;
+      sender_room = seats.for_senders;
+      room = room_first (vec_len c.args.seats.shares) c.args.seats.shares.items seats.some_shares (search rules) seats.no_benches;
       long = search rules;
-      port_room = rooms.for_ports;
+      port_room = seats.for_ports;
       untaken = record { each = λ i d below. absurd (let no = rw empty at below in omega arith) };
       fits = record { each = λ i d below. absurd (let no = rw none at below in omega arith) };
-      have = have_none (lanes_of c.args.rooms.ports.items) (vec_len c.args.rooms.shares) c.args.rooms.shares.items rooms.no_benches;
+      have = have_none (lanes_of c.args.seats.ports.items) (vec_len c.args.seats.shares) c.args.seats.shares.items seats.no_benches;
     }
 
 pub open-seat-requires : goal.open-seat-requires

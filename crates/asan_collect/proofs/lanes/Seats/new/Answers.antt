@@ -1,5 +1,5 @@
 use Rattle.std.proofs.Common.{rules}
-use Rattle.asan_collect.proofs.lanes.Rooms.new.Goals as goal
+use Rattle.asan_collect.proofs.lanes.Seats.new.Goals as goal
 
 pub returns : goal.returns
 returns g c = record {
