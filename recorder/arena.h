@@ -13,7 +13,7 @@
 enum { UNIT = 1 << 16, SMALLEST_SLOT = 2 * REDZONE, SLOTS = UNIT / SMALLEST_SLOT, ALIGNMENT = 16, PAGE = 4096 };
 /* There are 2^38 bytes in units, */
 enum { UNITS = 1 << 22 };
-/* and so many for signal handlers. */
+/* and this many bytes for signal handlers. */
 #define SPARE_BYTES ((uint64_t)1 << 34)
 /* Free runs are listed by their number of units, the longer ones together. */
 enum { BINS = 64 };

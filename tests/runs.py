@@ -267,7 +267,7 @@ def worked_traces(program):
 
 
 def both_versions(program):
-    """Poison with a kind and without one, behind the header of its version and of the other."""
+    """Poison with a kind and without one, after the header of its version and of the other."""
     redzones = [
         poison(0x2000, 16, 1),
         poison(0x2010, 16, 2),
@@ -953,7 +953,7 @@ def lines_of_each(output):
 
 
 def live_files(program):
-    """The lines of each process are as without --live, and the end lines come last."""
+    """The lines of each process are as without --live, and the end lines come last, in order."""
     frees = closed(*[free(0x2000)] * 3000)
     names = [put("past", PAST_THE_END), put("frees", frees), put("cut", CUT), "missing", "frees"]
     status, output, _ = program.run(["check", *names])
@@ -962,8 +962,8 @@ def live_files(program):
         words = ["check", "--live", "--ring", ring, "--workers", workers, *names]
         got = program.run(words)
         same(words, (got[0], lines_of_each(got[1]), got[2]), (status, wanted, b""))
-        last = got[1].decode().splitlines()[-len(names) :]
-        holds(words, all(" end " in line for line in last), "\n".join(last))
+        last = [line.split()[:2] for line in got[1].decode().splitlines()[-len(names) :]]
+        same(words, last, [[f"p{process}", "end"] for process in range(len(names))])
     program.expect(["check", "--live", "past"], 1, past_the_end())
     program.expect(["check", "--live", "-"], 0, sound(), given=SOUND)
     program.expect_unwritten(["check", "--live", "past", "frees"])
