@@ -303,6 +303,22 @@ def both_versions(program):
             "p0 end malformed kind events 0 offset 8 reports 0\n",
         ),
         (
+            closed(malloc(0x7FFF_0000_0000, 1 << 32), header=HEADER_2),
+            1,
+            "p0 #1 malloc 4294967296 at 7fff00000000 bad-malloc\n"
+            "p0 end closed events 1 offset 26 reports 1\n",
+        ),
+        (
+            closed(malloc(0x1000, (1 << 32) + 1), header=HEADER_2),
+            3,
+            "p0 end malformed size events 0 offset 8 reports 0\n",
+        ),
+        (
+            closed(unpoison(0x7FFF_0000_0001, 1 << 32), header=HEADER_2),
+            3,
+            "p0 end malformed range events 0 offset 8 reports 0\n",
+        ),
+        (
             closed(*written_for_1),
             1,
             "p0 #3 load 1 at 000000001003 bad 000000001003 heap-buffer-overflow shadow 02\n"
@@ -509,6 +525,25 @@ def quarantine(program):
             1,
             "p0 #3 free at 000000001000 bad-free\np0 end closed events 3 offset 44 reports 1\n",
         )
+
+
+def four_gigabyte_block(program):
+    """A block of 2^32 bytes is released by its own free, unless the quarantine has room for it."""
+    block = [malloc(1 << 32, 1 << 32), free(1 << 32), free(1 << 32)]
+    put("trace", closed(*block, header=HEADER_2))
+    for words, fault in [
+        ([], "bad-free"),
+        (["--quarantine", "4294967359"], "bad-free"),
+        (["--quarantine", "4294967360"], "double-free"),
+    ]:
+        program.expect(
+            ["check", *words, "trace"],
+            1,
+            f"p0 #3 free at 000100000000 {fault}\n"
+            "p0 end closed events 3 offset 44 reports 1\n",
+        )
+    put("trace", closed(*block))
+    program.expect(["check", "trace"], 3, "p0 end malformed size events 0 offset 8 reports 0\n")
 
 
 def ends_of_ranges(program):
@@ -1020,6 +1055,7 @@ CASES = [
     limit_of_events,
     greatest_limits,
     quarantine,
+    four_gigabyte_block,
     ends_of_ranges,
     refused_words,
     word_that_is_no_text,

@@ -4,7 +4,7 @@ use Rattle.std.specs.Prelude.{◌&&◌, nat_le, nat_lt, IsTrue, reverse}
 use Rattle.std.proofs.lemmas.Bool.{and_parts, leb-true, ltb-true}
 use Rattle.std.proofs.lemmas.Bool.Decides.{nat_tests}
 use Rattle.trace_record.specs.Ranges.{largest_region}
-use Rattle.asan_units.specs.Units.{is_width, address_end}
+use Rattle.asan_units.specs.Units.{is_width, address_end, largest_quarantine}
 use Rattle.trace_record.specs.declared.event.Event.{Event}
 use Rattle.trace_record.specs.declared.event.Event.TheVariants as event
 use Rattle.trace_record.specs.declared.event.Access.{Access}
@@ -175,6 +175,18 @@ own_span_over_the_bound :
     ≡ (report 5 (fault.Access false 1 0x1000 0x1000 class.HeapBufferOverflow 0xfa)) ∷ (report 6 (fault.Access false 1 0x2000 0x2000 class.HeapBufferOverflow 0xfa)) ∷ []
 own_span_over_the_bound = refl
 
+-- a block of 2^32 bytes, whose span is over the usual bound: its own free releases it
+four_gigabyte_block_is_released :
+    verdicts usual ((malloc 0x100000000 4294967296 refl) ∷ (load 0x1ffffffff 1 refl) ∷ (load 0x200000000 1 refl) ∷ (free 0x100000000 refl) ∷ (load 0x180000000 1 refl) ∷ [])
+    ≡ (report 3 (fault.Access false 1 0x200000000 0x200000000 class.HeapBufferOverflow 0xfa)) ∷ (report 5 (fault.Access false 1 0x180000000 0x180000000 class.HeapBufferOverflow 0xfa)) ∷ []
+four_gigabyte_block_is_released = refl
+
+-- the same block where the bound is the largest
+four_gigabyte_block_is_held :
+    verdicts largest_quarantine ((malloc 0x100000000 4294967296 refl) ∷ (load 0x1ffffffff 1 refl) ∷ (load 0x200000000 1 refl) ∷ (free 0x100000000 refl) ∷ (load 0x180000000 1 refl) ∷ [])
+    ≡ (report 3 (fault.Access false 1 0x200000000 0x200000000 class.HeapBufferOverflow 0xfa)) ∷ (report 5 (fault.Access false 1 0x180000000 0x180000000 class.HeapUseAfterFree 0xfd)) ∷ []
+four_gigabyte_block_is_held = refl
+
 -- a release repaints poison and unpoison that came into the span
 release_repaints_the_span :
     verdicts 72 ((malloc 0x1000 8 refl) ∷ (malloc 0x2000 8 refl) ∷ (free 0x1000 refl) ∷ (unpoison 0x1000 8 refl) ∷ (load 0x1000 1 refl) ∷ (free 0x2000 refl) ∷ (load 0x1000 1 refl) ∷ [])
@@ -245,11 +257,29 @@ last_load :
     ≡ []
 last_load = refl
 
--- the largest size, at an address that is not aligned
+-- the largest size of version 1, at an address that is not aligned
 largest_malloc_unaligned :
     verdicts usual ((malloc 0x1004 268435456 refl) ∷ [])
     ≡ (report 1 (fault.BadMalloc 0x1004 268435456)) ∷ []
 largest_malloc_unaligned = refl
+
+-- the largest size of version 2, where no block has room
+largest_malloc_past_the_end :
+    verdicts usual ((malloc 0x7fff00000000 4294967296 refl) ∷ [])
+    ≡ (report 1 (fault.BadMalloc 0x7fff00000000 4294967296)) ∷ []
+largest_malloc_past_the_end = refl
+
+-- the last place of a block of that size
+last_place_of_the_largest_block :
+    verdicts usual ((malloc 0x7ffeffffffe0 4294967296 refl) ∷ (load 0x7fffffffffdf 1 refl) ∷ (load 0x7fffffffffe0 1 refl) ∷ [])
+    ≡ (report 3 (fault.Access false 1 0x7fffffffffe0 0x7fffffffffe0 class.HeapBufferOverflow 0xfa)) ∷ []
+last_place_of_the_largest_block = refl
+
+-- a poison of that size, up to the last address
+poison_up_to_the_last_address :
+    verdicts usual ((poison_of kind.Global 0x7fff00000000 4294967296 refl) ∷ (load 0x7fffffffffff 1 refl) ∷ (load 0x7ffefffffff8 8 refl) ∷ (unpoison 0x7fff00000000 4294967296 refl) ∷ (load 0x7fffffffffff 1 refl) ∷ [])
+    ≡ (report 2 (fault.Access false 1 0x7fffffffffff 0x7fffffffffff class.GlobalBufferOverflow 0xf9)) ∷ []
+poison_up_to_the_last_address = refl
 
 -- a span that ends at 2^47
 last_malloc :

@@ -1,6 +1,7 @@
 //! Events, and the calls of a checker that the tests share.
 mod beside_the_model;
 mod examples;
+mod large;
 mod model;
 mod passing;
 mod refusals;

@@ -2,6 +2,7 @@
 ghost use Rattle.std.specs.Prelude.{◌+◌, ◌-◌, ◌^◌, ◌≤◌};
 
 use crate::{Admit, Block, Book, Bound, Freed, NoMemory};
+use asan_units::ADDRESS_END;
 use refusing_allocator::RefusingAllocator;
 use std::alloc::{Allocator, Global};
 use std::process::Abort;
@@ -68,6 +69,7 @@ fn blocks_of_any_size(rt: HostRuntime) -> Result<(), Fail> {
     assert!(rt; is_kept(alloc, 137)?);
     assert!(rt; is_kept(alloc, 1 << 20)?);
     assert!(rt; is_kept(alloc, 1 << 28)?);
+    assert!(rt; is_kept(alloc, 1 << 32)?);
     assert!(rt; is_kept(alloc, (1 << 47) - 64)?);
     Ok(())
 }
@@ -131,11 +133,31 @@ fn span_over_the_bound_is_not_held(rt: HostRuntime) -> Result<(), Fail> {
     Ok(())
 }
 
+/// The largest quarantine holds 256 blocks whose spans have 2^32 bytes, side by side.
+#[test]
+fn largest_quarantine_of_large_blocks(rt: HostRuntime) -> Result<(), Fail> {
+    let mut book = Book::new(rt.alloc(), 1 << 40)?;
+    let size = (1 << 32) - 64;
+    for number in 0..256u64 {
+        let at = (number << 32) + 32;
+        let block = Block::from_parts(at, size);
+        assert_eq!(rt; book.admit(at, size)?, Admit::Admitted(block));
+        assert_eq!(rt; book.free(at)?, Freed::Held(block));
+        assert_eq!(rt; book.evict(), None);
+    }
+    book.admit((1 << 40) + 32, 0)?;
+    book.free((1 << 40) + 32)?;
+    assert_eq!(rt; book.evict(), Some(Block::from_parts(32, size)));
+    assert_eq!(rt; book.evict(), None);
+    assert_eq!(rt; book.free(32)?, Freed::Stranger);
+    Ok(())
+}
+
 /// A call of a book.
 #[derive(Clone, Copy, Debug)]
 enum Call {
-    Admit(u32, u32),
-    Free(u32),
+    Admit(u64, u64),
+    Free(u64),
     Evict,
 }
 
@@ -147,10 +169,18 @@ enum Answer {
     Evict(Option<Block>),
 }
 
-fn ask<A: Allocator + Copy>(book: &mut Book<A>, call: Call) -> Result<Answer, NoMemory> {
+/// Makes a call. A block of one ends at 2^47 at most.
+fn ask<A: Allocator + Copy>(
+    rt: &impl Abort,
+    book: &mut Book<A>,
+    call: Call,
+) -> Result<Answer, NoMemory> {
     match call {
-        Call::Admit(at, size) => Ok(Answer::Admit(book.admit(at as u64, size as u64)?)),
-        Call::Free(at) => Ok(Answer::Free(book.free(at as u64)?)),
+        Call::Admit(at, size) => {
+            assert!(rt; size <= ADDRESS_END && at <= ADDRESS_END - size);
+            Ok(Answer::Admit(book.admit(at, size)?))
+        }
+        Call::Free(at) => Ok(Answer::Free(book.free(at)?)),
         Call::Evict => Ok(Answer::Evict(book.evict())),
     }
 }
@@ -164,12 +194,12 @@ fn refuse_each(rt: &impl Abort, alloc: Global, calls: &[Call]) -> Result<u64, Fa
         let mut ample = Book::new(alloc, 72)?;
         let mut refused = false;
         for call in calls {
-            let wanted = ask(&mut ample, *call)?;
-            let given = match ask(&mut book, *call) {
+            let wanted = ask(rt, &mut ample, *call)?;
+            let given = match ask(rt, &mut book, *call) {
                 Ok(given) => given,
                 Err(NoMemory) => {
                     refused = true;
-                    ask(&mut book, *call)?
+                    ask(rt, &mut book, *call)?
                 }
             };
             assert_eq!(rt; given, wanted, "turn {turn}, {call:?}");
@@ -210,12 +240,23 @@ fn each_growth_refused_in_turn(rt: HostRuntime) -> Result<(), Fail> {
         Call::Evict,
     ];
     assert!(rt; refuse_each(&rt, rt.alloc(), &oldest_released)? > 1);
+    let four_gigabytes = [
+        Call::Admit(0x1_0000_0000, 1 << 32),
+        Call::Admit(0x2_0000_0038, 1 << 32),
+        Call::Admit(0x2_0000_0040, 1 << 32),
+        Call::Free(0x1_0000_0000),
+        Call::Free(0x2_0000_0040),
+        Call::Evict,
+        Call::Evict,
+        Call::Evict,
+    ];
+    assert!(rt; refuse_each(&rt, rt.alloc(), &four_gigabytes)? > 1);
     // So many that the map and the queue grow again.
     let mut many = Vec::new(rt.alloc());
-    for number in 1..20u32 {
+    for number in 1..20u64 {
         many.push(Call::Admit(number * 0x1000, 8))?;
     }
-    for number in 1..20u32 {
+    for number in 1..20u64 {
         many.push(Call::Free(number * 0x1000))?;
     }
     for _ in 0..20 {

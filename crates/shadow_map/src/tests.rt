@@ -1,5 +1,6 @@
 //! The calls of a shadow, and the end of the memory.
 mod granules;
+mod large;
 mod leaves;
 mod memory;
 mod model;

@@ -2,6 +2,7 @@
 use Rattle.std.proofs.Common.{◌≡◌, ℕ, ◌+◌, ◌*◌, ◌<◌, ◌≤◌, ◌⊎◌, inl, inr, Bool, true, false, List, [], ◌∷◌, ◌++◌, Some, None, refl, ap, arith}
 use Rattle.std.specs.Prelude.{◌≢◌, IsTrue, length}
 use Rattle.trace_record.specs.declared.event.Event.{Event}
+use Rattle.trace_record.specs.declared.event.Region.{Region}
 use Rattle.trace_record.specs.declared.end.Fate.{Fate}
 use Rattle.trace_record.specs.declared.end.Fate.TheVariants as fate
 use Rattle.trace_record.specs.declared.end.Flaw.TheVariants as flaw
@@ -99,12 +100,24 @@ range_before_width : access_flaw 0x8000_0000_0000 3 ≢ Some flaw.Range
 range_before_width same = absurd cc
 
 -- of a region with two flaws the range is found first
-range_before_size : (v : Version) → region_flaw v 0x8000_0000_0000 0x1000_0001 ≢ Some flaw.Range
+range_before_size : (v : Version) → region_flaw v 0x8000_0000_0000 0x1_0000_0001 ≢ Some flaw.Range
 range_before_size version.One same = absurd cc
 range_before_size version.Two same = absurd cc
 
+-- version 1 has regions of more than 2^28 bytes
+large_region_taken_in_version_1 : region_flaw version.One 0x1000 0x1000_0001 ≢ None
+large_region_taken_in_version_1 same = absurd cc
+
+-- version 2 has no region of 2^32 bytes
+largest_region_refused_in_version_2 : region_flaw version.Two 0x1000 0x1_0000_0000 ≢ Some flaw.Size
+largest_region_refused_in_version_2 same = absurd cc
+
+-- version 2 has regions of more than 2^32 bytes
+larger_region_taken_in_version_2 : region_flaw version.Two 0x1000 0x1_0000_0001 ≢ None
+larger_region_taken_in_version_2 same = absurd cc
+
 -- of a poison with two flaws the size is found before the kind
-size_before_kind : shade_flaw version.Two 0x1000 0x1000_0001 3 ≢ Some flaw.Size
+size_before_kind : shade_flaw version.Two 0x1000 0x1_0000_0001 3 ≢ Some flaw.Size
 size_before_kind same = absurd cc
 
 -- there is a fourth kind
@@ -118,6 +131,13 @@ stack_poison_in_version_1 :
     (s : Shade) → shade_kind s ≡ kind.Stack →
     ¬ IsTrue (spells_in version.One (event.Poison s))
 stack_poison_in_version_1 s is spells =
+    let no_is_yes : ◌≡◌ {A = Bool} false true = rw is at spells in absurd cc
+
+-- a malloc of more than 2^28 bytes is spelled in version 1
+large_malloc_in_version_1 :
+    (r : Region) → r.size ≡ 0x1000_0001 →
+    ¬ IsTrue (spells_in version.One (event.Malloc r))
+large_malloc_in_version_1 r is spells =
     let no_is_yes : ◌≡◌ {A = Bool} false true = rw is at spells in absurd cc
 
 abbrev packed_in : Event → ℕ

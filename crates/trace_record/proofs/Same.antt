@@ -38,7 +38,7 @@ same_access a b at width =
 
 pub same_region : (a b : Region) → a.at ≡ b.at → a.size ≡ b.size → a ≡ b
 same_region a b at size =
-    let P : ℕ → ℕ → Type 0 = λ at size. (small : size ≤ 2 ^ 28) (in_range : at + size ≤ 2 ^ 47) → a ≡ record { at = at; size = size; small = small; in_range = in_range } in
+    let P : ℕ → ℕ → Type 0 = λ at size. (small : size ≤ largest_region version.Two) (in_range : at + size ≤ 2 ^ 47) → a ≡ record { at = at; size = size; small = small; in_range = in_range } in
     let here : P a.at a.size = λ small in_range i. record { at = a.at; size = a.size; small = le_prop a.small small i; in_range = le_prop a.in_range in_range i } in
     (subst (λ (w : ℕ). P b.at w) size (subst (λ (n : ℕ). P n a.size) at here)) b.small b.in_range
 
@@ -52,7 +52,7 @@ pub same_shade : (a b : Shade) → a.at ≡ b.at → shade_size a ≡ shade_size
 same_shade a b at size kind =
     let rest : a.size_and_kind % 4 ≡ b.size_and_kind % 4 = sym (kind_back (a.size_and_kind % 4) a.known_kind) ∙ kind ∙ kind_back (b.size_and_kind % 4) b.known_kind in
     let packed : a.size_and_kind ≡ b.size_and_kind = same_number a.size_and_kind b.size_and_kind size rest in
-    let P : ℕ → ℕ → Type 0 = λ at packed. (known : packed % 4 < 3) (small : packed / 4 ≤ 2 ^ 28) (in_range : at + packed / 4 ≤ 2 ^ 47) → a ≡ record { at = at; size_and_kind = packed; known_kind = known; small = small; in_range = in_range } in
+    let P : ℕ → ℕ → Type 0 = λ at packed. (known : packed % 4 < 3) (small : packed / 4 ≤ largest_region version.Two) (in_range : at + packed / 4 ≤ 2 ^ 47) → a ≡ record { at = at; size_and_kind = packed; known_kind = known; small = small; in_range = in_range } in
     let here : P a.at a.size_and_kind = λ known small in_range i. record { at = a.at; size_and_kind = a.size_and_kind; known_kind = le_prop a.known_kind known i; small = le_prop a.small small i; in_range = le_prop a.in_range in_range i } in
     (subst (λ (w : ℕ). P b.at w) packed (subst (λ (n : ℕ). P n a.size_and_kind) at here)) b.known_kind b.small b.in_range
 
@@ -154,7 +154,7 @@ largest_of_all version.Two = omega arith
 
 pub record IsGoodRegion (v : Version) (at size : ℕ) : Type 0 where
   pub fits : IsTrue (nat_le size (largest_region v))
-  pub small : size ≤ 2 ^ 28
+  pub small : size ≤ largest_region version.Two
   pub in_range : at + size ≤ 2 ^ 47
 
 pub region_of : (v : Version) (at size : ℕ) → region_flaw v at size ≡ None → IsGoodRegion v at size
@@ -226,7 +226,7 @@ kind_there kind.User = refl
 kind_there kind.Stack = refl
 kind_there kind.Global = refl
 
-shade_with : (at size : ℕ) (k : Kind) → size ≤ 2 ^ 28 → at + size ≤ 2 ^ 47 → HasShade at size k
+shade_with : (at size : ℕ) (k : Kind) → size ≤ largest_region version.Two → at + size ≤ 2 ^ 47 → HasShade at size k
 shade_with at size k small in_range =
     let packed = size * 4 + kind_number k in
     let few = kind_small k in

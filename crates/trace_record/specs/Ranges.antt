@@ -6,7 +6,7 @@ use Rattle.trace_record.specs.declared.version.Version.TheVariants as version
 -- the most bytes that a malloc, a poison or an unpoison may speak of in a version
 abbrev pub largest_region : Version → ℕ
 largest_region version.One = 2 ^ 28
-largest_region version.Two = 2 ^ 28
+largest_region version.Two = 2 ^ 32
 
 -- the greatest event limit
 abbrev pub largest_limit : ℕ

@@ -17,8 +17,9 @@ pub enum Flaw {
     /// The width of a load or store is not 1, 2, 4 or 8.
     #[error("the width of an access is not 1, 2, 4 or 8")]
     Width,
-    /// A malloc, poison or unpoison speaks of more than 2^28 bytes.
-    #[error("a region has more than 268435456 bytes")]
+    /// A malloc, poison or unpoison speaks of more bytes than its version allows: 2^28 in version
+    /// 1, and 2^32 in version 2.
+    #[error("a region has more bytes than the version allows")]
     Size,
     /// The record reaches past the last address.
     #[error("a record reaches past the last address")]

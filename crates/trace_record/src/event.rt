@@ -54,7 +54,8 @@ impl Event {
     ghost use Rattle.trace_record.specs.Spelling.{spells_in};
 
     /// Whether the event can be spelled in a version. In version 1 a poison of another kind than
-    /// user can't; in version 2 every event can.
+    /// user can't, nor can a malloc, a poison or an unpoison of more than 2^28 bytes. In version 2
+    /// every event can.
     pub fn spells_in(&self, version: Version) -> bool
         ensures { result ≡ spells_in version self.now }
     {
@@ -108,8 +109,8 @@ impl Region {
     ghost use Rattle.trace_record.specs.Flaws.{region_flaw};
 
     /// The region of `size` bytes at the address `at`, or the first flaw of these numbers: `Size`
-    /// if it has more than 2^28 bytes, then `Range` if it ends past 2^47. A region of size 0 may
-    /// lie at 2^47.
+    /// if it has more than 2^32 bytes, then `Range` if it ends past 2^47. A region of size 0 may
+    /// lie at 2^47. One of more than 2^28 bytes has no spelling in version 1.
     pub fn new(at: u64, size: u64) -> Result<Region, Flaw>
         ensures { MatchResult result
             (λ r. (r.at ≡ at) × (r.size ≡ size)) (λ f. region_flaw version.Two at size ≡ Some f) }
@@ -139,7 +140,7 @@ impl Region {
         self.at
     }
 
-    /// How many bytes it has, at most 2^28.
+    /// How many bytes it has, at most 2^32.
     pub fn size(&self) -> u64
         ensures { result ≡ self.now.size }
     {

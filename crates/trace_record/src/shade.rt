@@ -71,7 +71,7 @@ impl Shade {
 
     /// The poison of `size` bytes at the address `at`, of the kind with this number: 0 for a user's
     /// poison, 1 for the stack's, 2 for a global's. Or the first flaw of these numbers: `Kind` if
-    /// the kind is over 2, then `Size` if it has more than 2^28 bytes, then `Range` if it ends past
+    /// the kind is over 2, then `Size` if it has more than 2^32 bytes, then `Range` if it ends past
     /// 2^47. A poison of size 0 may lie at 2^47.
     pub fn new(at: u64, size: u64, kind: u8) -> Result<Shade, Flaw>
         ensures { MatchResult result
@@ -111,7 +111,7 @@ impl Shade {
         self.at
     }
 
-    /// How many bytes it has, at most 2^28.
+    /// How many bytes it has, at most 2^32.
     pub fn size(&self) -> u64
         ensures { result ≡ shade_size self.now }
     {

@@ -305,6 +305,7 @@ fn refused_arguments(rt: HostRuntime) {
     assert_eq!(rt; Access::new(0x1000, 3), Err(Flaw::Width));
     assert_eq!(rt; Access::new(u64::MAX, 1), Err(Flaw::Range));
     assert_eq!(rt; Region::new(u64::MAX, 1), Err(Flaw::Range));
-    assert_eq!(rt; Region::new(0, (1 << 28) + 1), Err(Flaw::Size));
+    assert_eq!(rt; Region::new(u64::MAX, 1 << 32), Err(Flaw::Range));
+    assert_eq!(rt; Region::new(u64::MAX, (1 << 32) + 1), Err(Flaw::Size));
     assert_eq!(rt; Place::new(1 << 47), Err(Flaw::Range));
 }

@@ -1,4 +1,4 @@
-//! The versions of the format, and the one limit in which they may differ.
+//! The versions of the format, and the one limit in which they differ.
 
 ghost use Rattle.std.specs.Prelude.{◌≡◌, ◌≤◌};
 ghost use Rattle.trace_record.specs.declared.version.Version.TheVariants as version;
@@ -8,9 +8,9 @@ ghost use Rattle.trace_record.specs.Ranges.{largest_region};
 /// that.
 #[derive(Clone, Copy, Debug, PartialEq, Eq)]
 pub enum Version {
-    /// Version 1. Its poison has no kind: each is a user's.
+    /// Version 1. Its poison has no kind: each is a user's. A region has at most 2^28 bytes.
     One,
-    /// Version 2. A poison has a kind.
+    /// Version 2. A poison has a kind. A region has at most 2^32 bytes.
     Two,
 }
 
@@ -22,7 +22,7 @@ impl Version {
     {
         match self {
             Version::One => 1 << 28,
-            Version::Two => 1 << 28,
+            Version::Two => 1 << 32,
         }
     }
 }

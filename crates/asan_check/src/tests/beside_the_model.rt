@@ -26,7 +26,7 @@ const STRIDE: u64 = 80;
 /// A size: a small one mostly, else one from a power of two on.
 fn drawn_size(draws: &mut Draws) -> u64 {
     if draws.below(16) == 0 {
-        let power = 1u64 << draws.below(29);
+        let power = 1u64 << draws.below(33);
         power.saturating_add(draws.below(9))
     } else {
         draws.below(GREATEST_SIZE + 1)

@@ -164,18 +164,22 @@ p0 end closed events 2 offset {offset} reports 1
     Ok(())
 }
 
-/// A kind that is none is told before a size that is too large. The first byte of the version
-/// decides whether the header is one.
+/// A kind that is none is told before a size that is too large in version 1 or in both versions.
+/// The first byte of the version decides whether the header is one.
 #[test]
 fn version_2_flaws(rt: HostRuntime) -> Result<(), Fail> {
     let kind = [
         0x41, 0x53, 0x54, 0x52, 2, 0, 0, 0, 5, 3, 0, 0x10, 0, 0, 0, 0, 0, 0, 1, 0, 0, 0x10, 0, 0,
         0, 0,
     ];
-    assert_eq!(rt;
-        text_of(&rt, rt.alloc(), USUAL, &kind)?.as_str(),
-        "p0 end malformed kind events 0 offset 8 reports 0\n"
-    );
+    let mut larger = kind;
+    larger[21..23].copy_from_slice(&[0, 1]);
+    for stream in [kind, larger] {
+        assert_eq!(rt;
+            text_of(&rt, rt.alloc(), USUAL, &stream)?.as_str(),
+            "p0 end malformed kind events 0 offset 8 reports 0\n"
+        );
+    }
     for number in [0, 3, 0xff] {
         let mut other = REDZONES;
         other[4] = number;

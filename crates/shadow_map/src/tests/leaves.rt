@@ -1,7 +1,5 @@
 //! The shadow beside the plain model, at the ends of leaves and branches.
-ghost use Rattle.std.specs.Prelude.{◌^◌, ◌<◌, ◌≤◌};
-
-use super::model::Model;
+use super::model::Both;
 use super::values;
 use crate::{FREED, HEAP_REDZONE, NoMemory, Shadow, USER_POISON};
 use std::alloc::Global;
@@ -10,56 +8,6 @@ use std::test::Fail;
 /// How many granules an eighth of a leaf has, a leaf, a branch of each level over the leaves, and
 /// the whole memory.
 const WIDTHS: [u64; 7] = [1 << 9, 1 << 12, 1 << 19, 1 << 26, 1 << 33, 1 << 40, 1 << 44];
-
-/// The shadow and the model, and how many fills were made in both.
-#[derive(Drop)]
-struct Both {
-    shadow: Shadow,
-    model: Model,
-    fills: u64,
-}
-
-impl Both {
-    fn new(alloc: Global) -> Both {
-        Both {
-            shadow: Shadow::new(alloc),
-            model: Model::new(alloc),
-            fills: 0,
-        }
-    }
-
-    /// Fills whole granules of both by the next of four calls.
-    fn fill(&mut self, from: u64, to: u64) -> Result<(), NoMemory>
-        requires order { from ≤ to }
-        requires end { to ≤ 2 ^ 44 }
-    {
-        self.fills = self.fills.wrapping_add(1);
-        let (at, end) = (from * 8, to * 8);
-        match self.fills % 4 {
-            0 => self.shadow.mark(at, end, FREED)?,
-            1 => self.shadow.poison(at, end - at, USER_POISON)?,
-            2 => self.shadow.unpoison(at, end - at)?,
-            _ => self.shadow.mark(at, end, HEAP_REDZONE)?,
-        }
-        let value = match self.fills % 4 {
-            0 => FREED,
-            1 => USER_POISON,
-            2 => 0,
-            _ => HEAP_REDZONE,
-        };
-        self.model.fill(from, to, value)
-    }
-
-    /// The first of these granules of which the two have different shadow bytes.
-    fn difference(&self, from: u64, to: u64) -> Option<u64> {
-        for granule in from..to {
-            if self.shadow.value(granule) != self.model.value(granule) {
-                return Some(granule);
-            }
-        }
-        None
-    }
-}
 
 /// Granules, counted from one that lies 1,024 before the end of a leaf or a branch: on, one before
 /// and one after that end, and the same 512 granules before it and after it.
@@ -131,15 +79,15 @@ fn whole_leaves_and_branches(rt: HostRuntime) -> Result<(), Fail> {
 #[test]
 fn widest_poison(rt: HostRuntime) -> Result<(), Fail> {
     let mut shadow = Shadow::new(rt.alloc());
-    shadow.poison(0x4000_0000, 1 << 28, USER_POISON)?;
-    assert_eq!(rt; values(&shadow, 0x9ff_ffff), [0xf7, 0]);
+    shadow.poison(0x4000_0000, 1 << 32, USER_POISON)?;
+    assert_eq!(rt; values(&shadow, 0x27ff_ffff), [0xf7, 0]);
     assert_eq!(rt;
         [
-            shadow.bad_byte(0x4fff_ffff, 1),
-            shadow.bad_byte(0x5000_0000, 1),
+            shadow.bad_byte(0x1_3fff_ffff, 1),
+            shadow.bad_byte(0x1_4000_0000, 1),
             shadow.first_poisoned(0x3fff_ff00, 0x200),
         ],
-        [Some(0x4fff_ffff), None, Some(0x4000_0000)]
+        [Some(0x1_3fff_ffff), None, Some(0x4000_0000)]
     );
     Ok(())
 }
@@ -148,9 +96,9 @@ fn widest_poison(rt: HostRuntime) -> Result<(), Fail> {
 /// it is live, when it is freed and when it is released.
 #[test]
 fn largest_block(rt: HostRuntime) -> Result<(), Fail> {
-    let (at, end) = (0x4000_0000, 0x5000_0000);
+    let (at, end) = (0x4000_0000, 0x1_4000_0000);
     let mut shadow = Shadow::new(rt.alloc());
-    shadow.block(at, 1 << 28)?;
+    shadow.block(at, 1 << 32)?;
     assert_eq!(rt;
         [
             shadow.bad_byte(at, 8),
@@ -161,8 +109,8 @@ fn largest_block(rt: HostRuntime) -> Result<(), Fail> {
     );
     assert_eq!(rt;
         [
-            shadow.first_poisoned(at, 1 << 28),
-            shadow.first_poisoned(at, (1 << 28) + 1)
+            shadow.first_poisoned(at, 1 << 32),
+            shadow.first_poisoned(at, (1 << 32) + 1)
         ],
         [None, Some(end)]
     );

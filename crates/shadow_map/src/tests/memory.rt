@@ -6,8 +6,11 @@ use refusing_allocator::RefusingAllocator;
 use std::alloc::{Allocator, Global};
 use std::test::Fail;
 
-/// How many bytes one record can mark.
-const LARGEST: u64 = 1 << 28;
+/// How many bytes one record of version 1 can mark.
+const LARGEST_1: u64 = 1 << 28;
+
+/// How many bytes one record of version 2 can mark.
+const LARGEST_2: u64 = 1 << 32;
 
 /// An end of branches of each level, but for the one that has all memory. The dearest marks lie
 /// over it.
@@ -31,7 +34,7 @@ const LEAF: u64 = 4096;
 const HANDLES: u64 = 128 * 8;
 
 /// The states and the records that `prepare` and `mark_record` know, and what the records ask for.
-const RECORDS: [Asked; 10] = [
+const RECORDS: [Asked; 18] = [
     // A load, a store.
     (0, 0, 0),
     // A malloc: one redzone lies over `END`, the other one over an end of branches of the lowest
@@ -53,6 +56,23 @@ const RECORDS: [Asked; 10] = [
     (4, 1, 0),
     // A poison of a part of it, once more.
     (0, 0, 0),
+    // In version 2: a malloc, one of whose redzones lies over `END`, and the other one over an end
+    // of branches of the second level.
+    (9, 4, 4),
+    // A free of such a block that was just marked.
+    (0, 0, 0),
+    // The most that a free asks for: what is round each end of the block was poisoned since.
+    (2, 2, 2),
+    // A poison whose ends cut leaves in two, over `END`.
+    (7, 2, 2),
+    // One whose ends are ends of branches of the lowest level.
+    (7, 0, 0),
+    // One of whole branches of the second level.
+    (5, 0, 0),
+    // An unpoison whose ends cut leaves in two, where whole branches were poisoned.
+    (2, 2, 2),
+    // One there whose ends are ends of branches of the lowest level.
+    (2, 0, 0),
 ];
 
 /// Marks what stands before a record.
@@ -61,13 +81,23 @@ fn prepare<A: Allocator + Copy>(shadow: &mut Shadow<A>, record: usize) -> Result
         2 => shadow.block(0x4000_0808, 0xfff_0000),
         3 => {
             shadow.block(0x4000_0808, 0xfff_0000)?;
-            shadow.poison(0x4000_0000, LARGEST, USER_POISON)
+            shadow.poison(0x4000_0000, LARGEST_1, USER_POISON)
         }
         6 => {
-            shadow.poison(END - LARGEST, LARGEST, USER_POISON)?;
-            shadow.poison(END, LARGEST, USER_POISON)
+            shadow.poison(END - LARGEST_1, LARGEST_1, USER_POISON)?;
+            shadow.poison(END, LARGEST_1, USER_POISON)
         }
         9 => shadow.poison(0x4000_8000, 0x8000, USER_POISON),
+        11 => shadow.block(END - 0x7fff_f7f8, LARGEST_2),
+        12 => {
+            shadow.block(END - 0x7fff_f7f8, LARGEST_2)?;
+            shadow.poison(END - LARGEST_2, LARGEST_2, USER_POISON)?;
+            shadow.poison(END, LARGEST_2, USER_POISON)
+        }
+        16 | 17 => {
+            shadow.poison(END - LARGEST_2, LARGEST_2, USER_POISON)?;
+            shadow.poison(END, LARGEST_2, USER_POISON)
+        }
         _ => Ok(()),
     }
 }
@@ -77,11 +107,18 @@ fn mark_record<A: Allocator + Copy>(shadow: &mut Shadow<A>, record: usize) -> Re
     match record {
         1 => shadow.block(END + 8, 0x7ff_fff0),
         2 | 3 => shadow.mark(0x4000_0808, 0x4fff_0808, FREED),
-        4 => shadow.poison(END - 0x7ff_f7fd, LARGEST, USER_POISON),
-        5 => shadow.poison(END - 0x800_0000, LARGEST, USER_POISON),
-        6 | 7 => shadow.unpoison(END - 0x7ff_f7fd, LARGEST),
+        4 => shadow.poison(END - 0x7ff_f7fd, LARGEST_1, USER_POISON),
+        5 => shadow.poison(END - 0x800_0000, LARGEST_1, USER_POISON),
+        6 | 7 => shadow.unpoison(END - 0x7ff_f7fd, LARGEST_1),
         8 => shadow.poison(0x4000_8000, 0x8000, USER_POISON),
         9 => shadow.poison(0x4000_8008, 8, USER_POISON),
+        10 => shadow.block(END + 8, LARGEST_2 - 16),
+        11 | 12 => shadow.mark(END - 0x7fff_f7f8, END + 0x8000_0808, FREED),
+        13 => shadow.poison(END - 0x7fff_f7fd, LARGEST_2, USER_POISON),
+        14 => shadow.poison(END - 0x7fc0_0000, LARGEST_2, USER_POISON),
+        15 => shadow.poison(END - 0x8000_0000, LARGEST_2, USER_POISON),
+        16 => shadow.unpoison(END - 0x7fff_f7fd, LARGEST_2),
+        17 => shadow.unpoison(END - 0x7fc0_0000, LARGEST_2),
         _ => {
             let _ = (shadow.bad_byte(END, 8), shadow.value(0));
             Ok(())
@@ -124,7 +161,7 @@ fn memory_of_a_record(rt: HostRuntime) -> Result<(), Fail> {
 fn poison_is_refused_at(alloc: Global, turn: u64) -> bool {
     let heap = RefusingAllocator::at_turn(alloc, turn);
     let mut shadow = Shadow::new(&heap);
-    shadow.poison(0x4000_0000, LARGEST, USER_POISON).is_err()
+    shadow.poison(0x4000_0000, LARGEST_1, USER_POISON).is_err()
 }
 
 #[test]
@@ -135,7 +172,7 @@ fn no_poison_makes_many_requests(rt: HostRuntime) {
 
 /// How many requests a poison of a part of a leaf makes after a larger region was filled whole.
 fn asked_after(alloc: Global, size: u64) -> Result<u64, NoMemory>
-    requires { size ≤ 0x1000_0000 }
+    requires { size ≤ 0x2000_0000 }
 {
     let heap = RefusingAllocator::counting(alloc);
     let mut shadow = Shadow::new(&heap);
@@ -149,14 +186,15 @@ fn asked_after(alloc: Global, size: u64) -> Result<u64, NoMemory>
 #[test]
 fn memory_of_what_was_filled_whole_is_given_back(rt: HostRuntime) -> Result<(), Fail> {
     // A part of a leaf stays in its bytes; a leaf gives them back; a branch gives back its nodes
-    // too.
+    // too, and so does one of the second level.
     assert_eq!(rt;
         [
             asked_after(rt.alloc(), 0x1000)?,
             asked_after(rt.alloc(), 0x8000)?,
             asked_after(rt.alloc(), 0x40_0000)?,
+            asked_after(rt.alloc(), 0x2000_0000)?,
         ],
-        [0, 1, 2]
+        [0, 1, 2, 3]
     );
     Ok(())
 }

@@ -1,4 +1,5 @@
-//! Tests of version 2: poison with a kind, what a header tells, and what both versions share.
+//! Tests of version 2: poison with a kind, larger regions, what a header tells, and what both
+//! versions share.
 
 use super::{LOADS, STREAM, an_end, give, read};
 use crate::*;
@@ -103,7 +104,7 @@ fn version_2_flaws(rt: HostRuntime) -> Result<(), Fail> {
     let records: [(&[u8], End); 7] = [
         // A kind that is none, and too many bytes.
         (
-            &[5, 3, 0, 0x10, 0, 0, 0, 0, 0, 0, 1, 0, 0, 0x10, 0, 0, 0, 0],
+            &[5, 3, 0, 0x10, 0, 0, 0, 0, 0, 0, 1, 0, 0, 0, 1, 0, 0, 0],
             an_end(Fate::Malformed(Flaw::Kind), 0, 8),
         ),
         // A kind that is none, past the last address.
@@ -113,7 +114,7 @@ fn version_2_flaws(rt: HostRuntime) -> Result<(), Fail> {
         ),
         // Too many bytes, past the last address.
         (
-            &[5, 2, 0, 0, 0, 0, 0, 0x80, 0, 0, 1, 0, 0, 0x10, 0, 0, 0, 0],
+            &[5, 2, 0, 0, 0, 0, 0, 0x80, 0, 0, 1, 0, 0, 0, 1, 0, 0, 0],
             an_end(Fate::Malformed(Flaw::Size), 0, 8),
         ),
         // A byte past the last address.
@@ -132,7 +133,7 @@ fn version_2_flaws(rt: HostRuntime) -> Result<(), Fail> {
         ),
         // The most bytes that a poison may have.
         (
-            &[5, 2, 0, 0x10, 0, 0, 0, 0, 0, 0, 0, 0, 0, 0x10, 0, 0, 0, 0],
+            &[5, 2, 0, 0x10, 0, 0, 0, 0, 0, 0, 0, 0, 0, 0, 1, 0, 0, 0],
             an_end(Fate::Closed, 1, 27),
         ),
         // No byte, at the end of all addresses.
@@ -144,6 +145,92 @@ fn version_2_flaws(rt: HostRuntime) -> Result<(), Fail> {
     for (record, want) in records {
         assert_eq!(rt; end_in(rt.alloc(), &HEADER_2, record)?, want, "{record:?}");
     }
+    Ok(())
+}
+
+/// A record with a region in a version. A poison of version 2 is a global's.
+fn region_record(
+    alloc: Global,
+    version: Version,
+    code: u8,
+    at: u64,
+    size: u64,
+) -> Result<Vec<u8>, Fail> {
+    let mut record = Vec::new(alloc);
+    record.push(code)?;
+    if code == 5 && version == Version::Two {
+        record.push(2)?;
+    }
+    record.extend_from_slice(&at.to_le_bytes())?;
+    record.extend_from_slice(&size.to_le_bytes())?;
+    Ok(record)
+}
+
+/// A version, the size of a region, where the last region of this size starts, and what becomes of
+/// a region of this size.
+const LARGEST_REGIONS: [(Version, u64, u64, Fate); 5] = [
+    (Version::One, 0x1000_0000, 0x7fff_f000_0000, Fate::Closed),
+    (
+        Version::One,
+        0x1000_0001,
+        0x7fff_efff_ffff,
+        Fate::Malformed(Flaw::Size),
+    ),
+    (Version::Two, 0x1000_0001, 0x7fff_efff_ffff, Fate::Closed),
+    (Version::Two, 0x1_0000_0000, 0x7fff_0000_0000, Fate::Closed),
+    (
+        Version::Two,
+        0x1_0000_0001,
+        0x7ffe_ffff_ffff,
+        Fate::Malformed(Flaw::Size),
+    ),
+];
+
+#[test]
+fn largest_region_of_each_version(rt: HostRuntime) -> Result<(), Fail> {
+    for (version, size, last, fate) in LARGEST_REGIONS {
+        let header = match version {
+            Version::One => HEADER,
+            Version::Two => HEADER_2,
+        };
+        let past = match fate {
+            Fate::Closed => Fate::Malformed(Flaw::Range),
+            _ => fate,
+        };
+        for code in [3, 5, 6] {
+            for (at, fate) in [(0, fate), (last, fate), (last + 1, past), (u64::MAX, past)] {
+                let record = region_record(rt.alloc(), version, code, at, size)?;
+                let want = match fate {
+                    Fate::Closed => an_end(fate, 1, 9 + record.len() as u64),
+                    _ => an_end(fate, 0, 8),
+                };
+                assert_eq!(rt;
+                    end_in(rt.alloc(), &header, &record)?,
+                    want,
+                    "{version:?}, code {code}, {size} bytes at {at}"
+                );
+            }
+        }
+    }
+    Ok(())
+}
+
+#[test]
+fn larger_regions_spell_in_version_2_alone(rt: HostRuntime) -> Result<(), Fail> {
+    for (size, in_version_1) in [(1 << 28, true), ((1 << 28) + 1, false), (1 << 32, false)] {
+        let region = Region::new(0x1000, size)?;
+        let poison = Event::Poison(Shade::new(0x1000, size, 0)?);
+        for event in [Event::Malloc(region), Event::Unpoison(region), poison] {
+            assert_eq!(rt; event.spells_in(Version::One), in_version_1, "{event:?}");
+            assert!(rt; event.spells_in(Version::Two), "{event:?}");
+        }
+    }
+    let malloc = Event::Malloc(Region::new(0x1000, 1 << 32)?);
+    let mut out = [0xee; RECORD_ROOM];
+    assert!(rt; malloc.spells_in(Version::Two));
+    assert_eq!(rt; encode(Version::Two, &malloc, &mut out), 17);
+    assert!(rt; out.starts_with(&[3, 0, 0x10, 0, 0, 0, 0, 0, 0, 0, 0, 0, 0, 1, 0, 0, 0]));
+    assert!(rt; out.ends_with(&[0xee; 7]));
     Ok(())
 }
 
@@ -252,6 +339,7 @@ fn poison_cut_at_each_byte(rt: HostRuntime) -> Result<(), Fail> {
         (Version::Two, Shade::new(0x1_0203_0405, 0xa0b_0c0d, 0)?),
         (Version::Two, Shade::new(0x1_0203_0405, 0xa0b_0c0d, 1)?),
         (Version::Two, Shade::new(0x1_0203_0405, 0xa0b_0c0d, 2)?),
+        (Version::Two, Shade::new(0x1_0203_0405, 1 << 32, 2)?),
     ];
     for (version, shade) in shades {
         let event = Event::Poison(shade);
@@ -326,7 +414,8 @@ fn size_and_kind_are_kept_apart(rt: HostRuntime) -> Result<(), Fail> {
             (1, 1),
             (1 << 47, 0),
             ((1 << 47) - 3, 3),
-            (9, 1 << 28),
+            (9, 1 << 32),
+            ((1 << 47) - (1 << 32), 1 << 32),
         ] {
             let shade = Shade::new(at, size, number)?;
             assert_eq!(rt; shade.at(), at);
@@ -336,7 +425,7 @@ fn size_and_kind_are_kept_apart(rt: HostRuntime) -> Result<(), Fail> {
     }
     assert_eq!(rt; Shade::new(u64::MAX, u64::MAX, 3), Err(Flaw::Kind));
     assert_eq!(rt; Shade::new(u64::MAX, u64::MAX, 2), Err(Flaw::Size));
-    assert_eq!(rt; Shade::new(u64::MAX, (1 << 28) + 1, 1), Err(Flaw::Size));
-    assert_eq!(rt; Shade::new(u64::MAX, 1 << 28, 0), Err(Flaw::Range));
+    assert_eq!(rt; Shade::new(u64::MAX, (1 << 32) + 1, 1), Err(Flaw::Size));
+    assert_eq!(rt; Shade::new(u64::MAX, 1 << 32, 0), Err(Flaw::Range));
     Ok(())
 }
