@@ -190,8 +190,8 @@ overflow bound past b is_store a has start clear clear' =
     let each : (byte : ℕ) → IsInSpan b byte → states byte ≡ cond (lies_in b.at (b.at + b.size) byte) Addressable HeapRedzone = λ byte in_span. live_span bound past b byte has in_span clear clear' in
     let here : IsInSpan b a.at = record { from = start.0; to = start.1 } in
     let bad = ap is_addressable (outside states b placed each a.at here start.2) in
-    let told = around states b placed each a.at here start.2 in
-    verdict_from bound past is_store a _ (first_fault states is_store a bad) ∙ some_report past is_store a _ _ _ _ told.0 told.1
+    let reported = around states b placed each a.at here start.2 in
+    verdict_from bound past is_store a _ (first_fault states is_store a bad) ∙ some_report past is_store a _ _ _ _ reported.0 reported.1
 
 pub late : (bound : ℕ) (past : List Event) (b : Extent) (is_store : Bool) (a : Access) → Contains (held bound past) b → StartsWithin b a →
     NoPoisonShares (since_free bound past b) b.at (b.at + round_up b.size) → NoUnpoisonShares (since_free bound past b) b.at (b.at + round_up b.size) →

@@ -52,7 +52,7 @@ module _ (states : ℕ → State) where
   first_is : (granule : ℕ) → is_addressable (states (8 * granule)) ≡ ltb 0 (addressable_front states (8 * granule) 8)
   first_is granule = front_first (8 * granule) 7
 
-  -- a shadow byte tells the class of its granule's first byte
+  -- a shadow byte decides the class of its granule's first byte
   pub class_shown : (granule : ℕ) → class_of_shadow (lift states granule) ≡ class_of_state (states (8 * granule))
   class_shown granule = class_by_front (states (8 * granule)) (addressable_front states (8 * granule) 8) (first_is granule) (front_most (8 * granule) 8)
 

@@ -14,18 +14,18 @@ onto_none : (number : ℕ) → digits_onto 64 16 false number [] ≡ digits 16 f
 unfolding digits
 onto_none number = refl
 
-onto_last : (places number : ℕ) (behind : List ℕ) → 0 < places → number / 16 ≡ 0
-    → digits_onto places 16 false number behind ≡ digit_glyph false (number % 16) ∷ behind
-onto_last zero number behind more none = absurd (omega arith)
-onto_last (suc places) number behind more none = rw none refl
+onto_last : (places number : ℕ) (after : List ℕ) → 0 < places → number / 16 ≡ 0
+    → digits_onto places 16 false number after ≡ digit_glyph false (number % 16) ∷ after
+onto_last zero number after more none = absurd (omega arith)
+onto_last (suc places) number after more none = rw none refl
 
-onto_next : (places number : ℕ) (behind : List ℕ) → 0 < places → 0 < number / 16
-    → digits_onto places 16 false number behind ≡ digits_onto (places - 1) 16 false (number / 16) (digit_glyph false (number % 16) ∷ behind)
-onto_next zero number behind more some = absurd (omega arith)
-onto_next (suc places) number behind more some =
+onto_next : (places number : ℕ) (after : List ℕ) → 0 < places → 0 < number / 16
+    → digits_onto places 16 false number after ≡ digits_onto (places - 1) 16 false (number / 16) (digit_glyph false (number % 16) ∷ after)
+onto_next zero number after more some = absurd (omega arith)
+onto_next (suc places) number after more some =
     let less : suc places - 1 ≡ places = omega arith in rw (ne_eqb (number / 16) 0 (λ none. omega arith), less) refl
 
--- behind the place `first` stand the last digits of the number, and `left` has those that go before them; up to `first`
+-- after the place `first` stand the last digits of the number, and `left` has those that go before them; up to `first`
 -- the buffer has zeros, and enough of them
 pub record IsWritten (number first left : ℕ) (buffer : List ℕ) : Type 0 where
   pub within : first < 16

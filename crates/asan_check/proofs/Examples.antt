@@ -149,11 +149,11 @@ block_recoded_by_each_kind :
     ≡ (report 3 (fault.Access false 1 0x1004 0x1004 class.StackBufferOverflow 0xf2)) ∷ (report 5 (fault.Access true 2 0x1006 0x1006 class.GlobalBufferOverflow 0xf9)) ∷ (report 7 (fault.Access false 8 0x1000 0x1000 class.UseAfterPoison 0xf7)) ∷ []
 block_recoded_by_each_kind = refl
 
--- the first byte of a granule tells its kind too
-first_byte_tells_the_kind :
+-- the first byte of a granule decides the kind too
+first_byte_decides_the_kind :
     verdicts usual ((malloc 0x1000 5 refl) ∷ (poison_of kind.Stack 0x1000 5 refl) ∷ (load 0x1006 1 refl) ∷ [])
     ≡ (report 3 (fault.Access false 1 0x1006 0x1006 class.StackBufferOverflow 0xf2)) ∷ []
-first_byte_tells_the_kind = refl
+first_byte_decides_the_kind = refl
 
 -- past the last granule all is addressable
 last_granule :

@@ -32,7 +32,7 @@ poisoned at size state before granule byte from to here =
     inside : (least most granule : ℕ) → least ≤ 8 * granule → 8 * granule + 8 ≤ most → (leb least (8 * granule) && leb (8 * granule + 8) most) ≡ true
     inside least most granule low high = grind (arith, nat_tests)
 
--- ---- what a kind of poison is told as
+-- ---- what a kind of poison is reported as
 
 kind_is_bad : (k : Kind) → is_addressable (state_of_kind k) ≡ false
 kind_is_bad kind.User = refl
@@ -56,9 +56,9 @@ module _ (bound : ℕ) (past : List Event) (s : Shade) (a : Access) (p : IsPoiso
   place_in : (i : ℕ) → i < 8 → (8 * (a.at / 8) + i) / 8 ≡ a.at / 8
   place_in i lt = omega arith
 
-  pub told : (is_store : Bool) →
+  pub reported : (is_store : Bool) →
       verdict bound past (access_event is_store a) ≡ Some (first_byte_report past is_store a (class_of_kind (shade_kind s)) (code_of (state_of_kind (shade_kind s))))
-  told is_store =
+  reported is_store =
       let states : ℕ → State = state_of (marks bound past) in
       let base = each (8 * (a.at / 8)) (omega arith) in
       let is_bad = kind_is_bad (shade_kind s) in

@@ -199,13 +199,13 @@ stack_redzone_reported_as_user_poison :
     ≢ report 2 (fault.Access false 1 0x1000 0x1000 class.UseAfterPoison 0xf7) ∷ []
 stack_redzone_reported_as_user_poison = differ _ _ refl refl
 
--- its class is told as that of poison of the user
+-- its class is that of poison of the user
 stack_redzone_has_the_users_class :
     verdicts usual (poison_of kind.Stack 0x1000 8 refl ∷ load 0x1000 1 refl ∷ [])
     ≢ report 2 (fault.Access false 1 0x1000 0x1000 class.UseAfterPoison 0xf2) ∷ []
 stack_redzone_has_the_users_class = differ _ _ refl refl
 
--- its shadow byte is told as that of poison of the user
+-- its shadow byte is that of poison of the user
 stack_redzone_has_the_users_code :
     verdicts usual (poison_of kind.Stack 0x1000 8 refl ∷ load 0x1000 1 refl ∷ [])
     ≢ report 2 (fault.Access false 1 0x1000 0x1000 class.StackBufferOverflow 0xf7) ∷ []

@@ -147,7 +147,7 @@ starts-none k (e ∷ es) none = go (is_at (nat_cmp k) e.0) refl none (starts-non
         let other : starts_at k (block_of e) ≡ false = grind (arith, common_steps) in
         or_from (starts_at k (block_of e)) (list_any (starts_at k) (blocks_of es)) other (later gone)
 
--- none that lies behind it
+-- none that lies after it
 starts-after : (k start : ℕ) (es : Entries) → k < start → FollowFrom start es → list_any (starts_at k) (blocks_of es) ≡ false
 starts-after k start [] lt follows = refl
 starts-after k start (e ∷ es) lt follows =

@@ -84,7 +84,7 @@ unmet-none b start (e ∷ es) none follows =
           unmet-after b (span_from (block_of e)) (e ∷ es) (omega arith) (follows.0, omega arith, follows.2)
     ]
 
--- what is found behind the first entry is found
+-- what is found after the first entry is found
 pub later-some : (p : ℕ) (e : ℕ × Slot) (es : Entries) → IsSome (slot_at es p) → IsSome (slot_at (e ∷ es) p)
 later-some p e es some = go (is_at (nat_cmp p) e.0)
   where

@@ -35,31 +35,31 @@ first_at (b ∷ blocks) = b.at
 
 -- a block is admitted into the span of one in quarantine
 admits_into_held_span : ¬ IsAdmitAnswer two_held (block 0x1000 8) (admit.Admitted (block 0x1000 8))
-admits_into_held_span told = false≢true told.2
+admits_into_held_span says = false≢true says.2
 
 -- beside it, where only its redzone meets that span
 admits_into_the_next_redzone :
     ¬ IsAdmitAnswer two_held (block 0x1040 8) (admit.Admitted (block 0x1040 8))
-admits_into_the_next_redzone told = false≢true told.2
+admits_into_the_next_redzone says = false≢true says.2
 
 -- at an address that is no multiple of a granule
 admits_anywhere_but_at_granules :
     ¬ IsAdmitAnswer two_held (block 0x3004 8) (admit.Admitted (block 0x3004 8))
-admits_anywhere_but_at_granules told = false≢true told.2
+admits_anywhere_but_at_granules says = false≢true says.2
 
 -- where its first redzone has no room
 admits_at_eight : ¬ IsAdmitAnswer two_held (block 8 8) (admit.Admitted (block 8 8))
-admits_at_eight told = false≢true told.2
+admits_at_eight says = false≢true says.2
 
 -- where its span ends past the last address
 admits_at_the_end :
     ¬ IsAdmitAnswer two_held (block 0x7fff_ffff_ffc8 32)
     (admit.Admitted (block 0x7fff_ffff_ffc8 32))
-admits_at_the_end told = false≢true told.2
+admits_at_the_end says = false≢true says.2
 
 -- a block is refused though nothing stands in its way: its span begins where another ends
 refuses_spans_that_touch : ¬ IsAdmitAnswer two_held (block 0x1048 8) admit.Refused
-refuses_spans_that_touch told = false≢true (sym told.1)
+refuses_spans_that_touch says = false≢true (sym says.1)
 
 -- the book is left as it was by an admission
 admitted_block_is_not_live : ¬ AfterAdmit one_live (admit.Admitted (block 0x2000 8)) one_live
@@ -73,11 +73,11 @@ admitted_block_is_not_live after =
 
 -- a block that is live is freed as one that is no block's
 live_block_is_a_strangers : ¬ IsFreeAnswer one_live 0x1000 freed.Stranger
-live_block_is_a_strangers told = false≢true (sym told.1)
+live_block_is_a_strangers says = false≢true (sym says.1)
 
 -- a free inside a block in quarantine is a double free
 free_inside_is_twice : ¬ IsFreeAnswer two_held 0x1008 freed.Twice
-free_inside_is_twice told = false≢true told.2
+free_inside_is_twice says = false≢true says.2
 
 -- the block that was freed last is the first in quarantine
 freed_block_is_first_in_queue :
@@ -91,7 +91,7 @@ freed_block_is_first_in_queue after = first_differs (ap first_at after.queue)
 -- memory is said to be missing for a free that takes none
 free_of_no_block_runs_out_of_memory :
     ¬ ((0 < 0x3000) × (list_any (starts_at 0x3000) one_live.live ≡ true))
-free_of_no_block_runs_out_of_memory told = false≢true told.1
+free_of_no_block_runs_out_of_memory says = false≢true says.1
 
 -- ---- releases
 

@@ -19,7 +19,7 @@ either : (b : Bool) (byte : ℕ) → byte ≡ cond b byte byte
 either true byte = refl
 either false byte = refl
 
--- the indices from one up to another, which lie in one node, told within that node and within the branch
+-- the indices from one up to another, which lie in one node, as they stand within that node and within the branch
 module _ (width from to index : ℕ) where
   same_node : from ≤ to → index / width ≡ from / width →
       (leb (from % width) (index % width) && ltb (index % width) (from % width + (to - from))) ≡ (leb from index && ltb index to)

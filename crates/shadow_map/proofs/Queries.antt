@@ -9,11 +9,11 @@ use Rattle.shadow_map.specs.Checks.{is_negative, check_reports}
 use Rattle.shadow_map.specs.Causes.{has_none_addressable, deciding_granule}
 use Rattle.asan_units.specs.Units.{is_width}
 use Rattle.shadow_map.specs.Granules.{front_of}
-use Rattle.shadow_map.specs.Laws.{AddressableBytesLead, IsAddressableAt, IsFirstUnaddressable, FirstUnaddressableOfARegion, BadByteOfAnAccess, ShadowByteTellsTheGranule, ShadowCheckFindsTheBadByte}
+use Rattle.shadow_map.specs.Laws.{AddressableBytesLead, IsAddressableAt, IsFirstUnaddressable, FirstUnaddressableOfARegion, BadByteOfAnAccess, ShadowByteOfAGranule, ShadowCheckFindsTheBadByte}
 use Rattle.shadow_map.proofs.Fronts.{Front, front_of_marks}
 use Rattle.shadow_map.proofs.Bytes.{lift_is, first_code, front_of_lift, byte_by}
 
--- which of so many bytes from a place of a granule on is the first that is not addressable
+-- which of this many bytes from a place of a granule on is the first that is not addressable
 least_run : (states : ℕ → State) (x front place count : ℕ) → ((other : ℕ) → other < 8 → is_addressable (states (x + other)) ≡ ltb other front) →
     place + count ≤ 8 → least_unaddressable states (x + place) count ≡ cond (ltb (max place front) (place + count)) (Some (x + max place front)) None
 least_run states x front place zero each le = let past : ltb (max place front) (place + 0) ≡ false = grind (arith, nat_tests) in rw past refl
@@ -337,8 +337,8 @@ front_by_none states granule front f none =
       | inr ge ↦ omega arith
     ]
 
-pub shadow_byte_tells_the_granule : ShadowByteTellsTheGranule
-shadow_byte_tells_the_granule marks ok granule =
+pub shadow_byte_of_a_granule : ShadowByteOfAGranule
+shadow_byte_of_a_granule marks ok granule =
     let states : ℕ → State = state_of marks in
     let p = front_of_marks marks ok granule in
     let is = lift_is states granule p.0 p.1 in

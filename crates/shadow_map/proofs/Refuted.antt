@@ -55,9 +55,9 @@ last_granule_of_region_stays same = absurd (omega arith)
 unpoison_shortens_a_granule : lift (state_of (Unpoison 0x1000 2 ∷ five)) 0x200 ≢ 2
 unpoison_shortens_a_granule same = absurd (omega arith)
 
--- poison of a stack redzone is told as the user's
-stack_redzone_told_as_user_poison : lift (state_of (Poison 0x1000 8 StackRedzone ∷ [])) 0x200 ≢ 0xf7
-stack_redzone_told_as_user_poison same = absurd (omega arith)
+-- poison of a stack redzone is that of the user's
+stack_redzone_as_user_poison : lift (state_of (Poison 0x1000 8 StackRedzone ∷ [])) 0x200 ≢ 0xf7
+stack_redzone_as_user_poison same = absurd (omega arith)
 
 -- poison of another kind leaves a granule its code, though it covers it whole
 poison_keeps_other_kinds :

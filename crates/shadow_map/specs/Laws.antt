@@ -22,7 +22,7 @@ IsAddressableAt states granule place = states (first_byte granule + place) ≡ A
 -- what the shadow byte of a granule says: 0, that all its bytes are addressable; a number from 1 to
 -- 7, that this number of first ones are and no others; and a number that is negative as a signed
 -- one, that none is, and the state of the first
-pub record Tells (states : ℕ → State) (granule : ℕ) : Type 0 where
+pub record Says (states : ℕ → State) (granule : ℕ) : Type 0 where
   pub all : (lift states granule ≡ 0)
       ↔ ((place : ℕ) → place < granule_size → IsAddressableAt states granule place)
   pub some : (count : ℕ) → 0 < count → count < granule_size →
@@ -34,9 +34,9 @@ pub record Tells (states : ℕ → State) (granule : ℕ) : Type 0 where
   pub kind : IsTrue (is_negative (lift states granule)) →
       lift states granule ≡ code_of (states (first_byte granule))
 
-abbrev pub ShadowByteTellsTheGranule : Type 0
-ShadowByteTellsTheGranule =
-    (marks : List Mark) → AreMarks marks → (granule : ℕ) → Tells (state_of marks) granule
+abbrev pub ShadowByteOfAGranule : Type 0
+ShadowByteOfAGranule =
+    (marks : List Mark) → AreMarks marks → (granule : ℕ) → Says (state_of marks) granule
 
 -- a byte is the first one from an address on that is not addressable
 pub record IsFirstUnaddressable (states : ℕ → State) (at found : ℕ) : Type 0 where

@@ -2,7 +2,7 @@
 //! there for its contract.
 ghost use Rattle.shadow_map.specs.Laws.{AddressableBytesLead, AllPastTheEndIsAddressable};
 ghost use Rattle.shadow_map.specs.Laws.{BadByteOfAnAccess, FirstUnaddressableOfARegion};
-ghost use Rattle.shadow_map.specs.Laws.{PoisonOfAGranule, ShadowByteTellsTheGranule};
+ghost use Rattle.shadow_map.specs.Laws.{PoisonOfAGranule, ShadowByteOfAGranule};
 ghost use Rattle.shadow_map.specs.Laws.{ShadowCheckFindsTheBadByte, UnpoisonOfAGranule};
 
 /// In every granule the addressable bytes come first.
@@ -13,8 +13,8 @@ pub fn addressable_bytes_lead()
 /// A shadow byte is 0 exactly where all bytes of its granule are addressable, k from 1 to 7 exactly
 /// where the first k are and no others, and negative as a signed number exactly where none is; then
 /// it is the code of the first byte's state.
-pub fn shadow_byte_tells_the_granule()
-    ensures { ShadowByteTellsTheGranule }
+pub fn shadow_byte_of_a_granule()
+    ensures { ShadowByteOfAGranule }
 {}
 
 /// The first unaddressable byte of a region is what its name says: all bytes of the region before

@@ -30,7 +30,7 @@ mod tests;
 pub use granule::{FREED, GLOBAL_REDZONE, HEAP_REDZONE, STACK_REDZONE, USER_POISON};
 pub use laws::{
     addressable_bytes_lead, all_past_the_end_is_addressable, bad_byte_of_an_access,
-    first_unaddressable_of_a_region, poison_of_a_granule, shadow_byte_tells_the_granule,
+    first_unaddressable_of_a_region, poison_of_a_granule, shadow_byte_of_a_granule,
     shadow_check_finds_the_bad_byte, unpoison_of_a_granule,
 };
 pub use shadow::{Cause, Shadow};

@@ -199,12 +199,12 @@ split_long : (limit : ℕ) (v : Version) (text : List ℕ) (events : List Event)
 split_long limit v text events tail end s = made_long v text events tail s.made
 
 -- the first eight bytes tell the version, or that there is none
-abbrev told_by_front : List ℕ → Option Version
-told_by_front front = if pointwise eqb (header version.One) front then Some version.One else (if pointwise eqb (header version.Two) front then Some version.Two else None)
+abbrev version_by_front : List ℕ → Option Version
+version_by_front front = if pointwise eqb (header version.One) front then Some version.One else (if pointwise eqb (header version.Two) front then Some version.Two else None)
 
 -- the version of a text is that of each longer one
 pub version_same : (text more : List ℕ) → 8 ≤ length text → version_of (text ++ more) ≡ version_of text
-version_same text more long = ap told_by_front (take-append-le 8 text more long)
+version_same text more long = ap version_by_front (take-append-le 8 text more long)
 
 version_stays : (text more : List ℕ) (v : Version) → 8 ≤ length text → version_of text ≡ Some v → version_of (text ++ more) ≡ Some v
 version_stays text more v long is = version_same text more long ∙ is

@@ -145,9 +145,9 @@ packed_in (event.Poison s) = s.size_and_kind
 packed_in _ = 0
 
 -- two events that version 1 does not tell apart would have one spelling there
-kinds_are_told_in_version_1 :
+kinds_are_distinct_in_version_1 :
     ¬ ((e f : Event) → spelling version.One e ≡ spelling version.One f → e ≡ f)
-kinds_are_told_in_version_1 told =
+kinds_are_distinct_in_version_1 distinct =
     let user : Shade = record {
       at = 0;
       size_and_kind = 0;
@@ -162,5 +162,5 @@ kinds_are_told_in_version_1 told =
       small = omega arith;
       in_range = omega arith;
     } in
-    let same = told (event.Poison user) (event.Poison stack) refl in
+    let same = distinct (event.Poison user) (event.Poison stack) refl in
     let none_is_one : ◌≡◌ {A = ℕ} 0 1 = ap packed_in same in absurd (omega arith)

@@ -93,7 +93,7 @@ pub headed_version : (v : Version) (more : List ℕ) → version_of (header v ++
 headed_version version.One more = refl
 headed_version version.Two more = refl
 
--- a text whose version is told begins with the header of this version
+-- a text that says its version begins with the header of this version
 pub header_of : (text : List ℕ) (v : Version) → version_of text ≡ Some v → take 8 text ≡ header v
 header_of text v is =
     elim (cases_Bool (starts_with eqb text (header version.One))) [

@@ -4,7 +4,7 @@ ghost use Rattle.std.specs.Prelude.{◌≡◌, ◌≤◌};
 ghost use Rattle.trace_record.specs.declared.version.Version.TheVariants as version;
 ghost use Rattle.trace_record.specs.Ranges.{largest_region};
 
-/// A version of the format. The header of a stream tells its version, and all its events spell in
+/// A version of the format. The header of a stream says its version, and all its events spell in
 /// that.
 #[derive(Clone, Copy, Debug, PartialEq, Eq)]
 pub enum Version {

@@ -186,7 +186,7 @@ p0 #3 load 1 at 000000001006 bad 000000001006 use-after-poison shadow f7
 }
 
 #[test]
-fn first_byte_tells_the_kind(rt: HostRuntime) -> Result<(), Fail> {
+fn first_byte_decides_the_kind(rt: HostRuntime) -> Result<(), Fail> {
     let events = [
         malloc(0x1000, 5)?,
         poison_of(1, 0x1000, 5)?,

@@ -164,7 +164,7 @@ p0 end closed events 2 offset {offset} reports 1
     Ok(())
 }
 
-/// A kind that is none is told before a size that is too large in version 1 or in both versions.
+/// A kind that is none is found before a size that is too large in version 1 or in both versions.
 /// The first byte of the version decides whether the header is one.
 #[test]
 fn version_2_flaws(rt: HostRuntime) -> Result<(), Fail> {

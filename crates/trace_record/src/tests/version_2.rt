@@ -1,4 +1,4 @@
-//! Tests of version 2: poison with a kind, larger regions, what a header tells, and what both
+//! Tests of version 2: poison with a kind, larger regions, what a header says, and what both
 //! versions share.
 
 use super::{LOADS, STREAM, an_end, give, read};
