@@ -1,14 +1,13 @@
 -- What one more line does to a log, and to what went out of it.
-use Rattle.std.proofs.Common.{ℕ, ◌≡◌, ◌≢◌, ◌+◌, ◌<◌, ◌≤◌, List, [], ◌∷◌, ◌++◌, length, Option, None, Some, refl, sym, ap, ◌∙◌, arith, append_assoc, length-append, eqb, cond, inl, inr, true, false, map, take, get_or}
-use Rattle.std.specs.Prelude.{MatchOption, Result, Ok, Err, OnOk, IfErr, is_some}
+use Rattle.std.proofs.Common.{ℕ, ◌≡◌, ◌≢◌, ◌+◌, ◌<◌, List, [], ◌∷◌, ◌++◌, length, Option, None, Some, refl, sym, ap, ◌∙◌, arith, append_assoc, length-append, eqb, cond, inl, inr, true, false, take, get_or}
+use Rattle.std.specs.Prelude.{Result, Ok, Err, OnOk, IfErr, is_some}
 use Rattle.std.specs.Result.{result_err}
 use Rattle.std.proofs.Math.Seq.{take-append_seam}
-use Rattle.std.specs.List.{flat_map}
 use Rattle.std.proofs.lemmas.List.{append-nil, take_more}
 use Rattle.std.proofs.lemmas.Bool.{eq-eqb, false≢true}
 use Rattle.std.proofs.lemmas.Bool.Decides.{eqb_tells}
 use Rattle.std.specs.Io.KnownBytes.{Appends}
-use Rattle.std.proofs.KnownBytes.{Appends-trans, Appends-nil}
+use Rattle.std.proofs.KnownBytes.{Appends-trans}
 use Rattle.asan_check.specs.declared.report.Report.{Report}
 use Rattle.asan_check.specs.Lines.{report_line}
 use Rattle.asan_print.specs.declared.fault.WriteFault.{WriteFault}

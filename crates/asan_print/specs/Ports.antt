@@ -1,19 +1,27 @@
 -- The lanes that reports come through, in the order of their processes.
-use Rattle.std.specs.Prelude.{◌≡◌, ℕ, ◌<◌, ◌≤◌, List, [], length, Option, None, Some}
-use Rattle.std.specs.Prelude.{slice_index_or}
-use Rattle.trace_lane.specs.Lanes.{Lane, out_lane, taken_list}
+use Rattle.std.specs.Prelude.{◌≡◌, ℕ, ◌+◌, ◌<◌, ◌≤◌, ◌^◌, List, [], ◌++◌, length, map}
+use Rattle.std.specs.Prelude.{Option, None, Some, slice_index_or}
+use Rattle.trace_lane.specs.Lanes.{Lane, out_lane, taken_list, waiting}
 use Rattle.asan_check.specs.declared.report.Report.{Report}
 use Rattle.asan_print.specs.declared.live_printer.LivePrinter.{LivePrinter}
 use Rattle.asan_print.specs.declared.port.Port.{Port}
 use Rattle.asan_print.specs.Logs.{Line, lines_of, report_lines, Printed}
 
+-- the most reports that are taken from one port before the next port's turn
+abbrev pub most_at_once : ℕ
+most_at_once = 64
+
 module _ {A : Type 0} where
-  -- what a contract sees of a port: its lane, and the reports taken from it
+  -- what a contract sees of a port: its lane, the reports taken from it, and those that are known
+  -- to wait at it
   abbrev pub port_lane : Port A → Lane A
   port_lane port = out_lane port.lane
 
   abbrev pub taken_from : Port A → List Report
   taken_from port = taken_list port.lane
+
+  abbrev pub port_waiting : Port A → List Report
+  port_waiting port = waiting port.lane
 
   -- which lane it is, where there is a port
   abbrev pub lane_at : Option (Port A) → Option (Lane A)
@@ -24,6 +32,29 @@ module _ {A : Type 0} where
   abbrev pub taken_at : Option (Port A) → List Report
   taken_at None = []
   taken_at (Some port) = taken_from port
+
+  -- what was taken from each port
+  abbrev pub taken_of : List (Option (Port A)) → List (List Report)
+  taken_of ports = map taken_at ports
+
+  -- a report is known to wait at a port, and can be counted
+  abbrev pub HasReport : Option (Port A) → Type 0
+  HasReport None = ⊥
+  HasReport (Some port) =
+      (0 < length (port_waiting port)) × (length (taken_from port) + 1 < 2 ^ 64)
+
+  -- reports were taken from a port after those that were taken before: none or more, up to the most
+  -- at once
+  pub record TakesMore (before after : Option (Port A)) : Type 0 where
+    pub more : List Report
+    pub taken : taken_at after ≡ taken_at before ++ more
+    pub most : length more ≤ most_at_once
+
+  -- the same of each port
+  abbrev pub EachTakesMore : List (Option (Port A)) → List (Option (Port A)) → Type 0
+  EachTakesMore before after =
+      (i : ℕ) (d : Option (Port A)) → i < length before →
+      TakesMore (slice_index_or before i d) (slice_index_or after i d)
 
   -- the same lanes, in order
   pub record SameLanes (before after : List (Option (Port A))) : Type 0 where

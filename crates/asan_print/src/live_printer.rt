@@ -1,7 +1,7 @@
 //! Printing lines of several processes as they come.
 
 ghost use Rattle.std.specs.Prelude.{◌≡◌, ℕ, ◌+◌, ◌<◌, ◌≤◌, ◌^◌, ◌∷◌, ◌++◌, List, [], Option, OnOk};
-ghost use Rattle.std.specs.Prelude.{IfErr, IsTrue, None, false, length, take};
+ghost use Rattle.std.specs.Prelude.{◌≢◌, IfErr, IsTrue, None, false, length, slice_index_or, take};
 ghost use Rattle.std.specs.Io.KnownBytes.{Appends};
 ghost use Rattle.asan_check.specs.Lines.{report_line, end_line, longest_line};
 ghost use Rattle.asan_print.specs.Printing.{printed_of};
@@ -27,7 +27,8 @@ pub struct LivePrinter<A: Allocator + Copy> {
 
 impl<A: Allocator + Copy> LivePrinter<A> {
     ghost use Rattle.asan_print.specs.Logs.{Line, Printed, Adds, joined, lines_of, report_lines};
-    ghost use Rattle.asan_print.specs.Ports.{Follows, SameLanes, lane_at, taken_at};
+    ghost use Rattle.asan_print.specs.Ports.{Follows, SameLanes, lane_at, taken_at, taken_of};
+    ghost use Rattle.asan_print.specs.Ports.{EachTakesMore, HasReport, TakesMore};
 
     /// A printer that has printed nothing.
     pub fn new(alloc: A) -> LivePrinter<A>
@@ -103,6 +104,11 @@ impl<A: Allocator + Copy> LivePrinter<A> {
     pub fn round<W: Write>(&mut self, w: &mut W, ports: &mut [Option<Port<A>>]) -> bool
         requires few { length ports.old < 2 ^ 32 }
         ensures lanes { SameLanes ports.old ports.new }
+        ensures takes { EachTakesMore ports.old ports.new }
+        ensures none { result ≡ false → taken_of ports.new ≡ taken_of ports.old }
+        ensures some { IsTrue result → taken_of ports.new ≢ taken_of ports.old }
+        ensures finds { (i : ℕ) (d : Option (Port A)) → i < length ports.old →
+            HasReport (slice_index_or ports.old i d) → IsTrue result }
         ensures lines { (start : Option (List ℕ)) →
             Follows start (W.contents w.old) self.old ports.old →
             Follows start (W.contents w.new) self.new ports.new }
@@ -121,6 +127,10 @@ impl<A: Allocator + Copy> LivePrinter<A> {
     /// were any.
     fn print_from<W: Write>(&mut self, w: &mut W, process: u32, port: &mut Option<Port<A>>) -> bool
         ensures lane { lane_at port.new ≡ lane_at port.old }
+        ensures takes { TakesMore port.old port.new }
+        ensures none { result ≡ false → taken_at port.new ≡ taken_at port.old }
+        ensures some { IsTrue result → length (taken_at port.old) < length (taken_at port.new) }
+        ensures finds { HasReport port.old → IsTrue result }
         ensures lines { (start : Option (List ℕ)) (log : List Line) →
             Printed start (W.contents w.old) self.old log →
             lines_of process log ≡ report_lines process (taken_at port.old) →

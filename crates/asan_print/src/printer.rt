@@ -1,7 +1,7 @@
 //! Printing lines to a writer, many at a write.
 
 ghost use Rattle.std.specs.Prelude.{◌≡◌, ℕ, ◌+◌, ◌<◌, ◌≤◌, ◌^◌, List, [], OnOk, IfErr, length};
-ghost use Rattle.std.specs.Prelude.{IsTrue};
+ghost use Rattle.std.specs.Prelude.{◌↔◌, IsTrue};
 ghost use Rattle.asan_check.specs.Lines.{report_line, end_line, longest_line};
 
 use crate::fault::{Why, WriteFault};
@@ -48,9 +48,9 @@ impl<A: Allocator + Copy> Printer<A> {
 
     /// Whether the number of bytes printed, with those of one more line, is below 2^64.
     pub fn has_room(&self) -> bool
-        ensures { IsTrue result → printed_of self.now + longest_line < 2 ^ 64 }
+        ensures { IsTrue result ↔ printed_of self.now + longest_line < 2 ^ 64 }
     {
-        self.written.saturating_add(self.text.len() as u64) < u64::MAX - LONGEST_LINE
+        self.written.saturating_add(self.text.len() as u64) <= u64::MAX - LONGEST_LINE
     }
 
     /// Writes what is held back.

@@ -1,4 +1,4 @@
-use Rattle.std.proofs.Common.{rules, sym, subst, arith}
+use Rattle.std.proofs.Common.{rules, sym, subst}
 use Rattle.asan_print.specs.Logs.{Printed}
 use Rattle.asan_print.proofs.Logging.{printed_line}
 use Rattle.asan_print.proofs.live_printer.LivePrinter.end.Goals as goal
