@@ -34,7 +34,7 @@ const LEAF: u64 = 4096;
 const HANDLES: u64 = 128 * 8;
 
 /// The states and the records that `prepare` and `mark_record` know, and what the records ask for.
-const RECORDS: [Asked; 18] = [
+const RECORDS: [Asked; 19] = [
     // A load, a store.
     (0, 0, 0),
     // A malloc: one redzone lies over `END`, the other one over an end of branches of the lowest
@@ -73,6 +73,9 @@ const RECORDS: [Asked; 18] = [
     (2, 2, 2),
     // One there whose ends are ends of branches of the lowest level.
     (2, 0, 0),
+    // A malloc both of whose redzones lie over ends of branches of the second level, where those of
+    // the levels above are kept.
+    (4, 4, 4),
 ];
 
 /// Marks what stands before a record.
@@ -98,6 +101,7 @@ fn prepare<A: Allocator + Copy>(shadow: &mut Shadow<A>, record: usize) -> Result
             shadow.poison(END - LARGEST_2, LARGEST_2, USER_POISON)?;
             shadow.poison(END, LARGEST_2, USER_POISON)
         }
+        18 => shadow.poison(END + 0x8_0000_0000, 8, USER_POISON),
         _ => Ok(()),
     }
 }
@@ -119,6 +123,7 @@ fn mark_record<A: Allocator + Copy>(shadow: &mut Shadow<A>, record: usize) -> Re
         15 => shadow.poison(END - 0x8000_0000, LARGEST_2, USER_POISON),
         16 => shadow.unpoison(END - 0x7fff_f7fd, LARGEST_2),
         17 => shadow.unpoison(END - 0x7fc0_0000, LARGEST_2),
+        18 => shadow.block(END + 0x2000_0008, 0x4000_0000 - 16),
         _ => {
             let _ = (shadow.bad_byte(END, 8), shadow.value(0));
             Ok(())
