@@ -4,6 +4,7 @@ ghost use Rattle.std.specs.Prelude.{◌≡◌, IfOk};
 
 mod damage;
 mod failures;
+mod large;
 mod live;
 mod reading;
 mod refusals;
