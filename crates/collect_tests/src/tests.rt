@@ -11,6 +11,7 @@ mod collect;
 mod damage;
 mod failures;
 mod feeds;
+mod large;
 mod live;
 mod overlap;
 mod own_memory;
