@@ -92,6 +92,13 @@ AreFilesOf found (request.Files names options verbose is_live) =
     × IsFlag (one_text found (codes "live")) is_live
 AreFilesOf found (request.Serve serving) = ⊥
 
+-- whether what became of each file is said is what was found of the flag
+abbrev pub SaysVerbose : Found → Request → Type 0
+SaysVerbose found request.Input = Unit {0}
+SaysVerbose found (request.Files names options verbose is_live) =
+    IsFlag (one_text found (codes "verbose")) verbose
+SaysVerbose found (request.Serve serving) = Unit {0}
+
 -- the number is the one that was given
 abbrev pub IsGiven : ℕ → Option (List ℕ) → ℕ → Type 0
 IsGiven bits None number = ⊥

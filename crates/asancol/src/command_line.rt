@@ -1,7 +1,7 @@
 //! What the words of the command line ask for.
 
-ghost use Rattle.std.specs.Prelude.{◌≡◌, ◌<◌, ◌≤◌, ◌↔◌, [], Ok, Err, IfErr, IfOk, IfSome, Some};
-ghost use Rattle.std.specs.Prelude.{None, false, codes, length, map, option_map, string_bytes};
+ghost use Rattle.std.specs.Prelude.{◌≡◌, ◌<◌, ◌≤◌, ◌↔◌, [], Ok, Err, IfErr, IfOk, IfSome, IsTrue};
+ghost use Rattle.std.specs.Prelude.{None, Some, false, codes, length, map, option_map, string_bytes};
 ghost use Rattle.asan_collect.specs.Ranges.{most_senders};
 ghost use Rattle.asancol.specs.declared.command_line.Refusal.TheVariants.{NoMemory};
 ghost use Rattle.asancol.specs.declared.command_line.Refusal.TheVariants.{OptionOutOfRange};
@@ -11,7 +11,7 @@ ghost use Rattle.asancol.specs.Refusals.{refusal_of};
 ghost use Rattle.asancol.specs.Requests.{HasFewFiles, IsQuiet, is_verbose as is_verbose_of};
 ghost use Rattle.asancol.specs.Requests.{threads_of};
 ghost use Rattle.asancol.specs.Settings.{AreFilesOf, AreOptionsOf, AreSizesOf, IsFlag, IsGiven};
-ghost use Rattle.asancol.specs.Settings.{IsBadOption, IsBadSize, IsSetIfGiven};
+ghost use Rattle.asancol.specs.Settings.{IsBadOption, IsBadSize, IsSetIfGiven, SaysVerbose};
 
 use crate::arguments::{
     CHECK, COUNT, FILES, HelpTexts, LIMIT, LIVE, MEMORY, QUARANTINE, READY, RING, SERVE, SOCKET,
@@ -140,13 +140,15 @@ pub fn read_words(alloc: Global, words: &[String]) -> Result<Request, Refusal>
 fn files_of(alloc: Global, matches: &ArgMatches<'_>, words: &[String]) -> Result<Request, Refusal>
     ensures found { IfOk result (AreFilesOf (found_of matches.now)) }
     ensures few_files { IfOk result HasFewFiles }
+    ensures verbose { IsTrue (is_verbose_of words.now) →
+        IfOk result (SaysVerbose (found_of matches.now)) }
     ensures quiet { is_verbose_of words.now ≡ false → IfOk result IsQuiet }
 {
     Ok(Request::Files {
         names: names_of(alloc, matches.get_strs(FILES).unwrap_or(&[]))?,
         options: options_of(matches)?,
         // Where the flag is set, it is also among the words.
-        verbose: matches.get_flag(VERBOSE) && is_verbose(words),
+        verbose: is_verbose(words) && matches.get_flag(VERBOSE),
         is_live: matches.get_flag(LIVE),
     })
 }

@@ -58,6 +58,7 @@ pub fn report_feed<F: Feed + Drop, W: Write>(
 ///
 /// Where there is no memory for the lists of senders or for their allocators, the door is not
 /// asked.
+#[tactic(auto, using(crate::proofs::Refusing::refused_if_printed))]
 pub fn report_each<D: Door, W: Write, E: Write, R: Threads + Wait + Clock + Sync>(
     rt: &R,
     alloc: Global,
@@ -71,10 +72,9 @@ pub fn report_each<D: Door, W: Write, E: Write, R: Threads + Wait + Clock + Sync
 where
     D::Feed: Send + Drop,
     requires { (D.seen door.old).refusals ≤ 2 ^ 32 }
-    ensures ok { IfOk result (λ status.
-        AreSendersPrinted D.Feed.seen (CheckersMemory options.memory)
+    ensures ok { IfOk result (AreSendersPrinted D.Feed.seen (CheckersMemory options.memory)
         options is_live (D.seen door.old) (D.seen door.new)
-        (W.contents output.old) (W.contents output.new) status) }
+        (W.contents output.old) (W.contents output.new)) }
     ensures refused { IfOk result (λ status. (D.seen door.old).refusals < (D.seen door.new).refusals
         → (status ≡ unchecked) ⊎ (status ≡ unwritten)) }
     ensures unasked { OnErr result (door.new ≡ door.old) }
@@ -119,12 +119,9 @@ where
     requires few_refused { (D.seen door.old).refusals ≤ 2 ^ 32 }
     requires bound { All (λ heap. options.memory ≡ bound_of heap) heaps.now }
     requires each_has_one { length heaps.now ≡ most_senders }
-    ensures ok { IfOk result (λ status.
-        AreSendersPrinted D.Feed.seen BoundedMemory
+    ensures ok { IfOk result (AreSendersPrinted D.Feed.seen BoundedMemory
         options is_live (D.seen door.old) (D.seen door.new)
-        (W.contents output.old) (W.contents output.new) status) }
-    ensures refused { IfOk result (λ status. (D.seen door.old).refusals < (D.seen door.new).refusals
-        → (status ≡ unchecked) ⊎ (status ≡ unwritten)) }
+        (W.contents output.old) (W.contents output.new)) }
     ensures unasked { OnErr result (door.new ≡ door.old) }
     ensures err { OnErr result (output.new ≡ output.old) }
     ensures quiet { names.entry ≡ None → faults.new ≡ faults.old }
@@ -159,17 +156,15 @@ fn report_all<
 where
     D::Feed: Send + Drop,
     requires { (D.seen door.old).refusals ≤ 2 ^ 32 }
-    ensures ok { IfOk result (λ status.
-        AreSendersPrinted D.Feed.seen A options is_live (D.seen door.old) (D.seen door.new)
-        (W.contents output.old) (W.contents output.new) status) }
-    ensures refused { IfOk result (λ status. (D.seen door.old).refusals < (D.seen door.new).refusals
-        → (status ≡ unchecked) ⊎ (status ≡ unwritten)) }
+    ensures ok { IfOk result (AreSendersPrinted D.Feed.seen A
+        options is_live (D.seen door.old) (D.seen door.new)
+        (W.contents output.old) (W.contents output.new)) }
     ensures unasked { OnErr result (door.new ≡ door.old) }
     ensures err { OnErr result (output.new ≡ output.old) }
     ensures quiet { names.entry ≡ None → faults.new ≡ faults.old }
 {
-    let printed = print_senders(rt, alloc, own, door, options, is_live, output)?;
-    let Printed { outcomes, status } = printed;
+    let reported = print_senders(rt, alloc, own, door, options, is_live, output)?;
+    let Reported { outcomes, status } = reported;
     if let Some(names) = names {
         name_each(alloc, names, &outcomes, faults);
     }
@@ -177,7 +172,7 @@ where
 }
 
 /// What became of all senders, and the status to end with.
-struct Printed<F, A: Allocator + Copy> {
+struct Reported<F, A: Allocator + Copy> {
     outcomes: Vec<Outcome<F, A>, A>,
     status: u8,
 }
@@ -192,84 +187,25 @@ fn print_senders<D: Door, W: Write, A: Allocator + Copy + Send, R: Threads + Wai
     options: Options,
     is_live: bool,
     output: &mut W,
-) -> Result<Printed<D::Feed, A>, AllocError>
+) -> Result<Reported<D::Feed, A>, AllocError>
 where
     D::Feed: Send + Drop,
     requires { (D.seen door.old).refusals ≤ 2 ^ 32 }
-    ensures ok { IfOk result (λ printed. AreOutcomesPrinted D.Feed.seen A
+    ensures ok { IfOk result (λ reported. AreOutcomesPrinted D.Feed.seen A
         options is_live (D.seen door.old) (D.seen door.new)
-        (W.contents output.old) (W.contents output.new) printed.outcomes.items printed.status) }
-    ensures few { IfOk result (λ printed. length printed.outcomes.items ≤ most_senders) }
-    ensures refused { IfOk result (λ printed.
-        (D.seen door.old).refusals < (D.seen door.new).refusals
-        → (printed.status ≡ unchecked) ⊎ (printed.status ≡ unwritten)) }
+        (W.contents output.old) (W.contents output.new) reported.outcomes.items reported.status) }
     ensures unasked { OnErr result (door.new ≡ door.old) }
     ensures err { OnErr result (output.new ≡ output.old) }
 {
     if is_live {
-        return print_live(rt, alloc, own, door, options, output);
+        let live = collect_live_within(rt, alloc, own, door, &OpenGate, options, output)?;
+        let Live { outcomes, wrote } = live;
+        let status = flush(output, &outcomes, wrote);
+        return Ok(Reported { outcomes, status });
     }
-    print_at_the_end(rt, alloc, own, door, options, output)
-}
-
-/// Checks the feeds, and prints what became of all of them at the end.
-fn print_at_the_end<
-    D: Door,
-    W: Write,
-    A: Allocator + Copy + Send,
-    R: Threads + Wait + Clock + Sync,
->(
-    rt: &R,
-    alloc: A,
-    own: &[A],
-    door: &mut D,
-    options: Options,
-    output: &mut W,
-) -> Result<Printed<D::Feed, A>, AllocError>
-where
-    D::Feed: Send + Drop,
-    requires { (D.seen door.old).refusals ≤ 2 ^ 32 }
-    ensures ok { IfOk result (λ printed. AreOutcomesPrinted D.Feed.seen A
-        options false (D.seen door.old) (D.seen door.new)
-        (W.contents output.old) (W.contents output.new) printed.outcomes.items printed.status) }
-    ensures few { IfOk result (λ printed. length printed.outcomes.items ≤ most_senders) }
-    ensures refused { IfOk result (λ printed.
-        (D.seen door.old).refusals < (D.seen door.new).refusals
-        → (printed.status ≡ unchecked) ⊎ (printed.status ≡ unwritten)) }
-    ensures unasked { OnErr result (door.new ≡ door.old) }
-    ensures err { OnErr result (output.new ≡ output.old) }
-{
     let outcomes = collect_within(rt, alloc, own, door, &OpenGate, options)?;
     let status = print(alloc, output, &outcomes);
-    Ok(Printed { outcomes, status })
-}
-
-/// Checks the feeds, and prints each report when it is found.
-fn print_live<D: Door, W: Write, A: Allocator + Copy + Send, R: Threads + Wait + Clock + Sync>(
-    rt: &R,
-    alloc: A,
-    own: &[A],
-    door: &mut D,
-    options: Options,
-    output: &mut W,
-) -> Result<Printed<D::Feed, A>, AllocError>
-where
-    D::Feed: Send + Drop,
-    requires { (D.seen door.old).refusals ≤ 2 ^ 32 }
-    ensures ok { IfOk result (λ printed. AreOutcomesPrinted D.Feed.seen A
-        options true (D.seen door.old) (D.seen door.new)
-        (W.contents output.old) (W.contents output.new) printed.outcomes.items printed.status) }
-    ensures few { IfOk result (λ printed. length printed.outcomes.items ≤ most_senders) }
-    ensures refused { IfOk result (λ printed.
-        (D.seen door.old).refusals < (D.seen door.new).refusals
-        → (printed.status ≡ unchecked) ⊎ (printed.status ≡ unwritten)) }
-    ensures unasked { OnErr result (door.new ≡ door.old) }
-    ensures err { OnErr result (output.new ≡ output.old) }
-{
-    let live = collect_live_within(rt, alloc, own, door, &OpenGate, options, output)?;
-    let Live { outcomes, wrote } = live;
-    let status = flush(output, &outcomes, wrote);
-    Ok(Printed { outcomes, status })
+    Ok(Reported { outcomes, status })
 }
 
 /// Writes a line for each sender that has a name: its number, its name and what became of it. A
