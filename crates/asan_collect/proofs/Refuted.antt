@@ -1,6 +1,6 @@
 -- Outcomes, texts and statuses that the contracts refuse.
 -- Each lemma is named for what would have gone wrong.
-use Rattle.std.proofs.Common.{◌≡◌, ◌⊎◌, inl, inr, ℕ, true, false, [], ◌∷◌, Some, sym, ap, ◌∙◌, arith}
+use Rattle.std.proofs.Common.{◌≡◌, ◌⊎◌, inl, inr, ℕ, true, false, List, [], ◌∷◌, Some, refl, sym, ap, ◌∙◌, arith}
 use Rattle.std.specs.Prelude.{◌≢◌, IsTrue, length, take, Vec}
 use Rattle.std.specs.Io.KnownBytes.{Appends}
 use Rattle.trace_record.specs.declared.end.End.{End}
@@ -9,13 +9,12 @@ use Rattle.trace_record.specs.declared.end.Fate.TheVariants as fate
 use Rattle.trace_feed.specs.Feeds.{FeedState}
 use Rattle.trace_feed.specs.declared.door.Arrival.TheVariants as arrival
 use Rattle.asan_check.specs.declared.report.Report.{Report}
-use Rattle.asan_check.specs.declared.ending.Ending.TheVariants as ending
 use Rattle.asan_check.specs.Lines.{end_line, report_line}
 use Rattle.asan_stream.specs.declared.options.Options.{Options}
 use Rattle.asan_stream.specs.declared.outcome.Outcome.TheVariants as outcome
 use Rattle.asan_collect.specs.Arrivals.{IsAnswerTo}
 use Rattle.asan_collect.specs.Live.{ArePrintedOf}
-use Rattle.asan_stream.specs.Outcomes.{faults_of}
+use Rattle.asan_stream.specs.Outcomes.{faults_of, ending_of}
 use Rattle.asan_collect.specs.Ranges.{most_senders}
 use Rattle.asan_collect.specs.Statuses.{clean, reported, status_of}
 
@@ -51,25 +50,21 @@ stops_asking_at_255 (inr all) = absurd (omega arith)
 
 -- ---- lines
 
-abbrev fourth_of : List ℕ → ℕ
-fourth_of (first ∷ second ∷ third ∷ fourth ∷ rest) = fourth
-fourth_of _ = 0
+abbrev first_line : List (List ℕ) → List ℕ
+first_line [] = []
+first_line (line ∷ lines) = line
 
-abbrev fourth_of_first : List (List ℕ) → ℕ
-fourth_of_first [] = 0
-fourth_of_first (line ∷ lines) = fourth_of line
-
--- the end line of a process stands before that of its last report
+-- the end line of a process, which is no line of a report, stands before that of its last report
 end_line_before_last_report :
-    (F A : Type 0) (feed : F) (n offset : ℕ) (reports : Vec Report A) →
-    reports.items ≡ report 1 (fault.BadFree 0x1000) ∷ [] →
-    ¬ ArePrintedOf 0 (outcome.Settled feed (end_as fate.Closed n offset) reports)
-    (end_line 0 (ending.Ran (end_as fate.Closed n offset) 1)
-    ∷ report_line 0 (report 1 (fault.BadFree 0x1000)) ∷ [])
-end_line_before_last_report F A feed n offset reports one printed =
-    let own : printed.reports ≡ report 1 (fault.BadFree 0x1000) ∷ [] = printed.own refl ∙ one in
-    let first = ap fourth_of_first (rw own at printed.lines_are) in
-    let e_is_a_number_sign : ◌≡◌ {A = ℕ} 101 35 = first in absurd (omega arith)
+    (F A : Type 0) (feed : F) (end : End) (process : ℕ) (last : Report) (reports : Vec Report A) →
+    reports.items ≡ last ∷ [] →
+    end_line process (ending_of (outcome.Settled feed end reports)) ≢ report_line process last →
+    ¬ ArePrintedOf process (outcome.Settled feed end reports)
+    (end_line process (ending_of (outcome.Settled feed end reports))
+    ∷ report_line process last ∷ [])
+end_line_before_last_report F A feed end process last reports one apart printed =
+    let own : printed.reports ≡ last ∷ [] = printed.own refl ∙ one in
+    apart (ap first_line (rw own at printed.lines_are))
 
 -- ---- texts
 
