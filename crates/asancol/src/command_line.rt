@@ -1,7 +1,8 @@
 //! What the words of the command line ask for.
 
 ghost use Rattle.std.specs.Prelude.{◌≡◌, ◌<◌, ◌≤◌, ◌↔◌, [], Ok, Err, IfErr, IfOk, IfSome, IsTrue};
-ghost use Rattle.std.specs.Prelude.{None, Some, false, codes, length, map, option_map, string_bytes};
+ghost use Rattle.std.specs.Prelude.{None, Some, false, codes, length, map, option_map};
+ghost use Rattle.std.specs.Prelude.{string_bytes};
 ghost use Rattle.asan_collect.specs.Ranges.{most_senders};
 ghost use Rattle.asancol.specs.declared.command_line.Refusal.TheVariants.{NoMemory};
 ghost use Rattle.asancol.specs.declared.command_line.Refusal.TheVariants.{OptionOutOfRange};
