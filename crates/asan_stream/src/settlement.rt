@@ -30,7 +30,8 @@ pub fn settle<F: Drop, A: Allocator + Copy>(
     requires { IfSome done.lane_end (λ e. end_lane e ≡ lane_of bench) }
     ensures settled { IfSome done.lane_end (λ e.
         (events : List AnEvent) → end_list e ≡ items_of events done.end →
-        length events ≤ most_events → HasResults (bench_bound bench) events done.feed done.end result) }
+        length events ≤ most_events →
+        HasResults (bench_bound bench) events done.feed done.end result) }
     ensures unsettled { result ≡ Outcome.Unsettled ↔ done.lane_end ≡ None }
     ensures read { IfSome done.lane_end (λ _. IsTrue (is_read result)) }
     ensures begins { IfSome done.lane_end (λ _.

@@ -23,7 +23,9 @@ mod writing;
 
 use asan_collect::{Options, Outcome, check_feed};
 use std::alloc::{AllocError, Allocator, Global};
+use std::sync::atomic::{AtomicU64, Ordering};
 use std::test::Fail;
+use std::thread;
 use trace_feed::{Arrival, Door, ListDoor, MemFeed};
 
 /// A malloc of 5 bytes at 0x1000, a store of 4 bytes at 0x1004, and the close.
@@ -67,6 +69,20 @@ const POISON: [u8; 37] = [
     1, 8, 0, 0x10, 0, 0, 0, 0, 0, 0, 7,
 ];
 
+/// How many turns something waits at most.
+const MOST_TURNS: u32 = 10_000_000;
+
+/// Waits until the flag is set, yielding the processor in each turn, and answers whether it was.
+fn wait_for(flag: &AtomicU64) -> bool {
+    for _ in 0..MOST_TURNS {
+        if flag.load(Ordering::SeqCst) > 0 {
+            return true;
+        }
+        thread::yield_now();
+    }
+    false
+}
+
 /// A feed of bytes whose reads are cut at these places and fail at one.
 fn feed_of(
     alloc: Global,
@@ -79,8 +95,8 @@ fn feed_of(
     Ok(MemFeed::new(bytes.to_vec(alloc)?, cuts.to_vec(alloc)?, fail_at))
 }
 
-/// What becomes of the stream and more bytes, of their first 30 bytes with a failing read after them, and of no
-/// bytes.
+/// What becomes of the stream with more bytes after it, of its first 30 bytes with a failing read
+/// after them, and of no bytes.
 fn three_outcomes<A: Allocator + Copy>(
     bytes: Global,
     alloc: A,

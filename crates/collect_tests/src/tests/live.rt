@@ -3,14 +3,14 @@
 ghost use Rattle.std.specs.Prelude.{◌≡◌};
 ghost use Rattle.trace_feed.specs.Doors.{IfCame};
 
-use super::{STREAM, feed_of, three_arrivals};
+use super::{STREAM, feed_of, three_arrivals, wait_for};
 use asan_collect::{Gate, Live, OpenGate, Options, Why, WriteFault, collect_live, write_outcomes};
 use std::alloc::Global;
+use std::io;
 use std::io::Write;
 use std::process::Abort;
 use std::sync::atomic::{AtomicU64, Ordering};
 use std::test::Fail;
-use std::{io, thread};
 use test_writers::{Ending, ShortWriter};
 use trace_feed::{Arrival, Feed, FeedFault, ListDoor};
 
@@ -87,20 +87,6 @@ fn an_output_that_takes_no_more(rt: HostRuntime) -> Result<(), Fail> {
         }
     }
     Ok(())
-}
-
-/// How many turns a feed waits at most.
-const MOST_TURNS: u32 = 10_000_000;
-
-/// Waits until the flag is set, and answers whether it was.
-fn wait_for(flag: &AtomicU64) -> bool {
-    for _ in 0..MOST_TURNS {
-        if flag.load(Ordering::SeqCst) > 0 {
-            return true;
-        }
-        thread::yield_now();
-    }
-    false
 }
 
 /// A feed that gives the first bytes of the stream, if it is to give any, and the rest only once a

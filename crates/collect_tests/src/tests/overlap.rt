@@ -5,30 +5,15 @@
 //! work were done in turn.
 
 use super::collect::printed_of;
-use super::{MISS, STREAM_AND_MORE, feed_of};
+use super::{MISS, STREAM_AND_MORE, feed_of, wait_for};
 use asan_collect::{Gate, Options};
 use std::alloc::Global;
 use std::sync::Wait;
 use std::sync::atomic::{AtomicU64, Ordering};
 use std::test::Fail;
-use std::thread;
 use std::thread::Threads;
 use std::time::Clock;
 use trace_feed::{Arrival, Feed, FeedFault, ListDoor};
-
-/// How many turns something waits at most.
-const MOST_TURNS: u32 = 10_000_000;
-
-/// Waits until the flag is set, and answers whether it was.
-fn wait_for(flag: &AtomicU64) -> bool {
-    for _ in 0..MOST_TURNS {
-        if flag.load(Ordering::SeqCst) > 0 {
-            return true;
-        }
-        thread::yield_now();
-    }
-    false
-}
 
 /// A feed whose second read waits for a flag, and its first one too if `waits_first`. Where it
 /// waits in vain, the read fails. It sets a flag of its own when its second read begins.
