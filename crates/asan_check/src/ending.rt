@@ -10,7 +10,7 @@ pub enum Ending {
     NoMemory { checked: u64, reports: u64 },
     /// Its stream could not be opened.
     NotOpened,
-    /// A worker, a lane or the room for them was missing.
+    /// A thread or a lane was missing.
     NotStarted,
     /// Its lane came without its end.
     Unsettled,

@@ -9,7 +9,7 @@ use trace_lane::LaneIn;
 pub(crate) enum Sender<F, A: Allocator + Copy> {
     /// Its feed could not be opened.
     NotOpened,
-    /// A worker, a lane or the room for them was missing.
+    /// A thread or a lane was missing.
     NotStarted,
     /// It has a feed and a lane, and no reader yet.
     Ready(F, LaneIn<Item, A>),

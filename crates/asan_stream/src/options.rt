@@ -49,7 +49,7 @@ pub struct Options {
     /// How many events a stream may have, 1 to 2^24.
     pub limit: u32,
     /// How many bytes the checker of each process may hold, 2^20 to 2^40, or `None` for no bound. A
-    /// bound is kept by the allocators that [`collect_within`](crate::collect_within) is given.
+    /// bound is kept by the allocators that the collector of many streams is given.
     pub memory: Option<u64>,
     pub ghost quarantine_in_range: { quarantine ≤ largest_quarantine },
     pub ghost some_ring: { 0 < ring },

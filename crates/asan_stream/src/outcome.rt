@@ -30,7 +30,7 @@ pub enum Outcome<F, A: Allocator + Copy = Global> {
     },
     /// Its feed could not be opened.
     NotOpened,
-    /// A worker, a lane or the room for them was missing.
+    /// A thread or a lane was missing.
     NotStarted,
     /// It was started, but its bench, the end of its lane or, with live printing, the end of its
     /// report lane was missing: a thread was gone.

@@ -19,7 +19,7 @@ use Rattle.asan_collect.specs.Statuses.{status_of, unwritten}
 use Rattle.asan_collect.specs.Texts.{texts_from}
 use Rattle.asancol.specs.Settings.{AreUsual}
 
--- a `&` to an allocator that has a bound
+-- a `&` to an allocator that refuses: one that may have a bound
 abbrev pub BoundedMemory : Type 0
 BoundedMemory = Bor (RefusingAllocator Global)
 
