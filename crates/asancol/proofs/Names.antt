@@ -1,13 +1,15 @@
 -- Standard input among the names of files.
-use Rattle.std.proofs.Common.{arith, ◌≡◌, ◌<◌, ◌≤◌, ℕ, ◌+◌, ◌-◌, Option, None, Some, List, [], ◌∷◌, String, length, suc, zero, take, drop, get_or, map, string_bytes, refl, sym, ap, ◌∙◌}
+use Rattle.std.proofs.Common.{arith, Bool, true, ◌≡◌, ◌<◌, ◌≤◌, ℕ, ◌+◌, ◌-◌, Option, None, Some, List, [], ◌∷◌, String, length, suc, zero, take, drop, get_or, map, string_bytes, refl, sym, ap, ◌∙◌}
 use Rattle.std.specs.Prelude.{IfSome}
-use Rattle.std.specs.List.{insert, remove}
+use Rattle.std.specs.List.{filter, insert, remove}
 use Rattle.std.specs.Str.{bytes_eq}
 use Rattle.std.specs.declared.alloc.Global.{Global}
-use Rattle.std.proofs.lemmas.List.{drop-map, drop_at, get_or-map, length-append, length-drop, length-map, length-take, length-take-le, map-append, set-get_or, set_split, take-map, take_at}
+use Rattle.std.proofs.lemmas.List.{drop-map, drop_at, get_or-map, length-append, length-drop, length-map, length-take, length-take-le, map-append, set-get_or, set_split, take-append-drop, take-map, take_at}
+use Rattle.std.proofs.lemmas.List.Elements.{filter-append}
+use Rattle.std.proofs.lemmas.List.Filters.{length-filter_more}
 use Rattle.std.proofs.lemmas.List.Quantifiers.{position-Some}
 use Rattle.std.proofs.lemmas.Slice.Eq.{bytes_eq-Decides}
-use Rattle.asancol.specs.Sources.{input_name, input_place, names_with, place_after, place_of}
+use Rattle.asancol.specs.Sources.{input_name, input_place, inputs_among, names_with, place_after, place_of}
 
 -- an element that was removed and put back into its place
 put_back : {X : Type 0} (xs : List X) (i : ℕ) (d : X) → i < length xs → insert (remove xs i) i (get_or xs i d) ≡ xs
@@ -64,3 +66,16 @@ pub place_in_turn : {I : Type 0} (input : Option I) (before : ℕ) → (before �
 place_in_turn None before file = refl
 place_in_turn (Some x) zero file = absurd (let e : Some x ≡ None = file refl in cc)
 place_in_turn (Some x) (suc k) file = let e : suc k - 1 ≡ k = omega arith in rw e refl
+
+-- where a name is `-`, there are more of these among all names than among those before it
+pub one_more_input : (names : List (List ℕ)) (i : ℕ) → i < length names → bytes_eq (get_or names i []) input_name ≡ true
+    → inputs_among (take i names) < inputs_among names
+one_more_input names i within is =
+    let is_input : List ℕ → Bool = λ name. bytes_eq name input_name in
+    let front = filter is_input (take (i + 1) names) in
+    let back = filter is_input (drop (i + 1) names) in
+    let all : length (filter is_input names) ≡ length front + length back =
+    ap (λ all. length (filter is_input all)) (sym (take-append-drop (i + 1) names)) ∙ ap length (filter-append is_input (take (i + 1) names) (drop (i + 1) names)) ∙ length-append front back in
+    let more = length-filter_more is_input names i [] within in
+    let one = rw is at more in
+    omega (arith, all, one)

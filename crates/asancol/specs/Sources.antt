@@ -1,7 +1,7 @@
 -- Feeds of two kinds, and a door over files, one of which may be standard input.
 use Rattle.std.specs.Prelude.{ℕ, Bool, true, false, List, String, Option, None, Some, codes}
-use Rattle.std.specs.Prelude.{string_bytes, suc, zero}
-use Rattle.std.specs.List.{insert, position}
+use Rattle.std.specs.Prelude.{length, string_bytes, suc, zero}
+use Rattle.std.specs.List.{filter, insert, position}
 use Rattle.std.specs.Str.{bytes_eq}
 use Rattle.std.specs.declared.alloc.Global.{Global}
 use Rattle.trace_feed.specs.declared.door.Arrival.{Arrival}
@@ -30,6 +30,10 @@ is_input arrival.Over = false
 -- the name of standard input
 abbrev pub input_name : List ℕ
 input_name = codes "-"
+
+-- how many of these names are that of standard input
+abbrev pub inputs_among : List (List ℕ) → ℕ
+inputs_among names = length (filter (λ name. bytes_eq name input_name) names)
 
 -- the place of standard input among names: the first that is its name
 abbrev pub input_place : List (String Global) → Option ℕ

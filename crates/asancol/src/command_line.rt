@@ -13,6 +13,7 @@ ghost use Rattle.asancol.specs.Requests.{HasFewFiles, IsQuiet, is_verbose as is_
 ghost use Rattle.asancol.specs.Requests.{threads_of};
 ghost use Rattle.asancol.specs.Settings.{AreFilesOf, AreOptionsOf, AreSizesOf, IsFlag, IsGiven};
 ghost use Rattle.asancol.specs.Settings.{IsBadOption, IsBadSize, IsSetIfGiven, SaysVerbose};
+ghost use Rattle.asancol.specs.Sources.{inputs_among};
 
 use crate::arguments::{
     CHECK, COUNT, FILES, HelpTexts, LIMIT, LIVE, MEMORY, QUARANTINE, READY, RING, SERVE, SOCKET,
@@ -160,7 +161,10 @@ fn names_of(alloc: Global, files: &[&str]) -> Result<Vec<String>, Refusal>
     ensures same { IfOk result (λ names.
         map string_bytes names.items ≡ map (λ file. file.now) files.now) }
     ensures few { IfOk result (λ names. length names.items ≤ most_senders) }
+    ensures once { IfOk result (λ _. inputs_among (map (λ file. file.now) files.now) ≤ 1) }
     ensures too_many { (result ≡ Err Refusal.TooManyFiles) ↔ (most_senders < length files.now) }
+    ensures twice { result ≡ Err Refusal.InputTwice →
+        1 < inputs_among (map (λ file. file.now) files.now) }
 {
     if files.len() > MOST_SENDERS {
         return Err(Refusal::TooManyFiles);

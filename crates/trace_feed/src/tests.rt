@@ -182,7 +182,7 @@ fn over_in_a_list_ends_it(rt: HostRuntime) -> Result<(), Fail> {
 #[test]
 fn files_come_where_they_open(rt: HostRuntime) -> Result<(), Fail> {
     let folder = format!(in rt.alloc(); "{}", env::temp_dir(&rt)?.display())?;
-    // its name ends with a space, without which there is no file
+    // Its name ends with a space, without which there is no file.
     let path = format!(in rt.alloc(); "{folder}/trace_feed_{} ", process::id(rt.process()))?;
     let missing = format!(in rt.alloc(); "{path}_missing")?;
     fs::write(&rt, path.as_str(), TRACE.as_slice())?;
@@ -205,7 +205,7 @@ fn files_come_where_they_open(rt: HostRuntime) -> Result<(), Fail> {
     assert!(rt; matches!(door.next(), Arrival::Refused));
     assert_eq!(rt; door.refusals(), 1);
 
-    // a folder opens, and reads of it fail
+    // A folder opens, and reads of it fail.
     let Arrival::Came(mut folder) = door.next() else {
         panic!(rt; "the folder is there");
     };

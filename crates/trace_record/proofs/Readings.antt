@@ -198,7 +198,7 @@ form_of limit text events (Some fate.ReadFailed) reads = absurd reads
 split_long : (limit : ℕ) (v : Version) (text : List ℕ) (events : List Event) (tail : List ℕ) (end : Option Fate) → IsSplit limit v text events tail end → 8 ≤ length text
 split_long limit v text events tail end s = made_long v text events tail s.made
 
--- the first eight bytes tell the version, or that there is none
+-- the version that the first eight bytes stand for, or none
 abbrev version_by_front : List ℕ → Option Version
 version_by_front front = if pointwise eqb (header version.One) front then Some version.One else (if pointwise eqb (header version.Two) front then Some version.Two else None)
 

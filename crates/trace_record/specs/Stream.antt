@@ -1,7 +1,7 @@
 -- What a whole text spells: its events, oldest first, and whether and how it has ended (profile).
 --
 -- Nothing here speaks of pieces or of a reader: each definition looks at the text from its first
--- byte. The first eight bytes tell the version of the text, and all its events spell in that. An
+-- byte. The first eight bytes say which version the text has, and all its events spell in that. An
 -- event limit says how many events a text may have.
 use Rattle.std.specs.Prelude.{◌≡◌, ◌≢◌, ℕ, ◌+◌, ◌<◌, ◌≤◌, ◌⊎◌, nat_eq, if◌then◌else◌}
 use Rattle.std.specs.Prelude.{List, [], ◌∷◌, ◌++◌, length, take, Option, Some, None}
@@ -22,7 +22,7 @@ use Rattle.trace_record.specs.Spelling.{record_length, AllSpellIn}
 abbrev pub BeginsWith : List ℕ → List ℕ → Type 0
 BeginsWith front text = (more : List ℕ) × (text ≡ front ++ more)
 
--- the version that a text's first eight bytes tell, if they are a header
+-- the version that a text's first eight bytes stand for, if they are a header
 abbrev pub version_of : List ℕ → Option Version
 version_of text =
     if starts_with nat_eq text (header version.One) then Some version.One
