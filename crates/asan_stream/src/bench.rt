@@ -244,7 +244,7 @@ impl<A: Allocator + Copy> Bench<A> {
     }
 
     /// Takes and checks a batch of items, unless a report waits, and answers whether there may be
-    /// more: not once it is over, or once its lane was left and is empty.
+    /// more to do: not once it is over, or its lane was left and is empty, and no report waits.
     pub(crate) fn work<G: Gate>(&mut self, gate: &G, room: &mut Room) -> Found
         ensures later { Later self.old self.new }
         ensures takes { result ≢ Found.Items → taken_of self.new ≡ taken_of self.old }

@@ -20,9 +20,9 @@ struct Round {
     ended: bool,
 }
 
-/// Goes round the benches, a turn each, until each is over, or its lane was left and is empty.
-/// Where it finds nothing to take it waits. The benches come back in order, each with all its
-/// reports put into its report lane, where it still has one.
+/// Goes round the benches, a turn each, until each is over, or its lane was left and is empty, and
+/// no report waits for room. Where it finds nothing to take or to put it waits. The benches come
+/// back in order, each with all its reports put into its report lane, where it still has one.
 pub fn run_checker<A: Allocator + Copy, G: Gate, R: Wait + Clock>(
     rt: &R,
     benches: Vec<Bench<A>, A>,
