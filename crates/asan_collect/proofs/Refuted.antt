@@ -1,10 +1,9 @@
 -- Outcomes, texts and statuses that the contracts refuse.
 -- Each lemma is named for what would have gone wrong.
 use Rattle.std.proofs.Common.{◌≡◌, ◌⊎◌, inl, inr, ℕ, true, false, List, [], ◌∷◌, Some, refl, sym, ap, ◌∙◌, arith}
-use Rattle.std.specs.Prelude.{◌≢◌, IsTrue, length, take, Vec}
+use Rattle.std.specs.Prelude.{◌≢◌, IsTrue, Vec}
 use Rattle.std.specs.Io.KnownBytes.{Appends}
 use Rattle.trace_record.specs.declared.end.End.{End}
-use Rattle.trace_record.specs.declared.end.Fate.{Fate}
 use Rattle.trace_record.specs.declared.end.Fate.TheVariants as fate
 use Rattle.trace_feed.specs.Feeds.{FeedState}
 use Rattle.trace_feed.specs.declared.door.Arrival.TheVariants as arrival
@@ -15,11 +14,9 @@ use Rattle.asan_stream.specs.declared.outcome.Outcome.TheVariants as outcome
 use Rattle.asan_collect.specs.Arrivals.{IsAnswerTo}
 use Rattle.asan_collect.specs.Live.{ArePrintedOf}
 use Rattle.asan_stream.specs.Outcomes.{faults_of, ending_of}
+use Rattle.asan_stream.proofs.Refuted.{end_as}
 use Rattle.asan_collect.specs.Ranges.{most_senders}
 use Rattle.asan_collect.specs.Statuses.{clean, reported, status_of}
-
-abbrev end_as : Fate → ℕ → ℕ → End
-end_as fate events offset = record { fate = fate; events = events; offset = offset }
 
 -- ---- answers
 
@@ -67,11 +64,6 @@ end_line_before_last_report F A feed end process last reports one apart printed 
     apart (ap first_line (rw own at printed.lines_are))
 
 -- ---- texts
-
--- the writer took one byte and failed, and a line feed is written after that
-writes_on_after_fault : ¬ Appends (Some []) (Some (97 ∷ 10 ∷ [])) (take 1 (97 ∷ 98 ∷ []))
-writes_on_after_fault appended =
-    let two_is_one : ◌≡◌ {A = ℕ} 2 1 = ap length appended in absurd (omega arith)
 
 -- what was held back does not go out
 held_back_text_is_dropped : ¬ Appends (Some []) (Some []) (97 ∷ [])

@@ -1,5 +1,5 @@
-//! What becomes of each sender's stream: its outcome, the text that is printed of it, and the
-//! status of all together.
+//! Many senders at once: each is read and checked over threads. Then the text of all outcomes, and
+//! the status.
 #![tactic(auto)]
 
 mod arrivals;

@@ -140,7 +140,7 @@ fn print_in<
         printers,
         at_work: _,
     } = printing;
-    // The writer goes back to who lent it.
+    // The writer goes back to its owner.
     let _ = lent;
     printers
 }
@@ -194,7 +194,7 @@ pub(crate) fn run_printing<
             (w, Returned { senders, shares }, printers)
         },
     );
-    // And so it does here.
+    // The writer goes back to its owner here too.
     let _ = back;
     (returned, printers)
 }

@@ -1,5 +1,5 @@
 -- Benches that go on.
-use Rattle.std.proofs.Common.{ℕ, ◌≡◌, ◌<◌, ◌++◌, List, [], ◌∷◌, length, take, refl, ap, ◌∙◌, sym, arith, append_assoc, append-nil, slice_index_or, slice_set, subst, inl, inr}
+use Rattle.std.proofs.Common.{ℕ, ◌≡◌, ◌+◌, ◌<◌, ◌++◌, List, [], ◌∷◌, length, take, refl, ap, ◌∙◌, sym, arith, append_assoc, append-nil, slice_index_or, slice_set, subst, inl, inr}
 use Rattle.std.proofs.lemmas.Bool.{cases_eq}
 use Rattle.std.proofs.lemmas.List.{length-set, get_or-set_same, get_or-set_other, get_or_default}
 use Rattle.trace_lane.specs.Lanes.{out_lane, taken_list}
@@ -10,7 +10,7 @@ use Rattle.asan_stream.specs.declared.bench.Turn.{Turn}
 use Rattle.asan_stream.specs.declared.bench.Turn.TheVariants as turn
 use Rattle.asan_stream.specs.Benches.{lane_of, taken_of, found_of, report_lane_of, Takes, Turns}
 use Rattle.asan_stream.specs.Outboxes.{IsFront, KeepsLane, lane_into}
-use Rattle.asan_stream.specs.Benches.{Later, EachLater}
+use Rattle.asan_stream.specs.Benches.{Later, EachLater, HasReported}
 use Rattle.asan_stream.proofs.Reporting.{front_same, front_trans, keeps_same, keeps_trans}
 
 taken_more : (did : Turn) (before after : List Item) → Takes did before after → (more : List Item) × (after ≡ before ++ more)
@@ -85,3 +85,16 @@ module _ {A : Type 0} where
           | inr n ↦ rw (get_or-set_other ys i k new d n) (r.each k d below)
         ];
       }
+
+  -- the first of the benches, as many as this, have put all their reports
+  abbrev pub FirstReported : ℕ → List (Bench A) → Type 0
+  FirstReported n xs =
+      (k : ℕ) (d : Bench A) → k < n →
+      HasReported (slice_index_or xs k d) (found_of (slice_index_or xs k d))
+
+  -- and one more, which has worked
+  pub reported_worked : (xs : List (Bench A)) (i : ℕ) (new : Bench A) → i < length xs → FirstReported i xs → HasReported new (found_of new) → FirstReported (i + 1) (slice_set xs i new)
+  reported_worked xs i new low before all k d below = elim (cases_eq k i) [
+    | inl e ↦ rw (e, get_or-set_same xs i new d low) all
+    | inr n ↦ rw (get_or-set_other xs i k new d n) (before k d (omega arith))
+  ]

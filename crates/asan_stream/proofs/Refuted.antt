@@ -25,7 +25,7 @@ use Rattle.asan_stream.specs.Checking.{StandsAfter}
 use Rattle.asan_stream.specs.Items.{items_of}
 use Rattle.asan_stream.specs.Outcomes.{IsSpelled, HasResults, is_read}
 
-abbrev end_as : Fate → ℕ → ℕ → End
+abbrev pub end_as : Fate → ℕ → ℕ → End
 end_as fate events offset = record { fate = fate; events = events; offset = offset }
 
 -- ---- ends

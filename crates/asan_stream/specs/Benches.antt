@@ -83,3 +83,9 @@ module _ {A : Type 0} where
     pub each :
         (i : ℕ) (d : Bench A) → i < length before →
         Later (slice_index_or before i d) (slice_index_or after i d)
+
+  -- each of these benches has put all its checker's reports, or has no report lane
+  abbrev pub EachReported : List (Bench A) → Type 0
+  EachReported benches =
+      (i : ℕ) (d : Bench A) → i < length benches →
+      HasReported (slice_index_or benches i d) (found_of (slice_index_or benches i d))

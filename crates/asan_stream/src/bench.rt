@@ -68,7 +68,7 @@ pub(crate) enum Found {
 }
 
 impl<A: Allocator + Copy> Bench<A> {
-    ghost use Rattle.std.specs.Prelude.{◌↔◌, List, [], IsTrue, IfSome, None, Some};
+    ghost use Rattle.std.specs.Prelude.{◌≢◌, ◌↔◌, List, [], IsTrue, IfSome, None, Some};
     ghost use Rattle.trace_lane.specs.Lanes.{in_lane, out_lane, put_list, end_lane, end_list};
     ghost use Rattle.asan_check.specs.Standing.{Stands, bound_of};
     ghost use Rattle.asan_stream.specs.Outboxes.{IsFront, KeepsLane};
@@ -221,7 +221,11 @@ impl<A: Allocator + Copy> Bench<A> {
     /// then puts the reports on them and calls the gate. It takes none once the end or 2^24 events
     /// were taken.
     fn take_batch<G: Gate>(&mut self, gate: &G, room: &mut Room) -> Found
-        ensures { Later self.old self.new }
+        ensures later { Later self.old self.new }
+        ensures stays { (reports : List AReport) →
+            HasReported self.old reports → HasReported self.new reports }
+        ensures takes { result ≢ Found.Items → taken_of self.new ≡ taken_of self.old }
+        ensures finds { result ≢ Found.Items → found_of self.new ≡ found_of self.old }
     {
         if self.is_done() {
             return Found::End;
@@ -240,11 +244,15 @@ impl<A: Allocator + Copy> Bench<A> {
     }
 
     /// Takes and checks a batch of items, unless a report waits, and answers whether there may be
-    /// more: not once it is over, or once its lane was left and is empty.
+    /// more to do: not once it is over, or its lane was left and is empty, and no report waits.
     pub(crate) fn work<G: Gate>(&mut self, gate: &G, room: &mut Room) -> Found
-        ensures { Later self.old self.new }
+        ensures later { Later self.old self.new }
+        ensures takes { result ≢ Found.Items → taken_of self.new ≡ taken_of self.old }
+        ensures waits { result ≡ Found.Items → HasReported self.new (found_of self.old) }
+        ensures ends { result ≡ Found.End → HasReported self.new (found_of self.new) }
     {
-        if !self.report(gate) {
+        let sent = self.report(gate);
+        if !sent {
             return Found::None;
         }
         match self.take_batch(gate, room) {

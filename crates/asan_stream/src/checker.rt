@@ -1,6 +1,7 @@
 //! A checker: it goes round its benches, a turn each, until all are done.
 
-ghost use Rattle.asan_stream.specs.Benches.{EachLater};
+ghost use Rattle.std.specs.Prelude.{IsTrue};
+ghost use Rattle.asan_stream.specs.Benches.{EachLater, EachReported};
 
 use crate::bench::{Bench, Found};
 use crate::gate::Gate;
@@ -15,18 +16,20 @@ use std::time::Clock;
 struct Round {
     /// Whether items were taken.
     took: bool,
-    /// Whether each bench is over, or its lane was left and is empty.
+    /// Whether each bench is over, or its lane was left and is empty, and no report waits.
     ended: bool,
 }
 
-/// Goes round the benches, a turn each, until each is over, or its lane was left and is empty.
-/// Where it finds nothing to take it waits. The benches come back in order.
+/// Goes round the benches, a turn each, until each is over, or its lane was left and is empty, and
+/// no report waits for room. Where it finds nothing to take or to put it waits. The benches come
+/// back in order, each with all its reports put into its report lane, where it still has one.
 pub fn run_checker<A: Allocator + Copy, G: Gate, R: Wait + Clock>(
     rt: &R,
     benches: Vec<Bench<A>, A>,
     gate: &G,
 ) -> Vec<Bench<A>, A>
-    ensures { EachLater benches.items result.items }
+    ensures later { EachLater benches.items result.items }
+    ensures all { EachReported result.items }
 {
     let mut benches = benches;
     check_to_the_end(rt, &mut benches, gate);
@@ -39,7 +42,8 @@ fn check_to_the_end<A: Allocator + Copy, G: Gate, R: Wait + Clock>(
     benches: &mut Vec<Bench<A>, A>,
     gate: &G,
 )
-    ensures { EachLater benches.old.items benches.new.items }
+    ensures later { EachLater benches.old.items benches.new.items }
+    ensures all { EachReported benches.new.items }
 {
     let mut pause = Pause::new();
     let mut room = Room::new();
@@ -63,7 +67,8 @@ fn go_round<A: Allocator + Copy, G: Gate>(
     gate: &G,
     room: &mut Room,
 ) -> Round
-    ensures { EachLater benches.old.items benches.new.items }
+    ensures later { EachLater benches.old.items benches.new.items }
+    ensures all { IsTrue result.ended → EachReported benches.new.items }
 {
     let mut round = Round {
         took: false,

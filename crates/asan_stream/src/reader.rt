@@ -89,8 +89,8 @@ fn close<A: Allocator + Copy, R: Wait + Clock>(
     lane.finish()
 }
 
-/// Puts a batch of events, and answers whether it could: it gives up where the lane was left. The
-/// items are its own to use.
+/// Puts a batch of events, and answers whether it could: it gives up where the lane was left. It
+/// may overwrite `items`.
 fn put_events<A: Allocator + Copy, R: Wait + Clock>(
     rt: &R,
     lane: &mut LaneIn<Item, A>,

@@ -15,7 +15,7 @@ pub(crate) struct Room {
 }
 
 impl Room {
-    /// Room that holds nothing of use.
+    /// Room with nothing in it yet.
     pub(crate) fn new() -> Room {
         let events = batch_room();
         Room {

@@ -32,8 +32,8 @@ invariant_of-self-2 g c =
       ends = among.ended ∙ ap has_end same ∙ sym (has_end-append before more (not_ended _ _ (sym c.is_done.ensures ∙ c.if-is_done.false))) ∙ ap has_end (sym taken);
     }
 
-pub returns : goal.returns
-returns g c =
+pub returns-clause-later : goal.returns-clause-later
+returns-clause-later g c =
     let old = c.args.self.now in
     record {
       process = c.report.ensures.process;
