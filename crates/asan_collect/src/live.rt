@@ -42,9 +42,9 @@ pub struct Live<F, A: Allocator + Copy = Global> {
 /// the outcomes, once all threads have ended. Of a process that is `Unsettled` some reports may
 /// stand before its end line.
 ///
-/// Where a line can't be written, nothing more is: the checks go on, and `wrote` says it. A writer
-/// that waits holds up the checkers, then the readers, and then who writes to them: nothing is
-/// lost. The writer isn't flushed.
+/// Where a line can't be written, the checks go on, and `wrote` says it. Nothing is written after
+/// that line, which is tested. A writer that waits holds up the checkers, then the readers, and
+/// then who writes to them: nothing is lost. The writer isn't flushed.
 ///
 /// # Errors
 ///

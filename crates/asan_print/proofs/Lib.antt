@@ -1,3 +1,4 @@
 pub mod Prints
 mod Logging
 mod Rounds
+pub mod Refuted

@@ -1,5 +1,5 @@
 -- What one more line does to a log, and to what went out of it.
-use Rattle.std.proofs.Common.{ℕ, ◌≡◌, ◌≢◌, ◌+◌, ◌<◌, List, [], ◌∷◌, ◌++◌, length, Option, None, Some, refl, sym, ap, ◌∙◌, arith, append_assoc, length-append, eqb, cond, inl, inr, true, false, take, get_or}
+use Rattle.std.proofs.Common.{ℕ, ◌≡◌, ◌≢◌, ◌+◌, ◌<◌, List, [], ◌∷◌, ◌++◌, length, Option, None, Some, refl, sym, ap, subst, ◌∙◌, arith, append_assoc, length-append, eqb, cond, inl, inr, true, false, take, get_or}
 use Rattle.std.specs.Prelude.{Result, Ok, Err, OnOk, IfErr, is_some}
 use Rattle.std.specs.Result.{result_err}
 use Rattle.std.proofs.Math.Seq.{take-append_seam}
@@ -14,7 +14,7 @@ use Rattle.asan_print.specs.declared.fault.WriteFault.{WriteFault}
 use Rattle.asan_print.specs.declared.printer.Printer.{Printer}
 use Rattle.asan_print.specs.declared.live_printer.LivePrinter.{LivePrinter}
 use Rattle.asan_print.specs.Printing.{Prints, BreaksOff, held_of, written_of}
-use Rattle.asan_print.specs.Logs.{Line, joined, lines_of, report_lines, Printed, Adds}
+use Rattle.asan_print.specs.Logs.{Line, joined, lines_of, report_lines, fault_of, Printed, Adds}
 
 pub joined-snoc : (log : List Line) (i : ℕ) (l : List ℕ) → joined (log ++ (i, l) ∷ []) ≡ joined log ++ l
 joined-snoc [] i l = append-nil l
@@ -162,6 +162,16 @@ module _ {A : Type 0} where
       let count : k ≡ length out = omega (arith, length-append o.0 off.out) in
       let front : take k (joined log) ≡ out = ap (λ n. take n (joined log)) count ∙ ap (take (length out)) whole ∙ take-append_seam out off.rest in
       (rw front (Appends-trans start now next o.0 off.out o.1 off.sent), let n = ap length whole in omega (arith, length-append out off.rest))
+
+  -- a printer that had broken off wrote nothing and is as it was
+  abbrev pub Still : {W : Type 0} → W → W → LivePrinter A → LivePrinter A → Type 0
+  Still w next p q = fault_of p ≢ None → (next ≡ w) × (q ≡ p)
+
+  pub still_on : {W : Type 0} (w next last : W) (p q r : LivePrinter A) → (fault_of q ≢ None → last ≡ next) → (fault_of q ≢ None → r ≡ q) → Still w next p q → Still w last p r
+  still_on w next last p q r quiet stays still broken =
+      let was = still broken in
+      let is : fault_of q ≢ None = subst (λ l. fault_of l ≢ None) (sym was.1) broken in
+      (quiet is ∙ was.0, stays is ∙ was.1)
 
   -- lines of one process alone
   pub adds_start : (start now : Option (List ℕ)) (p : LivePrinter A) (i : ℕ) (lines : List (List ℕ)) (log : List Line) → Printed start now p log → lines_of i log ≡ lines → Adds start now p i lines log

@@ -59,14 +59,14 @@ module _ {A : Type 0} where
       }
 
   -- what went out and what is held back are together as long as before and the text
-  pub prints_long : (a b : Option (List ℕ)) (p q : Printer A) (t : List ℕ) → Prints a b p q t → q.written + length (string_bytes q.text) ≡ p.written + length (string_bytes p.text) + length t
+  pub prints_long : (a b : Option (List ℕ)) (p q : Printer A) (t : List ℕ) → Prints a b p q t → q.sent + length (string_bytes q.text) ≡ p.sent + length (string_bytes p.text) + length t
   prints_long a b p q t one =
       let e = ap length one.parts in
       let n = one.count in
       omega (arith, length-append (string_bytes p.text) t, length-append one.out (string_bytes q.text))
 
   -- what a printer holds back and has written is all that counts
-  pub breaks_same : (a b : Option (List ℕ)) (p q : Printer A) (t : List ℕ) (n : ℕ) → string_bytes q.text ≡ string_bytes p.text → q.written ≡ p.written → BreaksOff a b q t n → BreaksOff a b p t n
+  pub breaks_same : (a b : Option (List ℕ)) (p q : Printer A) (t : List ℕ) (n : ℕ) → string_bytes q.text ≡ string_bytes p.text → q.sent ≡ p.sent → BreaksOff a b q t n → BreaksOff a b p t n
   breaks_same a b p q t n text written off = record {
     out = off.out;
     rest = off.rest;
@@ -78,7 +78,7 @@ module _ {A : Type 0} where
 
 -- where a printer that began with nothing broke off: the front of the text went out, and not all of it
 module _ {A : Type 0} where
-  pub front_out : (a b : Option (List ℕ)) (p : Printer A) (t : List ℕ) (n : ℕ) → string_bytes p.text ≡ [] → p.written ≡ 0 → BreaksOff a b p t n → Appends a b (take n t) × (n < length t)
+  pub front_out : (a b : Option (List ℕ)) (p : Printer A) (t : List ℕ) (n : ℕ) → string_bytes p.text ≡ [] → p.sent ≡ 0 → BreaksOff a b p t n → Appends a b (take n t) × (n < length t)
   front_out a b p t n empty fresh off =
       let whole : t ≡ off.out ++ off.rest = ap (λ xs. xs ++ t) (sym empty) ∙ off.parts in
       let count : n ≡ length off.out = let e = off.count in omega arith in

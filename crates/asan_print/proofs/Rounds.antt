@@ -67,7 +67,7 @@ module _ {A : Type 0} where
     pub none : any ≡ false → taken_of ys ≡ taken_of xs
     pub some : any ≡ true → count_of xs < count_of ys
     pub least : count_of xs ≤ count_of ys
-    pub finds : (i : ℕ) (d : Option (Port A)) → i < asked → HasReport (slice_index_or xs i d) → any ≡ true
+    pub finds : (i : ℕ) (d : Option (Port A)) → i < asked → HasReport (slice_index_or xs i d) → length (taken_at (slice_index_or xs i d)) < length (taken_at (slice_index_or ys i d))
 
   pub asked_none : (xs : List (Option (Port A))) → Asked xs xs 0 false
   asked_none xs = record {
@@ -102,7 +102,8 @@ module _ {A : Type 0} where
             [ true ↦ λ grown yes. let g = grown refl in omega arith | false ↦ λ grown yes. let g = r.some yes in omega arith ] some;
         least = omega arith;
         finds = λ i d below has. elim (cases_eq i at) [
-          | inl e ↦ ap (λ b. cond b true any) (finds (subst HasReport (sym (was d)) (subst (λ j. HasReport (slice_index_or xs j d)) e has)))
-          | inr n ↦ ap (λ b. cond here true b) (r.finds i d (omega arith) has) ∙ elim here as (λ b. cond b true true ≡ true) [ true ↦ refl | false ↦ refl ]
+          | inl e ↦ rw (e, get_or-set_same ys at new d low)
+              (subst (λ port. length (taken_at port) < length (taken_at new)) (was d) (some (finds (subst HasReport (sym (was d)) (subst (λ j. HasReport (slice_index_or xs j d)) e has)))))
+          | inr n ↦ rw (get_or-set_other ys at i new d n) (r.finds i d (omega arith) has)
         ];
       }

@@ -5,6 +5,7 @@ use Rattle.std.specs.List.{flat_map}
 use Rattle.std.specs.Io.KnownBytes.{Appends}
 use Rattle.asan_check.specs.declared.report.Report.{Report}
 use Rattle.asan_check.specs.Lines.{report_line}
+use Rattle.asan_print.specs.declared.fault.WriteFault.{WriteFault}
 use Rattle.asan_print.specs.declared.live_printer.LivePrinter.{LivePrinter}
 use Rattle.asan_print.specs.Printing.{held_of, written_of}
 
@@ -27,6 +28,14 @@ abbrev pub report_lines : ℕ → List Report → List (List ℕ)
 report_lines process reports = map (report_line process) reports
 
 module _ {A : Type 0} where
+  -- what a contract sees of a live printer: why it has broken off, if a line could not be printed,
+  -- and the text that it holds back
+  abbrev pub fault_of : LivePrinter A → Option WriteFault
+  fault_of p = p.fault
+
+  abbrev pub held_by : LivePrinter A → List ℕ
+  held_by p = held_of p.printer
+
   -- these lines were printed: what went out begins them, and the rest is held back, or was lost
   -- with the first line that could not be printed
   pub record Printed
@@ -35,8 +44,8 @@ module _ {A : Type 0} where
     pub rest : List ℕ
     pub sent : Appends start now out
     pub parts : joined log ≡ out ++ rest
-    pub ends : MatchOption p.fault
-        ((rest ≡ held_of p.printer) × (written_of p.printer ≡ length out))
+    pub ends : MatchOption (fault_of p)
+        ((rest ≡ held_by p) × (written_of p.printer ≡ length out))
         (λ fault. (0 < length rest) × (fault.written ≡ length out))
 
   -- lines of this process alone were added to a log, until its lines were these

@@ -10,7 +10,7 @@ module _ {A : Type 0} where
   held_of p = string_bytes p.text
 
   abbrev pub written_of : Printer A → ℕ
-  written_of p = p.written
+  written_of p = p.sent
 
   -- how many bytes were printed so far: those that went out, and those that are held back
   abbrev pub printed_of : Printer A → ℕ

@@ -27,6 +27,7 @@ pub struct LivePrinter<A: Allocator + Copy> {
 
 impl<A: Allocator + Copy> LivePrinter<A> {
     ghost use Rattle.asan_print.specs.Logs.{Line, Printed, Adds, joined, lines_of, report_lines};
+    ghost use Rattle.asan_print.specs.Logs.{fault_of, held_by};
     ghost use Rattle.asan_print.specs.Ports.{Follows, SameLanes, lane_at, taken_at, taken_of};
     ghost use Rattle.asan_print.specs.Ports.{EachTakesMore, HasReport, TakesMore};
 
@@ -42,9 +43,11 @@ impl<A: Allocator + Copy> LivePrinter<A> {
 
     /// Prints the line of a report.
     pub fn report<W: Write>(&mut self, w: &mut W, process: u32, report: &Report)
-        ensures { (start : Option (List ℕ)) (log : List Line) →
+        ensures prints { (start : Option (List ℕ)) (log : List Line) →
             Printed start (W.contents w.old) self.old log → Printed start (W.contents w.new)
             self.new (log ++ (process, report_line process report.now) ∷ []) }
+        ensures broken { fault_of self.old ≢ None → w.new ≡ w.old }
+        ensures stays { fault_of self.old ≢ None → self.new ≡ self.old }
     {
         if !self.is_ready() {
             return;
@@ -54,9 +57,11 @@ impl<A: Allocator + Copy> LivePrinter<A> {
 
     /// Prints the line of an end.
     fn end<W: Write>(&mut self, w: &mut W, process: u32, ending: &Ending)
-        ensures { (start : Option (List ℕ)) (log : List Line) →
+        ensures prints { (start : Option (List ℕ)) (log : List Line) →
             Printed start (W.contents w.old) self.old log → Printed start (W.contents w.new)
             self.new (log ++ (process, end_line process ending.now) ∷ []) }
+        ensures broken { fault_of self.old ≢ None → w.new ≡ w.old }
+        ensures stays { fault_of self.old ≢ None → self.new ≡ self.old }
     {
         if !self.is_ready() {
             return;
@@ -68,7 +73,8 @@ impl<A: Allocator + Copy> LivePrinter<A> {
     /// be counted, it is lost.
     fn is_ready(&mut self) -> bool
         ensures same { IsTrue result → self.new ≡ self.old }
-        ensures open { IsTrue result → self.old.fault ≡ None }
+        ensures open { IsTrue result → fault_of self.old ≡ None }
+        ensures stays { fault_of self.old ≢ None → self.new ≡ self.old }
         ensures room { IsTrue result → printed_of self.old.printer + longest_line < 2 ^ 64 }
         ensures lost { result ≡ false → (start now : Option (List ℕ)) (log : List Line)
             (process : ℕ) (line : List ℕ) → 0 < length line → Printed start now self.old log →
@@ -89,14 +95,16 @@ impl<A: Allocator + Copy> LivePrinter<A> {
 
     /// Writes the lines that are held back.
     fn flush<W: Write>(&mut self, w: &mut W)
-        ensures { (start : Option (List ℕ)) (log : List Line) →
+        ensures lines { (start : Option (List ℕ)) (log : List Line) →
             Printed start (W.contents w.old) self.old log →
             Printed start (W.contents w.new) self.new log }
+        ensures sent { fault_of self.new ≡ None → held_by self.new ≡ [] }
+        ensures broken { fault_of self.old ≢ None → w.new ≡ w.old }
+        ensures stays { fault_of self.old ≢ None → self.new ≡ self.old }
     {
-        if self.fault.is_some() {
-            return;
+        if self.fault.is_none() {
+            self.fault = self.printer.send(w).err();
         }
-        self.fault = self.printer.send(w).err();
     }
 
     /// Prints the lines of reports that wait at the ports of processes 0, 1 and so on, at most 64
@@ -108,10 +116,15 @@ impl<A: Allocator + Copy> LivePrinter<A> {
         ensures none { result ≡ false → taken_of ports.new ≡ taken_of ports.old }
         ensures some { IsTrue result → taken_of ports.new ≢ taken_of ports.old }
         ensures finds { (i : ℕ) (d : Option (Port A)) → i < length ports.old →
-            HasReport (slice_index_or ports.old i d) → IsTrue result }
+            HasReport (slice_index_or ports.old i d) →
+            length (taken_at (slice_index_or ports.old i d)) <
+            length (taken_at (slice_index_or ports.new i d)) }
         ensures lines { (start : Option (List ℕ)) →
             Follows start (W.contents w.old) self.old ports.old →
             Follows start (W.contents w.new) self.new ports.new }
+        ensures sent { fault_of self.new ≡ None → held_by self.new ≡ [] }
+        ensures broken { fault_of self.old ≢ None → w.new ≡ w.old }
+        ensures stays { fault_of self.old ≢ None → self.new ≡ self.old }
     {
         let mut any = false;
         for process in 0..ports.len() {
@@ -136,6 +149,8 @@ impl<A: Allocator + Copy> LivePrinter<A> {
             lines_of process log ≡ report_lines process (taken_at port.old) →
             Adds start (W.contents w.new) self.new process
             (report_lines process (taken_at port.new)) log }
+        ensures broken { fault_of self.old ≢ None → w.new ≡ w.old }
+        ensures stays { fault_of self.old ≢ None → self.new ≡ self.old }
     {
         let Some(port) = port else {
             return false;
@@ -152,10 +167,12 @@ impl<A: Allocator + Copy> LivePrinter<A> {
     /// Prints the last lines of a process: those of the reports that were not printed yet, and the
     /// line of its end.
     pub fn close<W: Write>(&mut self, w: &mut W, process: u32, rest: &[Report], ending: &Ending)
-        ensures { (start : Option (List ℕ)) (log : List Line) (lines : List (List ℕ)) →
+        ensures adds { (start : Option (List ℕ)) (log : List Line) (lines : List (List ℕ)) →
             Printed start (W.contents w.old) self.old log → lines_of process log ≡ lines →
             Adds start (W.contents w.new) self.new process
             ((lines ++ report_lines process rest.now) ++ end_line process ending.now ∷ []) log }
+        ensures broken { fault_of self.old ≢ None → w.new ≡ w.old }
+        ensures stays { fault_of self.old ≢ None → self.new ≡ self.old }
     {
         for report in rest {
             self.report(w, process, report);
@@ -179,6 +196,8 @@ impl<A: Allocator + Copy> LivePrinter<A> {
         ensures short { IfErr result (λ e. (start : Option (List ℕ)) (log : List Line) →
             Printed start (W.contents w.old) self log →
             e.written < length (joined log)) }
+        ensures broken { fault_of self ≢ None → w.new ≡ w.old }
+        ensures same { (fault : WriteFault) → fault_of self ≡ Some fault → result ≡ Err fault }
     {
         let LivePrinter { mut printer, fault } = self;
         if let Some(fault) = fault {

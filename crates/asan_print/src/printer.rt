@@ -21,7 +21,7 @@ const LONGEST_LINE: u64 = 200;
 #[derive(Drop)]
 pub struct Printer<A: Allocator + Copy> {
     text: String<A>,
-    written: u64,
+    sent: u64,
 }
 
 impl<A: Allocator + Copy> Printer<A> {
@@ -35,7 +35,7 @@ impl<A: Allocator + Copy> Printer<A> {
     {
         Printer {
             text: String::new(alloc),
-            written: 0,
+            sent: 0,
         }
     }
 
@@ -43,14 +43,14 @@ impl<A: Allocator + Copy> Printer<A> {
     pub fn written(&self) -> u64
         ensures { result ≡ written_of self.now }
     {
-        self.written
+        self.sent
     }
 
     /// Whether the number of bytes printed, with those of one more line, is below 2^64.
     pub fn has_room(&self) -> bool
         ensures { IsTrue result ↔ printed_of self.now + longest_line < 2 ^ 64 }
     {
-        self.written.saturating_add(self.text.len() as u64) <= u64::MAX - LONGEST_LINE
+        self.written().saturating_add(self.text.len() as u64) <= u64::MAX - LONGEST_LINE
     }
 
     /// Writes what is held back.
@@ -61,14 +61,15 @@ impl<A: Allocator + Copy> Printer<A> {
         ensures fault { IfErr result (λ e.
             BreaksOff (W.contents w.old) (W.contents w.new) self.old [] e.written) }
     {
-        match put_all(w, self.text.as_bytes()) {
+        let Printer { text, sent } = self;
+        match put_all(w, text.as_bytes()) {
             Ok(()) => {
-                self.written += self.text.len() as u64;
-                self.text.clear();
+                *sent += text.len() as u64;
+                text.clear();
                 Ok(())
             }
             Err(fault) => Err(WriteFault {
-                written: self.written + fault.written as u64,
+                written: *sent + fault.written as u64,
                 why: Why::Write,
             }),
         }
@@ -136,7 +137,7 @@ impl<A: Allocator + Copy> Printer<A> {
     {
         match self.send(w) {
             Ok(()) => WriteFault {
-                written: self.written,
+                written: self.written(),
                 why: Why::NoMemory,
             },
             Err(fault) => fault,

@@ -9,6 +9,7 @@ mod bench;
 mod checker_refusals;
 mod collect;
 mod damage;
+mod fails_once;
 mod failures;
 mod feeds;
 mod large;

@@ -3,6 +3,7 @@
 ghost use Rattle.std.specs.Prelude.{◌≡◌};
 ghost use Rattle.trace_feed.specs.Doors.{IfCame};
 
+use super::fails_once::FailsOnce;
 use super::{STREAM, feed_of, three_arrivals, wait_for};
 use asan_collect::{Gate, Live, OpenGate, Options, Why, WriteFault, collect_live, write_outcomes};
 use std::alloc::Global;
@@ -84,6 +85,38 @@ fn an_output_that_takes_no_more(rt: HostRuntime) -> Result<(), Fail> {
             for (prefix, wanted) in ["p0 ", "p1 ", "p2 "].iter().zip(&THREE_TEXTS) {
                 expect_lines(&rt, text.as_str(), prefix, wanted);
             }
+        }
+    }
+    Ok(())
+}
+
+#[test]
+fn a_failed_write_is_the_last(rt: HostRuntime) -> Result<(), Fail> {
+    let alloc = rt.alloc();
+    let whole = super::THREE_TEXTS;
+    for workers in [1, 3] {
+        // The line of the report goes out by itself, and the end lines after it.
+        for (failing, written) in [(1, 0), (2, 78)] {
+            let options = Options::new(1 << 28, 1, workers, 1 << 24)?;
+            let mut door = three_arrivals(alloc)?;
+            let mut output = FailsOnce {
+                held: Vec::new(alloc),
+                writes: 0,
+                failing,
+            };
+            let live = collect_live(&rt, alloc, &mut door, &OpenGate, options, &mut output)?;
+            let Live { outcomes, wrote } = live;
+            let fault = WriteFault {
+                written,
+                why: Why::Write,
+            };
+            assert_eq!(rt; wrote, Err(fault));
+            assert_eq!(rt; output.writes, failing);
+            assert_eq!(rt; output.held.len() as u64, written);
+            assert!(rt; whole.as_bytes().starts_with(&output.held));
+            let mut text = Vec::new(alloc);
+            write_outcomes(alloc, &mut text, &outcomes)?;
+            assert_eq!(rt; String::from_utf8(text)?.as_str(), whole);
         }
     }
     Ok(())

@@ -4,12 +4,11 @@ ghost use Rattle.std.specs.Prelude.{◌≡◌, ◌≤◌, IfOk, length};
 ghost use Rattle.asan_stream.specs.Ranges.{most_reports};
 ghost use Rattle.asan_stream.specs.Outcomes.{reports_of};
 
+use super::fails_once::FailsOnce;
 use super::{LOADS, STREAM_AND_MORE, TEXT, THREE_TEXTS, feed_of, three_outcomes};
 use asan_check::{Fault, Report};
 use asan_collect::{Options, Outcome, Why, WriteFault, check_feed, exit_status, write_outcomes};
 use std::alloc::{AllocError, Global};
-use std::io;
-use std::io::Write;
 use std::test::Fail;
 use test_writers::{Ending, ShortWriter};
 use trace_record::{End, Fate, Flaw};
@@ -59,38 +58,56 @@ fn writer_fails_after_k_bytes(rt: HostRuntime) -> Result<(), Fail> {
     Ok(())
 }
 
-/// A writer that takes all that it is given, and counts the writes.
-#[derive(Drop)]
-struct Counter {
-    writes: u64,
-}
-
-impl Write for Counter {
-    fn write(&mut self, buf: &[u8]) -> io::Result<usize> {
-        self.writes = self.writes.wrapping_add(1);
-        Ok(buf.len())
-    }
-
-    fn flush(&mut self) -> io::Result<()> {
-        Ok(())
-    }
-}
-
-#[test]
-fn many_lines_go_out_at_one_write(rt: HostRuntime) -> Result<(), Fail> {
-    let alloc = rt.alloc();
-    // A block of no bytes, and a thousand loads at its address: a thousand lines, about 80,000
-    // bytes.
+/// A stream of a thousand reports, whose lines are about 80,000 bytes: a block of no bytes, and a
+/// thousand loads at its address.
+fn thousand_loads(alloc: Global) -> Result<Vec<u8>, AllocError> {
     let mut bytes = STREAM_AND_MORE[..25].to_vec(alloc)?;
     bytes[17] = 0;
     for _ in 0..1000 {
         bytes.extend_from_slice(&LOADS[8..18])?;
     }
-    let outcomes = [check_feed(alloc, feed_of(alloc, &bytes, &[], None)?, Options::usual())];
+    Ok(bytes)
+}
+
+#[test]
+fn many_lines_go_out_at_one_write(rt: HostRuntime) -> Result<(), Fail> {
+    let alloc = rt.alloc();
+    let feed = feed_of(alloc, &thousand_loads(alloc)?, &[], None)?;
+    let outcomes = [check_feed(alloc, feed, Options::usual())];
     assert_eq!(rt; outcomes[0].reports().len(), 1000);
-    let mut counter = Counter { writes: 0 };
-    write_outcomes(alloc, &mut counter, &outcomes)?;
-    assert_eq!(rt; counter.writes, 3);
+    let mut writer = FailsOnce {
+        held: Vec::new(alloc),
+        writes: 0,
+        failing: 0,
+    };
+    write_outcomes(alloc, &mut writer, &outcomes)?;
+    assert_eq!(rt; writer.writes, 3);
+    Ok(())
+}
+
+#[test]
+fn a_failed_write_is_the_last(rt: HostRuntime) -> Result<(), Fail> {
+    let alloc = rt.alloc();
+    let feed = feed_of(alloc, &thousand_loads(alloc)?, &[], None)?;
+    let outcomes = [check_feed(alloc, feed, Options::usual())];
+    let mut text = Vec::new(alloc);
+    write_outcomes(alloc, &mut text, &outcomes)?;
+    // Each write but the last has the first lines that come to 32 KiB.
+    for (failing, written) in [(1, 0), (2, 32_837), (3, 65_622)] {
+        let mut writer = FailsOnce {
+            held: Vec::new(alloc),
+            writes: 0,
+            failing,
+        };
+        let fault = WriteFault {
+            written,
+            why: Why::Write,
+        };
+        assert_eq!(rt; write_outcomes(alloc, &mut writer, &outcomes), Err(fault));
+        assert_eq!(rt; writer.writes, failing);
+        assert_eq!(rt; writer.held.len() as u64, written);
+        assert!(rt; text.starts_with(&writer.held));
+    }
     Ok(())
 }
 

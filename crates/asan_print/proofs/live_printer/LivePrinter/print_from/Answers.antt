@@ -1,5 +1,5 @@
 use Rattle.std.proofs.Common.{[], ◌∷◌, ◌++◌, ap, ◌∙◌, arith, append_assoc, length-append}
-use Rattle.asan_print.proofs.Logging.{adds_report}
+use Rattle.asan_print.proofs.Logging.{adds_report, still_on}
 use Rattle.asan_print.proofs.live_printer.LivePrinter.print_from.Goals as goal
 
 pub loop-count-preserved : goal.loop-count-preserved
@@ -15,5 +15,6 @@ loop-count-preserved g c =
         omega (arith, length-append more (report ∷ [])),
       );
       first = λ none. absurd (omega arith);
-      lines = λ start log r own. adds_report start _ _ _ _ c.args.process report _ _ log c.in-Some-take.ensures.some (c.report.ensures start) (c.loop-count.invariant.lines start log r own);
+      lines = λ start log r own. adds_report start _ _ _ _ c.args.process report _ _ log c.in-Some-take.ensures.some (c.report.ensures.prints start) (c.loop-count.invariant.lines start log r own);
+      still = still_on _ _ _ _ _ _ c.report.ensures.broken c.report.ensures.stays c.loop-count.invariant.still;
     }

@@ -1,11 +1,12 @@
-use Rattle.std.proofs.Common.{rules, ◌≡◌, ◌+◌, ◌<◌, ◌≤◌, ◌∙◌, length, slice_index_or, slice_set, true, cond, ap, sym, subst, arith}
+use Rattle.std.proofs.Common.{rules, ◌≡◌, ◌+◌, ◌<◌, ◌≤◌, ◌∙◌, length, slice_index_or, slice_set, true, cond, ap, refl, sym, subst, arith}
 use Rattle.std.proofs.lemmas.List.{get_or_default}
+use Rattle.asan_print.proofs.Logging.{still_on}
 use Rattle.asan_print.proofs.Rounds.{Asked, asked_none, asked_on, lanes_refl, lanes_on, follows_on, follows_flushed, taken_apart}
 use Rattle.asan_print.proofs.live_printer.LivePrinter.round.Goals.{then-print_from, else-print_from}
 use Rattle.asan_print.proofs.live_printer.LivePrinter.round.Goals as goal
 
 pub loop-process-init : goal.loop-process-init
-loop-process-init g c = record { lanes = lanes_refl c.args.ports.now; lines = λ start f. f; asked = asked_none c.args.ports.now }
+loop-process-init g c = record { lanes = lanes_refl c.args.ports.now; lines = λ start f. f; still = λ broken. (refl, refl); asked = asked_none c.args.ports.now }
 
 pub loop-process-preserved : goal.loop-process-preserved
 loop-process-preserved g c =
@@ -25,13 +26,14 @@ loop-process-preserved g c =
     record {
       lanes = lanes_on c.args.ports.now ports process old new low is called.lane c.loop-process.invariant.lanes;
       lines = λ start f. follows_on start _ _ _ _ ports process old new low is (called.lines start) (c.loop-process.invariant.lines start f);
+      still = still_on _ _ _ _ _ _ called.broken called.stays c.loop-process.invariant.still;
       asked =
           subst (Asked c.args.ports.now (slice_set ports process new) (process + 1)) any
           (asked_on c.args.ports.now ports process old new took c.loop-process.any low is called.takes called.none called.some called.finds c.loop-process.invariant.asked);
     }
 
 pub returns-clause-lines : goal.returns-clause-lines
-returns-clause-lines g c = λ start f. follows_flushed start _ _ _ _ c.loop-process.ports (c.flush.ensures start) (c.loop-process.invariant.lines start f)
+returns-clause-lines g c = λ start f. follows_flushed start _ _ _ _ c.loop-process.ports (c.flush.ensures.lines start) (c.loop-process.invariant.lines start f)
 
 pub returns-clause-takes : goal.returns-clause-takes
 returns-clause-takes g c =
@@ -45,3 +47,9 @@ pub returns-clause-finds : goal.returns-clause-finds
 returns-clause-finds g c =
     let all : length c.args.ports.now ≤ c.loop-process.process = search rules in
     λ i d within has. c.loop-process.invariant.asked.finds i d (omega arith) has
+
+pub returns-clause-broken : goal.returns-clause-broken
+returns-clause-broken g c = λ broken. (still_on _ _ _ _ _ _ c.flush.ensures.broken c.flush.ensures.stays c.loop-process.invariant.still broken).0
+
+pub returns-clause-stays : goal.returns-clause-stays
+returns-clause-stays g c = λ broken. (still_on _ _ _ _ _ _ c.flush.ensures.broken c.flush.ensures.stays c.loop-process.invariant.still broken).1
