@@ -3,3 +3,4 @@ pub mod Nodes
 pub mod Leaves
 pub mod Branches
 pub mod Tables
+pub mod Readers

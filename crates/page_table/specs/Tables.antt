@@ -1,9 +1,11 @@
 -- The bytes of a table.
-use Rattle.std.specs.Prelude.{◌≡◌, ◌≢◌, ℕ, ◌+◌, ◌-◌, ◌*◌, ◌<◌, ◌≤◌, ◌^◌, ◌&&◌, nat_le, nat_lt}
-use Rattle.std.specs.Prelude.{if◌then◌else◌, List}
+use Rattle.std.specs.Prelude.{◌≡◌, ◌≢◌, ℕ, ◌+◌, ◌-◌, ◌*◌, ◌/◌, ◌%◌, ◌<◌, ◌≤◌, ◌^◌, ◌&&◌, nat_le}
+use Rattle.std.specs.Prelude.{nat_lt, if◌then◌else◌, List}
 use Rattle.asan_units.specs.Units.{granule_count}
 use Rattle.page_table.specs.declared.leaf.TheConstants.{LEAF}
 use Rattle.page_table.specs.declared.branch.TheConstants.{NODES}
+use Rattle.page_table.specs.declared.branch.Branch.{Branch}
+use Rattle.page_table.specs.declared.leaf.Leaf.{Leaf}
 use Rattle.page_table.specs.declared.table.PageTable.{PageTable}
 use Rattle.page_table.specs.declared.run.Run.{Run}
 use Rattle.page_table.specs.Runs.{length_of, byte_of_runs}
@@ -13,6 +15,14 @@ use Rattle.page_table.specs.Branches.{branch_byte}
 -- how many granules a branch has, by the number of levels of branches below it
 abbrev pub width_over : ℕ → ℕ
 width_over levels = NODES ^ levels * LEAF
+
+-- the branches of the second level are the parts that a reader remembers
+abbrev pub Part : Type 0 → Type 0
+Part A = Branch (Branch (Leaf A) A) A
+
+-- how many granules a part has
+abbrev pub part_width : ℕ
+part_width = width_over 2
 
 module _ {A : Type 0} where
   -- the byte at an index of the root, which has room for more granules than there are
@@ -25,6 +35,17 @@ module _ {A : Type 0} where
   -- the byte of a granule, and 0 past the last one
   unfoldable pub byte_of : PageTable A → ℕ → ℕ
   byte_of table granule = if nat_lt granule granule_count then root_byte table granule else 0
+
+  -- the byte at an index of a part
+  abbrev pub part_byte : Part A → ℕ → ℕ
+  part_byte part index =
+      branch_byte (branch_byte leaf_byte (width_over 0)) (width_over 1) part index
+
+  -- this part has the bytes of the granules that lie in the part of that number
+  abbrev pub IsPart : PageTable A → ℕ → Part A → Type 0
+  IsPart table number part =
+      (granule : ℕ) → granule < granule_count → granule / part_width ≡ number →
+      byte_of table granule ≡ part_byte part (granule % part_width)
 
   -- the granules from one up to another have this byte now, and the others the one that they had
   abbrev pub Fills : PageTable A → PageTable A → ℕ → ℕ → ℕ → Type 0

@@ -1,5 +1,6 @@
 //! A branch of a table.
-ghost use Rattle.std.specs.Prelude.{◌≡◌, ℕ, ◌+◌, ◌-◌, ◌*◌, ◌%◌, ◌<◌, ◌≤◌, OnOk, OnErr, vec_len};
+ghost use Rattle.std.specs.Prelude.{◌≡◌, ℕ, ◌+◌, ◌-◌, ◌*◌, ◌/◌, ◌%◌, ◌<◌, ◌≤◌, IfSome, OnOk};
+ghost use Rattle.std.specs.Prelude.{OnErr, vec_len};
 ghost use Rattle.page_table.specs.declared.branch.TheConstants.{NODES};
 ghost use Rattle.page_table.specs.Nodes.{IsWidth};
 
@@ -8,7 +9,7 @@ use crate::run::Run;
 use std::alloc::{AllocError, Allocator, Global};
 
 /// How many nodes a branch has.
-const NODES: usize = 128;
+pub const NODES: usize = 128;
 
 /// Nodes of one width, side by side. Those that are not kept have one byte.
 #[derive(Drop)]
@@ -97,6 +98,16 @@ impl<S: Node<A>, A: Allocator + Copy> Node<A> for Branch<S, A> {
 
 impl<S: Node<A>, A: Allocator + Copy> Branch<S, A> {
     ghost use Rattle.page_table.specs.Branches.{branch_byte, FillsBranch, FillsBranchBelow};
+
+    /// The node at a place, if it is kept.
+    #[inline]
+    pub fn node(&self, place: u64) -> Option<&S>
+        ensures { IfSome result (λ node. (index : ℕ) → index / S.width ≡ place →
+            branch_byte S.byte_at S.width self.now index
+            ≡ S.byte_at node.now (index % S.width)) }
+    {
+        self.kept.get(place as usize)
+    }
 
     /// Sets the bytes at all indices. Gives back the memory of the nodes.
     #[inline(never)]

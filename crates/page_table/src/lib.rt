@@ -9,10 +9,12 @@
 mod branch;
 mod leaf;
 mod node;
+mod reader;
 mod run;
 mod table;
 #[cfg(test)]
 mod tests;
 
+pub use reader::Reader;
 pub use run::Run;
 pub use table::PageTable;

@@ -1,13 +1,15 @@
 //! The table.
-ghost use Rattle.std.specs.Prelude.{◌≡◌, ℕ, ◌+◌, ◌^◌, ◌<◌, ◌≤◌, OnOk, OnErr};
+ghost use Rattle.std.specs.Prelude.{◌≡◌, ℕ, ◌+◌, ◌^◌, ◌<◌, ◌≤◌, IfSome, OnOk, OnErr};
 ghost use Rattle.asan_units.specs.Units.{granule_count};
 ghost use Rattle.page_table.specs.Runs.{length_of};
 ghost use Rattle.page_table.specs.Nodes.{IsFirstNonzero};
 ghost use Rattle.page_table.specs.Tables.{byte_of, Fills, FillsBelow, FillsRuns, FillsRunsBelow};
+ghost use Rattle.page_table.specs.Tables.{IsPart};
 
-use crate::branch::Branch;
+use crate::branch::{Branch, NODES};
 use crate::leaf::Leaf;
 use crate::node::{Node, fill_each_run};
+use crate::reader::Reader;
 use crate::run::{Run, total_length};
 use std::alloc::{AllocError, Allocator, Global};
 
@@ -22,6 +24,10 @@ type Level3<A> = Branch<Level2<A>, A>;
 type Level4<A> = Branch<Level3<A>, A>;
 
 type Level5<A> = Branch<Level4<A>, A>;
+
+/// What a reader remembers of a table: 2^26 granules, the first of which has a number that 2^26
+/// divides.
+pub(crate) type Part<A> = Level2<A>;
 
 // What 128 nodes of a branch take: 2,048 bytes where they are leaves, and 4,096 where they are
 // branches.
@@ -43,6 +49,8 @@ pub struct PageTable<A: Allocator + Copy = Global> {
 }
 
 impl<A: Allocator + Copy> PageTable<A> {
+    ghost use Rattle.page_table.specs.Readers.{table_of};
+
     /// The table whose bytes are all 0. Takes no memory.
     #[tactic(auto, unfolding(crate::specs::Tables::byte_of))]
     pub fn new(alloc: A) -> PageTable<A>
@@ -62,6 +70,26 @@ impl<A: Allocator + Copy> PageTable<A> {
         ensures { result ≡ byte_of self.now granule }
     {
         self.root.byte(granule)
+    }
+
+    /// The part of the granules from 2^26 `number` on, if the table keeps it.
+    #[inline]
+    #[tactic(auto, unfolding(crate::specs::Tables::byte_of))]
+    pub(crate) fn part(&self, number: u64) -> Option<&Part<A>>
+        ensures { IfSome result (λ part. IsPart self.now number part.now) }
+    {
+        let nodes = NODES as u64;
+        let level4 = self.root.node(number / nodes / nodes)?;
+        let level3 = level4.node(number / nodes % nodes)?;
+        level3.node(number % nodes)
+    }
+
+    /// A reader of the bytes.
+    #[inline]
+    pub fn reader(&self) -> Reader<'_, A>
+        ensures { table_of result ≡ self.now }
+    {
+        Reader::new(self)
     }
 
     /// The first granule from one on, below another, whose byte is not 0. What is kept as one byte

@@ -1,0 +1,59 @@
+//! A reader of a table, which remembers where it has read last.
+ghost use Rattle.std.specs.Prelude.{◌≡◌, ◌<◌};
+ghost use Rattle.std.specs.Option.{ForSome};
+ghost use Rattle.asan_units.specs.Units.{granule_count};
+ghost use Rattle.page_table.specs.Tables.{byte_of, IsPart};
+
+use crate::node::Node;
+use crate::table::{PageTable, Part};
+use std::alloc::{Allocator, Global};
+
+/// How many granules a part has.
+const PART: u64 = 1 << 26;
+
+/// Reads the bytes of a table, which doesn't change meanwhile. It remembers the part of the table in
+/// which it has read last, 2^26 granules, and finds another granule of that part in half the steps.
+pub struct Reader<'t, A: Allocator + Copy = Global> {
+    /// What it reads.
+    table: &'t PageTable<A>,
+    /// The number of the part of the last granule.
+    number: u64,
+    /// That part, if the table keeps it.
+    part: Option<&'t Part<A>>,
+
+    ghost remembered: { ForSome part (λ part. IsPart table.now number part.now) },
+}
+
+impl<'t, A: Allocator + Copy> Reader<'t, A> {
+    ghost use Rattle.page_table.specs.Readers.{table_of};
+
+    /// A reader that has read nothing.
+    #[inline]
+    pub(crate) fn new(table: &'t PageTable<A>) -> Reader<'t, A>
+        ensures { table_of result ≡ table.now }
+    {
+        Reader {
+            table,
+            number: 0,
+            part: None,
+        }
+    }
+
+    /// The byte of a granule.
+    #[inline]
+    pub fn byte(&mut self, granule: u64) -> u8
+        requires { granule < granule_count }
+        ensures byte { result ≡ byte_of (table_of self.old) granule }
+        ensures same { table_of self.new ≡ table_of self.old }
+    {
+        let number = granule / PART;
+        if number != self.number || self.part.is_none() {
+            self.part = self.table.part(number);
+            self.number = number;
+        }
+        match self.part {
+            Some(part) => part.byte(granule % PART),
+            None => self.table.byte(granule),
+        }
+    }
+}
