@@ -5,3 +5,4 @@ pub mod Shows
 pub mod Calls
 pub mod Granules
 pub mod Laws
+pub mod Readers

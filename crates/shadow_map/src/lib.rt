@@ -23,6 +23,7 @@
 mod granule;
 mod laws;
 mod marks;
+mod reader;
 mod shadow;
 #[cfg(test)]
 mod tests;
@@ -33,5 +34,6 @@ pub use laws::{
     first_unaddressable_of_a_region, poison_of_a_granule, shadow_byte_of_a_granule,
     shadow_check_finds_the_bad_byte, unpoison_of_a_granule,
 };
+pub use reader::ShadowReader;
 pub use shadow::{Cause, Shadow};
 pub use std::alloc::AllocError as NoMemory;

@@ -11,6 +11,7 @@ ghost use Rattle.shadow_map.specs.Shows.{Shows, value_at};
 
 use crate::NoMemory;
 use crate::granule::{LEAST_CODE, front};
+use crate::reader::{ShadowReader, bad_byte_by};
 use asan_units::{GRANULE, GRANULES};
 use page_table::{PageTable, Run};
 use std::alloc::{Allocator, Global};
@@ -35,6 +36,8 @@ pub struct Cause {
 }
 
 impl<A: Allocator + Copy> Shadow<A> {
+    ghost use Rattle.shadow_map.specs.Readers.{shadow_of};
+
     /// The shadow of memory of which every byte is addressable. Takes no memory.
     #[tactic(auto, unfolding(crate::specs::Shows::value_at))]
     pub fn new(alloc: A) -> Shadow<A>
@@ -58,6 +61,16 @@ impl<A: Allocator + Copy> Shadow<A> {
             return 0;
         }
         self.value_before_end(granule)
+    }
+
+    /// A reader of the shadow bytes.
+    #[inline]
+    pub fn reader(&self) -> ShadowReader<'_, A>
+        ensures { shadow_of result ≡ self.now }
+    {
+        ShadowReader {
+            granules: self.granules.reader(),
+        }
     }
 
     /// The bad byte of an access of `width` bytes at `at`: the least of its bytes that is not
@@ -133,18 +146,7 @@ impl<A: Allocator + Copy> Shadow<A> {
         ensures { (marks : List Mark) → Shows self.now marks →
             result ≡ bad_byte_of (state_of marks) at size }
     {
-        let shadow = self.value_before_end(at / GRANULE);
-        // Most granules are addressable as a whole.
-        if shadow == 0 {
-            return None;
-        }
-        let place = at % GRANULE;
-        let bad = place.max(front(shadow) as u64);
-        if bad < place + size.min(GRANULE - place) {
-            Some(at - place + bad)
-        } else {
-            None
-        }
+        bad_byte_by(self.value_before_end(at / GRANULE), at, size)
     }
 
     /// The shadow byte of a granule below 2^44.
