@@ -9,11 +9,12 @@ ghost use Rattle.trace_record.specs.declared.event.Event.TheVariants as event;
 ghost use Rattle.trace_record.specs.declared.event.Place.{Place as APlace};
 ghost use Rattle.trace_record.specs.Shades.{shade_size};
 ghost use Rattle.shadow_map.specs.Calls.{is_poison_code};
+ghost use Rattle.shadow_map.specs.Readers.{shadow_of};
 ghost use Rattle.shadow_map.specs.States.{is_addressable, state_of, least_unaddressable};
 ghost use Rattle.shadow_map.specs.States.{bad_byte_of, code_of};
 ghost use Rattle.asan_check.specs.History.{marks, state_of_kind};
 ghost use Rattle.asan_check.specs.Verdicts.{verdict, fault_of, access_fault, malloc_fault};
-ghost use Rattle.asan_check.specs.Verdicts.{free_fault, marks_none};
+ghost use Rattle.asan_check.specs.Verdicts.{free_fault, marks_none, verdicts_of};
 ghost use Rattle.asan_check.specs.Laws.{class_of_shadow};
 
 use crate::NoMemory;
@@ -21,7 +22,9 @@ use crate::fetched::Fetched;
 use crate::report::{Class, Fault, Report};
 use asan_units::{GRANULE, REDZONE};
 use heap_book::{Admit, Block, Book, Bound, Freed};
-use shadow_map::{FREED, GLOBAL_REDZONE, HEAP_REDZONE, STACK_REDZONE, Shadow, USER_POISON};
+use shadow_map::{
+    FREED, GLOBAL_REDZONE, HEAP_REDZONE, STACK_REDZONE, Shadow, ShadowReader, USER_POISON,
+};
 use std::alloc::{Allocator, Global};
 use thiserror::Error;
 use trace_record::{Access, Event, Kind, Place, Region, Shade};
@@ -110,7 +113,7 @@ impl<A: Allocator + Copy> Checker<A> {
         if self.failed {
             return Err(Failed);
         }
-        let report = if self.is_good_access(event) {
+        let report = if self.is_good_access(&mut self.shadow.reader(), event) {
             None
         } else {
             match self.check(event) {
@@ -179,10 +182,7 @@ impl<A: Allocator + Copy> Checker<A> {
         if self.failed {
             return 0;
         }
-        let mut count = 0;
-        while count < events.len() && self.is_good_access(&events[count]) {
-            count += 1;
-        }
+        let count = self.count_good(events);
         self.checked += count as u64;
         count
     }
@@ -242,17 +242,37 @@ impl<A: Allocator + Copy> Checker<A> {
         }
     }
 
-    /// Whether an event is a load or a store that isn't bad. Most are, and they change nothing.
-    #[inline]
-    fn is_good_access(&self, event: &Event) -> bool
-        ensures { IsTrue result → (bound : ℕ) (past : List AnEvent) →
+    /// How many loads and stores that aren't bad the events begin with. They change nothing.
+    fn count_good(&self, events: &[Event]) -> usize
+        ensures most { result ≤ length events.now }
+        ensures shown { (bound : ℕ) (past : List AnEvent) → ShowsHistory bound self.now past →
+            ShowsHistory bound self.now (reverse (take result events.now) ++ past) }
+        ensures quiet { (bound : ℕ) (past : List AnEvent) → ShowsHistory bound self.now past →
+            verdicts_of bound (reverse (take result events.now) ++ past)
+            ≡ verdicts_of bound past }
+    {
+        let mut shadow = self.shadow.reader();
+        let mut count = 0;
+        while count < events.len() && self.is_good_access(&mut shadow, &events[count]) {
+            count += 1;
+        }
+        count
+    }
+
+    /// Whether an event is a load or a store that isn't bad, by a reader of the checker's shadow.
+    /// Most are, and they change nothing.
+    #[inline(always)]
+    fn is_good_access(&self, shadow: &mut ShadowReader<'_, A>, event: &Event) -> bool
+        requires reads { shadow_of shadow.old ≡ self.now.shadow }
+        ensures still_reads { shadow_of shadow.new ≡ self.now.shadow }
+        ensures good { IsTrue result → (bound : ℕ) (past : List AnEvent) →
             ShowsHistory bound self.now past →
             (fault_of bound past event.now ≡ None)
             × ShowsHistory bound self.now (event.now ∷ past) }
     {
         match event {
             Event::Load(access) | Event::Store(access) => {
-                self.shadow.bad_byte(access.at(), access.width()).is_none()
+                shadow.bad_byte(access.at(), access.width()).is_none()
             }
             _ => false,
         }

@@ -13,6 +13,7 @@ const PART: u64 = 1 << 26;
 
 /// Reads the bytes of a table, which doesn't change meanwhile. It remembers the part of the table in
 /// which it has read last, 2^26 granules, and finds another granule of that part in half the steps.
+#[derive(Drop)]
 pub struct Reader<'t, A: Allocator + Copy = Global> {
     /// What it reads.
     table: &'t PageTable<A>,

@@ -12,6 +12,7 @@ use std::alloc::{Allocator, Global};
 /// Checks accesses by the bytes of a shadow, which doesn't change meanwhile. It remembers where it
 /// has looked last, and is faster than [`Shadow::bad_byte`](crate::Shadow::bad_byte) where the next
 /// access is within 512 MiB of it.
+#[derive(Drop)]
 pub struct ShadowReader<'s, A: Allocator + Copy = Global> {
     /// Reads the shadow byte of each granule.
     pub(crate) granules: Reader<'s, A>,
