@@ -112,11 +112,11 @@ fn fills_of_any_width(rt: HostRuntime) -> Result<(), Fail> {
 }
 
 /// The bytes of these granules, read by one reader, in order.
-fn read_in_turn<const COUNT: usize>(table: &PageTable, granules: [u64; COUNT]) -> [u8; COUNT] {
+fn read_in_turn<const COUNT: usize>(table: &PageTable, granules: &[u64; COUNT]) -> [u8; COUNT] {
     let mut reader = table.reader();
     let mut bytes = [0; COUNT];
-    for (granule, byte) in granules.into_iter().zip(&mut bytes) {
-        *byte = reader.byte(granule % (1 << 44));
+    for (granule, byte) in granules.iter().zip(&mut bytes) {
+        *byte = reader.byte(*granule % (1 << 44));
     }
     bytes
 }
@@ -133,25 +133,25 @@ fn a_reader_goes_from_part_to_part(rt: HostRuntime) -> Result<(), Fail> {
     assert_eq!(rt;
         read_in_turn(
             &table,
-            [last_of_first - 2, last_of_first - 1, last_of_first]
+            &[last_of_first - 2, last_of_first - 1, last_of_first]
         ),
         [0, 7, 7]
     );
     assert_eq!(rt;
         read_in_turn(
             &table,
-            [last_of_first, 1 << 26, (1 << 26) + 1, (1 << 26) + 2, 0]
+            &[last_of_first, 1 << 26, (1 << 26) + 1, (1 << 26) + 2, 0]
         ),
         [7, 7, 7, 0, 0]
     );
     assert_eq!(rt;
-        read_in_turn(&table, [2 << 26, 3 << 26, (4 << 26) - 1, 4 << 26, 1 << 26]),
+        read_in_turn(&table, &[2 << 26, 3 << 26, (4 << 26) - 1, 4 << 26, 1 << 26]),
         [0, 9, 9, 0, 7]
     );
     assert_eq!(rt;
         read_in_turn(
             &table,
-            [
+            &[
                 1 << 43,
                 (1 << 43) + 1,
                 (1 << 44) - 1,

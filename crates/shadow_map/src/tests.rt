@@ -89,11 +89,11 @@ fn last_granule(rt: HostRuntime) -> Result<(), Fail> {
 }
 
 /// The bad bytes of accesses of 8 bytes at these addresses, found by one reader, in order.
-fn bad_in_turn<const COUNT: usize>(shadow: &Shadow, places: [u64; COUNT]) -> [Option<u64>; COUNT] {
+fn bad_in_turn<const COUNT: usize>(shadow: &Shadow, places: &[u64; COUNT]) -> [Option<u64>; COUNT] {
     let mut reader = shadow.reader();
     let mut bad = [None; COUNT];
-    for (at, bad) in places.into_iter().zip(&mut bad) {
-        *bad = reader.bad_byte(at.min((1 << 47) - 8), 8);
+    for (at, bad) in places.iter().zip(&mut bad) {
+        *bad = reader.bad_byte((*at).min((1 << 47) - 8), 8);
     }
     bad
 }
@@ -106,11 +106,11 @@ fn a_reader_finds_bad_bytes(rt: HostRuntime) -> Result<(), Fail> {
     shadow.block(1 << 29, 24)?;
     shadow.poison(1 << 40, 16, USER_POISON)?;
     assert_eq!(rt;
-        bad_in_turn(&shadow, [0xfd8, 0xff8, 0x1000, 0x1008, 0x1028]),
+        bad_in_turn(&shadow, &[0xfd8, 0xff8, 0x1000, 0x1008, 0x1028]),
         [None, Some(0xff8), Some(0x1005), Some(0x1008), None]
     );
     assert_eq!(rt;
-        bad_in_turn(&shadow, [(1 << 29) - 8, 1 << 29, (1 << 29) + 24, 0x1000]),
+        bad_in_turn(&shadow, &[(1 << 29) - 8, 1 << 29, (1 << 29) + 24, 0x1000]),
         [
             Some((1 << 29) - 8),
             None,
@@ -119,7 +119,7 @@ fn a_reader_finds_bad_bytes(rt: HostRuntime) -> Result<(), Fail> {
         ]
     );
     assert_eq!(rt;
-        bad_in_turn(&shadow, [1 << 40, (1 << 40) + 16, (1 << 47) - 8, 1 << 29]),
+        bad_in_turn(&shadow, &[1 << 40, (1 << 40) + 16, (1 << 47) - 8, 1 << 29]),
         [Some(1 << 40), None, None, None]
     );
     Ok(())
