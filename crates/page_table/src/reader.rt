@@ -35,26 +35,26 @@ impl<'t, A: Allocator + Copy> Reader<'t, A> {
     {
         Reader {
             table,
-            number: 0,
+            number: u64::MAX,
             part: None,
         }
     }
 
     /// The byte of a granule.
-    #[inline]
+    #[inline(always)]
     pub fn byte(&mut self, granule: u64) -> u8
         requires { granule < granule_count }
         ensures byte { result ≡ byte_of (table_of self.old) granule }
         ensures same { table_of self.new ≡ table_of self.old }
     {
         let number = granule / PART;
-        if number != self.number || self.part.is_none() {
+        if number != self.number {
             self.part = self.table.part(number);
             self.number = number;
         }
         match self.part {
             Some(part) => part.byte(granule % PART),
-            None => self.table.byte(granule),
+            None => self.table.byte_of_rest(granule),
         }
     }
 }

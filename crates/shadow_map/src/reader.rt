@@ -23,7 +23,7 @@ impl<'s, A: Allocator + Copy> ShadowReader<'s, A> {
 
     /// The bad byte of an access of `width` bytes at `at`, as
     /// [`Shadow::bad_byte`](crate::Shadow::bad_byte) finds it.
-    #[inline]
+    #[inline(always)]
     #[tactic(auto, unfolding(crate::specs::Shows::value_at))]
     pub fn bad_byte(&mut self, at: u64, width: u8) -> Option<u64>
         requires width { IsTrue (is_width width) }
