@@ -11,16 +11,16 @@ use std::alloc::{Allocator, Global};
 /// How many granules a part has.
 const PART: u64 = 1 << 26;
 
-/// Reads the bytes of a table, which doesn't change meanwhile. It remembers the part of the table in
-/// which it has read last, 2^26 granules, and finds another granule of that part in half the steps.
+/// Reads the bytes of a table, which doesn't change meanwhile. It remembers the last part of the
+/// table that it found, of 2^26 granules, and finds another granule of that part in half the steps.
 #[derive(Drop)]
 pub struct Reader<'t, A: Allocator + Copy = Global> {
     /// What it reads.
     table: &'t PageTable<A>,
-    /// The number of the part of the last granule.
-    number: u64,
-    /// That part, if the table keeps it.
+    /// The part that it found last.
     part: Option<&'t Part<A>>,
+    /// The number of that part.
+    number: u64,
 
     ghost remembered: { ForSome part (λ part. IsPart table.now number part.now) },
 }
@@ -35,8 +35,8 @@ impl<'t, A: Allocator + Copy> Reader<'t, A> {
     {
         Reader {
             table,
-            number: u64::MAX,
             part: None,
+            number: 0,
         }
     }
 
@@ -47,14 +47,26 @@ impl<'t, A: Allocator + Copy> Reader<'t, A> {
         ensures byte { result ≡ byte_of (table_of self.old) granule }
         ensures same { table_of self.new ≡ table_of self.old }
     {
-        let number = granule / PART;
-        if number != self.number {
-            self.part = self.table.part(number);
-            self.number = number;
-        }
         match self.part {
-            Some(part) => part.byte(granule % PART),
-            None => self.table.byte_of_rest(granule),
+            Some(part) if granule / PART == self.number => part.byte(granule % PART),
+            _ => self.byte_elsewhere(granule),
         }
+    }
+
+    /// The byte of a granule of another part. That part is remembered if the table keeps it: where
+    /// it doesn't, the way to the granule's byte is short.
+    #[inline(never)]
+    fn byte_elsewhere(&mut self, granule: u64) -> u8
+        requires { granule < granule_count }
+        ensures byte { result ≡ byte_of (table_of self.old) granule }
+        ensures same { table_of self.new ≡ table_of self.old }
+    {
+        let number = granule / PART;
+        let Some(part) = self.table.part(number) else {
+            return self.table.byte(granule);
+        };
+        self.part = Some(part);
+        self.number = number;
+        part.byte(granule % PART)
     }
 }

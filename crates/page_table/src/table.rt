@@ -73,7 +73,7 @@ impl<A: Allocator + Copy> PageTable<A> {
     }
 
     /// The part of the granules from 2^26 `number` on, if the table keeps it.
-    #[inline(never)]
+    #[inline]
     #[tactic(auto, unfolding(crate::specs::Tables::byte_of))]
     pub(crate) fn part(&self, number: u64) -> Option<&Part<A>>
         ensures { IfSome result (λ part. IsPart self.now number part.now) }
@@ -82,15 +82,6 @@ impl<A: Allocator + Copy> PageTable<A> {
         let level4 = self.root.node(number / nodes / nodes)?;
         let level3 = level4.node(number / nodes % nodes)?;
         level3.node(number % nodes)
-    }
-
-    /// The byte of a granule, which lies in no part that the table keeps.
-    #[inline(never)]
-    pub(crate) fn byte_of_rest(&self, granule: u64) -> u8
-        requires { granule < granule_count }
-        ensures { result ≡ byte_of self.now granule }
-    {
-        self.byte(granule)
     }
 
     /// A reader of the bytes.
