@@ -44,9 +44,9 @@ pub(crate) fn pick_events(items: &[Item], events: &mut [Event]) -> Among
 {
     let (mut count, mut ended) = (0, false);
     for i in 0..items.len() {
-        match items[i] {
+        match &items[i] {
             Item::Event(event) => {
-                events[count] = event;
+                events[count] = *event;
                 count += 1;
             }
             Item::End(_) => ended = true,

@@ -9,9 +9,9 @@ use asan_units::GRANULE;
 use page_table::Reader;
 use std::alloc::{Allocator, Global};
 
-/// Checks accesses by the bytes of a shadow, which doesn't change meanwhile. It remembers where it
-/// has looked last, and is faster than [`Shadow::bad_byte`](crate::Shadow::bad_byte) where the next
-/// access is within 512 MiB of it.
+/// Checks accesses by the bytes of a shadow, which doesn't change meanwhile. It remembers a part of
+/// the shadow, for 512 MiB of memory, in which it has looked. There it is faster than
+/// [`Shadow::bad_byte`](crate::Shadow::bad_byte).
 #[derive(Drop)]
 pub struct ShadowReader<'s, A: Allocator + Copy = Global> {
     /// Reads the shadow byte of each granule.

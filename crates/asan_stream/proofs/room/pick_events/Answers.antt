@@ -15,10 +15,11 @@ loop-i-preserved c =
     let count = c.loop-i.count in
     let low : i < length items = c.loop-i-test.true in
     let before = take i items in
+    let one = c.index-items-i.result in
     elim c.match-items-i.branch [
       | in-Event w ↦
           let event = w.in-Event.event in
-          let more : take (i + 1) items ≡ before ++ item.Event event ∷ [] = take_more items i _ low ∙ ap (λ x. before ++ x ∷ []) w.in-Event.is in
+          let more : take (i + 1) items ≡ before ++ item.Event event ∷ [] = take_more items i one low ∙ ap (λ x. before ++ x ∷ []) (sym c.index-items-i.is ∙ w.in-Event.is) in
           let fits : count < length events = (let few = was.few in let room = was.room in let enough = c.requires.room in omega arith) in
           rw (w.events-is, w.count-is, w.ended-is) (record {
             room = length-set events count event ∙ was.room;
@@ -28,7 +29,7 @@ loop-i-preserved c =
           })
       | in-End w ↦
           let end = w.in-End.field-0 in
-          let more : take (i + 1) items ≡ before ++ item.End end ∷ [] = take_more items i _ low ∙ ap (λ x. before ++ x ∷ []) w.in-End.is in
+          let more : take (i + 1) items ≡ before ++ item.End end ∷ [] = take_more items i one low ∙ ap (λ x. before ++ x ∷ []) (sym c.index-items-i.is ∙ w.in-End.is) in
           rw (w.events-is, w.count-is, w.ended-is) (record {
             room = was.room;
             few = (let few = was.few in omega arith);
