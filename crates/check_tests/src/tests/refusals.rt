@@ -1,6 +1,6 @@
 //! Each growth of a checker refused in turn.
 use super::{free, load, malloc, poison, step, unpoison};
-use crate::{Checker, Failed};
+use asan_check::{Checker, Failed};
 use refusing_allocator::RefusingAllocator;
 use std::test::Fail;
 

@@ -1,6 +1,6 @@
 //! Which events a checker passes at once.
 use super::{USUAL, free, load, malloc, pass, poison, step, store, unpoison};
-use crate::{Checker, Failed};
+use asan_check::{Checker, Failed};
 use refusing_allocator::RefusingAllocator;
 use std::test::Fail;
 

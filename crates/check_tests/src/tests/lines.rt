@@ -1,5 +1,5 @@
 //! Lines, and texts that have no room for one.
-use crate::{Class, Ending, Fault, NoMemory, Report, end_text, report_text};
+use asan_check::{Class, Ending, Fault, NoMemory, Report, end_text, report_text};
 use refusing_allocator::RefusingAllocator;
 use std::test::Fail;
 use trace_record::{End, Fate, Flaw};

@@ -1,6 +1,6 @@
 //! Streams of bytes, and all that is printed of them.
 use super::{USUAL, free, load, malloc, poison, poison_of, step, store, unpoison};
-use crate::{Checker, Ending, NoMemory, end_text, report_text};
+use asan_check::{Checker, Ending, NoMemory, end_text, report_text};
 use std::alloc::Global;
 use std::process::Abort;
 use std::test::Fail;

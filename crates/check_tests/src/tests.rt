@@ -2,12 +2,13 @@
 mod beside_the_model;
 mod examples;
 mod large;
+mod lines;
 mod model;
 mod passing;
 mod refusals;
 mod streams;
 
-use crate::{Checker, Failed, Report};
+use asan_check::{Checker, Failed, Report};
 use std::alloc::Allocator;
 use std::process::Abort;
 use trace_record::{Access, Event, Flaw, Place, Region, Shade};

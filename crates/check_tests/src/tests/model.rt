@@ -1,6 +1,6 @@
 //! The rules of the six events, plain and slow: the list of events is kept, and each answer is
 //! worked out anew from it.
-use crate::{Class, Fault, NoMemory, Report};
+use asan_check::{Class, Fault, NoMemory, Report};
 use std::alloc::Global;
 use trace_record::{Access, Event, Kind};
 

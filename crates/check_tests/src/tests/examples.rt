@@ -1,7 +1,7 @@
 //! Worked examples: events, and the lines of the reports on them.
 use super::streams::{spelled, text_of};
 use super::{USUAL, free, load, malloc, poison, poison_of, step, store, unpoison};
-use crate::{Bound, Checker, report_text};
+use asan_check::{Bound, Checker, report_text};
 use std::alloc::Global;
 use std::process::Abort;
 use std::test::Fail;

@@ -2,7 +2,7 @@
 
 use super::model::{Model, State, state_of};
 use super::{USUAL, free, load, malloc, poison_of, step, store, unpoison};
-use crate::{Checker, report_text};
+use asan_check::{Checker, report_text};
 use std::test::Fail;
 use test_draws::Draws;
 use trace_record::{Event, Flaw};
