@@ -11,8 +11,6 @@ mod leaf;
 mod node;
 mod run;
 mod table;
-#[cfg(test)]
-mod tests;
 
 pub use run::Run;
 pub use table::PageTable;

@@ -24,8 +24,6 @@ mod granule;
 mod laws;
 mod marks;
 mod shadow;
-#[cfg(test)]
-mod tests;
 
 pub use granule::{FREED, GLOBAL_REDZONE, HEAP_REDZONE, STACK_REDZONE, USER_POISON};
 pub use laws::{

@@ -1,7 +1,7 @@
 //! A map beside a plain ordered map, to which the same drawn calls are made.
 
 use super::{WIDTHS, insert, live, remove};
-use crate::{LineMap, Slot};
+use line_map::{LineMap, Slot};
 use std::alloc::{AllocError, Global};
 use std::collections::BTreeMap;
 use std::test::Fail;

@@ -7,7 +7,7 @@ mod beside;
 mod memory;
 mod refusals;
 
-use crate::{LineMap, Slot};
+use line_map::{LineMap, Slot};
 use std::alloc::{AllocError, Allocator};
 use std::test::Fail;
 

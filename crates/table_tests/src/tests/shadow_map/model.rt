@@ -1,7 +1,7 @@
 //! A plain model of the shadow: the fills that were made.
 ghost use Rattle.std.specs.Prelude.{◌+◌, ◌^◌, ◌≤◌};
 
-use crate::{FREED, HEAP_REDZONE, NoMemory, Shadow, USER_POISON};
+use shadow_map::{FREED, HEAP_REDZONE, NoMemory, Shadow, USER_POISON};
 use std::alloc::Global;
 
 /// A shadow byte that the granules from one up to another were given.

@@ -2,7 +2,7 @@
 ghost use Rattle.std.specs.Prelude.{◌+◌, ◌^◌, ◌<◌, ◌≤◌};
 
 use super::model::Both;
-use crate::NoMemory;
+use shadow_map::NoMemory;
 use std::alloc::Global;
 use std::test::Fail;
 

@@ -3,7 +3,9 @@ ghost use Rattle.std.specs.Prelude.{◌≤◌, IsTrue};
 ghost use Rattle.shadow_map.specs.Calls.{is_poison_code};
 
 use super::values;
-use crate::{FREED, GLOBAL_REDZONE, HEAP_REDZONE, NoMemory, STACK_REDZONE, Shadow, USER_POISON};
+use shadow_map::{
+    FREED, GLOBAL_REDZONE, HEAP_REDZONE, NoMemory, STACK_REDZONE, Shadow, USER_POISON,
+};
 use std::alloc::Global;
 use std::test::Fail;
 

@@ -2,7 +2,7 @@
 ghost use Rattle.std.specs.Prelude.{◌≡◌, ◌+◌, ◌≤◌};
 ghost use Rattle.asan_units.specs.Units.{granule_count};
 
-use super::*;
+use page_table::{PageTable, Run};
 use std::alloc::{AllocError, Global};
 use std::test::Fail;
 

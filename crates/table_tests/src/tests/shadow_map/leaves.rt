@@ -1,7 +1,7 @@
 //! The shadow beside the plain model, at the ends of leaves and branches.
 use super::model::Both;
 use super::values;
-use crate::{FREED, HEAP_REDZONE, NoMemory, Shadow, USER_POISON};
+use shadow_map::{FREED, HEAP_REDZONE, NoMemory, Shadow, USER_POISON};
 use std::alloc::Global;
 use std::test::Fail;
 

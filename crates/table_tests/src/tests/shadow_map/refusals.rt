@@ -1,7 +1,7 @@
 //! A growth that is refused.
 use super::values;
-use crate::{FREED, HEAP_REDZONE, NoMemory, Shadow, USER_POISON};
 use refusing_allocator::RefusingAllocator;
+use shadow_map::{FREED, HEAP_REDZONE, NoMemory, Shadow, USER_POISON};
 use std::alloc::{Allocator, Global};
 use std::process::Abort;
 use std::test::Fail;

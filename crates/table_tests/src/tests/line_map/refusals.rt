@@ -1,6 +1,6 @@
 //! A growth that is refused.
 use super::{WIDTHS, insert, live, remove};
-use crate::{LineMap, Slot};
+use line_map::{LineMap, Slot};
 use refusing_allocator::RefusingAllocator;
 use std::alloc::{AllocError, Allocator, Global};
 use std::test::Fail;

@@ -6,7 +6,7 @@ mod memory;
 mod model;
 mod refusals;
 
-use super::*;
+use shadow_map::{Cause, FREED, NoMemory, Shadow, USER_POISON};
 use std::alloc::Allocator;
 use std::test::Fail;
 

@@ -1,8 +1,8 @@
 //! Calls of a book on worked examples, and a book whose memory is refused.
 ghost use Rattle.std.specs.Prelude.{◌+◌, ◌-◌, ◌^◌, ◌≤◌};
 
-use crate::{Admit, Block, Book, Bound, Freed, NoMemory};
 use asan_units::ADDRESS_END;
+use heap_book::{Admit, Block, Book, Bound, Freed, NoMemory};
 use refusing_allocator::RefusingAllocator;
 use std::alloc::{Allocator, Global};
 use std::process::Abort;
@@ -19,6 +19,18 @@ fn span_of(alloc: Global, at: u64, size: u64) -> Result<Option<(u64, u64)>, NoMe
         Admit::Admitted(block) => Ok(Some((block.from(), block.to()))),
         Admit::Ignored | Admit::Refused => Ok(None),
     }
+}
+
+/// The block of that many bytes at an address, which an empty book admits.
+fn block(alloc: Global, at: u64, size: u64) -> Result<Block, Fail> {
+    if size <= ADDRESS_END && at <= ADDRESS_END - size {
+        if let Admit::Admitted(block) = Book::new(alloc, 0)?.admit(at, size)? {
+            if block.at() == at && block.size() == size {
+                return Ok(block);
+            }
+        }
+    }
+    Err("no such block")?
 }
 
 #[test]
@@ -76,8 +88,8 @@ fn blocks_of_any_size(rt: HostRuntime) -> Result<(), Fail> {
 
 #[test]
 fn book_calls(rt: HostRuntime) -> Result<(), Fail> {
-    let first = Block::from_parts(0x1000, 8);
-    let second = Block::from_parts(0x1048, 8);
+    let first = block(rt.alloc(), 0x1000, 8)?;
+    let second = block(rt.alloc(), 0x1048, 8)?;
     let mut book = Book::new(rt.alloc(), 72)?;
     assert_eq!(rt; book.admit(0x1000, 8)?, Admit::Admitted(first));
     assert_eq!(rt; book.admit(0x1040, 8)?, Admit::Refused);
@@ -98,19 +110,19 @@ fn book_calls(rt: HostRuntime) -> Result<(), Fail> {
 
 #[test]
 fn one_free_releases_several(rt: HostRuntime) -> Result<(), Fail> {
-    let large = Block::from_parts(0x4000, 136);
+    let large = block(rt.alloc(), 0x4000, 136)?;
     let mut book = Book::new(rt.alloc(), 216)?;
     for number in 1..=3 {
         let at = number * 0x1000;
         book.admit(at, 8)?;
-        assert_eq!(rt; book.free(at)?, Freed::Held(Block::from_parts(at, 8)));
+        assert_eq!(rt; book.free(at)?, Freed::Held(block(rt.alloc(), at, 8)?));
         assert_eq!(rt; book.evict(), None);
     }
     // The span of 200 bytes leaves room for none of the three of 72.
     assert_eq!(rt; book.admit(0x4000, 136)?, Admit::Admitted(large));
     assert_eq!(rt; book.free(0x4000)?, Freed::Held(large));
     for number in 1..=3 {
-        assert_eq!(rt; book.evict(), Some(Block::from_parts(number * 0x1000, 8)));
+        assert_eq!(rt; book.evict(), Some(block(rt.alloc(), number * 0x1000, 8)?));
     }
     assert_eq!(rt; book.evict(), None);
     Ok(())
@@ -118,17 +130,17 @@ fn one_free_releases_several(rt: HostRuntime) -> Result<(), Fail> {
 
 #[test]
 fn span_over_the_bound_is_not_held(rt: HostRuntime) -> Result<(), Fail> {
-    let block = Block::from_parts(0x1000, 8);
+    let held = block(rt.alloc(), 0x1000, 8)?;
     let mut book = Book::new(rt.alloc(), 71)?;
     book.admit(0x1000, 8)?;
-    assert_eq!(rt; book.free(0x1000)?, Freed::Held(block));
+    assert_eq!(rt; book.free(0x1000)?, Freed::Held(held));
     assert_eq!(rt; book.admit(0x1008, 8)?, Admit::Refused);
-    assert_eq!(rt; book.evict(), Some(block));
+    assert_eq!(rt; book.evict(), Some(held));
     assert_eq!(rt; book.evict(), None);
     assert_eq!(rt; book.free(0x1000)?, Freed::Stranger);
     assert_eq!(rt;
         book.admit(0x1008, 8)?,
-        Admit::Admitted(Block::from_parts(0x1008, 8))
+        Admit::Admitted(block(rt.alloc(), 0x1008, 8)?)
     );
     Ok(())
 }
@@ -140,14 +152,14 @@ fn largest_quarantine_of_large_blocks(rt: HostRuntime) -> Result<(), Fail> {
     let size = (1 << 32) - 64;
     for number in 0..256u64 {
         let at = (number << 32) + 32;
-        let block = Block::from_parts(at, size);
-        assert_eq!(rt; book.admit(at, size)?, Admit::Admitted(block));
-        assert_eq!(rt; book.free(at)?, Freed::Held(block));
+        let large = block(rt.alloc(), at, size)?;
+        assert_eq!(rt; book.admit(at, size)?, Admit::Admitted(large));
+        assert_eq!(rt; book.free(at)?, Freed::Held(large));
         assert_eq!(rt; book.evict(), None);
     }
     book.admit((1 << 40) + 32, 0)?;
     book.free((1 << 40) + 32)?;
-    assert_eq!(rt; book.evict(), Some(Block::from_parts(32, size)));
+    assert_eq!(rt; book.evict(), Some(block(rt.alloc(), 32, size)?));
     assert_eq!(rt; book.evict(), None);
     assert_eq!(rt; book.free(32)?, Freed::Stranger);
     Ok(())
