@@ -2,9 +2,12 @@
 //! versions share.
 
 use super::{LOADS, STREAM, an_end, give, read};
-use crate::*;
 use std::alloc::Global;
 use std::test::Fail;
+use trace_record::{
+    Access, Ahead, CLOSE, Decoder, End, Event, Fate, Flaw, HEADER, HEADER_2, Kind, Out,
+    RECORD_ROOM, Region, Shade, Version, encode,
+};
 
 /// Poison of kind 1 of 16 bytes at 0x2000 and of kind 2 of 16 bytes at 0x2010, a load of a byte at
 /// 0x2008, a store of 4 bytes at 0x2010, an unpoison of 32 bytes at 0x2000, a load of 8 bytes

@@ -4,9 +4,12 @@ ghost use Rattle.std.specs.Prelude.{◌≤◌, length};
 
 mod version_2;
 
-use super::*;
 use std::alloc::{AllocError, Global};
 use std::test::Fail;
+use trace_record::{
+    Access, Ahead, CLOSE, Decoder, End, Event, Fate, Flaw, HEADER, Out, Place, RECORD_ROOM, Region,
+    Shade, Step, Version, encode,
+};
 
 /// A malloc of 5 bytes at 0x1000, a store of 4 bytes at 0x1004, the close, and 20 bytes that nobody
 /// reads.
