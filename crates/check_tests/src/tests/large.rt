@@ -1,10 +1,10 @@
 //! Regions that only version 2 has: of up to 2^32 bytes.
 use super::streams::{spelled, text_of};
-use super::{USUAL, free, load, malloc, poison_of, unpoison};
+use super::{Made, USUAL, free, load, malloc, poison_of, unpoison};
 use std::alloc::Global;
 use std::process::Abort;
 use std::test::Fail;
-use trace_record::{Event, HEADER, Version};
+use trace_record::{HEADER, Version};
 
 /// A malloc of 2^32 bytes at 0x1_0000_0000, a load of its last byte and of the one past it, a free
 /// of it, a load of a byte in its middle, and the close.
@@ -17,11 +17,11 @@ const FOUR_GIGABYTES: [u8; 65] = [
 #[test]
 fn four_gigabyte_block(rt: HostRuntime) -> Result<(), Fail> {
     let events = [
-        malloc(0x1_0000_0000, 1 << 32)?,
-        load(1, 0x1_ffff_ffff)?,
-        load(1, 0x2_0000_0000)?,
-        free(0x1_0000_0000)?,
-        load(1, 0x1_8000_0000)?,
+        malloc(0x1_0000_0000, 1 << 32),
+        load(1, 0x1_ffff_ffff),
+        load(1, 0x2_0000_0000),
+        free(0x1_0000_0000),
+        load(1, 0x1_8000_0000),
     ];
     let stream = spelled(rt.alloc(), Version::Two, &events)?;
     assert_eq!(rt; stream.as_deref(), Some(FOUR_GIGABYTES.as_slice()));
@@ -55,7 +55,7 @@ fn printed(
     rt: &impl Abort,
     alloc: Global,
     version: Version,
-    events: &[Event],
+    events: &[Made],
 ) -> Result<String, Fail> {
     let stream = spelled(alloc, version, events)?.ok_or("an event does not spell")?;
     text_of(rt, alloc, USUAL, &stream)
@@ -63,7 +63,7 @@ fn printed(
 
 #[test]
 fn last_place_of_a_block(rt: HostRuntime) -> Result<(), Fail> {
-    let too_far = [malloc(0x7fff_0000_0000, 1 << 32)?];
+    let too_far = [malloc(0x7fff_0000_0000, 1 << 32)];
     let wanted = "\
 p0 #1 malloc 4294967296 at 7fff00000000 bad-malloc
 p0 end closed events 1 offset 26 reports 1
@@ -73,9 +73,9 @@ p0 end closed events 1 offset 26 reports 1
         wanted
     );
     let last = [
-        malloc(0x7ffe_ffff_ffe0, 1 << 32)?,
-        load(1, 0x7fff_ffff_ffdf)?,
-        load(1, 0x7fff_ffff_ffe0)?,
+        malloc(0x7ffe_ffff_ffe0, 1 << 32),
+        load(1, 0x7fff_ffff_ffdf),
+        load(1, 0x7fff_ffff_ffe0),
     ];
     let wanted = "\
 p0 #3 load 1 at 7fffffffffe0 bad 7fffffffffe0 heap-buffer-overflow shadow fa
@@ -85,7 +85,7 @@ p0 end closed events 3 offset 46 reports 1
         printed(&rt, rt.alloc(), Version::Two, &last)?.as_str(),
         wanted
     );
-    let null = [malloc(0, 1 << 32)?];
+    let null = [malloc(0, 1 << 32)];
     assert_eq!(rt;
         printed(&rt, rt.alloc(), Version::Two, &null)?.as_str(),
         "p0 end closed events 1 offset 26 reports 0\n"
@@ -96,11 +96,11 @@ p0 end closed events 3 offset 46 reports 1
 #[test]
 fn poison_up_to_the_last_address(rt: HostRuntime) -> Result<(), Fail> {
     let events = [
-        poison_of(2, 0x7fff_0000_0000, 1 << 32)?,
-        load(1, 0x7fff_ffff_ffff)?,
-        load(8, 0x7ffe_ffff_fff8)?,
-        unpoison(0x7fff_0000_0000, 1 << 32)?,
-        load(1, 0x7fff_ffff_ffff)?,
+        poison_of(2, 0x7fff_0000_0000, 1 << 32),
+        load(1, 0x7fff_ffff_ffff),
+        load(8, 0x7ffe_ffff_fff8),
+        unpoison(0x7fff_0000_0000, 1 << 32),
+        load(1, 0x7fff_ffff_ffff),
     ];
     let wanted = "\
 p0 #2 load 1 at 7fffffffffff bad 7fffffffffff global-buffer-overflow shadow f9

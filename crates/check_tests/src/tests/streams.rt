@@ -1,11 +1,11 @@
 //! Streams of bytes, and all that is printed of them.
-use super::{USUAL, free, load, malloc, poison, poison_of, step, store, unpoison};
-use asan_check::{Checker, Ending, NoMemory, end_text, report_text};
+use super::{Made, USUAL, free, load, malloc, poison, poison_of, step, store, unpoison};
+use asan_check::{Checker, Ending, end_text, report_text};
 use std::alloc::Global;
 use std::process::Abort;
 use std::test::Fail;
 use trace_record::{
-    CLOSE, Decoder, Event, Flaw, HEADER, HEADER_2, LARGEST_LIMIT, Out, RECORD_ROOM, Version, encode,
+    CLOSE, Decoder, HEADER, HEADER_2, LARGEST_LIMIT, Out, RECORD_ROOM, Version, encode,
 };
 
 /// What is wrong where a test's events have no stream.
@@ -13,22 +13,19 @@ const NOT_SPELLED: &str = "an event does not spell in the version";
 
 /// The stream of some events in a version, up to its close, or `None` where one of them does not
 /// spell in it.
-pub fn spelled(
-    alloc: Global,
-    version: Version,
-    events: &[Event],
-) -> Result<Option<Vec<u8>>, NoMemory> {
+pub fn spelled(alloc: Global, version: Version, events: &[Made]) -> Result<Option<Vec<u8>>, Fail> {
     let mut stream = Vec::new(alloc);
     stream.extend_from_slice(match version {
         Version::One => &HEADER,
         Version::Two => &HEADER_2,
     })?;
-    for event in events {
+    for made in events {
+        let event = (*made)?;
         if !event.spells_in(version) {
             return Ok(None);
         }
         let mut room = [0; RECORD_ROOM];
-        let length = encode(version, event, &mut room);
+        let length = encode(version, &event, &mut room);
         stream.extend_from_slice(room.get(..length).unwrap_or_default())?;
     }
     stream.push(CLOSE)?;
@@ -77,22 +74,22 @@ const HALF_A_GRANULE: [u8; 37] = [
 ];
 
 /// The events of the first of these streams.
-fn redzones() -> Result<[Event; 6], Flaw> {
-    Ok([
-        poison_of(1, 0x2000, 16)?,
-        poison_of(2, 0x2010, 16)?,
-        load(1, 0x2008)?,
-        store(4, 0x2010)?,
-        unpoison(0x2000, 32)?,
-        load(8, 0x2000)?,
-    ])
+fn redzones() -> [Made; 6] {
+    [
+        poison_of(1, 0x2000, 16),
+        poison_of(2, 0x2010, 16),
+        load(1, 0x2008),
+        store(4, 0x2010),
+        unpoison(0x2000, 32),
+        load(8, 0x2000),
+    ]
 }
 
 #[test]
 fn stack_and_global_poison(rt: HostRuntime) -> Result<(), Fail> {
-    let stream = spelled(rt.alloc(), Version::Two, &redzones()?)?;
+    let stream = spelled(rt.alloc(), Version::Two, &redzones())?;
     assert_eq!(rt; stream.as_deref(), Some(REDZONES.as_slice()));
-    assert!(rt; spelled(rt.alloc(), Version::One, &redzones()?)?.is_none());
+    assert!(rt; spelled(rt.alloc(), Version::One, &redzones())?.is_none());
     let wanted = "\
 p0 #3 load 1 at 000000002008 bad 000000002008 stack-buffer-overflow shadow f2
 p0 #4 store 4 at 000000002010 bad 000000002010 global-buffer-overflow shadow f9
@@ -116,13 +113,13 @@ p0 end closed events 2 offset 37 reports 1
 #[test]
 fn block_recoded_by_each_kind(rt: HostRuntime) -> Result<(), Fail> {
     let events = [
-        malloc(0x1000, 8)?,
-        poison_of(1, 0x1000, 8)?,
-        load(1, 0x1004)?,
-        poison_of(2, 0x1000, 8)?,
-        store(2, 0x1006)?,
-        poison_of(0, 0x1000, 8)?,
-        load(8, 0x1000)?,
+        malloc(0x1000, 8),
+        poison_of(1, 0x1000, 8),
+        load(1, 0x1004),
+        poison_of(2, 0x1000, 8),
+        store(2, 0x1006),
+        poison_of(0, 0x1000, 8),
+        load(8, 0x1000),
     ];
     let wanted = "\
 p0 #3 load 1 at 000000001004 bad 000000001004 stack-buffer-overflow shadow f2
@@ -138,7 +135,7 @@ p0 end closed events 7 offset 110 reports 3
 /// A stream of version 1 keeps its text, and without poison it has the same text in version 2.
 #[test]
 fn text_in_both_versions(rt: HostRuntime) -> Result<(), Fail> {
-    let events = [malloc(0x1000, 5)?, store(4, 0x1004)?, free(0x1000)?];
+    let events = [malloc(0x1000, 5), store(4, 0x1004), free(0x1000)];
     let wanted = "\
 p0 #2 store 4 at 000000001004 bad 000000001005 heap-buffer-overflow shadow 05
 p0 end closed events 3 offset 45 reports 1
@@ -147,7 +144,7 @@ p0 end closed events 3 offset 45 reports 1
         let stream = spelled(rt.alloc(), version, &events)?.ok_or(NOT_SPELLED)?;
         assert_eq!(rt; text_of(&rt, rt.alloc(), USUAL, &stream)?.as_str(), wanted);
     }
-    let poisoned = [poison(0x1000, 8)?, load(1, 0x1000)?];
+    let poisoned = [poison(0x1000, 8), load(1, 0x1000)];
     for (version, offset) in [(Version::One, 36), (Version::Two, 37)] {
         let wanted = format!(in rt.alloc();
             "\
