@@ -10,16 +10,16 @@ fn good_accesses_are_passed(rt: HostRuntime) -> Result<(), Fail> {
     step(&rt, &mut checker, &malloc(0x1000, 5)?)?;
     let good = [load(1, 0x1000)?, store(4, 0x1000)?];
     let others = [
-        store(4, 0x1004)?,
-        load(1, 0x1005)?,
-        malloc(0x2000, 8)?,
-        free(0x1000)?,
-        free(0x3000)?,
-        poison(0x1000, 8)?,
-        unpoison(0x1000, 8)?,
+        store(4, 0x1004),
+        load(1, 0x1005),
+        malloc(0x2000, 8),
+        free(0x1000),
+        free(0x3000),
+        poison(0x1000, 8),
+        unpoison(0x1000, 8),
     ];
     for other in others {
-        let events = [good[0], good[1], other, good[0]];
+        let events = [good[0], good[1], other?, good[0]];
         assert_eq!(rt; pass(&rt, &mut checker, &events), 2);
         assert_eq!(rt; pass(&rt, &mut checker, &events[2..]), 0);
     }

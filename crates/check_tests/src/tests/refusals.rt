@@ -3,13 +3,14 @@ use super::{free, load, malloc, poison, step, unpoison};
 use asan_check::{Checker, Failed};
 use refusing_allocator::RefusingAllocator;
 use std::test::Fail;
+use trace_record::{Event, Flaw};
 
 /// An address on whose two sides the shadow keeps nothing in common.
 const FAR: u64 = 1 << 43;
 
-#[test]
-fn each_growth_refused_in_turn(rt: HostRuntime) -> Result<(), Fail> {
-    let events = [
+/// Events most of which take memory.
+fn growing() -> Result<[Event; 9], Flaw> {
+    Ok([
         malloc(0x1000, 8)?,
         malloc(FAR, 8)?,
         poison(0x10_0000_0000, 8)?,
@@ -21,7 +22,12 @@ fn each_growth_refused_in_turn(rt: HostRuntime) -> Result<(), Fail> {
         free(FAR)?,
         load(1, 0x1000)?,
         load(1, FAR)?,
-    ];
+    ])
+}
+
+#[test]
+fn each_growth_refused_in_turn(rt: HostRuntime) -> Result<(), Fail> {
+    let events = growing()?;
     let mut ample = Checker::new(rt.alloc(), 72)?;
     let mut verdicts = Vec::new(rt.alloc());
     for event in &events {
