@@ -1,7 +1,9 @@
 //! Each growth of a checker refused in turn.
 use super::{free, load, malloc, poison, step, unpoison};
-use asan_check::{Checker, Failed};
+use asan_check::{Checker, Failed, Report};
 use refusing_allocator::RefusingAllocator;
+use std::alloc::{Allocator, Global};
+use std::process::Abort;
 use std::test::Fail;
 use trace_record::{Event, Flaw};
 
@@ -25,6 +27,60 @@ fn growing() -> Result<[Event; 9], Flaw> {
     ])
 }
 
+/// Steps a checker that may be refused memory, and answers whether it failed. Its answer has to be
+/// the verdict that ample memory gave. Where it failed, it counts as before and says nothing of
+/// bytes.
+fn has_failed<A: Allocator + Copy>(
+    rt: &impl Abort,
+    checker: &mut Checker<A>,
+    event: &Event,
+    verdict: Option<Report>,
+    turn: u64,
+) -> bool {
+    let before = (checker.checked(), checker.reports().len());
+    match step(rt, checker, event) {
+        Ok(report) => {
+            assert_eq!(rt; report, verdict, "turn {turn}");
+            false
+        }
+        Err(Failed) => {
+            let after = (checker.checked(), checker.reports().len());
+            assert_eq!(rt; after, before, "turn {turn}");
+            let bytes = (
+                checker.is_poisoned(0x1000),
+                checker.first_poisoned(0x1000, 8),
+            );
+            assert_eq!(rt; bytes, (None, None), "turn {turn}");
+            true
+        }
+    }
+}
+
+/// Steps a checker through events, where one request for memory is refused, and answers whether it
+/// failed. Once it has, it stays so, and its reports are the first of those of ample memory.
+fn fails_at(
+    rt: &impl Abort,
+    alloc: Global,
+    turn: u64,
+    events: &[Event],
+    verdicts: &[Option<Report>],
+    reports: &[Report],
+) -> Result<bool, Fail> {
+    let heap = RefusingAllocator::at_turn(alloc, turn);
+    let mut checker = Checker::new(&heap, 72)?;
+    let mut failed = false;
+    for (event, verdict) in events.iter().zip(verdicts) {
+        let fails = has_failed(rt, &mut checker, event, *verdict, turn);
+        assert!(rt; fails || !failed, "turn {turn}");
+        failed = fails;
+    }
+    let kept = checker.reports();
+    assert!(rt; reports.starts_with(kept), "turn {turn}");
+    assert!(rt; failed || kept.len() == reports.len(), "turn {turn}");
+    assert_eq!(rt; failed, heap.has_refused(), "turn {turn}");
+    Ok(failed)
+}
+
 #[test]
 fn each_growth_refused_in_turn(rt: HostRuntime) -> Result<(), Fail> {
     let events = growing()?;
@@ -34,31 +90,7 @@ fn each_growth_refused_in_turn(rt: HostRuntime) -> Result<(), Fail> {
         verdicts.push(step(&rt, &mut ample, event)?)?;
     }
     for turn in 1..100u64 {
-        let heap = RefusingAllocator::at_turn(rt.alloc(), turn);
-        let mut checker = Checker::new(&heap, 72)?;
-        let mut failed = false;
-        for (event, verdict) in events.iter().zip(&verdicts) {
-            let checked = checker.checked();
-            let reports = checker.reports().len();
-            match step(&rt, &mut checker, event) {
-                Ok(report) => {
-                    assert!(rt; !failed, "turn {turn}");
-                    assert_eq!(rt; report, *verdict, "turn {turn}");
-                }
-                Err(Failed) => {
-                    failed = true;
-                    assert_eq!(rt; checker.checked(), checked, "turn {turn}");
-                    assert_eq!(rt; checker.reports().len(), reports, "turn {turn}");
-                    assert_eq!(rt; checker.is_poisoned(0x1000), None, "turn {turn}");
-                    assert_eq!(rt; checker.first_poisoned(0x1000, 8), None, "turn {turn}");
-                }
-            }
-        }
-        let kept = checker.reports();
-        assert!(rt; ample.reports().starts_with(kept), "turn {turn}");
-        assert_eq!(rt; failed, heap.has_refused(), "turn {turn}");
-        if !failed {
-            assert_eq!(rt; kept.len(), ample.reports().len());
+        if !fails_at(&rt, rt.alloc(), turn, &events, &verdicts, ample.reports())? {
             assert!(rt; turn > 20, "only {turn} turns");
             return Ok(());
         }
