@@ -7,8 +7,6 @@ mod fetched;
 mod laws;
 mod lines;
 mod report;
-#[cfg(test)]
-mod tests;
 
 pub use checker::{Checker, Failed};
 pub use ending::Ending;

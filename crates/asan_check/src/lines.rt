@@ -1,8 +1,6 @@
 //! The lines of text of reports and of ends.
 mod hex;
 mod pieces;
-#[cfg(test)]
-mod tests;
 
 ghost use Rattle.std.specs.Prelude.{◌≡◌, ◌+◌, ◌<◌, ◌≤◌, ◌++◌, length, OnErr, OnOk, string_bytes};
 ghost use Rattle.std.specs.Prelude.{string_capacity, string_len};

@@ -22,8 +22,6 @@ mod answers;
 mod block;
 mod book;
 mod slots;
-#[cfg(test)]
-mod tests;
 
 pub use answers::{Admit, Bound, Freed};
 pub use block::Block;

@@ -14,8 +14,6 @@ mod leaf;
 mod map;
 mod mark;
 mod node;
-#[cfg(test)]
-mod tests;
 mod tree;
 
 pub use map::LineMap;

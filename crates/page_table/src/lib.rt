@@ -12,8 +12,6 @@ mod node;
 mod reader;
 mod run;
 mod table;
-#[cfg(test)]
-mod tests;
 
 pub use reader::Reader;
 pub use run::Run;

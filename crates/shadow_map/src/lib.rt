@@ -25,8 +25,6 @@ mod laws;
 mod marks;
 mod reader;
 mod shadow;
-#[cfg(test)]
-mod tests;
 
 pub use granule::{FREED, GLOBAL_REDZONE, HEAP_REDZONE, STACK_REDZONE, USER_POISON};
 pub use laws::{

@@ -11,8 +11,6 @@ mod format;
 mod laws;
 mod partial;
 mod shade;
-#[cfg(test)]
-mod tests;
 mod version;
 
 pub use decoder::{Ahead, Decoder, LARGEST_LIMIT, Out, Step};

@@ -1,0 +1,66 @@
+//! Events, and the calls of a checker that the tests share.
+mod beside_the_model;
+mod examples;
+mod large;
+mod lines;
+mod model;
+mod passing;
+mod refusals;
+mod streams;
+
+use asan_check::{Checker, Failed, Report};
+use std::alloc::Allocator;
+use std::process::Abort;
+use trace_record::{Access, Event, Flaw, Place, Region, Shade};
+
+/// The bound on the quarantine that is usual, in bytes of spans.
+const USUAL: u64 = 1 << 28;
+
+/// The event of some numbers, or their first flaw. Tests put these into arrays as they are, since a
+/// `?` for each makes a test far dearer to prove.
+type Made = Result<Event, Flaw>;
+
+fn load(width: u8, at: u64) -> Made {
+    Ok(Event::Load(Access::new(at, width)?))
+}
+
+fn store(width: u8, at: u64) -> Made {
+    Ok(Event::Store(Access::new(at, width)?))
+}
+
+fn malloc(at: u64, size: u64) -> Made {
+    Ok(Event::Malloc(Region::new(at, size)?))
+}
+
+fn free(at: u64) -> Made {
+    Ok(Event::Free(Place::new(at)?))
+}
+
+fn poison(at: u64, size: u64) -> Made {
+    poison_of(0, at, size)
+}
+
+/// A poison of the kind with this number: 0 for a user's, 1 for the stack's, 2 for a global's.
+fn poison_of(kind: u8, at: u64, size: u64) -> Made {
+    Ok(Event::Poison(Shade::new(at, size, kind)?))
+}
+
+fn unpoison(at: u64, size: u64) -> Made {
+    Ok(Event::Unpoison(Region::new(at, size)?))
+}
+
+/// Steps a checker of fewer events than it can count.
+fn step<A: Allocator + Copy>(
+    rt: &impl Abort,
+    checker: &mut Checker<A>,
+    event: &Event,
+) -> Result<Option<Report>, Failed> {
+    assert!(rt; checker.checked() < u64::MAX);
+    checker.step(event)
+}
+
+/// Passes what is good at the front of some events, which are fewer than the checker can count.
+fn pass<A: Allocator + Copy>(rt: &impl Abort, checker: &mut Checker<A>, events: &[Event]) -> usize {
+    assert!(rt; checker.checked() < u64::MAX - events.len() as u64);
+    checker.pass(events)
+}

@@ -1,0 +1,245 @@
+//! Lines, and texts that have no room for one.
+use asan_check::{Class, Ending, Fault, NoMemory, Report, end_text, report_text};
+use refusing_allocator::RefusingAllocator;
+use std::test::Fail;
+use trace_record::{End, Fate, Flaw};
+
+/// A bad access of an event number.
+fn access(
+    number: u64,
+    store: bool,
+    width: u8,
+    at: u64,
+    bad: u64,
+    class: Class,
+    shadow: u8,
+) -> Report {
+    let fault = Fault::Access {
+        store,
+        width,
+        at,
+        bad,
+        class,
+        shadow,
+    };
+    Report { number, fault }
+}
+
+/// Another fault of an event number.
+fn report(number: u64, fault: Fault) -> Report {
+    Report { number, fault }
+}
+
+#[test]
+fn bad_accesses(rt: HostRuntime) -> Result<(), Fail> {
+    let mut text = String::new(rt.alloc());
+    for bad in [
+        access(2, true, 4, 0x1004, 0x1005, Class::HeapBufferOverflow, 0x05),
+        access(2, false, 8, 0x1004, 0x1005, Class::HeapBufferOverflow, 0x05),
+        access(3, false, 1, 0x2000, 0x2000, Class::UseAfterPoison, 0xf7),
+        access(
+            3,
+            false,
+            1,
+            0x2008,
+            0x2008,
+            Class::StackBufferOverflow,
+            0xf2,
+        ),
+        access(
+            4,
+            true,
+            4,
+            0x2010,
+            0x2010,
+            Class::GlobalBufferOverflow,
+            0xf9,
+        ),
+        access(6, false, 1, 0x2003, 0x2003, Class::UnknownCrash, 0x03),
+        access(6, false, 1, 0x2000, 0x2000, Class::HeapUseAfterFree, 0xfd),
+        access(
+            2,
+            false,
+            1,
+            0x7fff_ffff_fffe,
+            0x7fff_ffff_fffe,
+            Class::UnknownCrash,
+            0x04,
+        ),
+    ] {
+        report_text(0, &bad, &mut text)?;
+    }
+    let lines = "\
+p0 #2 store 4 at 000000001004 bad 000000001005 heap-buffer-overflow shadow 05
+p0 #2 load 8 at 000000001004 bad 000000001005 heap-buffer-overflow shadow 05
+p0 #3 load 1 at 000000002000 bad 000000002000 use-after-poison shadow f7
+p0 #3 load 1 at 000000002008 bad 000000002008 stack-buffer-overflow shadow f2
+p0 #4 store 4 at 000000002010 bad 000000002010 global-buffer-overflow shadow f9
+p0 #6 load 1 at 000000002003 bad 000000002003 unknown-crash shadow 03
+p0 #6 load 1 at 000000002000 bad 000000002000 heap-use-after-free shadow fd
+p0 #2 load 1 at 7ffffffffffe bad 7ffffffffffe unknown-crash shadow 04
+";
+    assert_eq!(rt; text.as_str(), lines);
+    Ok(())
+}
+
+#[test]
+fn bad_frees_and_mallocs(rt: HostRuntime) -> Result<(), Fail> {
+    let mut text = String::new(rt.alloc());
+    for bad in [
+        report(3, Fault::DoubleFree { at: 0x1000 }),
+        report(2, Fault::BadFree { at: 0x1004 }),
+        report(
+            5,
+            Fault::BadMalloc {
+                at: 0x3004,
+                size: 8,
+            },
+        ),
+        report(
+            1,
+            Fault::BadMalloc {
+                at: 0x1004,
+                size: 268_435_456,
+            },
+        ),
+        report(
+            4,
+            Fault::BadMalloc {
+                at: 0x8000_0000_0000,
+                size: 0,
+            },
+        ),
+    ] {
+        report_text(0, &bad, &mut text)?;
+    }
+    let lines = "\
+p0 #3 free at 000000001000 double-free
+p0 #2 free at 000000001004 bad-free
+p0 #5 malloc 8 at 000000003004 bad-malloc
+p0 #1 malloc 268435456 at 000000001004 bad-malloc
+p0 #4 malloc 0 at 800000000000 bad-malloc
+";
+    assert_eq!(rt; text.as_str(), lines);
+    Ok(())
+}
+
+#[test]
+fn numbers_at_their_greatest(rt: HostRuntime) -> Result<(), Fail> {
+    let mut text = String::new(rt.alloc());
+    report_text(
+        u32::MAX,
+        &report(
+            1,
+            Fault::BadFree {
+                at: 0x1_0000_0000_0000,
+            },
+        ),
+        &mut text,
+    )?;
+    report_text(
+        u32::MAX,
+        &report(
+            1,
+            Fault::BadFree {
+                at: 0xffff_ffff_ffff,
+            },
+        ),
+        &mut text,
+    )?;
+    report_text(
+        u32::MAX,
+        &report(u64::MAX, Fault::BadFree { at: u64::MAX }),
+        &mut text,
+    )?;
+    let lines = "\
+p4294967295 #1 free at 1000000000000 bad-free
+p4294967295 #1 free at ffffffffffff bad-free
+p4294967295 #18446744073709551615 free at ffffffffffffffff bad-free
+";
+    assert_eq!(rt; text.as_str(), lines);
+    Ok(())
+}
+
+#[test]
+fn ends_of_streams(rt: HostRuntime) -> Result<(), Fail> {
+    let mut text = String::new(rt.alloc());
+    for (fate, events, offset) in [
+        (Fate::Closed, 2, 36),
+        (Fate::Malformed(Flaw::Header), 0, 0),
+        (Fate::Malformed(Flaw::Code), 1, 25),
+        (Fate::Malformed(Flaw::Width), 0, 8),
+        (Fate::Malformed(Flaw::Size), 0, 8),
+        (Fate::Malformed(Flaw::Range), 0, 8),
+        (Fate::Malformed(Flaw::Kind), 0, 8),
+        (Fate::Truncated, 0, 0),
+        (Fate::NoClose, 0, 8),
+        (Fate::ReadFailed, 1, 25),
+        (Fate::TooMany, 2, 28),
+    ] {
+        let end = End {
+            fate,
+            events,
+            offset,
+        };
+        end_text(1, &Ending::Ran { end, reports: 1 }, &mut text)?;
+    }
+    let lines = "\
+p1 end closed events 2 offset 36 reports 1
+p1 end malformed header events 0 offset 0 reports 1
+p1 end malformed code events 1 offset 25 reports 1
+p1 end malformed width events 0 offset 8 reports 1
+p1 end malformed size events 0 offset 8 reports 1
+p1 end malformed range events 0 offset 8 reports 1
+p1 end malformed kind events 0 offset 8 reports 1
+p1 end truncated events 0 offset 0 reports 1
+p1 end no-close events 0 offset 8 reports 1
+p1 end read-failed events 1 offset 25 reports 1
+p1 end too-many events 2 offset 28 reports 1
+";
+    assert_eq!(rt; text.as_str(), lines);
+    Ok(())
+}
+
+#[test]
+fn ends_without_a_stream(rt: HostRuntime) -> Result<(), Fail> {
+    let mut text = String::new(rt.alloc());
+    for ending in [
+        Ending::NoMemory {
+            checked: 7,
+            reports: 2,
+        },
+        Ending::NotStarted,
+        Ending::Unsettled,
+        Ending::NotOpened,
+    ] {
+        end_text(0, &ending, &mut text)?;
+    }
+    let lines = "\
+p0 end no-memory checked 7 reports 2
+p0 end not-started
+p0 end unsettled
+p0 end not-opened
+";
+    assert_eq!(rt; text.as_str(), lines);
+    Ok(())
+}
+
+#[test]
+fn each_growth_refused_in_turn(rt: HostRuntime) -> Result<(), Fail> {
+    let bad = access(2, true, 4, 0x1004, 0x1005, Class::HeapBufferOverflow, 0x05);
+    for turn in 1..20u64 {
+        let heap = RefusingAllocator::at_turn(rt.alloc(), turn);
+        let mut text = String::new(&heap);
+        let answer = match report_text(0, &bad, &mut text) {
+            Ok(()) => end_text(0, &Ending::Unsettled, &mut text),
+            Err(NoMemory) => Err(NoMemory),
+        };
+        assert_eq!(rt; answer.is_err(), heap.has_refused(), "turn {turn}");
+        if answer.is_ok() {
+            assert!(rt; turn > 1);
+            return Ok(());
+        }
+    }
+    panic!(rt; "always refused")
+}

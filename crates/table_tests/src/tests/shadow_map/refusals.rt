@@ -1,0 +1,160 @@
+//! A growth that is refused.
+use super::values;
+use refusing_allocator::RefusingAllocator;
+use shadow_map::{FREED, HEAP_REDZONE, NoMemory, Shadow, USER_POISON};
+use std::alloc::{Allocator, Global};
+use std::process::Abort;
+use std::test::Fail;
+
+/// An end of branches of each level, but for the one that has all memory: what lies on both sides
+/// of it asks for memory twice.
+const END: u64 = 1 << 43;
+
+/// The first of the granules that are looked at.
+const FIRST: u64 = END / 8 - 16;
+
+/// Their shadow bytes.
+type Values = [u8; 32];
+
+/// A block of 2^32 bytes that lies over that end, and whose own ends cut leaves in two: its address
+/// and its end.
+const LARGE: (u64, u64) = (END - 0x7fff_f7f8, END + 0x8000_0808);
+
+/// Calls that a test makes in turn.
+#[derive(Clone, Copy)]
+enum Calls {
+    /// Calls that mark a granule, and a poison of many granules.
+    Small,
+    /// The marks of a large block. Whole branches are poisoned and unpoisoned in between, so that
+    /// the next mark takes memory again.
+    Large,
+}
+
+impl Calls {
+    /// How many they are.
+    fn count(self) -> usize {
+        match self {
+            Calls::Small => 5,
+            Calls::Large => 7,
+        }
+    }
+
+    /// Makes the call at a place.
+    fn make<A: Allocator + Copy>(
+        self,
+        shadow: &mut Shadow<A>,
+        place: usize,
+    ) -> Result<(), NoMemory> {
+        let (at, end) = LARGE;
+        match (self, place) {
+            (Calls::Small, 0) => shadow.block(END, 5),
+            (Calls::Small, 1) => shadow.unpoison(END + 6, 1),
+            (Calls::Small, 2) => shadow.poison(END, 8, USER_POISON),
+            (Calls::Small, 3) => shadow.mark(END, END + 8, FREED),
+            (Calls::Small, _) => shadow.poison(END - 0x7e, 0xfc, USER_POISON),
+            (Calls::Large, 0) => shadow.block(at, 1 << 32),
+            (Calls::Large, 1) => shadow.poison(END - (1 << 32), 1 << 32, USER_POISON),
+            (Calls::Large, 2) => shadow.poison(END, 1 << 32, USER_POISON),
+            (Calls::Large, 3) => shadow.mark(at, end, FREED),
+            (Calls::Large, 4) => shadow.unpoison(END - (1 << 32), 1 << 32),
+            (Calls::Large, 5) => shadow.unpoison(END, 1 << 32),
+            (Calls::Large, _) => shadow.mark(at - 32, end + 32, HEAP_REDZONE),
+        }
+    }
+
+    /// The shadow bytes of the granules that are looked at, in their order: of a large block those
+    /// near its start, near the end that it lies over, and near its own end.
+    fn values<A: Allocator + Copy>(self, shadow: &Shadow<A>) -> Values {
+        let Calls::Large = self else {
+            return values(shadow, FIRST);
+        };
+        let mut values = [0; 32];
+        for (place, value) in (0..32u64).zip(&mut values) {
+            let first = match place {
+                0..12 => LARGE.0 / 8 - 6,
+                12..20 => END / 8 - 16,
+                _ => LARGE.1 / 8 - 26,
+            };
+            *value = shadow.value(first.saturating_add(place));
+        }
+        values
+    }
+}
+
+/// Whether the granules below some place are as after a call, and the others as before it.
+fn is_done_in_part(now: &Values, before: &Values, after: &Values) -> bool {
+    for place in 0..=now.len() {
+        if now[..place] == after[..place] && now[place..] == before[place..] {
+            return true;
+        }
+    }
+    false
+}
+
+/// How calls came out that may be refused memory.
+#[derive(Drop)]
+struct Outcome {
+    refused: bool,
+    right: bool,
+}
+
+/// Makes a call in a shadow that may be refused memory, and in one that has ample. It is right
+/// where it is done whole, or in part and then whole when it is made again.
+fn call_both<A: Allocator + Copy>(
+    shadow: &mut Shadow<A>,
+    ample: &mut Shadow,
+    calls: Calls,
+    place: usize,
+) -> Result<Outcome, NoMemory> {
+    let before = calls.values(shadow);
+    calls.make(ample, place)?;
+    let after = calls.values(ample);
+    let refused = calls.make(shadow, place).is_err();
+    let in_part = is_done_in_part(&calls.values(shadow), &before, &after);
+    if refused {
+        calls.make(shadow, place)?;
+    }
+    let whole = calls.values(shadow) == after;
+    Ok(Outcome {
+        refused,
+        right: in_part && whole,
+    })
+}
+
+/// Makes all calls, one after another, where one request is refused.
+fn calls_refused_at(alloc: Global, calls: Calls, turn: u64) -> Result<Outcome, NoMemory> {
+    let heap = RefusingAllocator::at_turn(alloc, turn);
+    let mut shadow = Shadow::new(&heap);
+    let mut ample = Shadow::new(alloc);
+    let (mut refused, mut right) = (false, true);
+    for place in 0..calls.count() {
+        let outcome = call_both(&mut shadow, &mut ample, calls, place)?;
+        refused |= outcome.refused;
+        right &= outcome.right;
+    }
+    Ok(Outcome {
+        refused,
+        right: right && refused == heap.has_refused(),
+    })
+}
+
+/// How many growths the calls have, each of which was refused in turn.
+fn growths(rt: &impl Abort, alloc: Global, calls: Calls) -> Result<u64, Fail> {
+    for turn in 1..100u64 {
+        let outcome = calls_refused_at(alloc, calls, turn)?;
+        assert!(rt; outcome.right, "turn {turn}");
+        if !outcome.refused {
+            return Ok(turn - 1);
+        }
+    }
+    panic!(rt; "always refused")
+}
+
+#[test]
+fn each_growth_refused_in_turn(rt: HostRuntime) -> Result<(), Fail> {
+    // From turn 7 on, the left redzone is marked, and the block after it isn't.
+    assert_eq!(rt; growths(&rt, rt.alloc(), Calls::Small)?, 11);
+    // As many for the block, which has nothing around it, and six for its free and its release.
+    assert_eq!(rt; growths(&rt, rt.alloc(), Calls::Large)?, 23);
+    Ok(())
+}
