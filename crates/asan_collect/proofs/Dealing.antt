@@ -8,10 +8,13 @@ use Rattle.trace_feed.specs.Feeds.{FeedState}
 use Rattle.asan_stream.specs.declared.bench.Bench.{Bench}
 use Rattle.asan_collect.specs.declared.sender.Sender.{Sender}
 use Rattle.asan_collect.specs.declared.sender.Sender.TheVariants as sender
-use Rattle.asan_collect.specs.Shares.{Share, ComesBack, GivesUp, SharesAt, AreEmpty, HasRoom, Deals}
+use Rattle.asan_collect.specs.declared.checker_threads.CheckerThread.{CheckerThread}
+use Rattle.asan_collect.specs.declared.checker_threads.CheckerThread.TheVariants as running
+use Rattle.asan_collect.specs.Arrivals.{Pairwise}
+use Rattle.asan_collect.specs.Shares.{Share, ComesBack, GivesUp, Returns, SharesAt, AreEmpty, HasRoom, Deals, WillComeBack}
 use Rattle.asan_collect.specs.Ranges.{most_senders}
-use Rattle.asan_collect.specs.Senders.{Each, Becomes, Keeps, IsAt, AreAt, IsFresh, AllFresh}
-use Rattle.asan_collect.proofs.Senders.{at_kept, at_later, at_more, at_push}
+use Rattle.asan_collect.specs.Senders.{Each, Becomes, Ends, Keeps, IsAt, AreAt, IsFresh, AllFresh, WillBe}
+use Rattle.asan_collect.proofs.Senders.{at_kept, at_later, at_more, at_push, each_after}
 
 -- a checker has fewer benches than it has senders up to this one
 few_dealt : (w i n : ℕ) → w * n + i % w < i + w → w * n ≤ w * (i / w)
@@ -89,6 +92,7 @@ module _ {F A : Type 0} where
   gives_up_same sender.NotOpened = refl
   gives_up_same sender.NotStarted = refl
   gives_up_same (sender.Ready feed lane) = inl refl
+  gives_up_same (sender.Running h) = refl
   gives_up_same (sender.Read d) = refl
   gives_up_same (sender.Joined d b) = refl
 
@@ -96,6 +100,7 @@ module _ {F A : Type 0} where
   gives_up_on sender.NotOpened y z p q = rw p at q
   gives_up_on sender.NotStarted y z p q = rw p at q
   gives_up_on (sender.Ready feed lane) y z p q = elim p [ inl e ↦ rw e at q | inr e ↦ inr (rw e at q) ]
+  gives_up_on (sender.Running h) y z p q = rw p at q
   gives_up_on (sender.Read d) y z p q = rw p at q
   gives_up_on (sender.Joined d b) y z p q = rw p at q
 
@@ -147,6 +152,7 @@ module _ {F A : Type 0} (seen : F → FeedState) where
   becomes_after limit sender.NotOpened y z p q = rw p at q
   becomes_after limit sender.NotStarted y z p q = rw p at q
   becomes_after limit (sender.Ready feed lane) y z p q = elim p [ inl e ↦ rw e at q | inr e ↦ rw (rw e at q) tt ]
+  becomes_after limit (sender.Running h) y z p q = rw p at q
   becomes_after limit (sender.Read d) y z p q = rw p at q
   becomes_after limit (sender.Joined d b) y z p q = rw p at q
 
@@ -154,6 +160,7 @@ module _ {F A : Type 0} (seen : F → FeedState) where
   gives_up_fresh sender.NotOpened y p h = rw p tt
   gives_up_fresh sender.NotStarted y p h = rw p tt
   gives_up_fresh (sender.Ready feed lane) y p h = elim p [ inl e ↦ rw e h | inr e ↦ rw e tt ]
+  gives_up_fresh (sender.Running k) y p h = elim h [ ]
   gives_up_fresh (sender.Read d) y p h = rw p tt
   gives_up_fresh (sender.Joined d b) y p h = rw p tt
 
@@ -162,4 +169,26 @@ module _ {F A : Type 0} (seen : F → FeedState) where
     each = λ i d below.
         let low : i < length xs = let e = r.same_length in omega arith in
         gives_up_fresh (slice_index_or xs i d) (slice_index_or ys i d) (r.each i d (omega arith) low) (h.each i d low);
+  }
+
+  -- and while the readers run
+  pub will_after : (limit : ℕ) (x y z : Sender F A) → GivesUp x y → WillBe seen limit y z → WillBe seen limit x z
+  will_after limit x y sender.NotOpened p q = becomes_after limit x y sender.NotOpened p q
+  will_after limit x y sender.NotStarted p q = becomes_after limit x y sender.NotStarted p q
+  will_after limit x y (sender.Ready feed lane) p q = becomes_after limit x y (sender.Ready feed lane) p q
+  will_after limit x y (sender.Running h) p q = λ d kept. becomes_after limit x y (sender.Read d) p (q d kept)
+  will_after limit x y (sender.Read d) p q = becomes_after limit x y (sender.Read d) p q
+  will_after limit x y (sender.Joined d b) p q = becomes_after limit x y (sender.Joined d b) p q
+
+  -- all readers were started and have ended
+  pub read_all : (limit : ℕ) (xs ys zs : List (Sender F A)) → Each (WillBe seen limit) 0 xs ys → Each (Ends seen) 0 ys zs → Each (Becomes seen limit) 0 xs zs
+  read_all limit xs ys zs = each_after (WillBe seen limit) (Ends seen) (Becomes seen limit) (λ x y z p q. q limit x p) xs ys zs
+
+module _ {A : Type 0} where
+  -- all checkers were started and have ended
+  pub checked_all : (xs zs : List (Share A)) (checkers : List (CheckerThread A)) → Pairwise WillComeBack xs checkers → Pairwise Returns checkers zs → Each ComesBack 0 xs zs
+  checked_all xs zs checkers p q = record {
+    same_length = q.same_length ∙ p.same_length;
+    before = λ i d below. absurd (omega arith);
+    each = λ i d from below. q.each i running.Lost d (let e = p.same_length in omega arith) (slice_index_or xs i d) (p.each i d running.Lost below);
   }

@@ -145,7 +145,9 @@ module _ {F A : Type 0} (seen : F → FeedState) where
   becomes_fit limit lane (sender.Ready feed into) sender.NotStarted h f = tt
   becomes_fit limit lane (sender.Ready feed into) (sender.Ready g other) h f = elim h [ ]
   becomes_fit limit lane (sender.Ready feed into) (sender.Read d) h f = tt
+  becomes_fit limit lane (sender.Ready feed into) (sender.Running k) h f = elim h [ ]
   becomes_fit limit lane (sender.Ready feed into) (sender.Joined d b) h f = elim h [ ]
+  becomes_fit limit lane (sender.Running k) t h f = elim h [ ]
   becomes_fit limit lane (sender.Read d) t h f = rw h tt
   becomes_fit limit lane (sender.Joined d b) t h f = rw h f
 

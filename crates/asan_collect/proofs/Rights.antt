@@ -52,6 +52,7 @@ module _ {F A : Type 0} (seen : F → FeedState) where
   was_refused sender.NotOpened = true
   was_refused sender.NotStarted = false
   was_refused (sender.Ready feed lane) = false
+  was_refused (sender.Running h) = false
   was_refused (sender.Read done) = false
   was_refused (sender.Joined done bench) = false
 
@@ -81,6 +82,9 @@ module _ {F A : Type 0} (seen : F → FeedState) where
   came_met options a sender.NotOpened h = tt
   came_met options a sender.NotStarted h = tt
   came_met options a (sender.Ready feed lane) h = tt
+  came_met options arrival.Over (sender.Running k) h = absurd h
+  came_met options arrival.Refused (sender.Running k) h = absurd (false≢true (ap was_refused h))
+  came_met options (arrival.Came feed) (sender.Running k) h = absurd h
   came_met options a (sender.Read done) h = tt
   came_met options arrival.Over (sender.Joined done bench) h = absurd h
   came_met options arrival.Refused (sender.Joined done bench) h = absurd (false≢true (ap was_refused h))

@@ -1,5 +1,5 @@
 -- Senders and benches, as they go on.
-use Rattle.std.proofs.Common.{Vec, vec_len, ℕ, ◌≡◌, ◌≢◌, ◌<◌, ◌+◌, ◌++◌, ◌∷◌, [], List, length, length-append, refl, ◌∙◌, sym, arith, slice_index_or, slice_set, inl, inr}
+use Rattle.std.proofs.Common.{Vec, vec_len, ℕ, ◌≡◌, ◌<◌, ◌≤◌, ◌+◌, ◌++◌, ◌∷◌, [], List, length, length-append, refl, ◌∙◌, sym, arith, slice_index_or, slice_set, inl, inr}
 use Rattle.std.proofs.lemmas.Bool.{cases_eq}
 use Rattle.std.proofs.lemmas.List.{length-set, get_or-set_same, get_or-set_other, get_or_append_left, get_or_at}
 use Rattle.trace_feed.specs.declared.door.Arrival.{Arrival}
@@ -20,16 +20,14 @@ use Rattle.asan_stream.proofs.Readers.{if_some}
 pub low_after : {X Z : Type 0} (xs : List X) (v : Vec X Z) (at : ℕ) → at < length xs → length v.items ≡ length xs → at < vec_len v
 low_after xs v at low same = let whole = v.ok in omega (arith, whole.0)
 
--- the element was set aside, the rest went on, and then the element was written
+-- an element was set aside, all others went on, and then the element was written
 pub each_put : {X : Type 0} (R : X → X → Type 0) (at : ℕ) (xs ys : List X) (x z : X) → at < length xs
     → ((d : X) → R (slice_index_or xs at d) z)
-    → Each R (at + 1) (slice_set xs at x) ys → Each R at xs (slice_set ys at z)
+    → Each R 0 (slice_set xs at x) ys → Each R 0 xs (slice_set ys at z)
 each_put R at xs ys x z low will r =
     let len : length ys ≡ length xs = r.same_length ∙ length-set xs at x in record {
       same_length = length-set ys at z ∙ len;
-      before = λ i d below.
-          let n : i ≢ at = λ e. omega arith in
-          get_or-set_other ys at i z d n ∙ (r.before i d (omega arith) ∙ get_or-set_other xs at i x d n);
+      before = λ i d below. absurd (omega arith);
       each = λ i d from below. elim (cases_eq i at) [
         | inl e ↦ rw (e, get_or-set_same ys at z d (omega arith)) (will d)
         | inr n ↦ rw (get_or-set_other ys at i z d n) (rw (get_or-set_other xs at i x d n) at (r.each i d (omega arith) (omega (arith, length-set xs at x))))
@@ -66,6 +64,40 @@ each_after P Q R both xs ys zs p q =
       before = λ i d below. absurd (omega arith);
       each = λ i d from below. both (slice_index_or xs i d) (slice_index_or ys i d) (slice_index_or zs i d) (p.each i d from below) (q.each i d from (omega arith));
     }
+
+-- below a place each element has become that of the other list, and from it on nothing changed
+pub record Upto {X : Type 0} (R : X → X → Type 0) (to : ℕ) (xs ys : List X) : Type 0 where
+  pub same_length : length ys ≡ length xs
+  pub done : (i : ℕ) (d : X) → i < to → i < length xs → R (slice_index_or xs i d) (slice_index_or ys i d)
+  pub rest : (i : ℕ) (d : X) → to ≤ i → slice_index_or ys i d ≡ slice_index_or xs i d
+
+pub upto_none : {X : Type 0} (R : X → X → Type 0) (xs : List X) → Upto R 0 xs xs
+upto_none R xs = record {
+  same_length = refl;
+  done = λ i d low below. absurd (omega arith);
+  rest = λ i d above. refl;
+}
+
+-- one element more
+pub upto_set : {X : Type 0} (R : X → X → Type 0) (at : ℕ) (xs ys : List X) (z : X) → at < length ys
+    → ((d : X) → R (slice_index_or ys at d) z) → Upto R at xs ys → Upto R (at + 1) xs (slice_set ys at z)
+upto_set R at xs ys z low will r =
+    let len : length ys ≡ length xs = r.same_length in record {
+      same_length = length-set ys at z ∙ len;
+      done = λ i d before below. elim (cases_eq i at) [
+        | inl e ↦ rw (e, get_or-set_same ys at z d low) (rw (r.rest at d (omega arith)) at (will d))
+        | inr n ↦ rw (get_or-set_other ys at i z d n) (r.done i d (omega arith) below)
+      ];
+      rest = λ i d above. get_or-set_other ys at i z d (λ e. omega arith) ∙ r.rest i d (omega arith);
+    }
+
+-- all of them
+pub upto_all : {X : Type 0} (R : X → X → Type 0) (to : ℕ) (xs ys : List X) → length xs ≤ to → Upto R to xs ys → Each R 0 xs ys
+upto_all R to xs ys all r = record {
+  same_length = r.same_length;
+  before = λ i d below. absurd (omega arith);
+  each = λ i d from below. r.done i d (omega arith) below;
+}
 
 module _ {F A : Type 0} where
   pub at_more : (bound : ℕ) (senders : List (Sender F A)) (s : Sender F A) (xs : List (Bench A)) → AreAt bound senders xs → AreAt bound (senders ++ s ∷ []) xs
@@ -154,8 +186,10 @@ module _ {F A : Type 0} (seen : F → FeedState) where
   becomes_keeps limit (sender.Ready f lane) sender.NotStarted h x l = tt
   becomes_keeps limit (sender.Ready f lane) sender.NotOpened h x l = elim h [ ]
   becomes_keeps limit (sender.Ready f lane) (sender.Ready g other) h x l = elim h [ ]
+  becomes_keeps limit (sender.Ready f lane) (sender.Running k) h x l = elim h [ ]
   becomes_keeps limit (sender.Ready f lane) (sender.Joined d bench) h x l = elim h [ ]
   becomes_keeps limit (sender.Ready f lane) (sender.Read d) h x l = if_some d.lane_end _ _ h (λ e k. k.0 ∙ l)
+  becomes_keeps limit (sender.Running k) t h x l = elim h [ ]
   becomes_keeps limit (sender.Read d) t h x l = rw h l
   becomes_keeps limit (sender.Joined d bench) t h x l = rw h tt
 
@@ -166,9 +200,11 @@ module _ {F A : Type 0} (seen : F → FeedState) where
   came_on options (arrival.Came feed) sender.NotStarted t h b = rw b tt
   came_on options (arrival.Came feed) (sender.Ready f lane) sender.NotOpened h b = elim b [ ]
   came_on options (arrival.Came feed) (sender.Ready f lane) (sender.Ready g other) h b = elim b [ ]
+  came_on options (arrival.Came feed) (sender.Ready f lane) (sender.Running k) h b = elim b [ ]
   came_on options (arrival.Came feed) (sender.Ready f lane) (sender.Joined d bench) h b = elim b [ ]
   came_on options (arrival.Came feed) (sender.Ready f lane) sender.NotStarted h b = tt
   came_on options (arrival.Came feed) (sender.Ready f lane) (sender.Read d) h b = if_some d.lane_end _ _ b (λ e k. rw (h.0, h.1) at k.1)
+  came_on options (arrival.Came feed) (sender.Running k) t h b = elim h [ ]
   came_on options (arrival.Came feed) (sender.Read d) t h b = rw b h
   came_on options (arrival.Came feed) (sender.Joined d bench) t h b = rw b h
 

@@ -43,6 +43,7 @@ module _ {F A : Type 0} where
   Fits lane sender.NotOpened = lane ≡ None
   Fits lane sender.NotStarted = Unit {0}
   Fits lane (sender.Ready feed into) = Unit {0}
+  Fits lane (sender.Running h) = Unit {0}
   Fits lane (sender.Read d) = Unit {0}
   Fits lane (sender.Joined d b) = KeepsLane lane (report_lane_of b)
 

@@ -9,8 +9,6 @@ use Rattle.asan_stream.specs.declared.outcome.Outcome.{Outcome}
 use Rattle.asan_stream.specs.declared.bench.Bench.{Bench}
 use Rattle.asan_collect.specs.declared.sender.Sender.{Sender}
 use Rattle.asan_collect.specs.declared.sender.Sender.TheVariants as sender
-use Rattle.asan_collect.specs.declared.reader_threads.ReaderThread.{ReaderThread}
-use Rattle.asan_collect.specs.declared.reader_threads.ReaderThread.TheVariants as running
 use Rattle.asan_stream.specs.declared.reader.ReaderDone.{ReaderDone}
 use Rattle.asan_stream.specs.Benches.{lane_of, process_of, bench_bound}
 use Rattle.asan_collect.specs.Arrivals.{IsAnswerTo}
@@ -32,6 +30,7 @@ module _ {F A : Type 0} (seen : F → FeedState) where
   Came options (arrival.Came feed) sender.NotOpened = ⊥
   Came options (arrival.Came feed) sender.NotStarted = Unit {0}
   Came options (arrival.Came feed) (sender.Ready f lane) = (f ≡ feed) × (put_list lane ≡ [])
+  Came options (arrival.Came feed) (sender.Running h) = ⊥
   Came options (arrival.Came feed) (sender.Read d) =
       IfSome d.lane_end (λ e. IsPut seen options.limit feed d.feed d.end [] (end_list e))
   Came options (arrival.Came feed) (sender.Joined d b) =
@@ -43,6 +42,7 @@ module _ {F A : Type 0} (seen : F → FeedState) where
   IsFresh (sender.Ready f lane) = (seen f).faults ≡ 0
   IsFresh sender.NotOpened = Unit {0}
   IsFresh sender.NotStarted = Unit {0}
+  IsFresh (sender.Running h) = ⊥
   IsFresh (sender.Read d) = Unit {0}
   IsFresh (sender.Joined d b) = Unit {0}
 
@@ -56,19 +56,29 @@ module _ {F A : Type 0} (seen : F → FeedState) where
   Becomes limit (sender.Ready feed lane) sender.NotStarted = Unit {0}
   Becomes limit (sender.Ready feed lane) sender.NotOpened = ⊥
   Becomes limit (sender.Ready feed lane) (sender.Ready f l) = ⊥
+  Becomes limit (sender.Ready feed lane) (sender.Running h) = ⊥
   Becomes limit (sender.Ready feed lane) (sender.Joined d b) = ⊥
   Becomes limit sender.NotOpened s = s ≡ sender.NotOpened
   Becomes limit sender.NotStarted s = s ≡ sender.NotStarted
+  Becomes limit (sender.Running h) s = ⊥
   Becomes limit (sender.Read d) s = s ≡ sender.Read d
   Becomes limit (sender.Joined d b) s = s ≡ sender.Joined d b
 
-  -- what was running with a sender
-  abbrev pub WillBe : ℕ → Sender F A → ReaderThread F A → Type 0
-  WillBe limit s (running.Kept t) = Becomes limit s t
-  WillBe limit s (running.Running h) =
+  -- what a sender is while the readers run: what its reader promised is what may become of it
+  abbrev pub WillBe : ℕ → Sender F A → Sender F A → Type 0
+  WillBe limit s (sender.Running h) =
       (d : ReaderDone F A) →
       IsReaderOf seen h.promise.limit h.promise.feed.value h.promise.lane.value d
       → Becomes limit s (sender.Read d)
+  WillBe limit s sender.NotOpened = Becomes limit s sender.NotOpened
+  WillBe limit s sender.NotStarted = Becomes limit s sender.NotStarted
+  WillBe limit s (sender.Ready feed lane) = Becomes limit s (sender.Ready feed lane)
+  WillBe limit s (sender.Read d) = Becomes limit s (sender.Read d)
+  WillBe limit s (sender.Joined d b) = Becomes limit s (sender.Joined d b)
+
+  -- the reader of a sender has ended, if it had one, and its promise was kept
+  abbrev pub Ends : Sender F A → Sender F A → Type 0
+  Ends s t = (limit : ℕ) (was : Sender F A) → WillBe limit was s → Becomes limit was t
 
 -- Whose lane a bench has.
 module _ {F A : Type 0} where
@@ -77,6 +87,7 @@ module _ {F A : Type 0} where
   HasLane sender.NotOpened x = Unit {0}
   HasLane sender.NotStarted x = Unit {0}
   HasLane (sender.Ready feed lane) x = in_lane lane ≡ x
+  HasLane (sender.Running h) x = Unit {0}
   HasLane (sender.Read d) x = IfSome d.lane_end (λ e. end_lane e ≡ x)
   HasLane (sender.Joined d b) x = Unit {0}
 
@@ -100,6 +111,7 @@ module _ {F A : Type 0} where
   IsJoined sender.NotOpened = Unit {0}
   IsJoined sender.NotStarted = Unit {0}
   IsJoined (sender.Ready feed lane) = Unit {0}
+  IsJoined (sender.Running h) = ⊥
   IsJoined (sender.Read d) = Unit {0}
   IsJoined (sender.Joined d b) = IfSome d.lane_end (λ e. end_lane e ≡ lane_of b)
 

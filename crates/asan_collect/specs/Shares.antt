@@ -27,6 +27,10 @@ module _ {A : Type 0} where
       ComesBack share benches
   WillComeBack share running.Lost = Unit {0}
 
+  -- a checker has ended, if one was started, and its promise was kept
+  abbrev pub Returns : CheckerThread A → Share A → Type 0
+  Returns checker after = (before : Share A) → WillComeBack before checker → ComesBack before after
+
   -- each checker has no bench yet, and together they have room for one for each sender
   pub record AreEmpty (workers : ℕ) (shares : List (Share A)) : Type 0 where
     pub none : (k : ℕ) (d : Share A) → k < length shares → (slice_index_or shares k d).items ≡ []
@@ -59,6 +63,7 @@ module _ {F A : Type 0} where
   GivesUp sender.NotOpened s = s ≡ sender.NotOpened
   GivesUp sender.NotStarted s = s ≡ sender.NotStarted
   GivesUp (sender.Ready feed lane) s = (s ≡ sender.Ready feed lane) ⊎ (s ≡ sender.NotStarted)
+  GivesUp (sender.Running h) s = s ≡ sender.Running h
   GivesUp (sender.Read d) s = s ≡ sender.Read d
   GivesUp (sender.Joined d b) s = s ≡ sender.Joined d b
 

@@ -1,13 +1,12 @@
-//! Checkers on threads of their own: each is started, the rest is done, and then it is joined.
+//! Checkers on threads of their own: all are started, and later all are joined.
 
-ghost use Rattle.std.specs.Prelude.{◌≡◌, ◌<◌, ◌≤◌, vec_len};
+ghost use Rattle.std.specs.Prelude.{◌≡◌, ◌<◌, ◌≤◌, [], vec_capacity, vec_len};
 ghost use Rattle.asan_stream.specs.Benches.{EachLater};
-ghost use Rattle.asan_collect.specs.Senders.{AllFresh, Becomes, Each};
-ghost use Rattle.asan_collect.specs.Shares.{Share, ComesBack, WillComeBack, GivesUp};
+ghost use Rattle.asan_collect.specs.Arrivals.{Pairwise};
+ghost use Rattle.asan_collect.specs.Senders.{Each};
+ghost use Rattle.asan_collect.specs.Shares.{GivesUp, Returns, WillComeBack};
 
 use crate::crew::Crew;
-use crate::foreground::Foreground;
-use crate::reader_threads::read_from;
 use crate::sender::Sender;
 use asan_stream::{Bench, Gate, run_checker};
 use std::alloc::Allocator;
@@ -73,23 +72,68 @@ fn begin<
     }
 }
 
+/// Starts a checker for each share that has benches. There is room for all checkers.
+pub(crate) fn start_checkers<
+    's,
+    'e: 's,
+    G: Gate + Sync,
+    A: Allocator + Copy + Send + 's,
+    R: Threads + Wait + Clock + Sync,
+>(
+    crew: &Crew<'s, 'e, G, R>,
+    alloc: A,
+    shares: &mut Vec<Vec<Bench<A>, A>, A>,
+    room: Vec<CheckerThread<A>, A>,
+) -> Vec<CheckerThread<A>, A>
+    requires empty { room.items ≡ [] }
+    requires room { vec_len shares.old ≤ vec_capacity room }
+    ensures same { vec_len shares.new ≡ vec_len shares.old }
+    ensures begun { Pairwise WillComeBack shares.old.items result.items }
+{
+    let mut checkers = room;
+    for k in 0..shares.len() {
+        let share = mem::replace(&mut shares[k], Vec::new(alloc));
+        let Ok(()) = checkers.push(begin(crew, share)) else {
+            unreachable!()
+        };
+    }
+    checkers
+}
+
 /// Waits for the checker, where one was started. Of benches that are gone nothing comes back.
 fn end<A: Allocator + Copy, R: Threads>(
     rt: &R,
     alloc: A,
-    running: CheckerThread<A>,
+    checker: CheckerThread<A>,
 ) -> Vec<Bench<A>, A>
-    ensures { (share : Share A) → WillComeBack share running → ComesBack share result }
+    ensures { Returns checker result }
 {
-    match running {
+    match checker {
         CheckerThread::Idle(share) => share,
         CheckerThread::Running(handle) => handle.join(rt),
         CheckerThread::Lost => Vec::new(alloc),
     }
 }
 
+/// Waits for all checkers. The benches come back to their shares.
+pub(crate) fn join_checkers<A: Allocator + Copy, R: Threads>(
+    rt: &R,
+    alloc: A,
+    checkers: Vec<CheckerThread<A>, A>,
+    shares: &mut Vec<Vec<Bench<A>, A>, A>,
+)
+    requires { vec_len checkers ≡ vec_len shares.old }
+    ensures { Pairwise Returns checkers.items shares.new.items }
+{
+    let mut checkers = checkers;
+    for k in 0..shares.len() {
+        let checker = mem::replace(&mut checkers[k], CheckerThread::Lost);
+        shares[k] = end(rt, alloc, checker);
+    }
+}
+
 /// A sender that is ready gets no reader.
-fn give_up<F: Drop, A: Allocator + Copy>(sender: &mut Sender<F, A>)
+fn give_up<F: Feed + Drop, A: Allocator + Copy>(sender: &mut Sender<F, A>)
     ensures { GivesUp sender.old sender.new }
 {
     if let Sender::Ready(_, _) = sender {
@@ -98,58 +142,16 @@ fn give_up<F: Drop, A: Allocator + Copy>(sender: &mut Sender<F, A>)
 }
 
 /// Where a checker could not be started, its senders get no reader.
-fn give_up_senders<F: Drop, A: Allocator + Copy>(
+pub(crate) fn give_up_senders<F: Feed + Drop, A: Allocator + Copy>(
     senders: &mut Vec<Sender<F, A>, A>,
-    running: &CheckerThread<A>,
-    checker: usize,
-    workers: usize,
+    checkers: &Vec<CheckerThread<A>, A>,
 )
-    requires { 0 < workers }
+    requires { 0 < vec_len checkers.now }
     ensures { Each GivesUp 0 senders.old.items senders.new.items }
 {
-    let CheckerThread::Lost = running else {
-        return;
-    };
     for i in 0..senders.len() {
-        if i % workers == checker {
+        if let CheckerThread::Lost = &checkers[i % checkers.len()] {
             give_up(&mut senders[i]);
         }
     }
-}
-
-/// Checks the shares from `at` on, each on a thread of its own, and reads the senders, each on a
-/// thread of its own, while this thread does its own work. The checkers are started before the
-/// readers, and joined after them.
-pub(crate) fn check_from<
-    's,
-    'e: 's,
-    F: Feed + Send + Drop + 's,
-    G: Gate + Sync,
-    A: Allocator + Copy + Send + 's,
-    M: Foreground,
-    R: Threads + Wait + Clock + Sync,
->(
-    crew: &Crew<'s, 'e, G, R>,
-    alloc: A,
-    senders: &mut Vec<Sender<F, A>, A>,
-    shares: &mut Vec<Vec<Bench<A>, A>, A>,
-    at: usize,
-    foreground: &mut M,
-)
-    requires at { at ≤ vec_len shares.old }
-    requires fresh { AllFresh F.seen senders.old.items }
-    ensures senders { Each (Becomes F.seen crew.now.options.limit) 0
-        senders.old.items senders.new.items }
-    ensures shares { Each ComesBack at shares.old.items shares.new.items }
-    ensures does { M.does foreground.old foreground.new }
-{
-    if at >= shares.len() {
-        read_from(crew, senders, 0, foreground);
-        return;
-    }
-    let share = mem::replace(&mut shares[at], Vec::new(alloc));
-    let running = begin(crew, share);
-    give_up_senders(senders, &running, at, shares.len());
-    check_from(crew, alloc, senders, shares, at + 1, foreground);
-    shares[at] = end(crew.rt, alloc, running);
 }

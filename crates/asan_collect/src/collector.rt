@@ -107,6 +107,7 @@ where
     let arrival_room = Vec::with_capacity(alloc, MOST_SENDERS)?;
     let outcome_room = Vec::with_capacity(alloc, MOST_SENDERS)?;
     let seats = Seats::new(alloc, options)?;
+    let checker_room = Vec::with_capacity(alloc, seats.shares.len())?;
     let arrivals = ask(door, arrival_room);
     let opened = open_all(alloc, own, arrivals, seats, options, false);
     let Seats {
@@ -114,7 +115,8 @@ where
         shares,
         ports: _,
     } = opened;
-    let Returned { senders, shares } = run_all(rt, alloc, gate, senders, shares, options);
+    let back = run_all(rt, alloc, gate, senders, shares, checker_room, options);
+    let Returned { senders, shares } = back;
     let mut senders = senders;
     place_all(&mut senders, shares, options.quarantine);
     Ok(settle_all(senders, outcome_room))

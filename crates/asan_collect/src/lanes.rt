@@ -44,14 +44,14 @@ pub(crate) fn no_shares<A: Allocator + Copy>(
 
 /// What there is for a sender at the start.
 #[derive(Drop)]
-struct Seat<F, A: Allocator + Copy> {
+struct Seat<F: Feed, A: Allocator + Copy> {
     sender: Sender<F, A>,
     bench: Option<Bench<A>>,
     /// Where its reports are taken, if they are printed as they come.
     port: Option<Port<A>>,
 }
 
-impl<F, A: Allocator + Copy> Seat<F, A> {
+impl<F: Feed, A: Allocator + Copy> Seat<F, A> {
     /// A sender that has no bench.
     fn without_bench(sender: Sender<F, A>) -> Seat<F, A>
         ensures sender { result.sender ≡ sender }
@@ -124,7 +124,8 @@ fn deal<A: Allocator + Copy>(shares: &mut Vec<Vec<Bench<A>, A>, A>, process: usi
 }
 
 /// What there is for all senders at the start.
-pub(crate) struct Seats<F, A: Allocator + Copy> {
+#[derive(Drop)]
+pub(crate) struct Seats<F: Feed, A: Allocator + Copy> {
     pub senders: Vec<Sender<F, A>, A>,
     /// The benches of each checker.
     pub shares: Vec<Vec<Bench<A>, A>, A>,
@@ -132,7 +133,7 @@ pub(crate) struct Seats<F, A: Allocator + Copy> {
     pub ports: Vec<Option<Port<A>>, A>,
 }
 
-impl<F: Drop, A: Allocator + Copy> Seats<F, A> {
+impl<F: Feed + Drop, A: Allocator + Copy> Seats<F, A> {
     /// Room for 256 senders, and no sender yet.
     pub(crate) fn new(alloc: A, options: Options) -> Result<Seats<F, A>, NoMemory>
         ensures { IfOk result AreEmptySeats }
@@ -165,7 +166,7 @@ pub(crate) fn open_all<F: Feed + Drop, A: Allocator + Copy>(
     ensures came { Pairwise (Came F.seen options) arrivals.items result.senders.items }
     ensures fresh { AllFresh F.seen result.senders.items }
     ensures shares { SharesAt options.quarantine result.senders.items result.shares.items }
-    ensures some { 0 < vec_len result.shares }
+    ensures same { vec_len result.shares ≡ vec_len seats.shares }
     ensures ports { length result.ports.items ≡ length result.senders.items }
     ensures untaken { NoneTaken result.ports.items }
     ensures fits { AllFit (lanes_of result.ports.items) result.senders.items }

@@ -126,6 +126,7 @@ where
     let arrival_room = Vec::with_capacity(alloc, MOST_SENDERS)?;
     let outcome_room = Vec::with_capacity(alloc, MOST_SENDERS)?;
     let seats = Seats::new(alloc, options)?;
+    let checker_room = Vec::with_capacity(alloc, seats.shares.len())?;
     let arrivals = ask(door, arrival_room);
     let opened = open_all(alloc, own, arrivals, seats, options, true);
     let Seats {
@@ -135,7 +136,17 @@ where
     } = opened;
     let printer = LivePrinter::new(alloc);
     let printers = Printers { printer, ports };
-    let (back, printers) = run_printing(rt, alloc, gate, w, senders, shares, printers, options);
+    let (back, printers) = run_printing(
+        rt,
+        alloc,
+        gate,
+        w,
+        senders,
+        shares,
+        checker_room,
+        printers,
+        options,
+    );
     let Returned { senders, shares } = back;
     let mut senders = senders;
     place_all(&mut senders, shares, options.quarantine);

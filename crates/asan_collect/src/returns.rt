@@ -139,6 +139,7 @@ pub(crate) fn settle_sender<F: Feed + Drop, A: Allocator + Copy>(
     match sender {
         Sender::NotOpened => Answer::without_reports(Outcome::NotOpened),
         Sender::NotStarted | Sender::Ready(_, _) => Answer::without_reports(Outcome::NotStarted),
+        Sender::Running(_) => unreachable!(),
         Sender::Read(_) => Answer::without_reports(Outcome::Unsettled),
         Sender::Joined(done, bench) => settle_joined(done, bench, port),
     }

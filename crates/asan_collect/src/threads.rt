@@ -1,18 +1,19 @@
 //! All threads of one collection: the checkers, the readers, and the calling thread.
 
-ghost use Rattle.std.specs.Prelude.{◌≡◌, ◌<◌, vec_len};
+ghost use Rattle.std.specs.Prelude.{◌≡◌, ◌<◌, ◌≤◌, [], vec_capacity, vec_len};
+ghost use Rattle.asan_collect.specs.Arrivals.{Pairwise};
 ghost use Rattle.asan_collect.specs.Closings.{HasPrinted};
-ghost use Rattle.asan_collect.specs.Senders.{AllFresh, Becomes, Each};
-ghost use Rattle.asan_collect.specs.Shares.{ComesBack};
+ghost use Rattle.asan_collect.specs.Senders.{AllFresh, Becomes, Each, Ends, WillBe};
+ghost use Rattle.asan_collect.specs.Shares.{ComesBack, Returns, WillComeBack};
 
 use crate::at_work::AtWork;
-use crate::checker_threads::check_from;
+use crate::checker_threads::{CheckerThread, give_up_senders, join_checkers, start_checkers};
 use crate::crew::Crew;
-use crate::first_checker::FirstChecker;
 use crate::printers::Printers;
-use crate::printing::Printing;
+use crate::printing::print_to_the_end;
+use crate::reader_threads::{join_readers, start_readers};
 use crate::sender::Sender;
-use asan_stream::{Bench, Gate, Options};
+use asan_stream::{Bench, Gate, Options, run_checker};
 use std::alloc::Allocator;
 use std::io::Write;
 use std::sync::Wait;
@@ -22,9 +23,55 @@ use std::{mem, thread};
 use trace_feed::Feed;
 
 /// What comes back from the threads.
-pub(crate) struct Returned<F, A: Allocator + Copy> {
+pub(crate) struct Returned<F: Feed, A: Allocator + Copy> {
     pub senders: Vec<Sender<F, A>, A>,
     pub shares: Vec<Vec<Bench<A>, A>, A>,
+}
+
+/// Starts the checkers, and then the readers. There is room for all checkers.
+fn start_all<
+    's,
+    'e: 's,
+    F: Feed + Send + Drop + 's,
+    G: Gate + Sync,
+    A: Allocator + Copy + Send + 's,
+    R: Threads + Wait + Clock + Sync,
+>(
+    crew: &Crew<'s, 'e, G, R>,
+    alloc: A,
+    senders: &mut Vec<Sender<F, A>, A>,
+    shares: &mut Vec<Vec<Bench<A>, A>, A>,
+    room: Vec<CheckerThread<A>, A>,
+) -> Vec<CheckerThread<A>, A>
+    requires fresh { AllFresh F.seen senders.old.items }
+    requires some { 0 < vec_len shares.old }
+    requires empty { room.items ≡ [] }
+    requires room { vec_len shares.old ≤ vec_capacity room }
+    ensures senders { Each (WillBe F.seen crew.now.options.limit) 0
+        senders.old.items senders.new.items }
+    ensures same { vec_len shares.new ≡ vec_len shares.old }
+    ensures shares { Pairwise WillComeBack shares.old.items result.items }
+{
+    let checkers = start_checkers(crew, alloc, shares, room);
+    give_up_senders(senders, &checkers);
+    start_readers(crew, senders);
+    checkers
+}
+
+/// Waits for the readers, and then for the checkers.
+fn join_all<F: Feed + Drop, A: Allocator + Copy, R: Threads>(
+    rt: &R,
+    alloc: A,
+    senders: &mut Vec<Sender<F, A>, A>,
+    shares: &mut Vec<Vec<Bench<A>, A>, A>,
+    checkers: Vec<CheckerThread<A>, A>,
+)
+    requires { vec_len checkers ≡ vec_len shares.old }
+    ensures senders { Each (Ends F.seen) 0 senders.old.items senders.new.items }
+    ensures shares { Pairwise Returns checkers.items shares.new.items }
+{
+    join_readers(rt, senders);
+    join_checkers(rt, alloc, checkers, shares);
 }
 
 /// Runs the readers and all checkers but the first on threads of their own, and the first checker
@@ -41,25 +88,21 @@ fn run_in<
     alloc: A,
     senders: &mut Vec<Sender<F, A>, A>,
     shares: &mut Vec<Vec<Bench<A>, A>, A>,
+    room: Vec<CheckerThread<A>, A>,
 )
-    requires some { 0 < vec_len shares.old }
     requires fresh { AllFresh F.seen senders.old.items }
+    requires some { 0 < vec_len shares.old }
+    requires empty { room.items ≡ [] }
+    requires room { vec_len shares.old ≤ vec_capacity room }
     ensures senders { Each (Becomes F.seen crew.now.options.limit) 0
         senders.old.items senders.new.items }
     ensures shares { Each ComesBack 0 shares.old.items shares.new.items }
 {
+    // The first share is empty then, and gets no thread.
     let benches = mem::replace(&mut shares[0], Vec::new(alloc));
-    let mut first = FirstChecker {
-        benches,
-        gate: crew.gate,
-        alloc,
-    };
-    check_from(crew, alloc, senders, shares, 1, &mut first);
-    let FirstChecker {
-        benches,
-        gate: _,
-        alloc: _,
-    } = first;
+    let checkers = start_all(crew, alloc, senders, shares, room);
+    let benches = run_checker(crew.rt, benches, crew.gate);
+    join_all(crew.rt, alloc, senders, shares, checkers);
     shares[0] = benches;
 }
 
@@ -75,9 +118,11 @@ pub(crate) fn run_all<
     gate: &G,
     senders: Vec<Sender<F, A>, A>,
     shares: Vec<Vec<Bench<A>, A>, A>,
+    room: Vec<CheckerThread<A>, A>,
     options: Options,
 ) -> Returned<F, A>
-    requires { (0 < vec_len shares) × AllFresh F.seen senders.items }
+    requires { AllFresh F.seen senders.items
+        × (0 < vec_len shares) × (room.items ≡ []) × (vec_len shares ≤ vec_capacity room) }
     ensures senders { Each (Becomes F.seen options.limit) 0
         senders.items result.senders.items }
     ensures shares { Each ComesBack 0 shares.items result.shares.items }
@@ -87,7 +132,8 @@ pub(crate) fn run_all<
         thread::scope_env(),
         rt,
         move |scope| -> Returned<F, A>
-            requires { (0 < vec_len shares) × AllFresh F.seen senders.items }
+            requires { AllFresh F.seen senders.items
+                × (0 < vec_len shares) × (room.items ≡ []) × (vec_len shares ≤ vec_capacity room) }
             ensures senders { Each (Becomes F.seen options.limit) 0
                 senders.items result.senders.items }
             ensures shares { Each ComesBack 0 shares.items result.shares.items }
@@ -100,7 +146,7 @@ pub(crate) fn run_all<
                 at_work,
                 options,
             };
-            run_in(&crew, alloc, &mut senders, &mut shares);
+            run_in(&crew, alloc, &mut senders, &mut shares, room);
             Returned { senders, shares }
         },
     )
@@ -120,29 +166,22 @@ fn print_in<
     alloc: A,
     senders: &mut Vec<Sender<F, A>, A>,
     shares: &mut Vec<Vec<Bench<A>, A>, A>,
+    room: Vec<CheckerThread<A>, A>,
     w: &mut W,
-    printers: Printers<A>,
-) -> Printers<A>
+    printers: &mut Printers<A>,
+)
     requires fresh { AllFresh F.seen senders.old.items }
+    requires some { 0 < vec_len shares.old }
+    requires empty { room.items ≡ [] }
+    requires room { vec_len shares.old ≤ vec_capacity room }
     ensures senders { Each (Becomes F.seen crew.now.options.limit) 0
         senders.old.items senders.new.items }
     ensures shares { Each ComesBack 0 shares.old.items shares.new.items }
-    ensures printed { HasPrinted (W.contents w.old) (W.contents w.new) printers result }
+    ensures printed { HasPrinted (W.contents w.old) (W.contents w.new) printers.old printers.new }
 {
-    let mut printing = Printing {
-        w: &mut *w,
-        printers,
-        at_work: crew.at_work,
-    };
-    check_from(crew, alloc, senders, shares, 0, &mut printing);
-    let Printing {
-        w: lent,
-        printers,
-        at_work: _,
-    } = printing;
-    // The writer goes back to its owner.
-    let _ = lent;
-    printers
+    let checkers = start_all(crew, alloc, senders, shares, room);
+    print_to_the_end(crew.rt, w, printers, crew.at_work);
+    join_all(crew.rt, alloc, senders, shares, checkers);
 }
 
 /// Runs the readers and all checkers on threads of their own, and prints on this one what comes
@@ -160,10 +199,12 @@ pub(crate) fn run_printing<
     w: &mut W,
     senders: Vec<Sender<F, A>, A>,
     shares: Vec<Vec<Bench<A>, A>, A>,
+    room: Vec<CheckerThread<A>, A>,
     printers: Printers<A>,
     options: Options,
 ) -> (Returned<F, A>, Printers<A>)
-    requires { AllFresh F.seen senders.items }
+    requires { AllFresh F.seen senders.items
+        × (0 < vec_len shares) × (room.items ≡ []) × (vec_len shares ≤ vec_capacity room) }
     ensures senders { Each (Becomes F.seen options.limit) 0
         senders.items result.0.senders.items }
     ensures shares { Each ComesBack 0 shares.items result.0.shares.items }
@@ -174,7 +215,8 @@ pub(crate) fn run_printing<
         thread::scope_env(),
         rt,
         move |scope| -> (&mut W, Returned<F, A>, Printers<A>)
-            requires { AllFresh F.seen senders.items }
+            requires { AllFresh F.seen senders.items
+                × (0 < vec_len shares) × (room.items ≡ []) × (vec_len shares ≤ vec_capacity room) }
             ensures same { result.0.ghost_name ≡ w.entry.ghost_name }
             ensures senders { Each (Becomes F.seen options.limit) 0
                 senders.items result.1.senders.items }
@@ -182,7 +224,7 @@ pub(crate) fn run_printing<
             ensures printed { HasPrinted (W.contents w.entry.now) (W.contents result.0.now)
                 printers result.2 }
         {
-            let (mut senders, mut shares) = (senders, shares);
+            let (mut senders, mut shares, mut printers) = (senders, shares, printers);
             let crew = Crew {
                 scope,
                 rt,
@@ -190,11 +232,19 @@ pub(crate) fn run_printing<
                 at_work,
                 options,
             };
-            let printers = print_in(&crew, alloc, &mut senders, &mut shares, &mut *w, printers);
+            print_in(
+                &crew,
+                alloc,
+                &mut senders,
+                &mut shares,
+                room,
+                &mut *w,
+                &mut printers,
+            );
             (w, Returned { senders, shares }, printers)
         },
     );
-    // The writer goes back to its owner here too.
+    // The writer goes back to its owner.
     let _ = back;
     (returned, printers)
 }

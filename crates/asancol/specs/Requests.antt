@@ -18,13 +18,6 @@ HasFewFiles (request.Serve serving) = Unit {0}
 abbrev pub is_verbose : List (String Global) → Bool
 is_verbose words = list_any (λ word. bytes_eq (string_bytes word) (codes "--verbose")) words
 
--- how many threads it starts at most: a reader for each sender, and the checkers; none where it
--- checks standard input alone
-abbrev pub threads_of : Request → ℕ
-threads_of request.Input = 0
-threads_of (request.Files names options verbose is_live) = length names.items + options.workers
-threads_of (request.Serve serving) = serving.count + serving.options.workers
-
 -- no line is asked for on what became of each file
 abbrev pub IsQuiet : Request → Type 0
 IsQuiet request.Input = Unit {0}

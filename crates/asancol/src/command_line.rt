@@ -10,7 +10,6 @@ ghost use Rattle.clap.specs.Values.{kind_of};
 ghost use Rattle.clap.specs.Words.{first_value, found_of, one_text};
 ghost use Rattle.asancol.specs.Refusals.{refusal_of};
 ghost use Rattle.asancol.specs.Requests.{HasFewFiles, IsQuiet, is_verbose as is_verbose_of};
-ghost use Rattle.asancol.specs.Requests.{threads_of};
 ghost use Rattle.asancol.specs.Settings.{AreFilesOf, AreOptionsOf, AreSizesOf, IsFlag, IsGiven};
 ghost use Rattle.asancol.specs.Settings.{IsBadOption, IsBadSize, IsSetIfGiven, SaysVerbose};
 ghost use Rattle.asancol.specs.Sources.{inputs_among};
@@ -43,20 +42,6 @@ pub enum Request {
     },
     /// Check the traces that come through a socket.
     Serve(Serving),
-}
-
-impl Request {
-    /// How many threads it starts at most: a reader for each sender, and the checkers.
-    pub fn threads(&self) -> usize
-        ensures { result ≡ threads_of self.now }
-    {
-        let (senders, options) = match self {
-            Request::Input => return 0,
-            Request::Files { names, options, .. } => (names.len(), options),
-            Request::Serve(serving) => (serving.count as usize, &serving.options),
-        };
-        senders + options.workers as usize
-    }
 }
 
 /// Why the words are not carried out.

@@ -10,7 +10,6 @@ mod print;
 mod run;
 mod serve;
 mod source;
-mod stack;
 #[cfg(test)]
 mod tests;
 mod words;

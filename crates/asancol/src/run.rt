@@ -10,7 +10,6 @@ use crate::command_line::{Refusal, Request, read_words};
 use crate::input_door::door_of;
 use crate::print::{report_each, report_feed};
 use crate::serve::{Serving, listen};
-use crate::stack::make_room;
 use asan_collect::{UNCHECKED, UNWRITTEN};
 use clap::error::ErrorKind;
 use std::alloc::AllocError;
@@ -58,9 +57,6 @@ where
         Ok(request) => request,
         Err(refusal) => return refuse(refusal, output, faults),
     };
-    if make_room(rt, alloc, request.threads()).is_err() {
-        return no_memory(faults);
-    }
     let reported = match request {
         Request::Input => report_feed(alloc, ReadFeed::new(input), output),
         Request::Files {

@@ -4,7 +4,7 @@ use Rattle.asan_collect.specs.Shares.{GivesUp}
 use Rattle.asan_collect.proofs.Dealing.{gives_up_on, gives_up_same}
 use Rattle.asan_collect.proofs.Senders.{each_refl, each_set}
 use Rattle.asan_collect.proofs.checker_threads.give_up_senders.Goals as goal
-use Rattle.asan_collect.proofs.checker_threads.give_up_senders.Goals.{then-i-workers, else-i-workers}
+use Rattle.asan_collect.proofs.checker_threads.give_up_senders.Goals.{in-Lost, in_default}
 
 pub loop-i-init : goal.loop-i-init
 loop-i-init g c = each_refl GivesUp gives_up_same c.args.senders.now.items
@@ -15,8 +15,8 @@ loop-i-preserved g c =
     let ys = c.loop-i.senders.items in
     let same : length ys ≡ length xs = c.loop-i.invariant.same_length in
     let low : c.loop-i.i < length ys = search rules in
-    elim c.if-i-workers.branch [
-      | then-i-workers w ↦ rw w.senders-is (each_set GivesUp gives_up_on c.loop-i.i xs ys w.give_up.new.sender (omega arith)
+    elim c.match-index.branch [
+      | in-Lost w ↦ rw w.senders-is (each_set GivesUp gives_up_on c.loop-i.i xs ys w.give_up.new.sender (omega arith)
           (λ d. rw (sym (w.index_mut.ensures.value ∙ get_or_default ys c.loop-i.i w.index_mut.result.now d low)) w.give_up.ensures) c.loop-i.invariant)
-      | else-i-workers w ↦ rw w.senders-is c.loop-i.invariant
+      | in_default w ↦ rw w.senders-is c.loop-i.invariant
     ]

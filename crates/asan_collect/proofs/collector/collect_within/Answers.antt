@@ -11,15 +11,15 @@ place_all-requires g c =
     let seen = g.D.Feed.Feed.seen in
     let limit = c.args.options.limit in
     let opened = c.open_all-opened.result in
-    let back = c.run_all-senders.result in
-    shares_kept (Becomes seen limit) (becomes_keeps seen limit) c.args.options.quarantine opened.senders.items back.senders.items back.shares.items c.run_all-senders.ensures.senders
-    (shares_back c.args.options.quarantine opened.senders.items opened.shares.items back.shares.items c.run_all-senders.ensures.shares c.open_all-opened.ensures.shares)
+    let back = c.run_all-back.result in
+    shares_kept (Becomes seen limit) (becomes_keeps seen limit) c.args.options.quarantine opened.senders.items back.senders.items back.shares.items c.run_all-back.ensures.senders
+    (shares_back c.args.options.quarantine opened.senders.items opened.shares.items back.shares.items c.run_all-back.ensures.shares c.open_all-opened.ensures.shares)
 
 pub settle_all-requires-clause-room : goal.settle_all-requires-clause-room
 settle_all-requires-clause-room g c =
     let a = c.open_all-opened.ensures.came.same_length in
     let few = c.ask-arrivals.ensures.few in
-    let b = c.run_all-senders.ensures.senders.same_length in
+    let b = c.run_all-back.ensures.senders.same_length in
     let d = c.place_all.ensures.rejoins.same_length in
     let room = c.in_ok-outcome_room.ensures.capacity in
     search rules
@@ -28,8 +28,8 @@ pub settle_all-requires-clause-joined : goal.settle_all-requires-clause-joined
 settle_all-requires-clause-joined g c =
     let seen = g.D.Feed.Feed.seen in
     pairs_joined seen c.args.options c.ask-arrivals.result.items c.place_all.new.senders.items
-    (pairs_back seen c.args.options c.ask-arrivals.result.items c.open_all-opened.result.senders.items c.run_all-senders.result.senders.items c.place_all.new.senders.items
-    c.open_all-opened.ensures.came c.run_all-senders.ensures.senders c.place_all.ensures.rejoins)
+    (pairs_back seen c.args.options c.ask-arrivals.result.items c.open_all-opened.result.senders.items c.run_all-back.result.senders.items c.place_all.new.senders.items
+    c.open_all-opened.ensures.came c.run_all-back.ensures.senders c.place_all.ensures.rejoins)
 
 pub returns-clause-each : goal.returns-clause-each
 returns-clause-each g c =
@@ -38,8 +38,8 @@ returns-clause-each g c =
       c.ask-arrivals.ensures.arrived,
       c.ask-arrivals.ensures.all,
       pairs_fit seen c.args.options c.ask-arrivals.result.items c.place_all.new.senders.items c.settle_all.result.items
-          (pairs_back seen c.args.options c.ask-arrivals.result.items c.open_all-opened.result.senders.items c.run_all-senders.result.senders.items c.place_all.new.senders.items
-          c.open_all-opened.ensures.came c.run_all-senders.ensures.senders c.place_all.ensures.rejoins)
+          (pairs_back seen c.args.options c.ask-arrivals.result.items c.open_all-opened.result.senders.items c.run_all-back.result.senders.items c.place_all.new.senders.items
+          c.open_all-opened.ensures.came c.run_all-back.ensures.senders c.place_all.ensures.rejoins)
           c.settle_all.ensures,
     )
 
@@ -47,7 +47,7 @@ pub returns-clause-few : goal.returns-clause-few
 returns-clause-few g c =
     let a = c.open_all-opened.ensures.came.same_length in
     let few = c.ask-arrivals.ensures.few in
-    let b = c.run_all-senders.ensures.senders.same_length in
+    let b = c.run_all-back.ensures.senders.same_length in
     let d = c.place_all.ensures.rejoins.same_length in
     let e = c.settle_all.ensures.same_length in
     search rules

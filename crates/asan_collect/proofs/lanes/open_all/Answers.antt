@@ -27,6 +27,7 @@ loop-i-init g c =
       fresh = record { each = λ i d below. absurd (let no = rw none at below in omega arith) };
       benches = shares_none c.args.options.quarantine (vec_len c.args.seats.shares) c.args.seats.senders.items c.args.seats.shares.items seats.no_benches;
       sender_room = seats.for_senders;
+      kept = refl;
       room = room_first (vec_len c.args.seats.shares) c.args.seats.shares.items seats.some_shares (search rules) seats.no_benches;
       long = search rules;
       port_room = seats.for_ports;
@@ -88,6 +89,13 @@ loop-i-preserved g c =
         | in_default w ↦ rw w.shares-is more
       ];
       sender_room = search rules;
+      kept = elim c.match-bench.branch [
+        | in-Some w ↦
+            let same : length w.deal.new.shares.items ≡ length shares = dealt_length (i % vec_len c.loop-i.shares) w.in-Some.bench shares w.deal.new.shares.items w.deal.ensures in
+            let all : vec_len w.deal.new.shares ≡ vec_len c.loop-i.shares = search rules in
+            rw w.shares-is (all ∙ inv.kept)
+        | in_default w ↦ rw w.shares-is inv.kept
+      ];
       room = elim c.match-bench.branch [
         | in-Some w ↦
             let kept : length w.deal.new.shares.items ≡ length shares = dealt_length (i % vec_len c.loop-i.shares) w.in-Some.bench shares w.deal.new.shares.items w.deal.ensures in
@@ -116,8 +124,8 @@ returns-clause-came g c = record {
   each = λ i d e below. c.loop-i.invariant.going.each i d e (search rules);
 }
 
-pub returns-clause-some : goal.returns-clause-some
-returns-clause-some g c = c.loop-i.invariant.room.some
+pub returns-clause-same : goal.returns-clause-same
+returns-clause-same g c = c.loop-i.invariant.kept
 
 pub returns-clause-ports : goal.returns-clause-ports
 returns-clause-ports g c = let long = c.loop-i.invariant.long in let done = c.loop-i.invariant.going.done in search rules

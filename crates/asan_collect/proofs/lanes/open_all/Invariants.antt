@@ -18,6 +18,7 @@ invariant-loop-i g l = record {
   fresh : AllFresh g.F.Feed.seen l.senders.items;
   benches : SharesAt l.options.quarantine l.senders.items l.shares.items;
   sender_room : 256 ≤ vec_capacity l.senders;
+  kept : vec_len l.shares ≡ vec_len l.initial.shares;
   room : HasRoom (vec_len l.shares) l.i l.shares.items;
   long : vec_len l.ports ≡ l.i;
   port_room : 256 ≤ vec_capacity l.ports;

@@ -1,8 +1,13 @@
-use Rattle.std.proofs.Common.{◌≡◌, rules, ◌∙◌, inl, ◌<◌, length, slice_index_or}
-use Rattle.std.proofs.lemmas.List.{get_or_default}
+use Rattle.std.proofs.Common.{◌≡◌, rules, arith, ◌∙◌, inl, ◌<◌, length, slice_index_or}
+use Rattle.std.proofs.lemmas.List.{get_or_default, length-set}
 use Rattle.asan_collect.specs.Shares.{ComesBack}
+use Rattle.asan_collect.proofs.Dealing.{checked_all, read_all}
 use Rattle.asan_collect.proofs.Senders.{each_put}
 use Rattle.asan_collect.proofs.threads.run_in.Goals as goal
+
+pub returns-clause-senders : goal.returns-clause-senders
+returns-clause-senders g c =
+    read_all g.F.Feed.seen c.args.crew.now.options.limit c.args.senders.now.items c.start_all-checkers.new.senders.items c.join_all.new.senders.items c.start_all-checkers.ensures.senders c.join_all.ensures.senders
 
 pub returns-clause-shares : goal.returns-clause-shares
 returns-clause-shares g c =
@@ -10,4 +15,22 @@ returns-clause-shares g c =
     let low : 0 < length xs = search rules in
     let was = c.replace-benches.result in
     let is : (d : _) → was ≡ slice_index_or xs 0 d = λ d. c.replace-benches.ensures.value ∙ (c.index_mut.ensures.value ∙ get_or_default xs 0 c.index_mut.result.now d low) in
-    each_put ComesBack 0 xs c.check_from.new.shares.items c.replace-benches.new.dest c.check_from.new.foreground.benches low (λ d. rw (← is d) (inl c.check_from.ensures.does)) c.check_from.ensures.shares
+    each_put ComesBack 0 xs c.join_all.new.shares.items c.replace-benches.new.dest c.run_checker-benches.result low (λ d. rw (← is d) (inl c.run_checker-benches.ensures.later))
+    (checked_all _ c.join_all.new.shares.items c.start_all-checkers.result.items c.start_all-checkers.ensures.shares c.join_all.ensures.shares)
+
+pub join_all-requires : goal.join_all-requires
+join_all-requires g c =
+    let begun = c.start_all-checkers.ensures.shares.same_length in
+    let same = c.start_all-checkers.ensures.same in
+    let before = c.args.shares.now.ok in
+    let checkers = c.start_all-checkers.result.ok in
+    omega (arith, before.0, checkers.0, length-set c.args.shares.now.items 0 c.replace-benches.new.dest)
+
+pub index_mut-requires-2 : goal.index_mut-requires-2
+index_mut-requires-2 g c =
+    let some = c.requires.some in
+    let begun = c.start_all-checkers.ensures.shares.same_length in
+    let back = c.join_all.ensures.shares.same_length in
+    let before = c.args.shares.now.ok in
+    let after = c.join_all.new.shares.ok in
+    omega (arith, before.0, after.0, length-set c.args.shares.now.items 0 c.replace-benches.new.dest)

@@ -6,7 +6,7 @@ use Rattle.asancol.proofs.run.run.Goals as goal
 pub returns-in-Ok-reported-clause-no_words : goal.returns-in-Ok-reported-clause-no_words
 returns-in-Ok-reported-clause-no_words g c none =
     let asked : Ok c.in-Ok.request ≡ Ok request.Input = sym c.in-Ok.is ∙ c.read_words.ensures.input.1 none in
-    elim c.match-request-3.branch [
+    elim c.match-request.branch [
       | in-Input w ↦
           let reported = rw (sym w.reported-is ∙ c.in-Ok-reported.is) at w.report_feed-reported.ensures.ok in
           inl (w.new.result, search rules, rw w.output-is reported)
@@ -17,7 +17,7 @@ returns-in-Ok-reported-clause-no_words g c none =
 pub returns-clause-no_words : goal.returns-clause-no_words
 returns-clause-no_words g c none =
     let asked : Ok c.in-Ok.request ≡ Ok request.Input = sym c.in-Ok.is ∙ c.read_words.ensures.input.1 none in
-    elim c.match-request-3.branch [
+    elim c.match-request.branch [
       | in-Input w ↦
           let unprinted = rw (sym w.reported-is ∙ c.in-Err-reported.is) at w.report_feed-reported.ensures.err in
           inr (search rules, rw w.output-is unprinted)
