@@ -5,6 +5,7 @@ mod LastLines
 mod Going
 mod Arriving
 mod Counting
+mod Collected
 mod Rights
 mod Prints
 mod Answering

@@ -1,11 +1,7 @@
 //! Collecting: all senders of a door are read and checked, each on its own lane.
 
-ghost use Rattle.std.specs.Prelude.{◌≡◌, ◌+◌, ◌≤◌, ◌^◌, All, IfOk, OnErr, length};
-ghost use Rattle.asan_collect.specs.Arrivals.{AreAnswers, IsAllThatCame};
-ghost use Rattle.asan_collect.specs.Counts.{not_opened_among};
-ghost use Rattle.asan_stream.specs.Ranges.{most_reports};
-ghost use Rattle.asan_collect.specs.Ranges.{most_senders};
-ghost use Rattle.asan_stream.specs.Outcomes.{reports_of};
+ghost use Rattle.std.specs.Prelude.{◌≡◌, ◌≤◌, ◌^◌, IfOk, OnErr};
+ghost use Rattle.asan_collect.specs.Collected.{AreCollected};
 
 use crate::NoMemory;
 use crate::arrivals::{MOST_SENDERS, ask};
@@ -52,15 +48,8 @@ pub fn collect<
 where
     D::Feed: Send + Drop,
     requires { (D.seen door.old).refusals ≤ 2 ^ 32 }
-    ensures each { IfOk result (λ outcomes.
-        AreAnswers D.Feed.seen options (D.seen door.old) (D.seen door.new) outcomes.items) }
-    ensures count { IfOk result (λ outcomes.
-        IsAllThatCame (D.seen door.old).left (length outcomes.items)) }
-    ensures refused { IfOk result (λ outcomes.
-        (D.seen door.new).refusals ≡ not_opened_among outcomes.items + (D.seen door.old).refusals) }
-    ensures few { IfOk result (λ outcomes. length outcomes.items ≤ most_senders) }
-    ensures few_reports { IfOk result (λ outcomes.
-        All (λ o. length (reports_of o) ≤ most_reports) outcomes.items) }
+    ensures collected { IfOk result (λ outcomes. AreCollected D.Feed.seen options
+        (D.seen door.old) (D.seen door.new) outcomes.items) }
     ensures unasked { OnErr result (door.new ≡ door.old) }
 {
     collect_within(rt, alloc, &[], door, gate, options)
@@ -93,15 +82,8 @@ pub fn collect_within<
 where
     D::Feed: Send + Drop,
     requires { (D.seen door.old).refusals ≤ 2 ^ 32 }
-    ensures each { IfOk result (λ outcomes.
-        AreAnswers D.Feed.seen options (D.seen door.old) (D.seen door.new) outcomes.items) }
-    ensures count { IfOk result (λ outcomes.
-        IsAllThatCame (D.seen door.old).left (length outcomes.items)) }
-    ensures refused { IfOk result (λ outcomes.
-        (D.seen door.new).refusals ≡ not_opened_among outcomes.items + (D.seen door.old).refusals) }
-    ensures few { IfOk result (λ outcomes. length outcomes.items ≤ most_senders) }
-    ensures few_reports { IfOk result (λ outcomes.
-        All (λ o. length (reports_of o) ≤ most_reports) outcomes.items) }
+    ensures collected { IfOk result (λ outcomes. AreCollected D.Feed.seen options
+        (D.seen door.old) (D.seen door.new) outcomes.items) }
     ensures unasked { OnErr result (door.new ≡ door.old) }
 {
     let arrival_room = Vec::with_capacity(alloc, MOST_SENDERS)?;

@@ -1,12 +1,8 @@
 //! Collecting with live printing: each report is printed while its process still runs.
 
-ghost use Rattle.std.specs.Prelude.{◌≡◌, ◌+◌, ◌≤◌, ◌^◌, All, IfOk, OnErr, length};
-ghost use Rattle.asan_collect.specs.Arrivals.{AreAnswers, IsAllThatCame};
-ghost use Rattle.asan_collect.specs.Counts.{not_opened_among};
+ghost use Rattle.std.specs.Prelude.{◌≡◌, ◌≤◌, ◌^◌, IfOk, OnErr};
+ghost use Rattle.asan_collect.specs.Collected.{AreCollected};
 ghost use Rattle.asan_collect.specs.Live.{ArePrinted};
-ghost use Rattle.asan_stream.specs.Ranges.{most_reports};
-ghost use Rattle.asan_collect.specs.Ranges.{most_senders};
-ghost use Rattle.asan_stream.specs.Outcomes.{reports_of};
 
 use crate::NoMemory;
 use crate::arrivals::{MOST_SENDERS, ask};
@@ -67,15 +63,8 @@ pub fn collect_live<
 where
     D::Feed: Send + Drop,
     requires { (D.seen door.old).refusals ≤ 2 ^ 32 }
-    ensures each { IfOk result (λ live.
-        AreAnswers D.Feed.seen options (D.seen door.old) (D.seen door.new) live.outcomes.items) }
-    ensures count { IfOk result (λ live.
-        IsAllThatCame (D.seen door.old).left (length live.outcomes.items)) }
-    ensures refused { IfOk result (λ live. (D.seen door.new).refusals
-        ≡ not_opened_among live.outcomes.items + (D.seen door.old).refusals) }
-    ensures few { IfOk result (λ live. length live.outcomes.items ≤ most_senders) }
-    ensures few_reports { IfOk result (λ live.
-        All (λ o. length (reports_of o) ≤ most_reports) live.outcomes.items) }
+    ensures collected { IfOk result (λ live. AreCollected D.Feed.seen options
+        (D.seen door.old) (D.seen door.new) live.outcomes.items) }
     ensures printed { IfOk result (λ live.
         ArePrinted (W.contents w.old) (W.contents w.new) live.outcomes.items live.wrote) }
     ensures unasked { OnErr result (door.new ≡ door.old) }
@@ -109,15 +98,8 @@ pub fn collect_live_within<
 where
     D::Feed: Send + Drop,
     requires { (D.seen door.old).refusals ≤ 2 ^ 32 }
-    ensures each { IfOk result (λ live.
-        AreAnswers D.Feed.seen options (D.seen door.old) (D.seen door.new) live.outcomes.items) }
-    ensures count { IfOk result (λ live.
-        IsAllThatCame (D.seen door.old).left (length live.outcomes.items)) }
-    ensures refused { IfOk result (λ live. (D.seen door.new).refusals
-        ≡ not_opened_among live.outcomes.items + (D.seen door.old).refusals) }
-    ensures few { IfOk result (λ live. length live.outcomes.items ≤ most_senders) }
-    ensures few_reports { IfOk result (λ live.
-        All (λ o. length (reports_of o) ≤ most_reports) live.outcomes.items) }
+    ensures collected { IfOk result (λ live. AreCollected D.Feed.seen options
+        (D.seen door.old) (D.seen door.new) live.outcomes.items) }
     ensures printed { IfOk result (λ live.
         ArePrinted (W.contents w.old) (W.contents w.new) live.outcomes.items live.wrote) }
     ensures unasked { OnErr result (door.new ≡ door.old) }

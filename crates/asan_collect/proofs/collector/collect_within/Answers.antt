@@ -1,10 +1,16 @@
-use Rattle.std.proofs.Common.{◌+◌, rules, ap, sym, ◌∙◌}
+use Rattle.std.proofs.Common.{rules}
 use Rattle.asan_collect.specs.Senders.{Becomes}
-use Rattle.asan_collect.proofs.Rights.{all_few, pairs_joined}
+use Rattle.asan_collect.proofs.Rights.{pairs_joined}
 use Rattle.asan_collect.proofs.Dealing.{shares_back, shares_kept}
-use Rattle.asan_collect.proofs.Senders.{becomes_keeps, pairs_back, pairs_fit}
-use Rattle.asan_collect.proofs.Counting.{all_counted}
+use Rattle.asan_collect.proofs.Senders.{becomes_keeps, pairs_back}
+use Rattle.asan_collect.proofs.Collected.{collected}
 use Rattle.asan_collect.proofs.collector.collect_within.Goals as goal
+
+pub returns-clause-collected : goal.returns-clause-collected
+returns-clause-collected g c =
+    let asked = c.ask-arrivals.ensures in
+    collected g.D.Feed.Feed.seen c.args.options (g.D.Door.seen c.args.door.now) (g.D.Door.seen c.ask-arrivals.new.door) c.ask-arrivals.result.items c.open_all-opened.result.senders.items c.run_all-back.result.senders.items c.place_all.new.senders.items c.settle_all.result.items
+    asked.arrived asked.all asked.refused asked.count asked.few c.open_all-opened.ensures.came c.run_all-back.ensures.senders c.place_all.ensures.rejoins c.settle_all.ensures
 
 pub place_all-requires : goal.place_all-requires
 place_all-requires g c =
@@ -30,42 +36,6 @@ settle_all-requires-clause-joined g c =
     pairs_joined seen c.args.options c.ask-arrivals.result.items c.place_all.new.senders.items
     (pairs_back seen c.args.options c.ask-arrivals.result.items c.open_all-opened.result.senders.items c.run_all-back.result.senders.items c.place_all.new.senders.items
     c.open_all-opened.ensures.came c.run_all-back.ensures.senders c.place_all.ensures.rejoins)
-
-pub returns-clause-each : goal.returns-clause-each
-returns-clause-each g c =
-    let seen = g.D.Feed.Feed.seen in (
-      c.ask-arrivals.result.items,
-      c.ask-arrivals.ensures.arrived,
-      c.ask-arrivals.ensures.all,
-      pairs_fit seen c.args.options c.ask-arrivals.result.items c.place_all.new.senders.items c.settle_all.result.items
-          (pairs_back seen c.args.options c.ask-arrivals.result.items c.open_all-opened.result.senders.items c.run_all-back.result.senders.items c.place_all.new.senders.items
-          c.open_all-opened.ensures.came c.run_all-back.ensures.senders c.place_all.ensures.rejoins)
-          c.settle_all.ensures,
-    )
-
-pub returns-clause-few : goal.returns-clause-few
-returns-clause-few g c =
-    let a = c.open_all-opened.ensures.came.same_length in
-    let few = c.ask-arrivals.ensures.few in
-    let b = c.run_all-back.ensures.senders.same_length in
-    let d = c.place_all.ensures.rejoins.same_length in
-    let e = c.settle_all.ensures.same_length in
-    search rules
-
-pub returns-clause-count : goal.returns-clause-count
-unfolding returns-clause-each
-returns-clause-count g c = rw (returns-clause-each g c).3.same_length c.ask-arrivals.ensures.count
-
-pub returns-clause-few_reports : goal.returns-clause-few_reports
-unfolding returns-clause-each
-returns-clause-few_reports g c =
-    all_few g.D.Feed.Feed.seen c.args.options c.ask-arrivals.result.items c.settle_all.result.items (returns-clause-each g c).3
-
-pub returns-clause-refused : goal.returns-clause-refused
-unfolding returns-clause-each
-returns-clause-refused g c =
-    let counted = all_counted g.D.Feed.Feed.seen c.args.options c.ask-arrivals.result.items c.settle_all.result.items (returns-clause-each g c).3 in
-    c.ask-arrivals.ensures.refused ∙ ap (λ n. n + (g.D.Door.seen c.args.door.now).refusals) (sym counted)
 
 pub ask-arrivals-requires-clause-empty : goal.ask-arrivals-requires-clause-empty
 ask-arrivals-requires-clause-empty g c = c.in_ok-arrival_room.ensures.items
