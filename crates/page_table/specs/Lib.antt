@@ -3,4 +3,5 @@ pub mod Nodes
 pub mod Leaves
 pub mod Branches
 pub mod Tables
+pub mod Founds
 pub mod Readers

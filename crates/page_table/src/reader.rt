@@ -1,8 +1,10 @@
 //! A reader of a table, which remembers where it has read last.
-ghost use Rattle.std.specs.Prelude.{◌≡◌, ◌<◌};
-ghost use Rattle.std.specs.Option.{ForSome};
+ghost use Rattle.std.specs.Prelude.{◌≡◌, ◌<◌, length};
+ghost use Rattle.std.specs.List.{All};
 ghost use Rattle.asan_units.specs.Units.{granule_count};
-ghost use Rattle.page_table.specs.Tables.{byte_of, IsPart};
+ghost use Rattle.page_table.specs.declared.reader.TheConstants.{PLACES};
+ghost use Rattle.page_table.specs.Tables.{byte_of};
+ghost use Rattle.page_table.specs.Founds.{IsFound};
 
 use crate::node::Node;
 use crate::table::{PageTable, Part};
@@ -11,18 +13,37 @@ use std::alloc::{Allocator, Global};
 /// How many granules a part has.
 const PART: u64 = 1 << 26;
 
-/// Reads the bytes of a table, which doesn't change meanwhile. It remembers the last part of the
-/// table that it found, of 2^26 granules, and finds another granule of that part in half the steps.
+/// How many parts a reader remembers.
+const PLACES: usize = 4;
+
+/// A part of a table and its number, or no part.
+#[derive(Clone, Copy)]
+pub(crate) struct Found<'t, A: Allocator + Copy = Global> {
+    number: u64,
+    part: Option<&'t Part<A>>,
+}
+
+/// Reads the bytes of a table, which doesn't change meanwhile. It remembers the last parts of the
+/// table that it found, each of 2^26 granules, and finds another granule of such a part in half the
+/// steps.
 #[derive(Drop)]
 pub struct Reader<'t, A: Allocator + Copy = Global> {
     /// What it reads.
     table: &'t PageTable<A>,
-    /// The part that it found last.
-    part: Option<&'t Part<A>>,
-    /// The number of that part.
-    number: u64,
+    /// The parts that it found, each at the place that its number says.
+    found: [Found<'t, A>; PLACES],
 
-    ghost remembered: { ForSome part (λ part. IsPart table.now number part.now) },
+    ghost places: { length found ≡ PLACES },
+
+    ghost remembered: { All (IsFound table.now) found },
+}
+
+/// Where a part of this number is remembered.
+#[inline]
+fn place_of(number: u64) -> usize
+    ensures { result < PLACES }
+{
+    (number % PLACES as u64) as usize
 }
 
 impl<'t, A: Allocator + Copy> Reader<'t, A> {
@@ -35,8 +56,10 @@ impl<'t, A: Allocator + Copy> Reader<'t, A> {
     {
         Reader {
             table,
-            part: None,
-            number: 0,
+            found: [Found {
+                number: 0,
+                part: None,
+            }; PLACES],
         }
     }
 
@@ -47,8 +70,11 @@ impl<'t, A: Allocator + Copy> Reader<'t, A> {
         ensures byte { result ≡ byte_of (table_of self.old) granule }
         ensures same { table_of self.new ≡ table_of self.old }
     {
-        match self.part {
-            Some(part) if granule / PART == self.number => part.byte(granule % PART),
+        let number = granule / PART;
+        let all = &self.found[..];
+        let found = &all[place_of(number)];
+        match found.part {
+            Some(part) if found.number == number => part.byte(granule % PART),
             _ => self.byte_elsewhere(granule),
         }
     }
@@ -65,8 +91,13 @@ impl<'t, A: Allocator + Copy> Reader<'t, A> {
         let Some(part) = self.table.part(number) else {
             return self.table.byte(granule);
         };
-        self.part = Some(part);
-        self.number = number;
+        let mut found = self.found;
+        let all = &mut found[..];
+        all[place_of(number)] = Found {
+            number,
+            part: Some(part),
+        };
+        self.found = found;
         part.byte(granule % PART)
     }
 }

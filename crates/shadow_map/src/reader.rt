@@ -9,8 +9,8 @@ use asan_units::GRANULE;
 use page_table::Reader;
 use std::alloc::{Allocator, Global};
 
-/// Checks accesses by the bytes of a shadow, which doesn't change meanwhile. It remembers a part of
-/// the shadow, for 512 MiB of memory, in which it has looked. There it is faster than
+/// Checks accesses by the bytes of a shadow, which doesn't change meanwhile. It remembers some
+/// parts of the shadow, each for 512 MiB of memory, in which it has looked. There it is faster than
 /// [`Shadow::bad_byte`](crate::Shadow::bad_byte).
 #[derive(Drop)]
 pub struct ShadowReader<'s, A: Allocator + Copy = Global> {
