@@ -14,6 +14,6 @@ width_over levels = NODES ^ levels * LINES
 -- the mark of a line
 unfoldable pub tree_mark : {A : Type 0} → Tree A → ℕ → Option Mark
 tree_mark tree line =
-    branch_mark (branch_mark (branch_mark (branch_mark (branch_mark (branch_mark
-    leaf_mark (width_over 0)) (width_over 1)) (width_over 2)) (width_over 3)) (width_over 4))
-    (width_over 5) tree.root line
+    branch_mark (branch_mark (branch_mark (branch_mark (branch_mark
+    leaf_mark (width_over 0)) (width_over 1)) (width_over 2)) (width_over 3))
+    (width_over 4) tree.root line

@@ -10,7 +10,7 @@ use crate::node::Node;
 use std::alloc::{AllocError, Allocator, Global};
 
 /// How many nodes a branch has.
-const NODES: usize = 64;
+const NODES: usize = 128;
 
 /// Nodes of one width, side by side. Those that are not kept have no marks.
 #[derive(Drop)]

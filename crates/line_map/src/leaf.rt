@@ -1,5 +1,5 @@
 //! A leaf of a map: lines side by side, some of which have a mark.
-ghost use Rattle.std.specs.Prelude.{◌≡◌, ℕ, ◌^◌, ◌<◌, ◌≤◌, count_ones, length};
+ghost use Rattle.std.specs.Prelude.{◌≡◌, ℕ, ◌-◌, ◌^◌, ◌<◌, ◌≤◌, count_ones, length};
 ghost use Rattle.line_map.specs.declared.leaf.TheConstants.{LINES};
 ghost use Rattle.line_map.specs.Nodes.{IsWidth};
 
@@ -9,7 +9,7 @@ use crate::node::Node;
 use std::alloc::{AllocError, Allocator, Global};
 
 /// How many lines a leaf has.
-const LINES: usize = 32;
+const LINES: usize = 64;
 
 /// Lines side by side. Those that have a mark have an entry, and nothing else takes memory.
 #[derive(Drop)]
@@ -24,10 +24,23 @@ pub struct Leaf<A: Allocator = Global> {
 /// The bit of a line.
 #[inline]
 fn bit(line: u64) -> u64
-    requires { line ≤ LINES }
+    requires { line < LINES }
     ensures { result ≡ 2 ^ line }
 {
     1 << line
+}
+
+/// The bits of the lines below one.
+#[inline]
+fn bits_below(end: u64) -> u64
+    requires { end ≤ LINES }
+    ensures { result ≡ 2 ^ end - 1 }
+{
+    if end < LINES as u64 {
+        bit(end) - 1
+    } else {
+        u64::MAX
+    }
 }
 
 impl<A: Allocator + Copy> Leaf<A> {
@@ -98,7 +111,7 @@ impl<A: Allocator + Copy> Node<A> for Leaf<A> {
 
     #[inline]
     fn last(&self, end: u64) -> Option<u64> {
-        let below = self.lines & (bit(end) - 1);
+        let below = self.lines & bits_below(end);
         Some(u64::from(below.checked_ilog2()?))
     }
 

@@ -1,7 +1,7 @@
 //! A map from addresses to slots, with at most one slot in each line of 64 bytes.
 //!
-//! A line is 64 bytes side by side: line `l` has the addresses from `64 * l` on. A leaf has 32
-//! lines side by side, and is found through a tree, six branches deep, by the number of a line.
+//! A line is 64 bytes side by side: line `l` has the addresses from `64 * l` on. A leaf has 64
+//! lines side by side, and is found through a tree, five branches deep, by the number of a line.
 //! One way down this tree finds the slot at an address, or the place for a new one. The last slot
 //! before an address takes two: one finds its line, the other its entry; and two more where the
 //! slot of the address's own line is not before it. A leaf or a branch without slots holds no

@@ -1,4 +1,4 @@
-//! The tree of lines: six levels of branches over the leaves.
+//! The tree of lines: five levels of branches over the leaves.
 ghost use Rattle.std.specs.Prelude.{◌≡◌, ℕ, ◌^◌, ◌<◌, ◌≤◌, Some, None, IsSome, OnOk, OnErr};
 ghost use Rattle.line_map.specs.Entries.{line_count};
 ghost use Rattle.line_map.specs.Nodes.{IsPut, IsLastBelow};
@@ -10,7 +10,7 @@ use crate::mark::Mark;
 use crate::node::Node;
 use std::alloc::{AllocError, Allocator, Global};
 
-// The branches, by how many levels of them there are. Each has 64 times the lines of one of the
+// The branches, by how many levels of them there are. Each has 128 times the lines of one of the
 // level below.
 type Level1<A> = Branch<Leaf<A>, A>;
 
@@ -22,19 +22,15 @@ type Level4<A> = Branch<Level3<A>, A>;
 
 type Level5<A> = Branch<Level4<A>, A>;
 
-type Level6<A> = Branch<Level5<A>, A>;
-
 // What a node takes where it stands, without what it holds.
 const _: () = prove!(size_of::<Leaf>() == 32);
 
 const _: () = prove!(size_of::<Level1<Global>>() == 32);
 
-const _: () = prove!(size_of::<Level6<Global>>() == 32);
-
 /// A mark or none for each line below 2^41.
 #[derive(Drop)]
 pub struct Tree<A: Allocator + Copy = Global> {
-    root: Level6<A>,
+    root: Level5<A>,
 }
 
 impl<A: Allocator + Copy> Tree<A> {
