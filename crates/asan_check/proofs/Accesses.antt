@@ -5,22 +5,27 @@ use Rattle.std.specs.Option.{option_map}
 use Rattle.std.proofs.lemmas.Bool.Decides.{nat_tests}
 use Rattle.trace_record.specs.declared.event.Event.{Event}
 use Rattle.trace_record.specs.declared.event.Access.{Access}
-use Rattle.shadow_map.specs.States.{State, Addressable, HeapRedzone, Freed, is_addressable, code_of, lies_in, state_of, addressable_front, shadow_byte, lift, least_unaddressable, bad_byte_of}
+use Rattle.shadow_map.specs.States.{State, Addressable, HeapRedzone, is_addressable, code_of, lies_in, state_of, addressable_front, shadow_byte, lift, least_unaddressable, bad_byte_of}
 use Rattle.heap_book.specs.Spans.{Extent, span_from, span_to}
 use Rattle.asan_units.specs.Units.{round_up}
 use Rattle.asan_check.specs.declared.report.Class.{Class}
 use Rattle.asan_check.specs.declared.report.Class.TheVariants as class
 use Rattle.asan_check.specs.declared.report.Fault.{Fault}
 use Rattle.asan_check.specs.declared.report.Fault.TheVariants as fault
+use Rattle.asan_check.specs.Codes.{Freed, class_of_code}
 use Rattle.asan_check.specs.History.{live, held, marks}
 use Rattle.asan_check.proofs.Classes.{none_is, some_is}
-use Rattle.asan_check.specs.Verdicts.{class_of_state, class_of, access_fault, verdict}
+use Rattle.asan_check.specs.Verdicts.{class_of, access_fault, verdict}
 use Rattle.asan_check.specs.Laws.{since_malloc, since_free, NoPoisonShares, NoUnpoisonShares, access_event, LiesInside, StartsAround, StartsWithin, first_byte_report, shadow_around}
 use Rattle.asan_check.proofs.Blocks.{IsPlaced, live_placed, held_placed}
 use Rattle.asan_check.proofs.Frames.{IsInSpan}
 use Rattle.asan_check.proofs.Bytes.{live_inside, live_span, held_bytes}
 
 -- ---- by states
+
+-- the class that a state stands for
+abbrev pub class_of_its_code : State → Class
+class_of_its_code state = class_of_code (code_of state)
 
 module _ (states : ℕ → State) where
   least_none : (from count : ℕ) → ((byte : ℕ) → from ≤ byte → byte < from + count → states byte ≡ Addressable) → least_unaddressable states from count ≡ None
@@ -72,8 +77,8 @@ module _ (states : ℕ → State) where
   front_zero byte zero bad = refl
   front_zero byte (suc count) bad = rw bad refl
 
-  pub own_class : (at : ℕ) → ((i : ℕ) → i < 8 → is_addressable (states (8 * (at / 8) + i)) ≡ false) → class_of states at ≡ class_of_state (states (8 * (at / 8)))
-  own_class at bad = ap (λ t. class_of_state (states (8 * (cond t (at / 8) (at / 8 + 1))))) (none_is states (at / 8) bad)
+  pub own_class : (at : ℕ) → ((i : ℕ) → i < 8 → is_addressable (states (8 * (at / 8) + i)) ≡ false) → class_of states at ≡ class_of_its_code (states (8 * (at / 8)))
+  own_class at bad = ap (λ t. class_of_its_code (states (8 * (cond t (at / 8) (at / 8 + 1))))) (none_is states (at / 8) bad)
 
   pub own_shadow : (granule : ℕ) → is_addressable (states (8 * granule)) ≡ false → lift states granule ≡ code_of (states (8 * granule))
   own_shadow granule bad = ap (λ (k : ℕ). shadow_byte k (states (8 * granule))) (front_zero (8 * granule) 8 bad)
@@ -86,9 +91,9 @@ module _ (states : ℕ → State) where
         least : (m : ℕ) → m < 8 → min m 8 ≡ m
         least m lt = omega arith
 
-    next_class : class_of states at ≡ class_of_state (states (8 * (at / 8 + 1)))
+    next_class : class_of states at ≡ class_of_its_code (states (8 * (at / 8 + 1)))
     next_class =
-        ap (λ t. class_of_state (states (8 * (cond t (at / 8) (at / 8 + 1)))))
+        ap (λ t. class_of_its_code (states (8 * (cond t (at / 8) (at / 8 + 1)))))
         (some_is states (at / 8) (rw (← add-zero (8 * (at / 8))) (each 0 (omega arith) ∙ grind (arith, nat_tests))))
 
     part_shadow : lift states (at / 8) ≡ k
@@ -144,7 +149,7 @@ module _ (states : ℕ → State) (b : Extent) (placed : IsPlaced b) (each : (by
       let in_it : IsInSpan b (8 * (at / 8) + i) = record { from = omega arith; to = omega arith } in
       let out_of_it : (8 * (at / 8) + i < b.at) ⊎ (b.at + b.size ≤ 8 * (at / 8) + i) = elim out [ inl less ↦ inl (omega arith) | inr more ↦ inr (omega arith) ] in
       ap is_addressable (outside (8 * (at / 8) + i) in_it out_of_it) in
-      (own_class states at none ∙ ap class_of_state is, own_shadow states (at / 8) bad ∙ ap code_of is)
+      (own_class states at none ∙ ap class_of_its_code is, own_shadow states (at / 8) bad ∙ ap code_of is)
 
   -- in the granule of the block's last bytes
   in_tail_granule : (at : ℕ) → b.at + b.size ≤ at → at < b.at + round_up b.size → (class_of states at ≡ class.HeapBufferOverflow) × (lift states (at / 8) ≡ b.size % 8)
@@ -161,7 +166,7 @@ module _ (states : ℕ → State) (b : Extent) (placed : IsPlaced b) (each : (by
       ∙ tail_test b.at b.size (8 * (at / 8)) (b.size % 8) i (omega arith) whole lt in
       let next_in : IsInSpan b (8 * (at / 8 + 1)) = record { from = omega arith; to = omega arith } in
       let next = outside (8 * (at / 8 + 1)) next_in (inr (omega arith)) in
-      (next_class states at (b.size % 8) some (omega arith) run ∙ ap class_of_state next, part_shadow states at (b.size % 8) some (omega arith) run)
+      (next_class states at (b.size % 8) some (omega arith) run ∙ ap class_of_its_code next, part_shadow states at (b.size % 8) some (omega arith) run)
 
   around : (at : ℕ) → IsInSpan b at → (at < b.at) ⊎ (b.at + b.size ≤ at) → (class_of states at ≡ class.HeapBufferOverflow) × (lift states (at / 8) ≡ shadow_around b at)
   around at in_span out = go (lies_in b.at (b.at + round_up b.size) at) refl
@@ -208,4 +213,4 @@ late bound past b is_store a has start clear clear' =
     let closed = ap is_addressable base in
     let none : (i : ℕ) → i < 8 → is_addressable (states (8 * (a.at / 8) + i)) ≡ false = λ i lt. ap is_addressable (each (8 * (a.at / 8) + i) (omega arith) (omega arith)) in
     verdict_from bound past is_store a _ (first_fault states is_store a bad)
-    ∙ some_report past is_store a _ _ _ _ (own_class states a.at none ∙ ap class_of_state base) (own_shadow states (a.at / 8) closed ∙ ap code_of base)
+    ∙ some_report past is_store a _ _ _ _ (own_class states a.at none ∙ ap class_of_its_code base) (own_shadow states (a.at / 8) closed ∙ ap code_of base)

@@ -10,10 +10,11 @@ use Rattle.trace_record.specs.declared.event.Event.TheVariants as event
 use Rattle.trace_record.specs.declared.event.Place.{Place}
 use Rattle.trace_record.specs.declared.event.Region.{Region}
 use Rattle.trace_record.specs.Shades.{shade_size}
-use Rattle.shadow_map.specs.States.{Addressable, HeapRedzone, Freed, Mark, Block, lies_in, state_of}
+use Rattle.shadow_map.specs.States.{Addressable, HeapRedzone, Mark, Block, lies_in, state_of}
 use Rattle.heap_book.specs.Spans.{Extent, span_from, span_to, meets, starts_at}
 use Rattle.asan_units.specs.Units.{round_up}
 use Rattle.heap_book.proofs.NeverMeet.{meets-flip}
+use Rattle.asan_check.specs.Codes.{Freed}
 use Rattle.asan_check.specs.History.{block_of, live, held, admits, marks, with_marks, freed_mark, released_mark, released_from}
 use Rattle.asan_check.specs.Laws.{since_malloc, since_free, NoPoisonShares, NoUnpoisonShares}
 use Rattle.asan_check.proofs.Steps.{eqb_flips, spans_apart, held_malloc}

@@ -1,37 +1,36 @@
 -- The class of a granule's first byte, from the granule's shadow byte.
-use Rattle.std.proofs.Common.{◌≡◌, ℕ, zero, suc, ◌+◌, ◌*◌, ◌≤◌, ◌<◌, Bool, true, false, cond, ltb, eqb, refl, ◌∙◌, arith, add-zero}
-use Rattle.std.proofs.lemmas.Bool.{false≢true}
+use Rattle.std.proofs.Common.{◌≡◌, ℕ, zero, suc, ◌+◌, ◌*◌, ◌≤◌, ◌<◌, Bool, true, false, cond, leb, ltb, eqb, List, [], ◌∷◌, refl, ◌∙◌, arith, add-zero}
+use Rattle.std.specs.List.{list_all}
+use Rattle.std.proofs.lemmas.Bool.{false≢true, and_parts, leb-true}
 use Rattle.std.proofs.lemmas.Bool.Decides.{nat_tests}
-use Rattle.shadow_map.specs.States.{State, Addressable, HeapRedzone, Freed, UserPoison, StackRedzone, GlobalRedzone, is_addressable, addressable_front, shadow_byte, lift}
+use Rattle.shadow_map.specs.States.{State, Addressable, Coded, is_addressable, code_of, addressable_front, shadow_byte, lift}
 use Rattle.shadow_map.specs.Causes.{has_none_addressable}
+use Rattle.asan_check.specs.declared.report.Class.{Class}
 use Rattle.asan_check.specs.declared.report.Class.TheVariants as class
-use Rattle.asan_check.specs.Verdicts.{class_of_state}
-use Rattle.asan_check.specs.Laws.{class_of_shadow}
+use Rattle.asan_check.specs.Codes.{classes, class_among, class_of_code}
 
-unknown_below : (shadow : ℕ) → shadow ≤ 8 → class_of_shadow shadow ≡ class.UnknownCrash
-unknown_below shadow le =
-    let a : eqb shadow 0xfa ≡ false = grind (arith, nat_tests) in
-    let b : eqb shadow 0xfd ≡ false = grind (arith, nat_tests) in
-    let d : eqb shadow 0xf7 ≡ false = grind (arith, nat_tests) in
-    let e : eqb shadow 0xf2 ≡ false = grind (arith, nat_tests) in
-    let f : eqb shadow 0xf9 ≡ false = grind (arith, nat_tests) in
-    rw (a, b, d, e, f) refl
+-- no row has a number of addressable bytes in the place of a code
+abbrev AreHigh : List (ℕ × Class) → Bool
+AreHigh rows = list_all (λ row. leb 128 row.0) rows
+
+unknown_among : (rows : List (ℕ × Class)) → AreHigh rows ≡ true → (shadow : ℕ) → shadow ≤ 8 → class_among rows shadow ≡ class.UnknownCrash
+unknown_among [] high shadow le = refl
+unknown_among (row ∷ rows) high shadow le =
+    let parts = and_parts (leb 128 row.0) (AreHigh rows) high in
+    let first = leb-true _ _ parts.0 in
+    let other : eqb shadow row.0 ≡ false = grind (arith, nat_tests) in
+    rw other (unknown_among rows parts.1 shadow le)
+
+unknown_below : (shadow : ℕ) → shadow ≤ 8 → class_of_code shadow ≡ class.UnknownCrash
+unknown_below = unknown_among classes refl
 
 some_front : (front : ℕ) (first : State) → 0 < front → front ≤ 8 → shadow_byte front first ≤ 8
 some_front front first some most = grind (arith, nat_tests)
 
-class_by_front : (first : State) (front : ℕ) → is_addressable first ≡ ltb 0 front → front ≤ 8 → class_of_shadow (shadow_byte front first) ≡ class_of_state first
+class_by_front : (first : State) (front : ℕ) → is_addressable first ≡ ltb 0 front → front ≤ 8 → class_of_code (shadow_byte front first) ≡ class_of_code (code_of first)
 class_by_front Addressable front is most = unknown_below _ (some_front front Addressable (grind (arith, nat_tests)) most)
-class_by_front HeapRedzone zero is most = refl
-class_by_front HeapRedzone (suc front) is most = absurd (false≢true (is ∙ grind (arith, nat_tests)))
-class_by_front Freed zero is most = refl
-class_by_front Freed (suc front) is most = absurd (false≢true (is ∙ grind (arith, nat_tests)))
-class_by_front UserPoison zero is most = refl
-class_by_front UserPoison (suc front) is most = absurd (false≢true (is ∙ grind (arith, nat_tests)))
-class_by_front StackRedzone zero is most = refl
-class_by_front StackRedzone (suc front) is most = absurd (false≢true (is ∙ grind (arith, nat_tests)))
-class_by_front GlobalRedzone zero is most = refl
-class_by_front GlobalRedzone (suc front) is most = absurd (false≢true (is ∙ grind (arith, nat_tests)))
+class_by_front (Coded code) zero is most = refl
+class_by_front (Coded code) (suc front) is most = absurd (false≢true (is ∙ grind (arith, nat_tests)))
 
 module _ (states : ℕ → State) where
   front_most : (byte count : ℕ) → addressable_front states byte count ≤ count
@@ -53,7 +52,7 @@ module _ (states : ℕ → State) where
   first_is granule = front_first (8 * granule) 7
 
   -- a shadow byte decides the class of its granule's first byte
-  pub class_shown : (granule : ℕ) → class_of_shadow (lift states granule) ≡ class_of_state (states (8 * granule))
+  pub class_shown : (granule : ℕ) → class_of_code (lift states granule) ≡ class_of_code (code_of (states (8 * granule)))
   class_shown granule = class_by_front (states (8 * granule)) (addressable_front states (8 * granule) 8) (first_is granule) (front_most (8 * granule) 8)
 
   -- whether a granule has no addressable byte, where none is addressable and where the first one is

@@ -75,8 +75,8 @@ module _ (at size from to byte : ℕ) (clear : ¬ SharesGranule at size from to)
         | inr more ↦ shares byte more before_end refl
       ])
 
-  pub poison_leaves : (state : State) → Leaves (Poison at size state) byte
-  poison_leaves state marks = rw (not_whole, not_part) refl
+  pub poison_leaves : (code : ℕ) → Leaves (Poison at size code) byte
+  poison_leaves code marks = rw (not_whole, not_part) refl
 
   pub unpoison_leaves : Leaves (Unpoison at size) byte
   unpoison_leaves marks = rw not_reached refl

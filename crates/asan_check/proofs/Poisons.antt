@@ -5,16 +5,15 @@ use Rattle.std.proofs.lemmas.Bool.Decides.{nat_tests}
 use Rattle.trace_record.specs.declared.event.Event.{Event}
 use Rattle.trace_record.specs.declared.event.Event.TheVariants as event
 use Rattle.trace_record.specs.declared.event.Access.{Access}
-use Rattle.trace_record.specs.declared.shade.Kind.{Kind}
-use Rattle.trace_record.specs.declared.shade.Kind.TheVariants as kind
 use Rattle.trace_record.specs.declared.shade.Shade.{Shade}
 use Rattle.trace_record.specs.Shades.{shade_size, shade_kind}
-use Rattle.shadow_map.specs.States.{State, Mark, Block, Poison, is_addressable, code_of, granule_lies_in, state_of}
+use Rattle.shadow_map.specs.States.{State, Mark, Block, Poison, Coded, is_addressable, code_of, granule_lies_in, state_of}
 use Rattle.heap_book.specs.Spans.{Extent, starts_at}
-use Rattle.asan_check.specs.History.{state_of_kind, block_of, live, held, admits, marks, with_marks, freed_mark, released_mark, released_from}
-use Rattle.asan_check.specs.Verdicts.{class_of_state, verdict}
-use Rattle.asan_check.specs.Laws.{class_of_kind, access_event, first_byte_report, NoneCovers, IsPoisonedSince}
-use Rattle.asan_check.proofs.Accesses.{verdict_from, first_fault, own_class, own_shadow, some_report}
+use Rattle.asan_check.specs.Codes.{class_of_code, code_of_kind}
+use Rattle.asan_check.specs.History.{block_of, live, held, admits, marks, with_marks, freed_mark, released_mark, released_from}
+use Rattle.asan_check.specs.Verdicts.{verdict}
+use Rattle.asan_check.specs.Laws.{access_event, first_byte_report, NoneCovers, IsPoisonedSince}
+use Rattle.asan_check.proofs.Accesses.{class_of_its_code, verdict_from, first_fault, own_class, own_shadow, some_report}
 
 -- ---- bytes that no mark covers keep their states
 
@@ -22,51 +21,38 @@ stays : (laid before : List Mark) (granule byte : ℕ) → NoneCovers laid befor
 stays [] before granule byte none here = refl
 stays (mark ∷ laid) before granule byte none here = rw (none.0 byte here) (stays laid before granule byte none.1 here)
 
--- the bytes of a granule that lies wholly in the region of a poison have its state
-poisoned : (at size : ℕ) (state : State) (before : List Mark) (granule byte : ℕ) → at ≤ 8 * granule → 8 * granule + 8 ≤ at + size → byte / 8 ≡ granule →
-    state_of (Poison at size state ∷ before) byte ≡ state
-poisoned at size state before granule byte from to here =
+-- the bytes of a granule that lies wholly in the region of a poison have its code
+poisoned : (at size code : ℕ) (before : List Mark) (granule byte : ℕ) → at ≤ 8 * granule → 8 * granule + 8 ≤ at + size → byte / 8 ≡ granule →
+    state_of (Poison at size code ∷ before) byte ≡ Coded code
+poisoned at size code before granule byte from to here =
     let whole : granule_lies_in at (at + size) byte ≡ true = rw here (inside at (at + size) granule from to) in
     rw whole refl
   where
     inside : (least most granule : ℕ) → least ≤ 8 * granule → 8 * granule + 8 ≤ most → (leb least (8 * granule) && leb (8 * granule + 8) most) ≡ true
     inside least most granule low high = grind (arith, nat_tests)
 
--- ---- what a kind of poison is reported as
-
-kind_is_bad : (k : Kind) → is_addressable (state_of_kind k) ≡ false
-kind_is_bad kind.User = refl
-kind_is_bad kind.Stack = refl
-kind_is_bad kind.Global = refl
-
-kind_class : (k : Kind) → class_of_state (state_of_kind k) ≡ class_of_kind k
-kind_class kind.User = refl
-kind_class kind.Stack = refl
-kind_class kind.Global = refl
-
 -- ---- an access to them
 
 module _ (bound : ℕ) (past : List Event) (s : Shade) (a : Access) (p : IsPoisonedSince bound past s (a.at / 8)) where
-  each : (byte : ℕ) → byte / 8 ≡ a.at / 8 → state_of (marks bound past) byte ≡ state_of_kind (shade_kind s)
+  each : (byte : ℕ) → byte / 8 ≡ a.at / 8 → state_of (marks bound past) byte ≡ Coded (code_of_kind (shade_kind s))
   each byte here =
       ap (λ ms. state_of ms byte) p.laid_since
       ∙ stays p.laid (marks bound (event.Poison s ∷ p.before)) (a.at / 8) byte p.uncovered here
-      ∙ poisoned s.at (shade_size s) (state_of_kind (shade_kind s)) (marks bound p.before) (a.at / 8) byte p.whole.0 p.whole.1 here
+      ∙ poisoned s.at (shade_size s) (code_of_kind (shade_kind s)) (marks bound p.before) (a.at / 8) byte p.whole.0 p.whole.1 here
 
   place_in : (i : ℕ) → i < 8 → (8 * (a.at / 8) + i) / 8 ≡ a.at / 8
   place_in i lt = omega arith
 
   pub reported : (is_store : Bool) →
-      verdict bound past (access_event is_store a) ≡ Some (first_byte_report past is_store a (class_of_kind (shade_kind s)) (code_of (state_of_kind (shade_kind s))))
+      verdict bound past (access_event is_store a) ≡ Some (first_byte_report past is_store a (class_of_code (code_of_kind (shade_kind s))) (code_of_kind (shade_kind s)))
   reported is_store =
       let states : ℕ → State = state_of (marks bound past) in
       let base = each (8 * (a.at / 8)) (omega arith) in
-      let is_bad = kind_is_bad (shade_kind s) in
-      let bad = ap is_addressable (each a.at refl) ∙ is_bad in
-      let closed = ap is_addressable base ∙ is_bad in
-      let none : (i : ℕ) → i < 8 → is_addressable (states (8 * (a.at / 8) + i)) ≡ false = λ i lt. ap is_addressable (each (8 * (a.at / 8) + i) (place_in i lt)) ∙ is_bad in
+      let bad : is_addressable (states a.at) ≡ false = ap is_addressable (each a.at refl) in
+      let closed : is_addressable (states (8 * (a.at / 8))) ≡ false = ap is_addressable base in
+      let none : (i : ℕ) → i < 8 → is_addressable (states (8 * (a.at / 8) + i)) ≡ false = λ i lt. ap is_addressable (each (8 * (a.at / 8) + i) (place_in i lt)) in
       verdict_from bound past is_store a _ (first_fault states is_store a bad)
-      ∙ some_report past is_store a _ _ _ _ (own_class states a.at none ∙ ap class_of_state base ∙ kind_class (shade_kind s)) (own_shadow states (a.at / 8) closed ∙ ap code_of base)
+      ∙ some_report past is_store a _ _ _ _ (own_class states a.at none ∙ ap class_of_its_code base) (own_shadow states (a.at / 8) closed ∙ ap code_of base)
 
 -- ---- marks are only added
 

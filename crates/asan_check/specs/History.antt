@@ -10,14 +10,12 @@ use Rattle.std.specs.List.{list_any}
 use Rattle.trace_record.specs.declared.event.Event.{Event}
 use Rattle.trace_record.specs.declared.event.Event.TheVariants as event
 use Rattle.trace_record.specs.declared.event.Region.{Region}
-use Rattle.trace_record.specs.declared.shade.Kind.{Kind}
-use Rattle.trace_record.specs.declared.shade.Kind.TheVariants as kind
 use Rattle.trace_record.specs.Shades.{shade_size, shade_kind}
-use Rattle.shadow_map.specs.States.{State, Freed, HeapRedzone, UserPoison, StackRedzone}
-use Rattle.shadow_map.specs.States.{GlobalRedzone, Mark, Fill, Block, Poison, Unpoison}
+use Rattle.shadow_map.specs.States.{HeapRedzone, code_of, Mark, Fill, Block, Poison, Unpoison}
 use Rattle.heap_book.specs.Spans.{Extent, span_from, span_to, may_be_admitted, held_of}
 use Rattle.asan_units.specs.Units.{round_up}
 use Rattle.heap_book.specs.Spans.{starts_at}
+use Rattle.asan_check.specs.Codes.{Freed, code_of_kind}
 
 -- the block that a malloc asks for
 abbrev pub block_of : Region → Extent
@@ -91,17 +89,11 @@ released_from before now = filter (λ b. not (list_any (starts_at b.at) now)) be
 
 -- the mark of a block's free: its bytes, rounded up, are freed memory
 abbrev pub freed_mark : Extent → Mark
-freed_mark b = Fill b.at (b.at + round_up b.size) Freed
+freed_mark b = Fill b.at (b.at + round_up b.size) (code_of Freed)
 
 -- the mark of a block's release: its whole span is a redzone
 abbrev pub released_mark : Extent → Mark
-released_mark b = Fill (span_from b) (span_to b) HeapRedzone
-
--- the state that a poison of a kind gives
-abbrev pub state_of_kind : Kind → State
-state_of_kind kind.User = UserPoison
-state_of_kind kind.Stack = StackRedzone
-state_of_kind kind.Global = GlobalRedzone
+released_mark b = Fill (span_from b) (span_to b) (code_of HeapRedzone)
 
 -- after these marks, a mark for each of the blocks in turn
 abbrev pub with_marks : (Extent → Mark) → List Extent → List Mark → List Mark
@@ -123,7 +115,7 @@ marks bound (event.Free p ∷ past) =
     (released_from (held bound past ++ freed_now) (held bound (event.Free p ∷ past)))
     (with_marks freed_mark freed_now (marks bound past))
 marks bound (event.Poison s ∷ past) =
-    Poison s.at (shade_size s) (state_of_kind (shade_kind s)) ∷ marks bound past
+    Poison s.at (shade_size s) (code_of_kind (shade_kind s)) ∷ marks bound past
 marks bound (event.Unpoison r ∷ past) = Unpoison r.at r.size ∷ marks bound past
 marks bound (event.Load a ∷ past) = marks bound past
 marks bound (event.Store a ∷ past) = marks bound past

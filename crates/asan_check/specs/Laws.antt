@@ -1,5 +1,5 @@
 -- The words of the laws about reports: since when a block is live or held, which events come near
--- it, the report of an access whose first byte is bad, and the class that a shadow byte stands for.
+-- it, and the report of an access whose first byte is bad.
 use Rattle.std.specs.Prelude.{ℕ, ◌≡◌, ◌≢◌, ◌+◌, ◌%◌, ◌<◌, ◌≤◌, Bool, true, false, ◌&&◌, ◌==◌}
 use Rattle.std.specs.Prelude.{if◌then◌else◌, ◌⊎◌, IsTrue, List, [], ◌∷◌, ◌++◌, length, reverse}
 use Rattle.std.specs.Prelude.{Contains, Some, None}
@@ -9,16 +9,12 @@ use Rattle.trace_record.specs.declared.event.Event.TheVariants as event
 use Rattle.trace_record.specs.declared.event.Access.{Access}
 use Rattle.trace_record.specs.declared.event.Place.{Place}
 use Rattle.trace_record.specs.declared.event.Region.{Region}
-use Rattle.trace_record.specs.declared.shade.Kind.{Kind}
-use Rattle.trace_record.specs.declared.shade.Kind.TheVariants as kind
 use Rattle.trace_record.specs.declared.shade.Shade.{Shade}
 use Rattle.trace_record.specs.Shades.{shade_size}
-use Rattle.shadow_map.specs.States.{HeapRedzone, Freed, UserPoison, StackRedzone, GlobalRedzone}
-use Rattle.shadow_map.specs.States.{code_of, lies_in, Mark, state_given, state_of}
+use Rattle.shadow_map.specs.States.{HeapRedzone, code_of, lies_in, Mark, state_given, state_of}
 use Rattle.heap_book.specs.Spans.{Extent, span_from, span_to, starts_at}
 use Rattle.asan_units.specs.Units.{granule_size, granule_of, first_byte, round_up}
 use Rattle.asan_check.specs.declared.report.Class.{Class}
-use Rattle.asan_check.specs.declared.report.Class.TheVariants as class
 use Rattle.asan_check.specs.declared.report.Fault.TheVariants as fault
 use Rattle.asan_check.specs.declared.report.Report.{Report}
 use Rattle.asan_check.specs.History.{block_of, live, held, admits, marks}
@@ -167,21 +163,3 @@ pub record IsReportedAmong (bound : ℕ) (events : List Event) (report : Report)
   pub after : List Event
   pub split : events ≡ before ++ event ∷ after
   pub is_verdict : verdict bound (reverse before) event ≡ Some report
-
--- ---- classes
-
--- the class of an access to poison of a kind
-abbrev pub class_of_kind : Kind → Class
-class_of_kind kind.User = class.UseAfterPoison
-class_of_kind kind.Stack = class.StackBufferOverflow
-class_of_kind kind.Global = class.GlobalBufferOverflow
-
--- the class of a granule's first byte, by the granule's shadow byte
-abbrev pub class_of_shadow : ℕ → Class
-class_of_shadow shadow =
-    if shadow == code_of HeapRedzone then class.HeapBufferOverflow
-    else (if shadow == code_of Freed then class.HeapUseAfterFree
-    else (if shadow == code_of UserPoison then class.UseAfterPoison
-    else (if shadow == code_of StackRedzone then class.StackBufferOverflow
-    else (if shadow == code_of GlobalRedzone then class.GlobalBufferOverflow
-    else class.UnknownCrash))))

@@ -12,29 +12,19 @@ use Rattle.trace_record.specs.declared.event.Event.{Event}
 use Rattle.trace_record.specs.declared.event.Event.TheVariants as event
 use Rattle.trace_record.specs.declared.event.Access.{Access}
 use Rattle.trace_record.specs.Shades.{shade_size}
-use Rattle.shadow_map.specs.States.{State, Addressable, HeapRedzone, Freed, UserPoison}
-use Rattle.shadow_map.specs.States.{StackRedzone, GlobalRedzone, state_of, lift, bad_byte_of}
+use Rattle.shadow_map.specs.States.{State, code_of, state_of, lift, bad_byte_of}
 use Rattle.shadow_map.specs.Causes.{deciding_granule}
 use Rattle.heap_book.specs.Spans.{starts_at}
 use Rattle.asan_check.specs.declared.report.Class.{Class}
-use Rattle.asan_check.specs.declared.report.Class.TheVariants as class
 use Rattle.asan_check.specs.declared.report.Fault.{Fault}
 use Rattle.asan_check.specs.declared.report.Fault.TheVariants as fault
 use Rattle.asan_check.specs.declared.report.Report.{Report}
+use Rattle.asan_check.specs.Codes.{class_of_code}
 use Rattle.asan_check.specs.History.{live, held, admits, marks}
-
--- the class that a state stands for
-abbrev pub class_of_state : State → Class
-class_of_state Addressable = class.UnknownCrash
-class_of_state HeapRedzone = class.HeapBufferOverflow
-class_of_state Freed = class.HeapUseAfterFree
-class_of_state UserPoison = class.UseAfterPoison
-class_of_state StackRedzone = class.StackBufferOverflow
-class_of_state GlobalRedzone = class.GlobalBufferOverflow
 
 -- the class of a bad access: that of the first byte of the granule that decides
 abbrev pub class_of : (ℕ → State) → ℕ → Class
-class_of states at = class_of_state (states (first_byte (deciding_granule states at)))
+class_of states at = class_of_code (code_of (states (first_byte (deciding_granule states at))))
 
 -- what is wrong with a load or a store of memory in these states
 abbrev pub access_fault : (ℕ → State) → Bool → Access → Option Fault

@@ -8,26 +8,23 @@ ghost use Rattle.trace_record.specs.declared.event.Event.{Event as AnEvent};
 ghost use Rattle.trace_record.specs.declared.event.Event.TheVariants as event;
 ghost use Rattle.trace_record.specs.declared.event.Place.{Place as APlace};
 ghost use Rattle.trace_record.specs.Shades.{shade_size};
-ghost use Rattle.shadow_map.specs.Calls.{is_poison_code};
 ghost use Rattle.shadow_map.specs.Readers.{shadow_of};
 ghost use Rattle.shadow_map.specs.States.{is_addressable, state_of, least_unaddressable};
-ghost use Rattle.shadow_map.specs.States.{bad_byte_of, code_of};
-ghost use Rattle.asan_check.specs.History.{marks, state_of_kind};
+ghost use Rattle.shadow_map.specs.States.{bad_byte_of};
+ghost use Rattle.asan_check.specs.History.{marks};
 ghost use Rattle.asan_check.specs.Verdicts.{verdict, fault_of, access_fault, malloc_fault};
 ghost use Rattle.asan_check.specs.Verdicts.{free_fault, marks_none, verdicts_of};
-ghost use Rattle.asan_check.specs.Laws.{class_of_shadow};
 
 use crate::NoMemory;
+use crate::codes::{FREED, class_by, poison_code};
 use crate::fetched::Fetched;
-use crate::report::{Class, Fault, Report};
+use crate::report::{Fault, Report};
 use asan_units::{GRANULE, REDZONE};
 use heap_book::{Admit, Block, Book, Bound, Freed};
-use shadow_map::{
-    FREED, GLOBAL_REDZONE, HEAP_REDZONE, STACK_REDZONE, Shadow, ShadowReader, USER_POISON,
-};
+use shadow_map::{HEAP_REDZONE, Shadow, ShadowReader};
 use std::alloc::{Allocator, Global};
 use thiserror::Error;
-use trace_record::{Access, Event, Kind, Place, Region, Shade};
+use trace_record::{Access, Event, Place, Region, Shade};
 
 /// There was no memory for this event or for an earlier one.
 #[derive(Clone, Copy, Debug, PartialEq, Eq, Error)]
@@ -424,31 +421,5 @@ impl<A: Allocator + Copy> Checker<A> {
             self.shadow.mark(oldest.from(), oldest.to(), HEAP_REDZONE)?;
         }
         Ok(())
-    }
-}
-
-/// The shadow byte of poison of a kind.
-fn poison_code(kind: Kind) -> u8
-    ensures code { IsTrue (is_poison_code result) }
-    ensures state { result ≡ code_of (state_of_kind kind) }
-{
-    match kind {
-        Kind::User => USER_POISON,
-        Kind::Stack => STACK_REDZONE,
-        Kind::Global => GLOBAL_REDZONE,
-    }
-}
-
-/// The class that a shadow byte stands for.
-fn class_by(shadow: u8) -> Class
-    ensures { result ≡ class_of_shadow shadow }
-{
-    match shadow {
-        HEAP_REDZONE => Class::HeapBufferOverflow,
-        FREED => Class::HeapUseAfterFree,
-        USER_POISON => Class::UseAfterPoison,
-        STACK_REDZONE => Class::StackBufferOverflow,
-        GLOBAL_REDZONE => Class::GlobalBufferOverflow,
-        _ => Class::UnknownCrash,
     }
 }

@@ -8,19 +8,19 @@ ghost use Rattle.trace_record.specs.declared.event.Event.{Event};
 ghost use Rattle.trace_record.specs.declared.event.Access.{Access};
 ghost use Rattle.trace_record.specs.declared.shade.Shade.{Shade};
 ghost use Rattle.trace_record.specs.Shades.{shade_kind};
-ghost use Rattle.shadow_map.specs.States.{Freed, Mark, code_of};
+ghost use Rattle.shadow_map.specs.States.{Mark, code_of};
 ghost use Rattle.heap_book.specs.Spans.{Extent, span_from, span_to, meets};
 ghost use Rattle.asan_units.specs.Units.{granule_of, round_up};
 ghost use Rattle.asan_check.specs.declared.report.Class.TheVariants as class;
 ghost use Rattle.asan_check.specs.declared.report.Report.{Report};
-ghost use Rattle.asan_check.specs.History.{live, held, marks, state_of_kind};
+ghost use Rattle.asan_check.specs.Codes.{Freed, class_of_code, code_of_kind};
+ghost use Rattle.asan_check.specs.History.{live, held, marks};
 ghost use Rattle.asan_check.specs.Verdicts.{verdict, verdicts};
 ghost use Rattle.asan_check.specs.Laws.{SharesByte, IsReportedAmong};
 ghost use Rattle.asan_check.specs.Laws.{since_malloc, since_free, IsLiveSince, IsHeldSince};
 ghost use Rattle.asan_check.specs.Laws.{NoPoisonShares, NoUnpoisonShares};
 ghost use Rattle.asan_check.specs.Laws.{access_event, LiesInside, StartsAround, StartsWithin};
 ghost use Rattle.asan_check.specs.Laws.{first_byte_report, shadow_around, IsPoisonedSince};
-ghost use Rattle.asan_check.specs.Laws.{class_of_kind};
 
 /// The spans of live and held blocks never meet, after any history and with any bound on the
 /// quarantine.
@@ -100,8 +100,8 @@ pub fn poison_is_reported()
     ensures { (bound : ℕ) (past : List Event) (poison : Shade) (is_store : Bool) (access : Access) →
         IsPoisonedSince bound past poison (granule_of access.at) →
         verdict bound past (access_event is_store access)
-        ≡ Some (first_byte_report past is_store access (class_of_kind (shade_kind poison))
-        (code_of (state_of_kind (shade_kind poison)))) }
+        ≡ Some (first_byte_report past is_store access
+        (class_of_code (code_of_kind (shade_kind poison))) (code_of_kind (shade_kind poison))) }
 {}
 
 /// Later events only add marks to those of a history, the newest first.

@@ -2,6 +2,7 @@
 #![tactic(auto)]
 
 mod checker;
+mod codes;
 mod ending;
 mod fetched;
 mod laws;

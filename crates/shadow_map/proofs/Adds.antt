@@ -1,39 +1,22 @@
 -- From granules to marks: a call that makes of each shadow byte what a mark does adds that mark.
 use Rattle.std.proofs.Common.{◌≡◌, ◌≢◌, ℕ, ◌+◌, ◌*◌, ◌/◌, ◌%◌, ◌^◌, ◌<◌, ◌≤◌, true, false, leb, ltb, refl, sym, ◌∙◌, arith}
-use Rattle.std.specs.Prelude.{◌&&◌, IsTrue}
+use Rattle.std.specs.Prelude.{◌&&◌}
 use Rattle.std.proofs.lemmas.Bool.Decides.{nat_tests}
 use Rattle.shadow_map.specs.declared.shadow.Shadow.{Shadow}
 use Rattle.shadow_map.specs.declared.granule.Change.TheVariants.{Poisoned}
-use Rattle.shadow_map.specs.States.{State, Addressable, HeapRedzone, Freed, UserPoison, StackRedzone, GlobalRedzone, is_addressable, is_poison, code_of, Mark, Fill, Block, Poison, Unpoison, IsMark}
+use Rattle.shadow_map.specs.States.{IsCode, Mark, Fill, Block, Poison, Unpoison, IsMark}
 use Rattle.shadow_map.specs.Shows.{value_at}
 use Rattle.shadow_map.specs.Granules.{changed_in}
-use Rattle.shadow_map.specs.Calls.{is_code, is_poison_code, range_from, range_to, Adds, AddsInPart, IsBrokenOff}
+use Rattle.shadow_map.specs.Calls.{range_from, range_to, Adds, AddsInPart, IsBrokenOff}
 use Rattle.shadow_map.proofs.Bytes.{MakesOfBytes, fill_makes, poison_makes}
 use Rattle.shadow_map.proofs.Cuts.{LeavesMarks, fill_leaves, poison_leaves}
 use Rattle.shadow_map.proofs.Fills.{IsFilled, torn_fill, either}
 
--- the states that have a code, and those that have the code of a poison
-code_is : (state : State) → IsTrue (is_code (code_of state)) → is_addressable state ≡ false
-code_is Addressable h = absurd cc
-code_is HeapRedzone h = refl
-code_is Freed h = refl
-code_is UserPoison h = refl
-code_is StackRedzone h = refl
-code_is GlobalRedzone h = refl
-
-poison_code_is : (state : State) → IsTrue (is_poison_code (code_of state)) → IsTrue (is_poison state)
-poison_code_is Addressable h = absurd cc
-poison_code_is HeapRedzone h = absurd cc
-poison_code_is Freed h = absurd cc
-poison_code_is UserPoison h = refl
-poison_code_is StackRedzone h = refl
-poison_code_is GlobalRedzone h = refl
-
 -- a mark that a call may make ends within the memory
 mark_ends : (mark : Mark) → IsMark mark → range_to mark ≤ 2 ^ 47
-mark_ends (Fill from to state) is = is.4
+mark_ends (Fill from to code) is = is.4
 mark_ends (Block at size) is = is.2
-mark_ends (Poison at size state) is = is.1
+mark_ends (Poison at size code) is = is.1
 mark_ends (Unpoison at size) is = is
 
 module _ {A : Type 0} (old new : Shadow A) where
@@ -67,17 +50,16 @@ module _ {A : Type 0} (old new : Shadow A) where
         );
   }
 
-  module _ (from to code : ℕ) (state : State) (its_code : code_of state ≡ code)
-      (granules : (from % 8 ≡ 0) × (to % 8 ≡ 0)) (order : from ≤ to) (end : to ≤ 2 ^ 47) (is_a_code : IsTrue (is_code code)) where
-    mark_is : IsMark (Fill from to state)
-    mark_is = (code_is state (rw its_code is_a_code), granules.0, granules.1, order, end)
+  module _ (from to code : ℕ) (granules : (from % 8 ≡ 0) × (to % 8 ≡ 0)) (order : from ≤ to) (end : to ≤ 2 ^ 47) (is_a_code : IsCode code) where
+    mark_is : IsMark (Fill from to code)
+    mark_is = (is_a_code, granules.0, granules.1, order, end)
 
-    pub fill_adds : IsFilled (λ g. value_at old g) (λ g. value_at new g) (from / 8) (to / 8) code → Adds old new (Fill from to state)
-    fill_adds each = adds (Fill from to state) _ mark_is (fill_makes from to state mark_is) (rw its_code each)
+    pub fill_adds : IsFilled (λ g. value_at old g) (λ g. value_at new g) (from / 8) (to / 8) code → Adds old new (Fill from to code)
+    fill_adds each = adds (Fill from to code) _ mark_is (fill_makes from to code mark_is) each
 
     pub fill_adds_in_part : (place : ℕ) × (from / 8 ≤ place) × (place < to / 8)
         × IsFilled (λ g. value_at old g) (λ g. value_at new g) (from / 8) place code × (value_at old place ≢ code) →
-        AddsInPart old new (Fill from to state)
+        AddsInPart old new (Fill from to code)
     fill_adds_in_part torn =
         let low = torn.1 in
         let below = torn.2 in
@@ -85,20 +67,20 @@ module _ {A : Type 0} (old new : Shadow A) where
         let also = granules.1 in
         let place : 8 * torn.0 / 8 ≡ torn.0 = omega arith in
         let in_it : (leb (from / 8) torn.0 && ltb torn.0 (to / 8)) ≡ true = grind (arith, nat_tests) in
-        adds_in_part (Fill from to state) _ mark_is (fill_makes from to state mark_is) (fill_leaves from to state mark_is) record {
+        adds_in_part (Fill from to code) _ mark_is (fill_makes from to code mark_is) (fill_leaves from to code mark_is) record {
           byte = 8 * torn.0;
           in_range = (omega arith, omega arith);
-          values = rw place (λ g. torn.3 g ∙ rw its_code (torn_fill (from / 8) (to / 8) torn.0 code (value_at old g) g torn.2));
-          due = rw place (rw in_it (λ is. torn.4 (sym is ∙ its_code)));
+          values = rw place (λ g. torn.3 g ∙ torn_fill (from / 8) (to / 8) torn.0 code (value_at old g) g torn.2);
+          due = rw place (rw in_it (λ is. torn.4 (sym is)));
         }
 
-  module _ (at size code : ℕ) (state : State) (its_code : code_of state ≡ code) (end : at + size ≤ 2 ^ 47) (is_a_code : IsTrue (is_poison_code code)) where
-    poison_is_mark : IsMark (Poison at size state)
-    poison_is_mark = (poison_code_is state (rw its_code is_a_code), end)
+  module _ (at size code : ℕ) (end : at + size ≤ 2 ^ 47) (is_a_code : IsCode code) where
+    poison_is_mark : IsMark (Poison at size code)
+    poison_is_mark = (is_a_code, end)
 
-    pub poison_adds : ((granule : ℕ) → value_at new granule ≡ changed_in (Poisoned code) at (at + size) (value_at old granule) granule) → Adds old new (Poison at size state)
-    poison_adds each = adds (Poison at size state) _ poison_is_mark (poison_makes at size state poison_is_mark) (rw its_code each)
+    pub poison_adds : ((granule : ℕ) → value_at new granule ≡ changed_in (Poisoned code) at (at + size) (value_at old granule) granule) → Adds old new (Poison at size code)
+    poison_adds each = adds (Poison at size code) _ poison_is_mark (poison_makes at size code poison_is_mark) each
 
-    pub poison_adds_in_part : IsBrokenOff at (at + size) (changed_in (Poisoned code) at (at + size)) old new → AddsInPart old new (Poison at size state)
+    pub poison_adds_in_part : IsBrokenOff at (at + size) (changed_in (Poisoned code) at (at + size)) old new → AddsInPart old new (Poison at size code)
     poison_adds_in_part torn =
-        adds_in_part (Poison at size state) _ poison_is_mark (poison_makes at size state poison_is_mark) (poison_leaves at size state poison_is_mark) (rw its_code torn)
+        adds_in_part (Poison at size code) _ poison_is_mark (poison_makes at size code poison_is_mark) (poison_leaves at size code poison_is_mark) torn

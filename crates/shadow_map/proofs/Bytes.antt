@@ -2,10 +2,10 @@
 use Rattle.std.proofs.Common.{◌≡◌, ℕ, zero, suc, ◌+◌, ◌-◌, ◌*◌, ◌/◌, ◌%◌, ◌<◌, ◌≤◌, Bool, true, false, cond, leb, ltb, eqb, List, ◌∷◌, Some, None, refl, sym, ap, ◌∙◌, arith, add-zero}
 use Rattle.std.specs.Prelude.{min, ◌&&◌, nat_lt, unwrap_or}
 use Rattle.std.proofs.lemmas.Bool.Decides.{nat_tests}
-use Rattle.shadow_map.specs.States.{State, Addressable, HeapRedzone, Freed, UserPoison, StackRedzone, GlobalRedzone, is_addressable, code_of, Mark, Fill, Block, Poison, Unpoison, lies_in, state_of, addressable_front, shadow_byte, lift, IsMark, AreMarks}
+use Rattle.shadow_map.specs.States.{State, Addressable, HeapRedzone, Coded, is_addressable, code_of, Mark, Fill, Block, Poison, Unpoison, lies_in, state_of, addressable_front, shadow_byte, lift, IsMark, AreMarks}
 use Rattle.asan_units.specs.Units.{round_up}
 use Rattle.shadow_map.specs.Granules.{front_of, poisoned_byte, unpoisoned_byte, block_byte}
-use Rattle.shadow_map.proofs.Fronts.{Front, poisoned_front, after, front_step, front_of_marks, first_is, none_from_is, granule_zero}
+use Rattle.shadow_map.proofs.Fronts.{Front, poisoned_front, after, front_step, front_of_marks, first_is, first_code, none_from_is, granule_zero}
 
 front_run : (states : ℕ → State) (byte front count : ℕ) → ((place : ℕ) → place < count → is_addressable (states (byte + place)) ≡ ltb place front) →
     addressable_front states byte count ≡ min front count
@@ -25,19 +25,6 @@ lift_is states granule front f =
     let run : addressable_front states (8 * granule) 8 ≡ front = front_run states (8 * granule) front 8 f.each ∙ (let m = f.most in grind (arith, nat_tests)) in
     ap (λ (n : ℕ). shadow_byte n (states (8 * granule))) run
 
--- a code is a number that no count of bytes is
-pub code_is_high : (state : State) → is_addressable state ≡ false → 128 ≤ code_of state
-code_is_high Addressable h = absurd cc
-code_is_high HeapRedzone h = omega arith
-code_is_high Freed h = omega arith
-code_is_high UserPoison h = omega arith
-code_is_high StackRedzone h = omega arith
-code_is_high GlobalRedzone h = omega arith
-
-pub first_code : (states : ℕ → State) (granule front : ℕ) → Front states granule front → front ≡ 0 → 128 ≤ code_of (states (8 * granule))
-first_code states granule front f none =
-    code_is_high _ (first_is states granule front f ∙ ap (λ (n : ℕ). nat_lt 0 n) none)
-
 -- the shadow byte by the code of the first byte
 abbrev pub byte_by : ℕ → ℕ → ℕ
 byte_by front code = cond (eqb front 8) 0 (cond (eqb front 0) code front)
@@ -45,9 +32,9 @@ byte_by front code = cond (eqb front 8) 0 (cond (eqb front 0) code front)
 front_of_byte : (front code : ℕ) → front ≤ 8 → (front ≡ 0 → 128 ≤ code) → front_of (byte_by front code) ≡ front
 front_of_byte front code most high = grind (arith, nat_tests)
 
-pub front_of_lift : (states : ℕ → State) (granule front : ℕ) → Front states granule front → front_of (lift states granule) ≡ front
-front_of_lift states granule front f =
-    ap front_of (lift_is states granule front f) ∙ front_of_byte front (code_of (states (8 * granule))) f.most (first_code states granule front f)
+pub front_of_lift : (marks : List Mark) → AreMarks marks → (granule front : ℕ) → Front (state_of marks) granule front → front_of (lift (state_of marks) granule) ≡ front
+front_of_lift marks ok granule front f =
+    ap front_of (lift_is (state_of marks) granule front f) ∙ front_of_byte front (code_of (state_of marks (8 * granule))) f.most (first_code marks ok granule front f)
 
 -- a mark makes of each granule's shadow byte what this function does, whatever marks came before
 abbrev pub MakesOfBytes : Mark → (ℕ → ℕ → ℕ) → Type 0
@@ -56,21 +43,21 @@ MakesOfBytes mark byte_after =
     byte_after shadow granule ≡ lift (state_of (mark ∷ marks)) granule
 
 -- a fill
-fill_byte : (covered : Bool) (front shadow : ℕ) (new old : State) → shadow ≡ shadow_byte front old →
-    cond covered (code_of new) shadow ≡ shadow_byte (cond covered 0 front) (unwrap_or (cond covered (Some new) None) old)
-fill_byte true front shadow new old is = refl
-fill_byte false front shadow new old is = is
+fill_byte : (covered : Bool) (front shadow code : ℕ) (old : State) → shadow ≡ shadow_byte front old →
+    cond covered code shadow ≡ shadow_byte (cond covered 0 front) (unwrap_or (cond covered (Some (Coded code)) None) old)
+fill_byte true front shadow code old is = refl
+fill_byte false front shadow code old is = is
 
 aligned_within : (from to granule : ℕ) → from % 8 ≡ 0 → to % 8 ≡ 0 → (leb (from / 8) granule && ltb granule (to / 8)) ≡ lies_in from to (8 * granule)
 aligned_within from to granule low high = grind (arith, nat_tests)
 
-pub fill_makes : (from to : ℕ) (state : State) → IsMark (Fill from to state) →
-    MakesOfBytes (Fill from to state) (λ shadow granule. cond (leb (from / 8) granule && ltb granule (to / 8)) (code_of state) shadow)
-fill_makes from to state mark marks ok granule shadow is =
+pub fill_makes : (from to code : ℕ) → IsMark (Fill from to code) →
+    MakesOfBytes (Fill from to code) (λ shadow granule. cond (leb (from / 8) granule && ltb granule (to / 8)) code shadow)
+fill_makes from to code mark marks ok granule shadow is =
     let p = front_of_marks marks ok granule in
     rw (aligned_within from to granule mark.1 mark.2)
-    (fill_byte (lies_in from to (8 * granule)) p.0 shadow state (state_of marks (8 * granule)) (is ∙ lift_is (state_of marks) granule p.0 p.1)
-    ∙ sym (lift_is (after (state_of marks) (Fill from to state)) granule _ (front_step (state_of marks) granule p.0 (Fill from to state) mark p.1)))
+    (fill_byte (lies_in from to (8 * granule)) p.0 shadow code (state_of marks (8 * granule)) (is ∙ lift_is (state_of marks) granule p.0 p.1)
+    ∙ sym (lift_is (after (state_of marks) (Fill from to code)) granule _ (front_step (state_of marks) granule p.0 (Fill from to code) mark p.1)))
 
 -- a block
 code_in_block : (covered inside : Bool) (old : State) →
@@ -138,15 +125,15 @@ poison_number x at end front code poison most high =
     (part_byte (eqb (min 8 (at - x)) 0 && eqb (min 8 (end - x)) 8) (leb front (min 8 (end - x)) && ltb (min 8 (at - x)) front && ltb (min 8 (at - x)) (min 8 (end - x)))
     (eqb (min 8 (at - x)) 0) front (min 8 (at - x)) code poison most (λ h. grind (arith, nat_tests)) refl)
 
-pub poison_makes : (at size : ℕ) (state : State) → IsMark (Poison at size state) →
-    MakesOfBytes (Poison at size state) (λ shadow granule. poisoned_byte (code_of state) shadow (min 8 (at - 8 * granule)) (min 8 (at + size - 8 * granule)))
-poison_makes at size state mark marks ok granule shadow is =
+pub poison_makes : (at size code : ℕ) → IsMark (Poison at size code) →
+    MakesOfBytes (Poison at size code) (λ shadow granule. poisoned_byte code shadow (min 8 (at - 8 * granule)) (min 8 (at + size - 8 * granule)))
+poison_makes at size code mark marks ok granule shadow is =
     let p = front_of_marks marks ok granule in
     let first = first_is (state_of marks) granule p.0 p.1 in
     let none = none_from_is (state_of marks) granule p.0 (at + size) p.1 in
     rw (is, lift_is (state_of marks) granule p.0 p.1)
-    (sym (poison_number (8 * granule) at (at + size) p.0 (code_of (state_of marks (8 * granule))) (code_of state) p.1.most (first_code (state_of marks) granule p.0 p.1))
-    ∙ rw (lift_is (after (state_of marks) (Poison at size state)) granule _ (front_step (state_of marks) granule p.0 (Poison at size state) mark p.1), granule_zero granule, none, code_poisoned, first) refl)
+    (sym (poison_number (8 * granule) at (at + size) p.0 (code_of (state_of marks (8 * granule))) code p.1.most (first_code marks ok granule p.0 p.1))
+    ∙ rw (lift_is (after (state_of marks) (Poison at size code)) granule _ (front_step (state_of marks) granule p.0 (Poison at size code) mark p.1), granule_zero granule, none, code_poisoned, first) refl)
 
 -- unpoison
 code_unpoisoned : (covered : Bool) (old : State) → code_of (unwrap_or (cond covered (Some Addressable) None) old) ≡ cond covered 0 (code_of old)
@@ -167,5 +154,5 @@ pub unpoison_makes : (at size : ℕ) → IsMark (Unpoison at size) →
 unpoison_makes at size mark marks ok granule shadow is =
     let p = front_of_marks marks ok granule in
     rw (is, lift_is (state_of marks) granule p.0 p.1)
-    (unpoison_number (8 * granule) at size p.0 (code_of (state_of marks (8 * granule))) p.1.most (first_code (state_of marks) granule p.0 p.1)
+    (unpoison_number (8 * granule) at size p.0 (code_of (state_of marks (8 * granule))) p.1.most (first_code marks ok granule p.0 p.1)
     ∙ rw (lift_is (after (state_of marks) (Unpoison at size)) granule _ (front_step (state_of marks) granule p.0 (Unpoison at size) mark p.1), whole_base granule, code_unpoisoned) refl)

@@ -5,7 +5,7 @@ use Rattle.std.proofs.lemmas.Bool.{cases_lt}
 use Rattle.std.proofs.lemmas.Bool.Decides.{nat_tests}
 use Rattle.shadow_map.specs.declared.granule.Change.{Change}
 use Rattle.shadow_map.specs.declared.granule.Change.TheVariants.{Poisoned, Unpoisoned}
-use Rattle.shadow_map.specs.States.{State, HeapRedzone, code_of, Mark, Fill, Block, Poison, Unpoison, IsMark, AreMarks, state_of, lift}
+use Rattle.shadow_map.specs.States.{Mark, Fill, Block, Poison, Unpoison, IsMark, AreMarks, state_of, lift}
 use Rattle.shadow_map.specs.Granules.{unpoisoned_byte, block_byte, changed_in}
 use Rattle.shadow_map.specs.Calls.{range_from, range_to}
 use Rattle.shadow_map.proofs.Bytes.{fill_makes, poison_makes, unpoison_makes}
@@ -19,23 +19,23 @@ LeavesMarks mark byte_after =
     cond (ltb granule (byte / 8)) (byte_after shadow granule) shadow ≡ lift (state_of now) granule)
 
 -- a fill leaves a shorter one
-cut_is_mark : (from to byte : ℕ) (state : State) → IsMark (Fill from to state) → from ≤ byte → byte < to →
-    IsMark (Fill from (8 * (byte / 8)) state)
-cut_is_mark from to byte state mark low high = let a = mark.1 in let e = mark.4 in (mark.0, a, omega arith, omega arith, omega arith)
+cut_is_mark : (from to byte code : ℕ) → IsMark (Fill from to code) → from ≤ byte → byte < to →
+    IsMark (Fill from (8 * (byte / 8)) code)
+cut_is_mark from to byte code mark low high = let a = mark.1 in let e = mark.4 in (mark.0, a, omega arith, omega arith, omega arith)
 
-pub fill_leaves : (from to : ℕ) (state : State) → IsMark (Fill from to state) →
-    LeavesMarks (Fill from to state) (λ shadow granule. cond (leb (from / 8) granule && ltb granule (to / 8)) (code_of state) shadow)
-fill_leaves from to state mark marks ok byte range =
+pub fill_leaves : (from to code : ℕ) → IsMark (Fill from to code) →
+    LeavesMarks (Fill from to code) (λ shadow granule. cond (leb (from / 8) granule && ltb granule (to / 8)) code shadow)
+fill_leaves from to code mark marks ok byte range =
     let low = range.0 in
     let high = range.1 in
     let aligned = mark.2 in
-    let cut = cut_is_mark from to byte state mark low high in
+    let cut = cut_is_mark from to byte code mark low high in
     let whole : 8 * (byte / 8) / 8 ≡ byte / 8 = omega arith in (
-      Fill from (8 * (byte / 8)) state ∷ marks,
+      Fill from (8 * (byte / 8)) code ∷ marks,
       (cut, ok),
       λ granule shadow is.
-          sym (torn_fill (from / 8) (to / 8) (byte / 8) (code_of state) shadow granule (omega arith))
-          ∙ rw whole at (fill_makes from (8 * (byte / 8)) state cut marks ok granule shadow is),
+          sym (torn_fill (from / 8) (to / 8) (byte / 8) code shadow granule (omega arith))
+          ∙ rw whole at (fill_makes from (8 * (byte / 8)) code cut marks ok granule shadow is),
     )
 
 -- poison and unpoison leave one of a shorter region
@@ -55,17 +55,17 @@ cut_change change at size byte granule shadow low high =
           rw past (sym (changed_nothing change shadow _ _ none))
     ]
 
-pub poison_leaves : (at size : ℕ) (state : State) → IsMark (Poison at size state) → LeavesMarks (Poison at size state) (changed_in (Poisoned (code_of state)) at (at + size))
-poison_leaves at size state mark marks ok byte range =
+pub poison_leaves : (at size code : ℕ) → IsMark (Poison at size code) → LeavesMarks (Poison at size code) (changed_in (Poisoned code) at (at + size))
+poison_leaves at size code mark marks ok byte range =
     let low = range.0 in
     let high = range.1 in
     let before = mark.1 in
     let end : at + (8 * (byte / 8) - at) ≤ 2 ^ 47 = omega arith in
-    let cut : IsMark (Poison at (8 * (byte / 8) - at) state) = (mark.0, end) in (
-      Poison at (8 * (byte / 8) - at) state ∷ marks,
+    let cut : IsMark (Poison at (8 * (byte / 8) - at) code) = (mark.0, end) in (
+      Poison at (8 * (byte / 8) - at) code ∷ marks,
       (cut, ok),
-      λ granule shadow is. cut_change (Poisoned (code_of state)) at size byte granule shadow low high
-          ∙ poison_makes at (8 * (byte / 8) - at) state cut marks ok granule shadow is,
+      λ granule shadow is. cut_change (Poisoned code) at size byte granule shadow low high
+          ∙ poison_makes at (8 * (byte / 8) - at) code cut marks ok granule shadow is,
     )
 
 pub unpoison_leaves : (at size : ℕ) → IsMark (Unpoison at size) → LeavesMarks (Unpoison at size) (changed_in Unpoisoned at (at + size))
@@ -147,15 +147,15 @@ block_leaves at size mark marks ok byte range =
     let aligned = mark.0 in
     let room = mark.1 in
     let end = mark.2 in
-    let redzones : IsMark (Fill (at - 32) (8 * (byte / 8)) HeapRedzone) = (refl, omega arith, omega arith, omega arith, omega arith) in
+    let redzones : IsMark (Fill (at - 32) (8 * (byte / 8)) 0xfa) = ((omega arith, omega arith), omega arith, omega arith, omega arith, omega arith) in
     let bytes : IsMark (Unpoison at (min size (8 * (byte / 8) - at))) = omega arith in
     let first : (at - 32) / 8 ≡ at / 8 - 4 = omega arith in
     let whole : 8 * (byte / 8) / 8 ≡ byte / 8 = omega arith in (
-      Unpoison at (min size (8 * (byte / 8) - at)) ∷ Fill (at - 32) (8 * (byte / 8)) HeapRedzone ∷ marks,
+      Unpoison at (min size (8 * (byte / 8) - at)) ∷ Fill (at - 32) (8 * (byte / 8)) 0xfa ∷ marks,
       (bytes, (redzones, ok)),
       λ granule shadow is.
           cut_block at size (byte / 8) granule shadow aligned room (omega arith) (omega arith)
-          ∙ unpoison_makes at (min size (8 * (byte / 8) - at)) bytes (Fill (at - 32) (8 * (byte / 8)) HeapRedzone ∷ marks) (redzones, ok) granule
+          ∙ unpoison_makes at (min size (8 * (byte / 8) - at)) bytes (Fill (at - 32) (8 * (byte / 8)) 0xfa ∷ marks) (redzones, ok) granule
           (cond (leb (at / 8 - 4) granule && ltb granule (byte / 8)) 0xfa shadow)
-          (rw (first, whole) at (fill_makes (at - 32) (8 * (byte / 8)) HeapRedzone redzones marks ok granule shadow is)),
+          (rw (first, whole) at (fill_makes (at - 32) (8 * (byte / 8)) 0xfa redzones marks ok granule shadow is)),
     )

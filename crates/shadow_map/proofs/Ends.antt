@@ -10,7 +10,7 @@ use Rattle.shadow_map.proofs.Bytes.{lift_is}
 
 pub all_past_the_end_is_addressable : AllPastTheEndIsAddressable
 all_past_the_end_is_addressable [] ok byte le = refl
-all_past_the_end_is_addressable (Fill from to state ∷ marks) ok byte le =
+all_past_the_end_is_addressable (Fill from to code ∷ marks) ok byte le =
     let end : to ≤ 2 ^ 47 = ok.0.4 in
     let off : lies_in from to byte ≡ false = grind (arith, nat_tests) in
     rw off (all_past_the_end_is_addressable marks ok.1 byte le)
@@ -18,7 +18,7 @@ all_past_the_end_is_addressable (Block at size ∷ marks) ok byte le =
     let end : at + round_up size + redzone ≤ 2 ^ 47 = ok.0.2 in
     let off : lies_in (at - redzone) (at + round_up size + redzone) byte ≡ false = grind (arith, nat_tests) in
     rw off (all_past_the_end_is_addressable marks ok.1 byte le)
-all_past_the_end_is_addressable (Poison at size state ∷ marks) ok byte le =
+all_past_the_end_is_addressable (Poison at size code ∷ marks) ok byte le =
     let end : at + size ≤ 2 ^ 47 = ok.0.1 in
     let whole : granule_lies_in at (at + size) byte ≡ false = grind (arith, nat_tests) in
     let part : lies_in at (at + size) byte ≡ false = grind (arith, nat_tests) in

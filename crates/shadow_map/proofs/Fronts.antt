@@ -1,8 +1,8 @@
 -- After any marks the addressable bytes of each granule are its first ones.
-use Rattle.std.proofs.Common.{◌≡◌, ℕ, ◌+◌, ◌-◌, ◌*◌, ◌/◌, ◌%◌, ◌<◌, ◌≤◌, Bool, true, false, cond, eqb, leb, ltb, List, [], ◌∷◌, Some, None, refl, arith, add-zero}
-use Rattle.std.specs.Prelude.{min, not, ◌&&◌, ◌||◌, nat_lt, nat_le, unwrap_or, IsTrue}
+use Rattle.std.proofs.Common.{◌≡◌, ℕ, ◌+◌, ◌-◌, ◌*◌, ◌/◌, ◌%◌, ◌<◌, ◌≤◌, Bool, true, false, cond, eqb, leb, ltb, List, [], ◌∷◌, Some, None, refl, ap, ◌∙◌, arith, add-zero}
+use Rattle.std.specs.Prelude.{min, not, ◌&&◌, ◌||◌, nat_lt, nat_le, unwrap_or}
 use Rattle.std.proofs.lemmas.Bool.Decides.{nat_tests}
-use Rattle.shadow_map.specs.States.{State, Addressable, HeapRedzone, Freed, UserPoison, StackRedzone, GlobalRedzone, is_addressable, is_poison, Mark, Fill, Block, Poison, Unpoison, lies_in, none_addressable_from, state_given, state_of, IsMark, AreMarks}
+use Rattle.shadow_map.specs.States.{State, Addressable, HeapRedzone, Coded, is_addressable, code_of, Mark, Fill, Block, Poison, Unpoison, lies_in, none_addressable_from, state_given, state_of, IsMark, AreMarks}
 use Rattle.asan_units.specs.Units.{redzone, round_up}
 
 -- the states after one more mark
@@ -61,21 +61,12 @@ redzone_or : (inside : Bool) → is_addressable (cond inside Addressable HeapRed
 redzone_or true = refl
 redzone_or false = refl
 
--- a state that poison can give is not addressable
-pub poison_is : (state : State) → IsTrue (is_poison state) → is_addressable state ≡ false
-poison_is Addressable h = absurd cc
-poison_is HeapRedzone h = refl
-poison_is Freed h = refl
-poison_is UserPoison h = refl
-poison_is StackRedzone h = refl
-poison_is GlobalRedzone h = refl
-
 -- how many first bytes of a granule are addressable after a mark
 abbrev pub front_after : Mark → ℕ → ℕ → ℕ
-front_after (Fill from to state) granule front = cond (lies_in from to (8 * granule)) 0 front
+front_after (Fill from to code) granule front = cond (lies_in from to (8 * granule)) 0 front
 front_after (Block at size) granule front =
     cond (lies_in (at - redzone) (at + round_up size + redzone) (8 * granule)) (cond (leb at (8 * granule)) (min 8 (at + size - 8 * granule)) 0) front
-front_after (Poison at size state) granule front = poisoned_front front (min 8 (at - 8 * granule)) (min 8 (at + size - 8 * granule))
+front_after (Poison at size code) granule front = poisoned_front front (min 8 (at - 8 * granule)) (min 8 (at + size - 8 * granule))
 front_after (Unpoison at size) granule front =
     let end = min 8 (at + size - 8 * granule) in
     cond (ltb 0 size && ltb (8 * granule) (at + size) && ltb at (8 * granule + 8) && ltb front end) end front
@@ -103,17 +94,17 @@ unpoison_front x at size front place lt most = grind (arith, nat_tests)
 -- each mark leaves the addressable bytes of a granule its first ones
 pub front_step : (states : ℕ → State) (granule front : ℕ) (mark : Mark) → IsMark mark → Front states granule front →
     Front (after states mark) granule (front_after mark granule front)
-front_step states granule front (Fill from to state) ok f = record {
+front_step states granule front (Fill from to code) ok f = record {
   most = let m = f.most in grind (arith, nat_tests);
-  each = λ place lt. rw (addressable_one, ok.0, f.each place lt) (fill_front (8 * granule) from to front place lt (base_aligned granule) ok.1 ok.2);
+  each = λ place lt. rw (addressable_one, f.each place lt) (fill_front (8 * granule) from to front place lt (base_aligned granule) ok.1 ok.2);
 }
 front_step states granule front (Block at size) ok f = record {
   most = let m = f.most in grind (arith, nat_tests);
   each = λ place lt. rw (addressable_one, redzone_or, f.each place lt) (block_front (8 * granule) at size front place lt (base_aligned granule) ok.0 ok.1 f.most);
 }
-front_step states granule front (Poison at size state) ok f = record {
+front_step states granule front (Poison at size code) ok f = record {
   most = let m = f.most in grind (arith, nat_tests);
-  each = λ place lt. rw (granule_is granule place lt, none_from_is states granule front (at + size) f, addressable_two, poison_is state ok.0, f.each place lt) (poison_front (8 * granule) at (at + size) front place lt f.most);
+  each = λ place lt. rw (granule_is granule place lt, none_from_is states granule front (at + size) f, addressable_two, f.each place lt) (poison_front (8 * granule) at (at + size) front place lt f.most);
 }
 front_step states granule front (Unpoison at size) ok f = record {
   most = let m = f.most in grind (arith, nat_tests);
@@ -126,3 +117,37 @@ front_of_marks [] ok granule = (8, record { most = omega arith; each = λ place 
 front_of_marks (mark ∷ marks) ok granule =
     let before = front_of_marks marks ok.1 granule in
     (front_after mark granule before.0, front_step (state_of marks) granule before.0 mark ok.0 before.1)
+
+-- and the code of each byte that is not addressable is a number that no count of bytes is
+record IsHigh (state : State) : Type 0 where
+  high : is_addressable state ≡ false → 128 ≤ code_of state
+
+high_addressable : IsHigh Addressable
+high_addressable = record { high = λ h. absurd cc }
+
+high_code : (code : ℕ) → 128 ≤ code → IsHigh (Coded code)
+high_code code le = record { high = λ h. le }
+
+high_one : (covered : Bool) (new old : State) → IsHigh new → IsHigh old → IsHigh (unwrap_or (cond covered (Some new) None) old)
+high_one true new old is was = is
+high_one false new old is was = was
+
+high_two : (whole part : Bool) (new old : State) → IsHigh new → IsHigh old → IsHigh (unwrap_or (cond whole (Some new) (cond part (Some new) None)) old)
+high_two true part new old is was = is
+high_two false true new old is was = is
+high_two false false new old is was = was
+
+high_in_block : (inside : Bool) → IsHigh (cond inside Addressable HeapRedzone)
+high_in_block true = high_addressable
+high_in_block false = high_code 0xfa (omega arith)
+
+high_of_marks : (marks : List Mark) → AreMarks marks → (byte : ℕ) → IsHigh (state_of marks byte)
+high_of_marks [] ok byte = high_addressable
+high_of_marks (Fill from to code ∷ marks) ok byte = high_one _ _ _ (high_code code ok.0.0.0) (high_of_marks marks ok.1 byte)
+high_of_marks (Block at size ∷ marks) ok byte = high_one _ _ _ (high_in_block _) (high_of_marks marks ok.1 byte)
+high_of_marks (Poison at size code ∷ marks) ok byte = high_two _ _ _ _ (high_code code ok.0.0.0) (high_of_marks marks ok.1 byte)
+high_of_marks (Unpoison at size ∷ marks) ok byte = high_one _ _ _ high_addressable (high_of_marks marks ok.1 byte)
+
+pub first_code : (marks : List Mark) → AreMarks marks → (granule front : ℕ) → Front (state_of marks) granule front → front ≡ 0 → 128 ≤ code_of (state_of marks (8 * granule))
+first_code marks ok granule front f none =
+    (high_of_marks marks ok (8 * granule)).high (first_is (state_of marks) granule front f ∙ ap (λ (n : ℕ). nat_lt 0 n) none)

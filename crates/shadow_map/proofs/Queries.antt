@@ -4,14 +4,14 @@ use Rattle.std.specs.List.{list_all}
 use Rattle.std.specs.Prelude.{min, max, not, ◌&&◌, ◌||◌, nat_lt, nat_le, ◌↔◌, is_some, IsTrue, MatchOption}
 use Rattle.std.proofs.lemmas.Bool.Decides.{nat_tests}
 use Rattle.std.proofs.lemmas.Bool.{cases_lt}
-use Rattle.shadow_map.specs.States.{State, Addressable, HeapRedzone, Freed, UserPoison, StackRedzone, GlobalRedzone, is_addressable, code_of, Mark, AreMarks, places, state_of, lift, least_unaddressable, bad_byte_of}
+use Rattle.shadow_map.specs.States.{State, Addressable, Coded, is_addressable, code_of, Mark, AreMarks, places, state_of, lift, least_unaddressable, bad_byte_of}
 use Rattle.shadow_map.specs.Checks.{is_negative, check_reports}
 use Rattle.shadow_map.specs.Causes.{has_none_addressable, deciding_granule}
 use Rattle.asan_units.specs.Units.{is_width}
 use Rattle.shadow_map.specs.Granules.{front_of}
 use Rattle.shadow_map.specs.Laws.{AddressableBytesLead, IsAddressableAt, IsFirstUnaddressable, FirstUnaddressableOfARegion, BadByteOfAnAccess, ShadowByteOfAGranule, ShadowCheckFindsTheBadByte}
-use Rattle.shadow_map.proofs.Fronts.{Front, front_of_marks}
-use Rattle.shadow_map.proofs.Bytes.{lift_is, first_code, front_of_lift, byte_by}
+use Rattle.shadow_map.proofs.Fronts.{Front, front_of_marks, first_code}
+use Rattle.shadow_map.proofs.Bytes.{lift_is, front_of_lift, byte_by}
 
 -- which of this many bytes from a place of a granule on is the first that is not addressable
 least_run : (states : ℕ → State) (x front place count : ℕ) → ((other : ℕ) → other < 8 → is_addressable (states (x + other)) ≡ ltb other front) →
@@ -45,7 +45,7 @@ pub bad_byte_shown : (marks : List Mark) → AreMarks marks → (at size shadow 
     ≡ cond (ltb (max (at % 8) (front_of shadow)) (at % 8 + min size (8 - at % 8))) (Some (at - at % 8 + max (at % 8) (front_of shadow))) None
 bad_byte_shown marks ok at size shadow is =
     let p = front_of_marks marks ok (at / 8) in
-    let front : p.0 ≡ front_of shadow = sym (ap front_of is ∙ front_of_lift (state_of marks) (at / 8) p.0 p.1) in
+    let front : p.0 ≡ front_of shadow = sym (ap front_of is ∙ front_of_lift marks ok (at / 8) p.0 p.1) in
     let base : at - at % 8 ≡ 8 * (at / 8) = omega arith in
     rw (← front, base) (bad_byte_by (state_of marks) p.0 at size p.1)
 
@@ -54,7 +54,7 @@ pub addressable_shown : (marks : List Mark) → AreMarks marks → (at shadow : 
     not (is_addressable (state_of marks at)) ≡ nat_le (front_of shadow) (at % 8)
 addressable_shown marks ok at shadow is =
     let p = front_of_marks marks ok (at / 8) in
-    let front : p.0 ≡ front_of shadow = sym (ap front_of is ∙ front_of_lift (state_of marks) (at / 8) p.0 p.1) in
+    let front : p.0 ≡ front_of shadow = sym (ap front_of is ∙ front_of_lift marks ok (at / 8) p.0 p.1) in
     let split : 8 * (at / 8) + at % 8 ≡ at = omega arith in
     let here = rw split at (p.1.each (at % 8) (omega arith)) in
     rw (here, front) (grind (arith, nat_tests))
@@ -76,7 +76,7 @@ none_addressable_shown marks ok granule =
     let front : has_none_addressable states granule ≡ nat_le p.0 0 =
     rw (each 0 (omega arith), each 1 (omega arith), each 2 (omega arith), each 3 (omega arith), each 4 (omega arith), each 5 (omega arith), each 6 (omega arith), each 7 (omega arith))
     (none_of_front p.0) in
-    front ∙ negative_without_front p.0 (code_of (states (8 * granule))) p.1.most (first_code states granule p.0 p.1)
+    front ∙ negative_without_front p.0 (code_of (states (8 * granule))) p.1.most (first_code marks ok granule p.0 p.1)
     ∙ ap is_negative (sym (lift_is states granule p.0 p.1))
 
 pub deciding_shown : (marks : List Mark) → AreMarks marks → (at shadow : ℕ) → shadow ≡ lift (state_of marks) (at / 8) →
@@ -215,11 +215,7 @@ module _ (marks : List Mark) (ok : AreMarks marks) (at size : ℕ) (some : 0 < s
 -- the laws
 is_addressable_state : (state : State) → is_addressable state ≡ true → state ≡ Addressable
 is_addressable_state Addressable h = refl
-is_addressable_state HeapRedzone h = absurd cc
-is_addressable_state Freed h = absurd cc
-is_addressable_state UserPoison h = absurd cc
-is_addressable_state StackRedzone h = absurd cc
-is_addressable_state GlobalRedzone h = absurd cc
+is_addressable_state (Coded code) h = absurd cc
 
 -- a region all of whose bytes are addressable but for one more at its front
 front_byte : (P : ℕ → Type 0) (at size : ℕ) → P at → ((byte : ℕ) → at + 1 ≤ byte → byte < at + 1 + size → P byte) →
@@ -299,7 +295,7 @@ pub shadow_check_finds_the_bad_byte : ShadowCheckFindsTheBadByte
 shadow_check_finds_the_bad_byte marks ok at width is =
     let p = front_of_marks marks ok (at / 8) in
     ap (λ (shadow : ℕ). check_reports shadow at width) (lift_is (state_of marks) (at / 8) p.0 p.1)
-    ∙ check_number (at % 8) width p.0 (code_of (state_of marks (8 * (at / 8)))) (omega arith) is p.1.most (first_code (state_of marks) (at / 8) p.0 p.1)
+    ∙ check_number (at % 8) width p.0 (code_of (state_of marks (8 * (at / 8)))) (omega arith) is p.1.most (first_code marks ok (at / 8) p.0 p.1)
     ∙ some_cond _ (8 * (at / 8) + max (at % 8) p.0) ∙ sym (ap is_some (bad_byte_by (state_of marks) p.0 at width p.1))
 
 -- the numbers of a shadow byte
@@ -343,7 +339,7 @@ shadow_byte_of_a_granule marks ok granule =
     let p = front_of_marks marks ok granule in
     let is = lift_is states granule p.0 p.1 in
     let code = code_of (states (8 * granule)) in
-    let high = first_code states granule p.0 p.1 in
+    let high = first_code marks ok granule p.0 p.1 in
     record {
       all = (
         λ zero place lt. is_addressable_state _ (p.1.each place lt ∙ (let whole = zero_is_whole p.0 code p.1.most high (sym is ∙ zero) in grind (arith, nat_tests))),

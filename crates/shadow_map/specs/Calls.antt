@@ -1,33 +1,22 @@
 -- What a call on a shadow asks for, and what it leaves.
-use Rattle.std.specs.Prelude.{◌≡◌, ◌≢◌, ℕ, ◌+◌, ◌-◌, ◌<◌, ◌≤◌, nat_lt, if◌then◌else◌, Bool}
-use Rattle.std.specs.Prelude.{◌||◌, ◌==◌, List, ◌∷◌}
+use Rattle.std.specs.Prelude.{◌≡◌, ◌≢◌, ℕ, ◌+◌, ◌-◌, ◌<◌, ◌≤◌, nat_lt, if◌then◌else◌, List, ◌∷◌}
 use Rattle.shadow_map.specs.declared.shadow.Shadow.{Shadow}
-use Rattle.shadow_map.specs.States.{HeapRedzone, Freed, UserPoison, StackRedzone, GlobalRedzone}
-use Rattle.shadow_map.specs.States.{Mark, Fill, Block, Poison, Unpoison, code_of, state_of, lift}
+use Rattle.shadow_map.specs.States.{Mark, Fill, Block, Poison, Unpoison, state_of, lift}
 use Rattle.asan_units.specs.Units.{granule_of, redzone, round_up}
 use Rattle.shadow_map.specs.Shows.{value_at, Shows, ShowsUpTo}
-
--- whether a byte is the code of a state that a poison can give
-abbrev pub is_poison_code : ℕ → Bool
-is_poison_code byte =
-    byte == code_of UserPoison || byte == code_of StackRedzone || byte == code_of GlobalRedzone
-
--- whether a byte is the code of a state that is not addressable
-abbrev pub is_code : ℕ → Bool
-is_code byte = byte == code_of HeapRedzone || byte == code_of Freed || is_poison_code byte
 
 -- the range that a mark is laid on, from its first address up to the first past it: a fill has its
 -- own, a block its span, poison and unpoison have their region
 abbrev pub range_from : Mark → ℕ
-range_from (Fill from to state) = from
+range_from (Fill from to code) = from
 range_from (Block at size) = at - redzone
-range_from (Poison at size state) = at
+range_from (Poison at size code) = at
 range_from (Unpoison at size) = at
 
 abbrev pub range_to : Mark → ℕ
-range_to (Fill from to state) = to
+range_to (Fill from to code) = to
 range_to (Block at size) = at + round_up size + redzone
-range_to (Poison at size state) = at + size
+range_to (Poison at size code) = at + size
 range_to (Unpoison at size) = at + size
 
 module _ {A : Type 0} where

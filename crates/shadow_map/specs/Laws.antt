@@ -2,7 +2,7 @@
 -- calls may make.
 use Rattle.std.specs.Prelude.{◌≡◌, ℕ, ◌+◌, ◌<◌, ◌≤◌, ◌↔◌, is_some, IsTrue}
 use Rattle.std.specs.Prelude.{MatchOption, List, ◌∷◌}
-use Rattle.shadow_map.specs.States.{State, Addressable, is_poison, code_of, Mark, Poison, Unpoison}
+use Rattle.shadow_map.specs.States.{State, Addressable, IsCode, code_of, Mark, Poison, Unpoison}
 use Rattle.shadow_map.specs.States.{AreMarks, state_of, lift, least_unaddressable, bad_byte_of}
 use Rattle.shadow_map.specs.Granules.{place_in, poisoned_byte, unpoisoned_byte}
 use Rattle.shadow_map.specs.Checks.{is_negative, check_reports}
@@ -78,14 +78,14 @@ AllPastTheEndIsAddressable =
     (marks : List Mark) → AreMarks marks → (byte : ℕ) → address_end ≤ byte →
     state_of marks byte ≡ Addressable
 
--- what a poison makes of a granule's shadow byte, by the poison's state, by the byte before and by
+-- what a poison makes of a granule's shadow byte, by the poison's code, by the byte before and by
 -- the part of the granule that it speaks of
 abbrev pub PoisonOfAGranule : Type 0
 PoisonOfAGranule =
-    (marks : List Mark) → AreMarks marks → (at size granule : ℕ) (state : State) →
-    IsTrue (is_poison state) → at + size ≤ address_end →
-    lift (state_of (Poison at size state ∷ marks)) granule
-    ≡ poisoned_byte (code_of state) (lift (state_of marks) granule)
+    (marks : List Mark) → AreMarks marks → (at size code granule : ℕ) → IsCode code →
+    at + size ≤ address_end →
+    lift (state_of (Poison at size code ∷ marks)) granule
+    ≡ poisoned_byte code (lift (state_of marks) granule)
     (place_in granule at) (place_in granule (at + size))
 
 -- the same of an unpoison

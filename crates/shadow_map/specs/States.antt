@@ -1,51 +1,44 @@
 -- What each byte of memory is after a list of marks, the newest first, and what its shadow says.
 --
--- The shadow byte of a granule is that of the paper of 2012. The codes, and what poison and
--- unpoison do to a granule that they cover in part, are this project's choice (profile).
-use Rattle.std.specs.Prelude.{ℕ, zero, suc, ◌+◌, ◌-◌, ◌%◌, ◌≤◌, min, Bool, true}
+-- The shadow byte of a granule is that of the paper of 2012. The code of a redzone, and what poison
+-- and unpoison do to a granule that they cover in part, are this project's choice (profile). What
+-- the other codes stand for is the choice of who gives them.
+use Rattle.std.specs.Prelude.{ℕ, zero, suc, ◌+◌, ◌-◌, ◌%◌, ◌<◌, ◌≤◌, min, Bool, true}
 use Rattle.std.specs.Prelude.{false, not, ◌&&◌, ◌||◌, ◌==◌, nat_lt, nat_le, if◌then◌else◌, List, []}
-use Rattle.std.specs.Prelude.{◌∷◌, Option, Some, None, unwrap_or, IsTrue, IsFalse}
+use Rattle.std.specs.Prelude.{◌∷◌, Option, Some, None, unwrap_or}
 use Rattle.std.specs.List.{list_all}
 use Rattle.asan_units.specs.Units.{address_end, granule_size, granule_of, first_byte}
 use Rattle.asan_units.specs.Units.{IsGranuleStart, round_up, redzone}
 
--- what a byte is
+-- what a byte is: addressable, or not, with a code that says why
 pub data State : Type 0 where
   Addressable : State
-  HeapRedzone : State
-  Freed : State
-  UserPoison : State
-  StackRedzone : State
-  GlobalRedzone : State
+  Coded : ℕ → State
 
 abbrev pub is_addressable : State → Bool
 is_addressable Addressable = true
-is_addressable state = false
+is_addressable (Coded code) = false
 
--- whether a poison can give this state: what the user poisons, and the redzones that a compiler
--- puts round the variables of a stack frame and round globals
-abbrev pub is_poison : State → Bool
-is_poison UserPoison = true
-is_poison StackRedzone = true
-is_poison GlobalRedzone = true
-is_poison state = false
+-- a code: a byte that is negative as a signed number
+abbrev pub IsCode : ℕ → Type 0
+IsCode code = (0x80 ≤ code) × (code < 0x100)
 
 -- the shadow byte of a granule all of whose bytes have this state
 abbrev pub code_of : State → ℕ
 code_of Addressable = 0
-code_of HeapRedzone = 0xfa
-code_of Freed = 0xfd
-code_of UserPoison = 0xf7
-code_of StackRedzone = 0xf2
-code_of GlobalRedzone = 0xf9
+code_of (Coded code) = code
 
--- what a call does to memory: it fills whole granules, from an address up to another, with a state;
+-- the redzones that a block is laid between
+abbrev pub HeapRedzone : State
+HeapRedzone = Coded 0xfa
+
+-- what a call does to memory: it fills whole granules, from an address up to another, with a code;
 -- it lays a block, by its address and size, between its redzones; it poisons a region, by its
--- address and size, with a state, or unpoisons it
+-- address and size, with a code, or unpoisons it
 pub data Mark : Type 0 where
-  Fill : ℕ → ℕ → State → Mark
+  Fill : ℕ → ℕ → ℕ → Mark
   Block : ℕ → ℕ → Mark
-  Poison : ℕ → ℕ → State → Mark
+  Poison : ℕ → ℕ → ℕ → Mark
   Unpoison : ℕ → ℕ → Mark
 
 -- whether a byte lies from an address up to another, which is not in the range
@@ -72,21 +65,22 @@ none_addressable_from before from granule =
 -- these.
 -- A fill covers its range. A block covers its span: the block's bytes are addressable, the others a
 -- redzone.
--- Poison gives its state to a byte whose granule lies wholly in its region; to any other byte of
+-- Poison gives its code to a byte whose granule lies wholly in its region; to any other byte of
 -- the region only where it is addressable and no byte of its granule at the region's end or past it
 -- is.
 -- Unpoison covers a byte where it or a later byte of its granule lies in the region.
 abbrev pub state_given : (ℕ → State) → Mark → ℕ → Option State
-state_given before (Fill from to state) byte = if lies_in from to byte then Some state else None
+state_given before (Fill from to code) byte =
+    if lies_in from to byte then Some (Coded code) else None
 state_given before (Block at size) byte =
     if lies_in (at - redzone) (at + round_up size + redzone) byte
     then Some (if lies_in at (at + size) byte then Addressable else HeapRedzone)
     else None
-state_given before (Poison at size state) byte =
-    if granule_lies_in at (at + size) byte then Some state
+state_given before (Poison at size code) byte =
+    if granule_lies_in at (at + size) byte then Some (Coded code)
     else (if lies_in at (at + size) byte && is_addressable (before byte)
     && none_addressable_from before (at + size) (granule_of byte)
-    then Some state
+    then Some (Coded code)
     else None)
 state_given before (Unpoison at size) byte =
     if nat_lt 0 size && nat_lt byte (at + size)
@@ -130,15 +124,14 @@ abbrev pub bad_byte_of : (ℕ → State) → ℕ → ℕ → Option ℕ
 bad_byte_of states at width =
     least_unaddressable states at (min width (granule_size - at % granule_size))
 
--- a mark that a call may make: of a state that it can give, of whole granules where it says so, and
+-- a mark that a call may make: by a code where it has one, of whole granules where it says so, and
 -- none past the last address
 abbrev pub IsMark : Mark → Type 0
-IsMark (Fill from to state) =
-    IsFalse (is_addressable state) × IsGranuleStart from × IsGranuleStart to × (from ≤ to)
-    × (to ≤ address_end)
+IsMark (Fill from to code) =
+    IsCode code × IsGranuleStart from × IsGranuleStart to × (from ≤ to) × (to ≤ address_end)
 IsMark (Block at size) =
     IsGranuleStart at × (redzone ≤ at) × (at + round_up size + redzone ≤ address_end)
-IsMark (Poison at size state) = IsTrue (is_poison state) × (at + size ≤ address_end)
+IsMark (Poison at size code) = IsCode code × (at + size ≤ address_end)
 IsMark (Unpoison at size) = at + size ≤ address_end
 
 abbrev pub AreMarks : List Mark → Type 0

@@ -15,18 +15,6 @@ pub const LEAST_CODE: u8 = 0x80;
 /// The shadow byte of a granule whose bytes are a redzone of a block on the heap.
 pub const HEAP_REDZONE: u8 = 0xfa;
 
-/// The shadow byte of a granule whose bytes were freed.
-pub const FREED: u8 = 0xfd;
-
-/// The shadow byte of a granule whose bytes the user has poisoned.
-pub const USER_POISON: u8 = 0xf7;
-
-/// The shadow byte of a granule whose bytes are a redzone of a variable on the stack.
-pub const STACK_REDZONE: u8 = 0xf2;
-
-/// The shadow byte of a granule whose bytes are a redzone of a global.
-pub const GLOBAL_REDZONE: u8 = 0xf9;
-
 /// How many bytes of a granule are addressable, by its shadow byte. They are its first ones.
 #[inline]
 pub fn front(shadow: u8) -> u8

@@ -2,8 +2,8 @@
 //! are.
 //!
 //! A shadow byte is 0 where all eight bytes of its granule are addressable, and k from 1 to 7 where
-//! the first k are and the others are not. Where none is, it is a code: [`HEAP_REDZONE`],
-//! [`FREED`], [`USER_POISON`], [`STACK_REDZONE`] or [`GLOBAL_REDZONE`]. So a shadow can only
+//! the first k are and the others are not. Where none is, it is a code, a byte from 0x80 on, that
+//! says why: [`HEAP_REDZONE`] round a block, and else what the caller gave. So a shadow can only
 //! describe a granule whose addressable bytes come first, and each call keeps to that:
 //!
 //! - [`Shadow::mark`] and [`Shadow::block`] set whole granules, but for the last one of a block, of
@@ -26,7 +26,7 @@ mod marks;
 mod reader;
 mod shadow;
 
-pub use granule::{FREED, GLOBAL_REDZONE, HEAP_REDZONE, STACK_REDZONE, USER_POISON};
+pub use granule::HEAP_REDZONE;
 pub use laws::{
     addressable_bytes_lead, all_past_the_end_is_addressable, bad_byte_of_an_access,
     first_unaddressable_of_a_region, poison_of_a_granule, shadow_byte_of_a_granule,

@@ -1,11 +1,11 @@
 //! The calls that mark memory.
 ghost use Rattle.std.specs.Prelude.{◌≡◌, ◌≢◌, ℕ, ◌+◌, ◌-◌, ◌/◌, ◌%◌, ◌^◌, ◌<◌, ◌≤◌, ◌==◌, ◌&&◌};
-ghost use Rattle.std.specs.Prelude.{not, if◌then◌else◌, IsTrue, OnOk, OnErr};
-ghost use Rattle.shadow_map.specs.States.{State, Fill, Block, Poison, Unpoison, code_of};
+ghost use Rattle.std.specs.Prelude.{not, if◌then◌else◌, OnOk, OnErr};
+ghost use Rattle.shadow_map.specs.States.{IsCode, Fill, Block, Poison, Unpoison};
 ghost use Rattle.asan_units.specs.Units.{address_end, granule_size, granule_of};
 ghost use Rattle.asan_units.specs.Units.{IsGranuleStart, redzone, round_up};
 ghost use Rattle.shadow_map.specs.Shows.{value_at};
-ghost use Rattle.shadow_map.specs.Calls.{is_code, is_poison_code, Adds, AddsInPart, IsBrokenOff};
+ghost use Rattle.shadow_map.specs.Calls.{Adds, AddsInPart, IsBrokenOff};
 ghost use Rattle.shadow_map.specs.Granules.{block_byte, changed_in};
 
 use crate::granule::{Change, HEAP_REDZONE, part};
@@ -22,22 +22,14 @@ const REDZONE_GRANULES: u64 = REDZONE / GRANULE;
 /// granule, so a granule that keeps its shadow byte is never refused memory. A region of size 0 has
 /// no granule, and its call does nothing.
 impl<A: Allocator + Copy> Shadow<A> {
-    /// Marks the whole granules from one address up to another by a code: [`HEAP_REDZONE`],
-    /// [`FREED`], [`USER_POISON`], [`STACK_REDZONE`] or [`GLOBAL_REDZONE`].
-    ///
-    /// [`FREED`]: crate::FREED
-    /// [`USER_POISON`]: crate::USER_POISON
-    /// [`STACK_REDZONE`]: crate::STACK_REDZONE
-    /// [`GLOBAL_REDZONE`]: crate::GLOBAL_REDZONE
+    /// Marks the whole granules from one address up to another by a code.
     pub fn mark(&mut self, from: u64, to: u64, code: u8) -> Result<(), NoMemory>
         requires granules { IsGranuleStart from × IsGranuleStart to }
         requires order { from ≤ to }
         requires end { to ≤ address_end }
-        requires code { IsTrue (is_code code) }
-        ensures ok { OnOk result ((state : State) → code_of state ≡ code →
-            Adds self.old self.new (Fill from to state)) }
-        ensures err { OnErr result ((state : State) → code_of state ≡ code →
-            AddsInPart self.old self.new (Fill from to state)) }
+        requires code { IsCode code }
+        ensures ok { OnOk result (Adds self.old self.new (Fill from to code)) }
+        ensures err { OnErr result (AddsInPart self.old self.new (Fill from to code)) }
     {
         self.fill(from / GRANULE, to / GRANULE, code)
     }
@@ -55,22 +47,15 @@ impl<A: Allocator + Copy> Shadow<A> {
         self.block_granules(at, size)
     }
 
-    /// Poisons `size` bytes from `at` on, with a code that says why: [`USER_POISON`],
-    /// [`STACK_REDZONE`] or [`GLOBAL_REDZONE`]. A granule that lies wholly in this region becomes
-    /// such poison, whatever it was. Of one that lies there in part the addressable bytes in the
-    /// region become such poison, if none of its bytes at the region's end or past it is
-    /// addressable; otherwise it stays as it is.
-    ///
-    /// [`USER_POISON`]: crate::USER_POISON
-    /// [`STACK_REDZONE`]: crate::STACK_REDZONE
-    /// [`GLOBAL_REDZONE`]: crate::GLOBAL_REDZONE
+    /// Poisons `size` bytes from `at` on, with a code that says why. A granule that lies wholly in
+    /// this region becomes such poison, whatever it was. Of one that lies there in part the
+    /// addressable bytes in the region become such poison, if none of its bytes at the region's end
+    /// or past it is addressable; otherwise it stays as it is.
     pub fn poison(&mut self, at: u64, size: u64, code: u8) -> Result<(), NoMemory>
         requires end { at + size ≤ address_end }
-        requires code { IsTrue (is_poison_code code) }
-        ensures ok { OnOk result ((state : State) → code_of state ≡ code →
-            Adds self.old self.new (Poison at size state)) }
-        ensures err { OnErr result ((state : State) → code_of state ≡ code →
-            AddsInPart self.old self.new (Poison at size state)) }
+        requires code { IsCode code }
+        ensures ok { OnOk result (Adds self.old self.new (Poison at size code)) }
+        ensures err { OnErr result (AddsInPart self.old self.new (Poison at size code)) }
     {
         self.change(Change::Poisoned(code), at, size)
     }

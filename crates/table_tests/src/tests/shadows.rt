@@ -6,9 +6,15 @@ mod memory;
 mod model;
 mod refusals;
 
-use shadow_map::{Cause, FREED, NoMemory, Shadow, USER_POISON};
+use shadow_map::{Cause, NoMemory, Shadow};
 use std::alloc::Allocator;
 use std::test::Fail;
+
+/// Codes as a checker gives them.
+const FREED: u8 = 0xfd;
+const USER_POISON: u8 = 0xf7;
+const STACK_REDZONE: u8 = 0xf2;
+const GLOBAL_REDZONE: u8 = 0xf9;
 
 /// The shadow bytes of `COUNT` granules from one on.
 fn values<const COUNT: usize, A: Allocator + Copy>(shadow: &Shadow<A>, first: u64) -> [u8; COUNT] {

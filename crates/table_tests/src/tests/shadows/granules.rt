@@ -1,11 +1,9 @@
 //! What poison and unpoison make of a granule, beside rules that say it byte by byte.
-ghost use Rattle.std.specs.Prelude.{◌≤◌, IsTrue};
-ghost use Rattle.shadow_map.specs.Calls.{is_poison_code};
+ghost use Rattle.std.specs.Prelude.{◌≤◌};
+ghost use Rattle.shadow_map.specs.States.{IsCode};
 
-use super::values;
-use shadow_map::{
-    FREED, GLOBAL_REDZONE, HEAP_REDZONE, NoMemory, STACK_REDZONE, Shadow, USER_POISON,
-};
+use super::{FREED, GLOBAL_REDZONE, STACK_REDZONE, USER_POISON, values};
+use shadow_map::{HEAP_REDZONE, NoMemory, Shadow};
 use std::alloc::Global;
 use std::test::Fail;
 
@@ -17,7 +15,7 @@ const POISONS: u64 = 3;
 
 /// The codes of poison, in turn.
 fn poison_code(number: u64) -> u8
-    ensures { IsTrue (is_poison_code result) }
+    ensures { IsCode result }
 {
     match number % POISONS {
         0 => USER_POISON,

@@ -2,7 +2,8 @@
 ghost use Rattle.std.specs.Prelude.{◌≤◌};
 
 use refusing_allocator::RefusingAllocator;
-use shadow_map::{FREED, NoMemory, Shadow, USER_POISON};
+use super::{FREED, USER_POISON};
+use shadow_map::{NoMemory, Shadow};
 use std::alloc::{Allocator, Global};
 use std::test::Fail;
 

@@ -1,7 +1,8 @@
 //! A plain model of the shadow: the fills that were made.
 ghost use Rattle.std.specs.Prelude.{◌+◌, ◌^◌, ◌≤◌};
 
-use shadow_map::{FREED, HEAP_REDZONE, NoMemory, Shadow, USER_POISON};
+use super::{FREED, USER_POISON};
+use shadow_map::{HEAP_REDZONE, NoMemory, Shadow};
 use std::alloc::Global;
 
 /// A shadow byte that the granules from one up to another were given.

@@ -1,7 +1,8 @@
 //! A growth that is refused.
 use super::values;
 use refusing_allocator::RefusingAllocator;
-use shadow_map::{FREED, HEAP_REDZONE, NoMemory, Shadow, USER_POISON};
+use super::{FREED, USER_POISON};
+use shadow_map::{HEAP_REDZONE, NoMemory, Shadow};
 use std::alloc::{Allocator, Global};
 use std::process::Abort;
 use std::test::Fail;

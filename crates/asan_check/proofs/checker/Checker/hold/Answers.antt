@@ -1,5 +1,4 @@
 use Rattle.std.proofs.Common.{◌≡◌, ◌<◌, ◌≤◌, ◌+◌, ◌-◌, List, [], ◌∷◌, ◌++◌, refl, subst, ◌∙◌, arith}
-use Rattle.shadow_map.specs.States.{Freed, HeapRedzone}
 use Rattle.std.specs.Prelude.{sum_by}
 use Rattle.heap_book.specs.Spans.{Extent, span_bytes}
 use Rattle.asan_units.specs.Units.{round_up}
@@ -14,7 +13,7 @@ loop-oldest-init g c = record {
     [],
     rw f.queue (releasing_starts bound past p c.args.block.now f.was_live f.here),
     (let end : c.to.result - 32 ≡ c.args.block.now.at + round_up c.args.block.now.size = let e = c.to.ensures.to in omega arith in
-        rw (c.at.ensures.at, end) at (c.in_ok-mark.ensures.ok Freed refl (marks bound past) f.shadow)),
+        rw (c.at.ensures.at, end) at (c.in_ok-mark.ensures.ok (marks bound past) f.shadow)),
     f.live_blocks,
   );
 }
@@ -34,7 +33,7 @@ loop-oldest-preserved g c =
           let more = subst (λ (q : List Extent). bound < sum_by span_bytes q) released.queue over in (
             was.0 ++ oldest ∷ [],
             releasing_goes_on bound past p b f.was_live f.here was.0 oldest c.evict.new.self.queue (rw released.queue at was.1) more,
-            rw (marked_push released_mark was.0 oldest (freed_mark b ∷ marks bound past)) (rw (c.from.ensures.from, c.to-in-Some.ensures.to) at (c.in_ok-mark-2.ensures.ok HeapRedzone refl _ was.2)),
+            rw (marked_push released_mark was.0 oldest (freed_mark b ∷ marks bound past)) (rw (c.from.ensures.from, c.to-in-Some.ensures.to) at (c.in_ok-mark-2.ensures.ok _ was.2)),
             rw released.live was.3,
           );
     }
