@@ -13,5 +13,6 @@ pub mod Bytes
 pub mod Accesses
 pub mod Poisons
 pub mod Order
+pub mod Thinned
 mod Digits
 mod Pieces

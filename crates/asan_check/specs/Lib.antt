@@ -6,3 +6,4 @@ pub mod Appending
 pub mod Standing
 pub mod Freeing
 pub mod Laws
+pub mod Thinning

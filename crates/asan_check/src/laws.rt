@@ -2,7 +2,7 @@
 //! reports. Each function does nothing: its contract is the law.
 
 ghost use Rattle.std.specs.Prelude.{◌≡◌, ◌↔◌, ◌+◌, ◌∷◌, ◌++◌, ℕ, Bool, IsTrue, List, Some, None};
-ghost use Rattle.std.specs.Prelude.{Contains, option_to_list, reverse};
+ghost use Rattle.std.specs.Prelude.{Contains, option_to_list, reverse, map};
 ghost use Rattle.std.specs.List.{IsDistinct};
 ghost use Rattle.trace_record.specs.declared.event.Event.{Event};
 ghost use Rattle.trace_record.specs.declared.event.Access.{Access};
@@ -15,7 +15,10 @@ ghost use Rattle.asan_check.specs.declared.report.Class.TheVariants as class;
 ghost use Rattle.asan_check.specs.declared.report.Report.{Report};
 ghost use Rattle.asan_check.specs.Codes.{Freed, class_of_code, code_of_kind};
 ghost use Rattle.asan_check.specs.History.{live, held, marks};
-ghost use Rattle.asan_check.specs.Verdicts.{verdict, verdicts};
+ghost use Rattle.asan_check.specs.Verdicts.{fault_of, verdict, verdicts, verdicts_of};
+ghost use Rattle.asan_check.specs.Thinning.{LeaveTheSame, LeavesOutGood, IsSublist, faults_of};
+ghost use Rattle.asan_check.specs.Thinning.{renumbered, thinned};
+ghost use Rattle.asan_check.specs.declared.report.Fault.{Fault};
 ghost use Rattle.asan_check.specs.Laws.{SharesByte, IsReportedAmong};
 ghost use Rattle.asan_check.specs.Laws.{since_malloc, since_free, IsLiveSince, IsHeldSince};
 ghost use Rattle.asan_check.specs.Laws.{NoPoisonShares, NoUnpoisonShares};
@@ -125,4 +128,48 @@ pub fn each_event_has_its_verdict()
 pub fn reports_are_verdicts()
     ensures { (bound : ℕ) (events : List Event) (report : Report) →
         Contains (verdicts bound events) report ↔ IsReportedAmong bound events report }
+{}
+
+/// Loads and stores leave no trace: whichever of them are left out of a history, its marks, its
+/// live blocks and its held blocks are the same.
+pub fn accesses_leave_no_trace()
+    ensures { (bound : ℕ) (numbers : ℕ → Bool) (past : List Event) →
+        LeaveTheSame bound (thinned numbers past) past }
+{}
+
+/// After two histories that leave the same marks, live blocks and held blocks, an event is good or
+/// bad alike, and they leave the same again after it.
+pub fn the_same_is_left_again()
+    ensures verdict { (bound : ℕ) (one other : List Event) (event : Event) →
+        LeaveTheSame bound one other → fault_of bound one event ≡ fault_of bound other event }
+    ensures again { (bound : ℕ) (one other : List Event) (event : Event) →
+        LeaveTheSame bound one other → LeaveTheSame bound (event ∷ one) (event ∷ other) }
+{}
+
+/// After two histories that leave the same, any later events bring the same faults.
+pub fn later_faults_are_the_same()
+    ensures { (bound : ℕ) (one other later : List Event) → LeaveTheSame bound one other →
+        (added : List Fault)
+        × (faults_of bound (later ++ one) ≡ faults_of bound one ++ added)
+        × (faults_of bound (later ++ other) ≡ faults_of bound other ++ added) }
+{}
+
+/// Leaving out loads and stores invents nothing: whichever are left out, the faults of what is left
+/// of a history are, in their order, some of those of the history.
+pub fn thinning_invents_nothing()
+    ensures { (bound : ℕ) (numbers : ℕ → Bool) (past : List Event) →
+        IsSublist (faults_of bound (thinned numbers past)) (faults_of bound past) }
+{}
+
+/// Leaving out loads and stores that are good where they stand loses nothing: the faults are the
+/// same, in their order, and the verdicts are the same but for their numbers, to each of which the
+/// count of what was left out before it is added.
+pub fn thinning_loses_nothing_bad()
+    ensures faults { (bound : ℕ) (numbers : ℕ → Bool) (full : List Event) →
+        LeavesOutGood bound numbers full →
+        faults_of bound (thinned numbers full) ≡ faults_of bound full }
+    ensures numbered { (bound : ℕ) (numbers : ℕ → Bool) (full : List Event) →
+        LeavesOutGood bound numbers full →
+        verdicts_of bound full
+        ≡ map (renumbered numbers full) (verdicts_of bound (thinned numbers full)) }
 {}

@@ -1,0 +1,73 @@
+-- Histories that leave the same behind them, and histories from which loads and stores were left
+-- out.
+use Rattle.std.specs.Prelude.{ℕ, ◌≡◌, ◌+◌, Bool, true, false, ◌&&◌, nat_le}
+use Rattle.std.specs.Prelude.{if◌then◌else◌, ◌⊎◌, IsTrue, List, [], ◌∷◌, ◌++◌, length, map, None}
+use Rattle.trace_record.specs.declared.event.Event.{Event}
+use Rattle.trace_record.specs.declared.event.Event.TheVariants as event
+use Rattle.asan_check.specs.declared.report.Fault.{Fault}
+use Rattle.asan_check.specs.declared.report.Report.{Report}
+use Rattle.asan_check.specs.History.{live, held, marks}
+use Rattle.asan_check.specs.Verdicts.{fault_of, verdicts_of}
+
+-- what is wrong in a history, oldest first: the verdicts on it without their numbers
+abbrev pub faults_of : ℕ → List Event → List Fault
+faults_of bound past = map (λ r. r.fault) (verdicts_of bound past)
+
+-- two histories leave the same behind them: the same marks, the same live and the same held blocks,
+-- in the same order
+pub record LeaveTheSame (bound : ℕ) (one other : List Event) : Type 0 where
+  pub same_marks : marks bound one ≡ marks bound other
+  pub same_live : live bound one ≡ live bound other
+  pub same_held : held bound one ≡ held bound other
+
+-- ---- leaving out loads and stores
+
+abbrev pub is_access : Event → Bool
+is_access (event.Load a) = true
+is_access (event.Store a) = true
+is_access e = false
+
+-- whether an event after a history is left out, where these are the numbers of the loads and stores
+-- to leave out; events count from 1, and no other event is ever left out
+abbrev pub is_left_out : (ℕ → Bool) → List Event → Event → Bool
+is_left_out numbers past e = is_access e && numbers (length past + 1)
+
+-- the history without the loads and stores of these numbers
+abbrev pub thinned : (ℕ → Bool) → List Event → List Event
+thinned numbers [] = []
+thinned numbers (e ∷ past) =
+    if is_left_out numbers past e then thinned numbers past else e ∷ thinned numbers past
+
+-- how many of its events are left out
+abbrev pub left_out_of : (ℕ → Bool) → List Event → ℕ
+left_out_of numbers [] = 0
+left_out_of numbers (e ∷ past) =
+    if is_left_out numbers past e then left_out_of numbers past + 1 else left_out_of numbers past
+
+-- how many are left out before the event that has this number in the thinned history
+abbrev pub left_out_before : (ℕ → Bool) → List Event → ℕ → ℕ
+left_out_before numbers [] number = 0
+left_out_before numbers (e ∷ past) number =
+    if nat_le number (length (thinned numbers past)) then left_out_before numbers past number
+    else left_out_of numbers past
+
+-- a report on the thinned history, with the number that its event has in the full one
+abbrev pub renumbered : (ℕ → Bool) → List Event → Report → Report
+renumbered numbers past r =
+    record { number = r.number + left_out_before numbers past r.number; fault = r.fault }
+
+-- each load and each store that is left out is good where it stands
+abbrev pub LeavesOutGood : ℕ → (ℕ → Bool) → List Event → Type 0
+LeavesOutGood bound numbers full =
+    (later : List Event) (e : Event) (past : List Event) → full ≡ later ++ e ∷ past →
+    IsTrue (is_left_out numbers past e) → fault_of bound past e ≡ None
+
+-- ---- lists
+
+module _ {A : Type 0} where
+  -- the elements of one list are, in their order, some of those of another
+  abbrev pub IsSublist : List A → List A → Type 0
+  IsSublist [] others = Unit {0}
+  IsSublist (x ∷ xs) [] = ⊥
+  IsSublist (x ∷ xs) (y ∷ others) =
+      ((x ≡ y) × IsSublist xs others) ⊎ IsSublist (x ∷ xs) others
