@@ -22,9 +22,9 @@ const ALL: u64 = ADDRESS_END / LINE;
 /// Slots by address, at most one in each line of 64 bytes. Contracts see a map as the list of its
 /// addresses and their slots, in the order of the addresses.
 ///
-/// A map without slots takes no memory. The first slot that is put into one takes 240 bytes: room
+/// A map without slots takes no memory. The first slot that is put into one takes 208 bytes: room
 /// for four entries of its leaf, and for one node in each branch over the leaf. Any other takes
-/// at most 2,256 bytes: room for 64 nodes in one branch, and what lies below it, which is new.
+/// at most 4,272 bytes: room for 128 nodes in one branch, and what lies below it, which is new.
 #[derive(Drop)]
 pub struct LineMap<A: Allocator + Copy = Global> {
     tree: Tree<A>,

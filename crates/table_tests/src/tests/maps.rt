@@ -13,16 +13,7 @@ use std::test::Fail;
 
 /// How many bytes the nodes of a map have: a line, a leaf, and a branch of each level, of which the
 /// last is the whole map.
-const WIDTHS: [u64; 8] = [
-    1 << 6,
-    1 << 11,
-    1 << 17,
-    1 << 23,
-    1 << 29,
-    1 << 35,
-    1 << 41,
-    1 << 47,
-];
+const WIDTHS: [u64; 7] = [1 << 6, 1 << 12, 1 << 19, 1 << 26, 1 << 33, 1 << 40, 1 << 47];
 
 /// The slot of a live block of that many bytes.
 fn live(size: u64) -> Slot

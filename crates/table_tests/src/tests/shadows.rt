@@ -12,8 +12,11 @@ use std::test::Fail;
 
 /// Codes as a checker gives them.
 const FREED: u8 = 0xfd;
+
 const USER_POISON: u8 = 0xf7;
+
 const STACK_REDZONE: u8 = 0xf2;
+
 const GLOBAL_REDZONE: u8 = 0xf9;
 
 /// The shadow bytes of `COUNT` granules from one on.

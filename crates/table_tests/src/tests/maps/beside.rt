@@ -12,7 +12,7 @@ const CALLS: u64 = 20_000;
 
 /// An address at most two lines from an end of a node of some level, mostly below 2^47.
 fn drawn_address(draws: &mut Draws) -> u64 {
-    let width = WIDTHS[draws.below(8) as usize];
+    let width = WIDTHS[draws.below(WIDTHS.len() as u64) as usize];
     let end = width.wrapping_mul(draws.below(4) + 1);
     let line = end.wrapping_add(draws.below(4) * 64).wrapping_sub(128);
     line.wrapping_add(draws.below(2) * draws.below(64))
@@ -84,7 +84,7 @@ fn map_agrees_with_a_plain_one(rt: HostRuntime) -> Result<(), Fail> {
         }
     }
     // The draws filled most of the lines that they reach, and emptied them again.
-    assert!(rt; most > 100);
+    assert!(rt; most > 85);
     for _ in 0..most {
         match both.last_before(u64::MAX) {
             Some((at, _)) => {

@@ -8,10 +8,10 @@ use std::alloc::{AllocError, Allocator};
 use std::test::Fail;
 
 /// How many levels of branches a map has.
-const LEVELS: u64 = 6;
+const LEVELS: u64 = 5;
 
 /// How many nodes a branch has room for at most.
-const NODES: u64 = 64;
+const NODES: u64 = 128;
 
 /// How many bytes an entry of a leaf takes.
 const ENTRY: u64 = 12;
@@ -34,7 +34,7 @@ const END: u64 = (1 << 47) - 64;
 
 /// How many bytes a new leaf asks for, and that many levels of new branches over it.
 fn chain(levels: u64) -> u64
-    requires { levels ≤ 6 }
+    requires { levels ≤ 5 }
     ensures { result ≤ 2 ^ 16 }
 {
     if levels == 0 {
@@ -67,7 +67,7 @@ fn memory_of_a_lone_slot(rt: HostRuntime) -> Result<(), Fail> {
             assert_eq!(rt; asked(&heap, &mut map, at)?, (LEVELS + 1, chain(LEVELS)));
         }
     }
-    assert_eq!(rt; chain(LEVELS), 240 + LEVELS * HANDLE);
+    assert_eq!(rt; chain(LEVELS), 208 + LEVELS * HANDLE);
     Ok(())
 }
 
@@ -98,7 +98,7 @@ fn memory_of_a_leaf(rt: HostRuntime) -> Result<(), Fail> {
     let mut map = LineMap::new(&heap);
     asked(&heap, &mut map, 0)?;
     let mut room = 4;
-    for line in 1..32 {
+    for line in 1..64 {
         // Where there is no room for an entry more, the leaf makes room for twice as many.
         let more = if line == room { 2 * room } else { 0 };
         room = room.max(more);
@@ -125,7 +125,7 @@ fn memory_of_a_slot_that_makes_a_branch_grow(rt: HostRuntime) -> Result<(), Fail
     }
     assert_eq!(rt;
         NODES * BRANCH + chain(LEVELS - 1),
-        2_256 + (NODES + LEVELS - 1) * HANDLE
+        4_272 + (NODES + LEVELS - 1) * HANDLE
     );
     Ok(())
 }
@@ -174,7 +174,11 @@ fn memory_is_given_back_in_any_order(rt: HostRuntime) -> Result<(), Fail> {
             insert(&mut map, width.min(END), live(8))?;
         }
         for place in 0..WIDTHS.len() {
-            let width = WIDTHS[if is_upward { place } else { 7 - place }];
+            let width = WIDTHS[if is_upward {
+                place
+            } else {
+                WIDTHS.len() - 1 - place
+            }];
             remove(&mut map, width.saturating_sub(64));
             remove(&mut map, width.min(END));
         }

@@ -57,7 +57,11 @@ fn calls_refused_at(alloc: Global, turn: u64, is_upward: bool) -> Result<Outcome
     let mut ample = LineMap::new(alloc);
     let (mut refused, mut right) = (false, true);
     for place in 0..WIDTHS.len() {
-        let width = WIDTHS[if is_upward { place } else { 7 - place }];
+        let width = WIDTHS[if is_upward {
+            place
+        } else {
+            WIDTHS.len() - 1 - place
+        }];
         for at in [width - 8, width] {
             let outcome = insert_both(&mut map, &mut ample, at)?;
             refused |= outcome.refused;

@@ -1,7 +1,6 @@
 //! The shadow beside the plain model, at the ends of leaves and branches.
 use super::model::Both;
-use super::values;
-use super::{FREED, USER_POISON};
+use super::{FREED, USER_POISON, values};
 use shadow_map::{HEAP_REDZONE, NoMemory, Shadow};
 use std::alloc::Global;
 use std::test::Fail;

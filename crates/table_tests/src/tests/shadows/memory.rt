@@ -1,8 +1,8 @@
 //! What one record asks memory for, in the states and at the places where it asks for the most.
 ghost use Rattle.std.specs.Prelude.{◌≤◌};
 
-use refusing_allocator::RefusingAllocator;
 use super::{FREED, USER_POISON};
+use refusing_allocator::RefusingAllocator;
 use shadow_map::{NoMemory, Shadow};
 use std::alloc::{Allocator, Global};
 use std::test::Fail;

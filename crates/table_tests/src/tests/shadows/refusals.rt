@@ -1,7 +1,6 @@
 //! A growth that is refused.
-use super::values;
+use super::{FREED, USER_POISON, values};
 use refusing_allocator::RefusingAllocator;
-use super::{FREED, USER_POISON};
 use shadow_map::{HEAP_REDZONE, NoMemory, Shadow};
 use std::alloc::{Allocator, Global};
 use std::process::Abort;
