@@ -141,6 +141,20 @@ def fewer_descriptors_than_peers(program):
         same(most, known.explain(most, served.answer()), max(20 - (most - 4), 0))
 
 
+def small_stack(program):
+    """256 files and 64 workers with a stack of 256 KB: no call nests by their number."""
+    traces = [[SOUND, PAST_THE_END, TWICE_FREED, CUT][i % 4] for i in range(256)]
+    known = Traces(program, traces)
+    names = [put(f"trace {i}", trace) for i, trace in enumerate(traces)]
+    before = limit_of(resource.RLIMIT_STACK, 256 << 10)
+    for words in [[], ["--workers", "64"], ["--workers", "64", "--ring", "1"]]:
+        ran = program.run(["check", *words, *names], before=before)
+        same(words, known.explain(words, ran), 0)
+    ran = program.run(["check", "--live", "--workers", "64", *names], before=before)
+    same("--live", (ran[0], ran[2]), (3, b""))
+    same("--live", len(ran[1].splitlines()), sum(map(len, known.alone)))
+
+
 # ---- peers and their connections
 
 
@@ -251,6 +265,7 @@ CASES = [
     less_and_less_memory,
     fewer_descriptors_than_files,
     fewer_descriptors_than_peers,
+    small_stack,
     peers_that_go_wrong,
     peer_that_resets,
     outputs_that_take_no_more,
