@@ -20,8 +20,8 @@ pub collected : {F A : Type 0} (seen : F → FeedState) (options : Options) (old
     (xs ys zs : List (Sender F A)) (outcomes : List (Outcome F A))
     → Arrived old.to_arrive new.to_arrive arrivals → IsTrue new.is_shut ⊎ (length arrivals ≡ most_senders)
     → new.refusals ≡ refused_among arrivals + old.refusals → IsAllThatCame old.left (length arrivals) → length arrivals ≤ most_senders
-    → Pairwise (Came seen options) arrivals xs → Each (Becomes seen options.limit) 0 xs ys
-    → Each (Rejoins seen options.quarantine) 0 ys zs → Pairwise (Gets seen) zs outcomes
+    → Pairwise (Came seen options) arrivals xs → Each (Becomes seen options.limit) xs ys
+    → Each (Rejoins seen options.quarantine) ys zs → Pairwise (Gets seen) zs outcomes
     → AreCollected seen options old new outcomes
 collected seen options old new arrivals xs ys zs outcomes arrived all refusals count few came read back gets =
     let fit : Pairwise (IsAnswerTo seen options) arrivals outcomes = pairs_fit seen options arrivals zs outcomes (pairs_back seen options arrivals xs ys zs came read back) gets in

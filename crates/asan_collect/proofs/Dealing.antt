@@ -133,14 +133,14 @@ module _ {F A : Type 0} where
   shares_last bound senders shares v h = rw (get_or_at shares v [] v (length shares) refl) at (h.each (length shares) v (omega (arith, length-append shares (v ∷ []))))
 
   pub shares_kept : (R : Sender F A → Sender F A → Type 0) → ((s t : Sender F A) → R s t → Keeps s t)
-      → (bound : ℕ) (xs ys : List (Sender F A)) (shares : List (Share A)) → Each R 0 xs ys → SharesAt bound xs shares → SharesAt bound ys shares
+      → (bound : ℕ) (xs ys : List (Sender F A)) (shares : List (Share A)) → Each R xs ys → SharesAt bound xs shares → SharesAt bound ys shares
   shares_kept R keeps bound xs ys shares r h = record { each = λ k d below. at_kept R keeps bound xs ys (slice_index_or shares k d).items r (h.each k d below) }
 
-  pub shares_back : (bound : ℕ) (senders : List (Sender F A)) (xs ys : List (Share A)) → Each ComesBack 0 xs ys → SharesAt bound senders xs → SharesAt bound senders ys
+  pub shares_back : (bound : ℕ) (senders : List (Sender F A)) (xs ys : List (Share A)) → Each ComesBack xs ys → SharesAt bound senders xs → SharesAt bound senders ys
   shares_back bound senders xs ys r h = record {
     each = λ k d below.
         let few : k < length xs = let e = r.same_length in omega arith in
-        elim (r.each k d (omega arith) few) [
+        elim (r.each k d few) [
           | inl on ↦ at_later bound senders (slice_index_or xs k d).items (slice_index_or ys k d).items on (h.each k d few)
           | inr none ↦ rw none (record { each = λ i b low. absurd (omega arith) })
         ];
@@ -164,11 +164,11 @@ module _ {F A : Type 0} (seen : F → FeedState) where
   gives_up_fresh (sender.Read d) y p h = rw p tt
   gives_up_fresh (sender.Joined d b) y p h = rw p tt
 
-  pub fresh_left : (xs ys : List (Sender F A)) → Each GivesUp 0 xs ys → AllFresh seen xs → AllFresh seen ys
+  pub fresh_left : (xs ys : List (Sender F A)) → Each GivesUp xs ys → AllFresh seen xs → AllFresh seen ys
   fresh_left xs ys r h = record {
     each = λ i d below.
         let low : i < length xs = let e = r.same_length in omega arith in
-        gives_up_fresh (slice_index_or xs i d) (slice_index_or ys i d) (r.each i d (omega arith) low) (h.each i d low);
+        gives_up_fresh (slice_index_or xs i d) (slice_index_or ys i d) (r.each i d low) (h.each i d low);
   }
 
   -- and while the readers run
@@ -181,14 +181,13 @@ module _ {F A : Type 0} (seen : F → FeedState) where
   will_after limit x y (sender.Joined d b) p q = becomes_after limit x y (sender.Joined d b) p q
 
   -- all readers were started and have ended
-  pub read_all : (limit : ℕ) (xs ys zs : List (Sender F A)) → Each (WillBe seen limit) 0 xs ys → Each (Ends seen) 0 ys zs → Each (Becomes seen limit) 0 xs zs
+  pub read_all : (limit : ℕ) (xs ys zs : List (Sender F A)) → Each (WillBe seen limit) xs ys → Each (Ends seen) ys zs → Each (Becomes seen limit) xs zs
   read_all limit xs ys zs = each_after (WillBe seen limit) (Ends seen) (Becomes seen limit) (λ x y z p q. q limit x p) xs ys zs
 
 module _ {A : Type 0} where
   -- all checkers were started and have ended
-  pub checked_all : (xs zs : List (Share A)) (checkers : List (CheckerThread A)) → Pairwise WillComeBack xs checkers → Pairwise Returns checkers zs → Each ComesBack 0 xs zs
+  pub checked_all : (xs zs : List (Share A)) (checkers : List (CheckerThread A)) → Pairwise WillComeBack xs checkers → Pairwise Returns checkers zs → Each ComesBack xs zs
   checked_all xs zs checkers p q = record {
     same_length = q.same_length ∙ p.same_length;
-    before = λ i d below. absurd (omega arith);
-    each = λ i d from below. q.each i running.Lost d (let e = p.same_length in omega arith) (slice_index_or xs i d) (p.each i d running.Lost below);
+    each = λ i d below. q.each i running.Lost d (let e = p.same_length in omega arith) (slice_index_or xs i d) (p.each i d running.Lost below);
   }

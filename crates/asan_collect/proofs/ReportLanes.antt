@@ -91,11 +91,11 @@ module _ {A : Type 0} where
   have_new ports p b is keeps = rw (lanes_last ports p (process_of b) is) keeps
 
   -- the checkers have worked
-  pub have_back : (lanes : ℕ → Option (Lane A)) (xs ys : List (Share A)) → Each ComesBack 0 xs ys → SharesHave lanes xs → SharesHave lanes ys
+  pub have_back : (lanes : ℕ → Option (Lane A)) (xs ys : List (Share A)) → Each ComesBack xs ys → SharesHave lanes xs → SharesHave lanes ys
   have_back lanes xs ys r h = record {
     each = λ k d below.
         let few : k < length xs = let e = r.same_length in omega arith in
-        elim (r.each k d (omega arith) few) [
+        elim (r.each k d few) [
           | inl on ↦ have_later lanes (slice_index_or xs k d).items (slice_index_or ys k d).items on (h.each k d few)
           | inr none ↦ rw none (record { each = λ i b low. absurd (omega arith) })
         ];
@@ -152,9 +152,9 @@ module _ {F A : Type 0} (seen : F → FeedState) where
   becomes_fit limit lane (sender.Joined d b) t h f = rw h f
 
   -- the readers are done
-  pub fit_read : (limit : ℕ) (lanes : ℕ → Option (Lane A)) (xs ys : List (Sender F A)) → Each (Becomes seen limit) 0 xs ys → AllFit lanes xs → AllFit lanes ys
+  pub fit_read : (limit : ℕ) (lanes : ℕ → Option (Lane A)) (xs ys : List (Sender F A)) → Each (Becomes seen limit) xs ys → AllFit lanes xs → AllFit lanes ys
   fit_read limit lanes xs ys r h = record {
     each = λ i d below.
         let low : i < length xs = let e = r.same_length in omega arith in
-        becomes_fit limit (lanes i) (slice_index_or xs i d) (slice_index_or ys i d) (r.each i d (omega arith) low) (h.each i d low);
+        becomes_fit limit (lanes i) (slice_index_or xs i d) (slice_index_or ys i d) (r.each i d low) (h.each i d low);
   }

@@ -23,14 +23,13 @@ low_after xs v at low same = let whole = v.ok in omega (arith, whole.0)
 -- an element was set aside, all others went on, and then the element was written
 pub each_put : {X : Type 0} (R : X → X → Type 0) (at : ℕ) (xs ys : List X) (x z : X) → at < length xs
     → ((d : X) → R (slice_index_or xs at d) z)
-    → Each R 0 (slice_set xs at x) ys → Each R 0 xs (slice_set ys at z)
+    → Each R (slice_set xs at x) ys → Each R xs (slice_set ys at z)
 each_put R at xs ys x z low will r =
     let len : length ys ≡ length xs = r.same_length ∙ length-set xs at x in record {
       same_length = length-set ys at z ∙ len;
-      before = λ i d below. absurd (omega arith);
-      each = λ i d from below. elim (cases_eq i at) [
+      each = λ i d below. elim (cases_eq i at) [
         | inl e ↦ rw (e, get_or-set_same ys at z d (omega arith)) (will d)
-        | inr n ↦ rw (get_or-set_other ys at i z d n) (rw (get_or-set_other xs at i x d n) at (r.each i d (omega arith) (omega (arith, length-set xs at x))))
+        | inr n ↦ rw (get_or-set_other ys at i z d n) (rw (get_or-set_other xs at i x d n) at (r.each i d (omega (arith, length-set xs at x))))
       ];
     }
 
@@ -38,31 +37,28 @@ each_put R at xs ys x z low will r =
 pub each_set : {X : Type 0} (R : X → X → Type 0) → ((x y z : X) → R x y → R y z → R x z)
     → (at : ℕ) (xs ys : List X) (z : X) → at < length xs
     → ((d : X) → R (slice_index_or ys at d) z)
-    → Each R 0 xs ys → Each R 0 xs (slice_set ys at z)
+    → Each R xs ys → Each R xs (slice_set ys at z)
 each_set R trans at xs ys z low will r =
     let len : length ys ≡ length xs = r.same_length in record {
       same_length = length-set ys at z ∙ len;
-      before = λ i d below. absurd (omega arith);
-      each = λ i d from below. elim (cases_eq i at) [
-        | inl e ↦ rw (e, get_or-set_same ys at z d (omega arith)) (trans (slice_index_or xs at d) (slice_index_or ys at d) z (r.each at d (omega arith) low) (will d))
-        | inr n ↦ rw (get_or-set_other ys at i z d n) (r.each i d from below)
+      each = λ i d below. elim (cases_eq i at) [
+        | inl e ↦ rw (e, get_or-set_same ys at z d (omega arith)) (trans (slice_index_or xs at d) (slice_index_or ys at d) z (r.each at d low) (will d))
+        | inr n ↦ rw (get_or-set_other ys at i z d n) (r.each i d below)
       ];
     }
 
-pub each_refl : {X : Type 0} (R : X → X → Type 0) → ((x : X) → R x x) → (xs : List X) → Each R 0 xs xs
+pub each_refl : {X : Type 0} (R : X → X → Type 0) → ((x : X) → R x x) → (xs : List X) → Each R xs xs
 each_refl R same xs = record {
   same_length = refl;
-  before = λ i d below. refl;
-  each = λ i d from below. same (slice_index_or xs i d);
+  each = λ i d below. same (slice_index_or xs i d);
 }
 
 pub each_after : {X : Type 0} (P Q R : X → X → Type 0) → ((x y z : X) → P x y → Q y z → R x z)
-    → (xs ys zs : List X) → Each P 0 xs ys → Each Q 0 ys zs → Each R 0 xs zs
+    → (xs ys zs : List X) → Each P xs ys → Each Q ys zs → Each R xs zs
 each_after P Q R both xs ys zs p q =
     let len : length ys ≡ length xs = p.same_length in record {
       same_length = q.same_length ∙ len;
-      before = λ i d below. absurd (omega arith);
-      each = λ i d from below. both (slice_index_or xs i d) (slice_index_or ys i d) (slice_index_or zs i d) (p.each i d from below) (q.each i d from (omega arith));
+      each = λ i d below. both (slice_index_or xs i d) (slice_index_or ys i d) (slice_index_or zs i d) (p.each i d below) (q.each i d (omega arith));
     }
 
 -- below a place each element has become that of the other list, and from it on nothing changed
@@ -92,11 +88,10 @@ upto_set R at xs ys z low will r =
     }
 
 -- all of them
-pub upto_all : {X : Type 0} (R : X → X → Type 0) (to : ℕ) (xs ys : List X) → length xs ≤ to → Upto R to xs ys → Each R 0 xs ys
+pub upto_all : {X : Type 0} (R : X → X → Type 0) (to : ℕ) (xs ys : List X) → length xs ≤ to → Upto R to xs ys → Each R xs ys
 upto_all R to xs ys all r = record {
   same_length = r.same_length;
-  before = λ i d below. absurd (omega arith);
-  each = λ i d from below. r.done i d (omega arith) below;
+  each = λ i d below. r.done i d (omega arith) below;
 }
 
 module _ {F A : Type 0} where
@@ -142,12 +137,12 @@ module _ {F A : Type 0} where
   }
 
   pub at_kept : (R : Sender F A → Sender F A → Type 0) → ((s t : Sender F A) → R s t → Keeps s t)
-      → (bound : ℕ) (xs ys : List (Sender F A)) (bs : List (Bench A)) → Each R 0 xs ys → AreAt bound xs bs → AreAt bound ys bs
+      → (bound : ℕ) (xs ys : List (Sender F A)) (bs : List (Bench A)) → Each R xs ys → AreAt bound xs bs → AreAt bound ys bs
   at_kept R keeps bound xs ys bs r h = record {
     each = λ i d below. let was = h.each i d below in record {
       low = let e = r.same_length in let f = was.low in omega arith;
       bound_is = was.bound_is;
-      lane = λ e. keeps (slice_index_or xs (process_of (slice_index_or bs i d)) e) (slice_index_or ys (process_of (slice_index_or bs i d)) e) (r.each (process_of (slice_index_or bs i d)) e (omega arith) was.low) (lane_of (slice_index_or bs i d)) (was.lane e);
+      lane = λ e. keeps (slice_index_or xs (process_of (slice_index_or bs i d)) e) (slice_index_or ys (process_of (slice_index_or bs i d)) e) (r.each (process_of (slice_index_or bs i d)) e was.low) (lane_of (slice_index_or bs i d)) (was.lane e);
     };
   }
 
@@ -209,10 +204,10 @@ module _ {F A : Type 0} (seen : F → FeedState) where
   came_on options (arrival.Came feed) (sender.Joined d bench) t h b = rw b h
 
   pub pairs_on : (options : Options) (R : Sender F A → Sender F A → Type 0) → ((a : Arrival F) (s t : Sender F A) → Came seen options a s → R s t → Came seen options a t)
-      → (arrivals : List (Arrival F)) (xs ys : List (Sender F A)) → Pairwise (Came seen options) arrivals xs → Each R 0 xs ys → Pairwise (Came seen options) arrivals ys
+      → (arrivals : List (Arrival F)) (xs ys : List (Sender F A)) → Pairwise (Came seen options) arrivals xs → Each R xs ys → Pairwise (Came seen options) arrivals ys
   pairs_on options R on arrivals xs ys h r = record {
     same_length = r.same_length ∙ h.same_length;
-    each = λ i d e below. on (slice_index_or arrivals i d) (slice_index_or xs i e) (slice_index_or ys i e) (h.each i d e below) (r.each i e (omega arith) (let l = h.same_length in omega arith));
+    each = λ i d e below. on (slice_index_or arrivals i d) (slice_index_or xs i e) (slice_index_or ys i e) (h.each i d e below) (r.each i e (let l = h.same_length in omega arith));
   }
 
   pub pairs_fit : (options : Options) (arrivals : List (Arrival F)) (xs : List (Sender F A)) (os : List (Outcome F A))
@@ -224,7 +219,7 @@ module _ {F A : Type 0} (seen : F → FeedState) where
 
   -- senders that were read, and whose benches came back
   pub pairs_back : (options : Options) (arrivals : List (Arrival F)) (xs ys zs : List (Sender F A)) → Pairwise (Came seen options) arrivals xs
-      → Each (Becomes seen options.limit) 0 xs ys → Each (Rejoins seen options.quarantine) 0 ys zs → Pairwise (Came seen options) arrivals zs
+      → Each (Becomes seen options.limit) xs ys → Each (Rejoins seen options.quarantine) ys zs → Pairwise (Came seen options) arrivals zs
   pairs_back options arrivals xs ys zs h read placed =
       pairs_on options (Rejoins seen options.quarantine) (λ a s t c r. r.came options a refl c) arrivals ys zs
       (pairs_on options (Becomes seen options.limit) (came_on options) arrivals xs ys h read) placed

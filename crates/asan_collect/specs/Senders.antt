@@ -1,5 +1,5 @@
 -- How far a sender may come.
-use Rattle.std.specs.Prelude.{◌≡◌, ℕ, ◌<◌, ◌≤◌, List, [], length, slice_index_or, IfSome}
+use Rattle.std.specs.Prelude.{◌≡◌, ℕ, ◌<◌, List, [], length, slice_index_or, IfSome}
 use Rattle.trace_feed.specs.declared.door.Arrival.{Arrival}
 use Rattle.trace_feed.specs.declared.door.Arrival.TheVariants as arrival
 use Rattle.trace_feed.specs.Feeds.{FeedState}
@@ -14,13 +14,11 @@ use Rattle.asan_stream.specs.Benches.{lane_of, process_of, bench_bound}
 use Rattle.asan_collect.specs.Arrivals.{IsAnswerTo}
 use Rattle.asan_stream.specs.Readers.{IsPut, IsReaderOf}
 
--- from a place on each element has become that of the other list, and below it nothing changed
-pub record Each {X : Type 0} (Becomes : X → X → Type 0) (from : ℕ) (xs ys : List X) : Type 0 where
+-- each element has become that of the other list
+pub record Each {X : Type 0} (Becomes : X → X → Type 0) (xs ys : List X) : Type 0 where
   pub same_length : length ys ≡ length xs
-  pub before : (i : ℕ) (d : X) → i < from → slice_index_or ys i d ≡ slice_index_or xs i d
   pub each :
-      (i : ℕ) (d : X) → from ≤ i → i < length xs →
-      Becomes (slice_index_or xs i d) (slice_index_or ys i d)
+      (i : ℕ) (d : X) → i < length xs → Becomes (slice_index_or xs i d) (slice_index_or ys i d)
 
 module _ {F A : Type 0} (seen : F → FeedState) where
   -- how far the sender that arrived so may have come

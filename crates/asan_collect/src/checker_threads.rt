@@ -147,7 +147,7 @@ pub(crate) fn give_up_senders<F: Feed + Drop, A: Allocator + Copy>(
     checkers: &Vec<CheckerThread<A>, A>,
 )
     requires { 0 < vec_len checkers.now }
-    ensures { Each GivesUp 0 senders.old.items senders.new.items }
+    ensures { Each GivesUp senders.old.items senders.new.items }
 {
     for i in 0..senders.len() {
         if let CheckerThread::Lost = &checkers[i % checkers.len()] {

@@ -76,8 +76,7 @@ pub(crate) fn start_readers<
     R: Threads + Wait + Clock + Sync,
 >(crew: &Crew<'s, 'e, G, R>, senders: &mut Vec<Sender<F, A>, A>)
     requires fresh { AllFresh F.seen senders.old.items }
-    ensures { Each (WillBe F.seen crew.now.options.limit) 0
-        senders.old.items senders.new.items }
+    ensures { Each (WillBe F.seen crew.now.options.limit) senders.old.items senders.new.items }
 {
     for i in 0..senders.len() {
         start_at(crew, &mut senders[i]);
@@ -110,7 +109,7 @@ pub(crate) fn join_readers<F: Feed + Drop, A: Allocator + Copy, R: Threads>(
     rt: &R,
     senders: &mut Vec<Sender<F, A>, A>,
 )
-    ensures { Each (Ends F.seen) 0 senders.old.items senders.new.items }
+    ensures { Each (Ends F.seen) senders.old.items senders.new.items }
 {
     for i in 0..senders.len() {
         finish_at(rt, &mut senders[i]);

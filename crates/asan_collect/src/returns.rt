@@ -53,7 +53,7 @@ pub(crate) fn place<F: Feed + Drop, A: Allocator + Copy>(
     bound: u64,
 )
     requires { AreAt bound senders.old.items benches.items }
-    ensures rejoins { Each (Rejoins F.seen bound) 0 senders.old.items senders.new.items }
+    ensures rejoins { Each (Rejoins F.seen bound) senders.old.items senders.new.items }
     ensures fit { (lanes : ℕ → Option (Lane A)) → AllFit lanes senders.old.items →
         AllHave lanes benches.items → AllFit lanes senders.new.items }
 {
@@ -71,7 +71,7 @@ pub(crate) fn place_all<F: Feed + Drop, A: Allocator + Copy>(
     bound: u64,
 )
     requires { SharesAt bound senders.old.items shares.items }
-    ensures rejoins { Each (Rejoins F.seen bound) 0 senders.old.items senders.new.items }
+    ensures rejoins { Each (Rejoins F.seen bound) senders.old.items senders.new.items }
     ensures fit { (lanes : ℕ → Option (Lane A)) → AllFit lanes senders.old.items →
         SharesHave lanes shares.items → AllFit lanes senders.new.items }
 {

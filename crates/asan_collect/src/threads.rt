@@ -47,7 +47,7 @@ fn start_all<
     requires some { 0 < vec_len shares.old }
     requires empty { room.items ≡ [] }
     requires room { vec_len shares.old ≤ vec_capacity room }
-    ensures senders { Each (WillBe F.seen crew.now.options.limit) 0
+    ensures senders { Each (WillBe F.seen crew.now.options.limit)
         senders.old.items senders.new.items }
     ensures same { vec_len shares.new ≡ vec_len shares.old }
     ensures shares { Pairwise WillComeBack shares.old.items result.items }
@@ -67,7 +67,7 @@ fn join_all<F: Feed + Drop, A: Allocator + Copy, R: Threads>(
     checkers: Vec<CheckerThread<A>, A>,
 )
     requires { vec_len checkers ≡ vec_len shares.old }
-    ensures senders { Each (Ends F.seen) 0 senders.old.items senders.new.items }
+    ensures senders { Each (Ends F.seen) senders.old.items senders.new.items }
     ensures shares { Pairwise Returns checkers.items shares.new.items }
 {
     join_readers(rt, senders);
@@ -94,9 +94,9 @@ fn run_in<
     requires some { 0 < vec_len shares.old }
     requires empty { room.items ≡ [] }
     requires room { vec_len shares.old ≤ vec_capacity room }
-    ensures senders { Each (Becomes F.seen crew.now.options.limit) 0
+    ensures senders { Each (Becomes F.seen crew.now.options.limit)
         senders.old.items senders.new.items }
-    ensures shares { Each ComesBack 0 shares.old.items shares.new.items }
+    ensures shares { Each ComesBack shares.old.items shares.new.items }
 {
     // The first share is empty then, and gets no thread.
     let benches = mem::replace(&mut shares[0], Vec::new(alloc));
@@ -123,9 +123,8 @@ pub(crate) fn run_all<
 ) -> Returned<F, A>
     requires { AllFresh F.seen senders.items
         × (0 < vec_len shares) × (room.items ≡ []) × (vec_len shares ≤ vec_capacity room) }
-    ensures senders { Each (Becomes F.seen options.limit) 0
-        senders.items result.senders.items }
-    ensures shares { Each ComesBack 0 shares.items result.shares.items }
+    ensures senders { Each (Becomes F.seen options.limit) senders.items result.senders.items }
+    ensures shares { Each ComesBack shares.items result.shares.items }
 {
     let at_work = &AtWork::new();
     thread::scope(
@@ -134,9 +133,8 @@ pub(crate) fn run_all<
         move |scope| -> Returned<F, A>
             requires { AllFresh F.seen senders.items
                 × (0 < vec_len shares) × (room.items ≡ []) × (vec_len shares ≤ vec_capacity room) }
-            ensures senders { Each (Becomes F.seen options.limit) 0
-                senders.items result.senders.items }
-            ensures shares { Each ComesBack 0 shares.items result.shares.items }
+            ensures senders { Each (Becomes F.seen options.limit) senders.items result.senders.items }
+            ensures shares { Each ComesBack shares.items result.shares.items }
         {
             let (mut senders, mut shares) = (senders, shares);
             let crew = Crew {
@@ -174,9 +172,9 @@ fn print_in<
     requires some { 0 < vec_len shares.old }
     requires empty { room.items ≡ [] }
     requires room { vec_len shares.old ≤ vec_capacity room }
-    ensures senders { Each (Becomes F.seen crew.now.options.limit) 0
+    ensures senders { Each (Becomes F.seen crew.now.options.limit)
         senders.old.items senders.new.items }
-    ensures shares { Each ComesBack 0 shares.old.items shares.new.items }
+    ensures shares { Each ComesBack shares.old.items shares.new.items }
     ensures printed { HasPrinted (W.contents w.old) (W.contents w.new) printers.old printers.new }
 {
     let checkers = start_all(crew, alloc, senders, shares, room);
@@ -205,9 +203,8 @@ pub(crate) fn run_printing<
 ) -> (Returned<F, A>, Printers<A>)
     requires { AllFresh F.seen senders.items
         × (0 < vec_len shares) × (room.items ≡ []) × (vec_len shares ≤ vec_capacity room) }
-    ensures senders { Each (Becomes F.seen options.limit) 0
-        senders.items result.0.senders.items }
-    ensures shares { Each ComesBack 0 shares.items result.0.shares.items }
+    ensures senders { Each (Becomes F.seen options.limit) senders.items result.0.senders.items }
+    ensures shares { Each ComesBack shares.items result.0.shares.items }
     ensures printed { HasPrinted (W.contents w.old) (W.contents w.new) printers result.1 }
 {
     let at_work = &AtWork::new();
@@ -218,9 +215,8 @@ pub(crate) fn run_printing<
             requires { AllFresh F.seen senders.items
                 × (0 < vec_len shares) × (room.items ≡ []) × (vec_len shares ≤ vec_capacity room) }
             ensures same { result.0.ghost_name ≡ w.entry.ghost_name }
-            ensures senders { Each (Becomes F.seen options.limit) 0
-                senders.items result.1.senders.items }
-            ensures shares { Each ComesBack 0 shares.items result.1.shares.items }
+            ensures senders { Each (Becomes F.seen options.limit) senders.items result.1.senders.items }
+            ensures shares { Each ComesBack shares.items result.1.shares.items }
             ensures printed { HasPrinted (W.contents w.entry.now) (W.contents result.0.now)
                 printers result.2 }
         {

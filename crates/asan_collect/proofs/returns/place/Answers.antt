@@ -22,7 +22,7 @@ rejoin_at-requires g c =
     let d = c.index_mut.result.now in
     let is : d ≡ slice_index_or ys at d = c.index_mut.ensures.value ∙ get_or_default ys at c.index_mut.result.now d low in
     let was : HasLane (slice_index_or xs at d) (lane_of bench) = subst (λ k. HasLane (slice_index_or xs k d) (lane_of bench)) (sym c.process-at.ensures) (here.lane d) in
-    subst (λ s. HasLane s (lane_of bench)) (sym is) ((c.loop-bench.invariant.0.each at d (omega arith) first).lane (lane_of bench) was)
+    subst (λ s. HasLane s (lane_of bench)) (sym is) ((c.loop-bench.invariant.0.each at d first).lane (lane_of bench) was)
 
 pub loop-bench-preserved : goal.loop-bench-preserved
 loop-bench-preserved g c =

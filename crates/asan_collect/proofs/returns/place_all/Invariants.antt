@@ -7,7 +7,7 @@ use Rattle.asan_collect.proofs.returns.place_all.Given as goal
 
 abbrev pub invariant-loop-share : goal.invariant-loop-share
 invariant-loop-share g l =
-    Each (Rejoins g.F.Feed.seen l.bound) 0 l.initial.senders.items l.senders.items
+    Each (Rejoins g.F.Feed.seen l.bound) l.initial.senders.items l.senders.items
     × SharesAt l.bound l.initial.senders.items l.shares.items
     × ((lanes : ℕ → Option (Lane g.row.A.Denot)) → AllFit lanes l.initial.senders.items → SharesHave lanes l.initial.shares.items →
     AllFit lanes l.senders.items × SharesHave lanes l.shares.items)
