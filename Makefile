@@ -21,25 +21,20 @@ asancol: $(SOURCES)
 
 # A store that runs past its block: from C to the report with its line where a C compiler is there, and else from a
 # stored trace. Then a stored trace of a load in a redzone on the stack, and of a store in a global's. The program
-# reports them and ends with status 1.
+# reports them and ends with status 1. It is ./asancol if that is built and up to date. Else it is one that is built for
+# this in a minute, without its proof, and nothing of it stays.
 ifneq ($(HAS_CC),)
-demo: asancol recorder
+demo: recorder
 	@rm -f bug.trace bug.trace.where
 	ASANCOL_CC='$(CC)' recorder/asancol-cc -g examples/bug.c -o bug
 	ASANCOL_TRACE=bug.trace ASANCOL_WHERE=1 ./bug Alice
-	@echo './asancol < bug.trace | recorder/asancol-where bug.trace'
-	@./asancol < bug.trace > bug.verdicts; status=$$?; recorder/asancol-where bug.trace < bug.verdicts; \
-	echo "status $$status"; test $$status -eq 1
-	@$(SHOW_REDZONES)
+	@$(SHOW) bug.trace $(REDZONES)
 else
-demo: asancol
-	@echo './asancol < $(EXAMPLE)'
-	@./asancol < $(EXAMPLE); status=$$?; echo "status $$status"; test $$status -eq 1
-	@$(SHOW_REDZONES)
+demo:
+	@$(SHOW) $(EXAMPLE) $(REDZONES)
 endif
 
-SHOW_REDZONES = echo './asancol < $(REDZONES)'; ./asancol < $(REDZONES); status=$$?; \
-	echo "status $$status"; test $$status -eq 1
+SHOW = if $(MAKE) -q asancol > /dev/null 2>&1; then program=./asancol; else program=-; fi; tests/demo.py $$program
 
 # Proves everything from nothing, tries the wrong bodies, and runs the tests and the program. What has passed is then
 # the program here, so that nothing is proved again for it.
@@ -77,5 +72,5 @@ install: asancol $(if $(HAS_CC),install-recorder)
 
 # Leaves what was proved so far, in crates/*/out, for the next build.
 clean:
-	rm -f asancol bug bug.trace bug.trace.where bug.verdicts
+	rm -f asancol bug bug.trace bug.trace.where
 	$(MAKE) -C recorder clean

@@ -1,15 +1,28 @@
 #!/usr/bin/env python3
-"""Passes everything: `rt ci`, and then the runs of the programs that it has built.
+"""Passes everything, or what a change touches.
 
-`rt ci` proves each crate from nothing, tries the wrong bodies and runs the tests. It builds the
-program with two compilers and leaves both, and `runs.py` runs them with words. The last line is
-'N passed, M failed', of both together. The status is 0 where nothing failed.
+usage: tests/check.py                      the gate
+       tests/check.py --changed [BASE]     minutes after a change of one crate
+
+The gate first runs `hygiene.py`, in seconds, and ends there if that finds something. Then comes
+`rt ci`: it proves each crate from nothing, tries the wrong bodies and runs the tests. It builds the
+program with two compilers and leaves both, and `runs.py` runs them with words. A table shows the
+processor seconds of each crate (`costs.py` says how they are counted). The last line is
+'N passed, M failed', of `rt ci` and `runs.py` together. The status is 0 where nothing failed.
+
+With `--changed` only the crates with a file that differs from BASE are checked, and those that
+stand on them, over what earlier checks kept. BASE is the commit where the branch left `main`, if
+none is given. The last line says what was left out.
 """
 
 import os
 import re
 import subprocess
 import sys
+import time
+from typing import Dict, List, Set, Tuple
+
+import costs
 
 TOP = os.path.dirname(os.path.dirname(os.path.abspath(__file__)))
 
@@ -18,14 +31,42 @@ PROGRAMS = ["crates/asancol/out/asancol", "crates/asancol/out/asancol.by-rattle"
 
 COUNTS = re.compile(r"(\d+) passed, (\d+) failed")
 
+TEST = re.compile(r"#\s*\[\s*test\b")
 
-def counted(words):
+
+def crates_listed() -> Dict[str, List[str]]:
+    """Returns each crate of crates.txt with the names after its colon, in the order of the file."""
+    listed = {}
+    with open(f"{TOP}/crates.txt", encoding="utf-8") as file:
+        for line in file:
+            name, colon, below = line.partition("#")[0].partition(":")
+            if colon:
+                listed[name.split()[0]] = below.split()
+    return listed
+
+
+def lowest_first(listed: Dict[str, List[str]]) -> List[str]:
+    """Returns the crates, each after those that it stands on."""
+    ordered: List[str] = []
+
+    def add(name: str) -> None:
+        if name in listed and name not in ordered:
+            for below in listed[name]:
+                add(below)
+            ordered.append(name)
+
+    for name in listed:
+        add(name)
+    return ordered
+
+
+def counted(words: List[str]) -> Tuple[int, int]:
     """Runs a command and passes on what it prints, but for the counts in its last line: these are
     the answer. A command that says nothing passed, or ends with another status than its counts
     say, counts as failed."""
     last = ""
     with subprocess.Popen(words, cwd=TOP, stdout=subprocess.PIPE, text=True) as ran:
-        for line in ran.stdout:
+        for line in ran.stdout or ():
             print(last, end="", flush=True)
             last = line
     counts = COUNTS.fullmatch(last.strip())
@@ -37,14 +78,116 @@ def counted(words):
     return passed, failed
 
 
-def main():
-    passed, failed = counted(["rt", "ci"])
-    if failed == 0:
-        ran, failed = counted([sys.executable, f"{TOP}/tests/runs.py", *PROGRAMS])
-        passed += ran
+def is_clean() -> bool:
+    """Returns whether hygiene.py finds nothing. It prints what it finds."""
+    return subprocess.run([sys.executable, f"{TOP}/tests/hygiene.py"], cwd=TOP).returncode == 0
+
+
+def gate() -> int:
+    if not is_clean():
+        print("nothing was proved or run: mend these first")
+        print("0 passed, 1 failed")
+        return 1
+    with costs.Meter() as meter:
+        passed, failed = counted(["rt", "ci"])
+        if failed == 0:
+            ran, failed = counted([sys.executable, f"{TOP}/tests/runs.py", *PROGRAMS])
+            passed += ran
+    print("\n".join(["", *meter.table(lowest_first(crates_listed())), ""]))
     print(f"{passed} passed, {failed} failed")
     return 1 if failed else 0
 
 
+def git(*words: str) -> str:
+    """Returns what a git command prints, and ends this one where git fails."""
+    ran = subprocess.run(["git", *words], cwd=TOP, stdout=subprocess.PIPE, text=True)
+    if ran.returncode:
+        sys.exit(f"tests/check.py: git {words[0]} failed")
+    return ran.stdout
+
+
+def base_of_branch() -> str:
+    """Returns the commit where this branch left main, or HEAD if there is no main."""
+    words = ["git", "merge-base", "main", "HEAD"]
+    ran = subprocess.run(
+        words, cwd=TOP, stdout=subprocess.PIPE, stderr=subprocess.DEVNULL, text=True
+    )
+    return ran.stdout.strip() or "HEAD"
+
+
+def changed_crates(base: str) -> Set[str]:
+    """Returns the crates with a file that differs from BASE, committed or not, or that git does not
+    know yet."""
+    files = git("diff", "--name-only", base, "--", "crates").splitlines()
+    files += git("ls-files", "--others", "--exclude-standard", "--", "crates").splitlines()
+    return {it.split("/")[1] for it in files if it.count("/") >= 2}
+
+
+def those_above(names: Set[str], listed: Dict[str, List[str]]) -> List[str]:
+    """Returns these crates and all that stand on them, lowest first."""
+    found: List[str] = []
+    for name in lowest_first(listed):
+        if name in names or set(listed[name]) & set(found):
+            found.append(name)
+    return found
+
+
+def has_tests(crate: str) -> bool:
+    for at, _, files in os.walk(f"{TOP}/crates/{crate}/src"):
+        for name in files:
+            with open(f"{at}/{name}", encoding="utf-8", errors="replace") as file:
+                if TEST.search(file.read()):
+                    return True
+    return False
+
+
+def steps_for(changed: Set[str], listed: Dict[str, List[str]]) -> List[Tuple[str, List[str]]]:
+    """Returns the commands for a change of these crates, each with its folder."""
+    above = those_above(changed, listed)
+    steps = [(f"crates/{it}", ["rt", "check"]) for it in above]
+    edited = [it for it in above if it in changed and os.path.isdir(f"{TOP}/crates/{it}/must-fail")]
+    if edited:
+        steps.append((".", ["rt", "must-fail", *edited]))
+    steps += [(f"crates/{it}", ["rt", "test"]) for it in above if has_tests(it)]
+    if "asancol" in above:
+        steps.append(("crates/asancol", ["rt", "run", "--", "--version"]))
+        steps.append((".", [sys.executable, "tests/runs.py", PROGRAMS[0]]))
+    return steps
+
+
+def check_changed(base: str) -> int:
+    """Checks what a change since BASE touches, and stops at the first step that fails."""
+    listed = crates_listed()
+    changed = changed_crates(base)
+    above = those_above(changed, listed)
+    print(f"changed since {base[:12]}: {' '.join(sorted(changed)) or 'no crate'}")
+    print(f"checked: {' '.join(above) or 'no crate'}", flush=True)
+    failed = not is_clean()
+    for folder, words in steps_for(changed, listed):
+        began = time.monotonic()
+        print(f"== {folder}: {' '.join(words)}", flush=True)
+        if subprocess.run(words, cwd=f"{TOP}/{folder}").returncode:
+            failed = True
+            print(f"FAILED: {' '.join(words)} in {folder}; nothing after it was tried")
+            break
+        print(f"   {time.monotonic() - began:.0f} s", flush=True)
+    others = [it for it in above if it not in changed]
+    left = ["every proof from nothing", f"{len(listed) - len(above)} crates"]
+    left += [f"the wrong bodies of {' '.join(others)}"] if others else []
+    left += ["the program by the toolchain's own compiler"]
+    came = "something failed" if failed else "nothing failed"
+    print(f"not the gate: {came}; left out: {', '.join(left)}")
+    return 1 if failed else 0
+
+
+def main(words: List[str]) -> int:
+    if not words:
+        return gate()
+    if words[0] == "--changed" and len(words) <= 2:
+        return check_changed(words[1] if len(words) == 2 else base_of_branch())
+    print(__doc__.split("\n\n")[1], file=sys.stderr)
+    return 2
+
+
 if __name__ == "__main__":
-    sys.exit(main())
+    sys.exit(main(sys.argv[1:]))

@@ -1,0 +1,158 @@
+"""What checks cost: processor seconds by crate and kind, read from /proc while they run.
+
+The toolchain starts a process for each check, and its words name the crate. One that works in a
+copy of the crate tries a wrong body; else the word `--test` says that it proves the tests. A
+`Meter` looks at these processes twice a second and keeps the last reading of each. So it misses
+what each does after that, a quarter of a second in the middle. The total of a command and all that
+it started is exact: the system counts it. What no reading has is the row `the rest`: that last
+part, and short steps, such as linking and running the tests.
+
+A meter only reads. Where /proc cannot be read it has no rows, and nothing else changes.
+"""
+
+import os
+import resource
+import threading
+import time
+from typing import Dict, List, Optional, Tuple
+
+# A crate, and what of it is checked.
+Key = Tuple[str, str]
+
+KINDS = ("proof", "tests", "wrong bodies")
+
+# How long a meter waits between two looks, in seconds.
+PAUSE = 0.5
+
+TICKS = os.sysconf("SC_CLK_TCK")
+
+
+class Process:
+    """One line of /proc: a process, its parent, when it began, and its processor seconds with
+    those of the children that it has waited for."""
+
+    def __init__(self, pid: int, stat: str) -> None:
+        fields = stat[stat.rindex(")") + 2 :].split()
+        self.pid = pid
+        self.parent = int(fields[1])
+        self.seconds = sum(map(int, fields[11:15])) / TICKS
+        self.began = int(fields[19])
+
+
+def processes() -> Dict[int, Process]:
+    """Returns all processes that can be read, by their numbers."""
+    found = {}
+    for name in os.listdir("/proc"):
+        if name.isdigit():
+            try:
+                with open(f"/proc/{name}/stat", encoding="utf-8", errors="replace") as file:
+                    found[int(name)] = Process(int(name), file.read())
+            except (OSError, ValueError, IndexError):
+                pass
+    return found
+
+
+def checked_by(pid: int) -> Optional[Key]:
+    """Returns what a process checks, if it is a check."""
+    try:
+        with open(f"/proc/{pid}/cmdline", "rb") as file:
+            words = file.read().decode(errors="replace").split("\0")
+        folder = os.path.basename(os.readlink(f"/proc/{pid}/cwd"))
+    except OSError:
+        return None
+    if "--crate-name" not in words[:-1]:
+        return None
+    crate = words[words.index("--crate-name") + 1]
+    if folder.startswith("rt-edit"):
+        return crate, "wrong bodies"
+    return crate, "tests" if "--test" in words else "proof"
+
+
+class Meter:
+    """Reads what the checks below this process cost, from `with` to the end of its block."""
+
+    def __init__(self) -> None:
+        self.checks: Dict[Tuple[int, int], Key] = {}
+        self.readings: Dict[Tuple[int, int], float] = {}
+        self.total = 0.0
+        self.wall = 0.0
+        self.over = threading.Event()
+        self.thread = threading.Thread(target=self.watch, daemon=True)
+
+    def __enter__(self) -> "Meter":
+        self.total, self.wall = -seconds_of_children(), -time.monotonic()
+        self.thread.start()
+        return self
+
+    def __exit__(self, *_: object) -> None:
+        self.over.set()
+        self.thread.join()
+        self.total += seconds_of_children()
+        self.wall += time.monotonic()
+
+    def watch(self) -> None:
+        while not self.over.wait(PAUSE):
+            try:
+                self.look()
+            except OSError:
+                return
+
+    def look(self) -> None:
+        """Reads each check once. What it has forked counts as its own."""
+        found = processes()
+        below = {os.getpid()}
+        sums: Dict[Tuple[int, int], float] = {}
+        for pid in sorted(found, key=lambda it: (found[it].began, it)):
+            if found[pid].parent not in below:
+                continue
+            below.add(pid)
+            check = self.check_above(found, pid)
+            if check:
+                sums[check] = sums.get(check, 0.0) + found[pid].seconds
+        for check, seconds in sums.items():
+            self.readings[check] = max(seconds, self.readings.get(check, 0.0))
+
+    def check_above(self, found: Dict[int, Process], pid: int) -> Optional[Tuple[int, int]]:
+        """Returns the highest check among a process and those above it."""
+        highest = None
+        while pid in found and pid != os.getpid():
+            name = (pid, found[pid].began)
+            if name not in self.checks:
+                key = checked_by(pid)
+                if key:
+                    self.checks[name] = key
+            highest = name if name in self.checks else highest
+            pid = found[pid].parent
+        return highest
+
+    def by_crate(self) -> Dict[str, Dict[str, float]]:
+        """Returns the seconds of each kind, for each crate."""
+        rows: Dict[str, Dict[str, float]] = {}
+        for check, seconds in self.readings.items():
+            crate, kind = self.checks[check]
+            row = rows.setdefault(crate, dict.fromkeys(KINDS, 0.0))
+            row[kind] += seconds
+        return rows
+
+    def table(self, crates: List[str]) -> List[str]:
+        """Returns the lines of a table: a row for each crate that was checked, in this order, the
+        rest, and all."""
+        rows = self.by_crate()
+        order = [it for it in crates if it in rows] + sorted(set(rows) - set(crates))
+        sums = {kind: sum(row[kind] for row in rows.values()) for kind in KINDS}
+        lines = ["processor seconds     " + "".join(f"{it:>14}" for it in (*KINDS, "all"))]
+        lines += [line_of(crate, rows[crate], sum(rows[crate].values())) for crate in order]
+        lines.append(line_of("the rest", {}, max(0.0, self.total - sum(sums.values()))))
+        minutes, seconds = divmod(round(self.wall), 60)
+        return [*lines, f"{line_of('all', sums, self.total)}  in {minutes} min {seconds} s"]
+
+
+def line_of(name: str, row: Dict[str, float], whole: float) -> str:
+    cells = "".join(f"{row[it]:14,.0f}" if it in row else " " * 14 for it in KINDS)
+    return f"{name:<22}{cells}{whole:14,.0f}"
+
+
+def seconds_of_children() -> float:
+    """Returns the processor seconds of all that this process started and waited for."""
+    used = resource.getrusage(resource.RUSAGE_CHILDREN)
+    return used.ru_utime + used.ru_stime

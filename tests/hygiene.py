@@ -1,0 +1,107 @@
+#!/usr/bin/env python3
+"""Looks over the tree, in seconds, for what no proof and no test sees.
+
+usage: tests/hygiene.py
+
+- No line of a crate's proofs has more than 120 columns, and none of its code and definitions more
+  than 100. Imports in code and definitions may be longer.
+- Each file is as `rt fmt` lays it out.
+- Each lemma right in a folder `proofs` is cited. `Examples` and `Refuted` are lists of worked
+  examples, and are left out.
+- Each name that a file imports is used there (`names.py`). `rt tidy` drops those that are not; it
+  proves the crate again, so this does not call it.
+- Each function, clause, file, test and target of make that a page names is there (`pages.py`).
+
+Each finding is a line `FILE:LINE: what`. The last line counts them, and the status is 1 if there are
+any.
+"""
+
+import os
+import re
+import shutil
+import subprocess
+import sys
+from typing import Iterator, List, Tuple
+
+import names
+import pages
+
+TOP = os.path.dirname(os.path.dirname(os.path.abspath(__file__)))
+
+Finding = Tuple[str, int, str]
+
+
+def files_of_tree() -> List[str]:
+    """Returns the files that git knows, and those that it would add."""
+    words = ["git", "ls-files", "--cached", "--others", "--exclude-standard"]
+    ran = subprocess.run(words, cwd=TOP, stdout=subprocess.PIPE, text=True, check=True)
+    return sorted(it for it in set(ran.stdout.splitlines()) if os.path.isfile(f"{TOP}/{it}"))
+
+
+def width_of(path: str) -> int:
+    """Returns how many columns a line of a file may have, or 0 where that is not asked."""
+    parts = path.split("/")
+    if len(parts) < 4 or parts[0] != "crates" or not path.endswith((".rt", ".antt")):
+        return 0
+    return 120 if parts[2] == "proofs" else 100
+
+
+def long_lines(files: List[str]) -> Iterator[Finding]:
+    for path in files:
+        width = width_of(path)
+        if not width:
+            continue
+        with open(f"{TOP}/{path}", encoding="utf-8") as file:
+            for number, line in enumerate(file, 1):
+                columns = len(line.rstrip("\n"))
+                if columns > width and (width == 120 or "use Rattle" not in line):
+                    yield path, number, f"{columns} columns, and at most {width} are allowed"
+
+
+def bad_layouts(files: List[str]) -> Iterator[Finding]:
+    """Goes over the files that `rt fmt` would change. The toolchain's `rattle`, which lies beside
+    `rt`, finds them; where it is not there, nothing is looked at."""
+    rt = shutil.which("rt")
+    rattle = os.path.join(os.path.dirname(os.path.realpath(rt)), "rattle") if rt else ""
+    sources = [it for it in files if width_of(it)]
+    if not os.path.isfile(rattle) or not sources:
+        return
+    words = [rattle, "fmt", "--check", *sources]
+    both = {"stdout": subprocess.PIPE, "stderr": subprocess.STDOUT}
+    ran = subprocess.run(words, cwd=TOP, text=True, **both)
+    for path in re.findall(r"^(\S+) is not in the layout", ran.stdout, re.M):
+        yield path, 1, "rt fmt would change it"
+    if ran.returncode not in (0, 1):
+        yield "crates", 1, f"rattle fmt --check ended with status {ran.returncode}"
+
+
+def sources_of(files: List[str]) -> List[names.Source]:
+    found = []
+    for path in files:
+        if path.startswith("crates/") and path.endswith((".rt", ".antt")):
+            with open(f"{TOP}/{path}", encoding="utf-8") as file:
+                found.append(names.Source(path, file.read()))
+    return found
+
+
+def findings() -> Iterator[Finding]:
+    files = files_of_tree()
+    sources = sources_of(files)
+    yield from long_lines(files)
+    yield from bad_layouts(files)
+    yield from names.uncited_lemmas(sources)
+    yield from names.unused_imports(sources)
+    yield from pages.findings(pages.Tree(TOP, files))
+
+
+def main() -> int:
+    count = 0
+    for path, line, what in findings():
+        print(f"{path}:{line}: {what}")
+        count += 1
+    print(f"hygiene: {count} findings" if count else "hygiene: nothing found")
+    return 1 if count else 0
+
+
+if __name__ == "__main__":
+    sys.exit(main())
