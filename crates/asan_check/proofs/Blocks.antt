@@ -1,5 +1,6 @@
 -- Where the blocks of a history lie.
-use Rattle.std.proofs.Common.{◌≡◌, ℕ, ◌%◌, ◌^◌, ◌≤◌, Bool, true, false, eqb, List, [], ◌∷◌, ◌++◌, refl, sym, subst, arith, inl, inr}
+use Rattle.std.proofs.Common.{◌≡◌, ℕ, ◌%◌, ◌^◌, ◌≤◌, Bool, true, false, eqb, List, [], ◌∷◌, ◌++◌, refl, subst, arith}
+use Rattle.std.proofs.Common.{inl, inr}
 use Rattle.std.specs.Prelude.{not, filter, Contains, sum_by, nat_le, cond}
 use Rattle.std.specs.List.{list_any}
 use Rattle.std.specs.List.Sorted.{IsPermutation}
@@ -9,7 +10,6 @@ use Rattle.std.proofs.lemmas.List.Elements.{Contains-append_cases, Contains-push
 use Rattle.std.proofs.lemmas.List.Sorted.{list_any-IsPermutation, IsPermutation-append_left}
 use Rattle.trace_record.specs.declared.event.Event.{Event}
 use Rattle.trace_record.specs.declared.event.Event.TheVariants as event
-use Rattle.trace_record.specs.declared.event.Region.{Region}
 use Rattle.heap_book.specs.Spans.{Extent, span_bytes, span_to, meets, may_be_admitted, held_of, starts_at}
 use Rattle.asan_units.specs.Units.{redzone}
 use Rattle.asan_check.specs.History.{block_of, live, freed, held, admits}
@@ -29,7 +29,8 @@ admitted_placed taken b ok =
     (eqb-true _ _ above.0, leb-true _ _ above.1, leb-true _ _ below.1)
 
 -- and its span meets none of those beside which it was admitted
-pub admitted_apart : (taken : List Extent) (b : Extent) → may_be_admitted taken b ≡ true → list_any (meets b) taken ≡ false
+pub admitted_apart : (taken : List Extent) (b : Extent) → may_be_admitted taken b ≡ true
+    → list_any (meets b) taken ≡ false
 admitted_apart taken b ok = not-true _ (and_parts _ _ ok).1
 
 -- what is held was freed
@@ -37,7 +38,8 @@ pub held_was_freed : (bound : ℕ) (xs : List Extent) (x : Extent) → Contains 
 held_was_freed bound [] x has = has
 held_was_freed bound (y ∷ ys) x has = go (nat_le (sum_by span_bytes (y ∷ ys)) bound) has (held_was_freed bound ys x)
   where
-    go : (t : Bool) → Contains (cond t (y ∷ held_of bound ys) (held_of bound ys)) x → (Contains (held_of bound ys) x → Contains ys x) → Contains (y ∷ ys) x
+    go : (t : Bool) → Contains (cond t (y ∷ held_of bound ys) (held_of bound ys)) x
+        → (Contains (held_of bound ys) x → Contains ys x) → Contains (y ∷ ys) x
     go false h rest = in_tail x y ys (rest h)
     go true h rest =
         elim (cons_cases x y (held_of bound ys) h) [
@@ -53,7 +55,8 @@ live_placed bound (event.Store a ∷ past) b has = live_placed bound past b has
 live_placed bound (event.Poison r ∷ past) b has = live_placed bound past b has
 live_placed bound (event.Unpoison r ∷ past) b has = live_placed bound past b has
 live_placed bound (event.Free p ∷ past) b has =
-    live_placed bound past b (from_filtered (λ x. not (starts_at p.at x)) (live bound past) b (rw (live_free bound p past) at has)).0
+    live_placed bound past b (from_filtered (λ x. not (starts_at p.at x)) (live bound past) b
+    (rw (live_free bound p past) at has)).0
 live_placed bound (event.Malloc r ∷ past) b has =
     elim (cases_Bool (admits bound past (block_of r))) [
       | inl ok ↦ elim (Contains-push_cases (live bound past) (block_of r) b (rw (live_malloc bound r past ok) at has)) [
@@ -71,7 +74,8 @@ freed_placed bound (event.Poison r ∷ past) b has = freed_placed bound past b h
 freed_placed bound (event.Unpoison r ∷ past) b has = freed_placed bound past b has
 freed_placed bound (event.Malloc r ∷ past) b has = freed_placed bound past b (rw (freed_malloc bound r past) at has)
 freed_placed bound (event.Free p ∷ past) b has =
-    elim (Contains-append_cases (freed bound past) (filter (starts_at p.at) (live bound past)) b (rw (freed_free bound p past) at has)) [
+    elim (Contains-append_cases (freed bound past) (filter (starts_at p.at) (live bound past)) b
+    (rw (freed_free bound p past) at has)) [
       | inl old ↦ freed_placed bound past b old
       | inr now ↦ live_placed bound past b (from_filtered (starts_at p.at) (live bound past) b now).0
     ]
@@ -83,17 +87,16 @@ held_placed bound past b has = freed_placed bound past b (held_was_freed bound (
 -- no live block starts at address 0: a free there is of none
 pub none_at_zero : (bound : ℕ) (past : List Event) (at : ℕ) → at ≡ 0 → list_any (starts_at at) (live bound past) ≡ false
 none_at_zero bound past at zero_is =
-    none_from (starts_at at) (live bound past) (λ b has. let above = (live_placed bound past b has).1 in not_at_zero b.at at zero_is above)
+    none_from (starts_at at) (live bound past) (λ b has. let above = (live_placed bound past b has).1 in
+    not_at_zero b.at at zero_is above)
   where
     not_at_zero : (m n : ℕ) → n ≡ 0 → 32 ≤ m → eqb m n ≡ false
     not_at_zero m n is above = grind (arith, nat_tests)
 
--- a malloc at address 0 is never admitted
-pub zero_refused : (bound : ℕ) (past : List Event) (r : Region) → r.at ≡ 0 → admits bound past (block_of r) ≡ false
-zero_refused bound past r zero_is = subst (λ (at : ℕ). admits bound past (record { at = at; size = r.size }) ≡ false) (sym zero_is) refl
-
 -- the test of a malloc does not depend on the order of the live blocks
-pub admits_by_any_order : (bound : ℕ) (past : List Event) (lives : List Extent) (b : Extent) → IsPermutation lives (live bound past) →
+pub admits_by_any_order : (bound : ℕ) (past : List Event) (lives : List Extent) (b : Extent)
+    → IsPermutation lives (live bound past) →
     may_be_admitted (lives ++ held bound past) b ≡ admits bound past b
 admits_by_any_order bound past lives b same =
-    rw (list_any-IsPermutation (meets b) (lives ++ held bound past) (live bound past ++ held bound past) (IsPermutation-append_left (held bound past) lives (live bound past) same)) refl
+    rw (list_any-IsPermutation (meets b) (lives ++ held bound past) (live bound past ++ held bound past)
+    (IsPermutation-append_left (held bound past) lives (live bound past) same)) refl

@@ -1,9 +1,11 @@
 -- The class of a granule's first byte, from the granule's shadow byte.
-use Rattle.std.proofs.Common.{◌≡◌, ℕ, zero, suc, ◌+◌, ◌*◌, ◌≤◌, ◌<◌, Bool, true, false, cond, leb, ltb, eqb, List, [], ◌∷◌, refl, ◌∙◌, arith, add-zero}
+use Rattle.std.proofs.Common.{◌≡◌, ℕ, zero, suc, ◌+◌, ◌*◌, ◌≤◌, ◌<◌, Bool, true, false, cond, leb, ltb, eqb, List, []}
+use Rattle.std.proofs.Common.{◌∷◌, refl, ◌∙◌, arith, add-zero}
 use Rattle.std.specs.List.{list_all}
 use Rattle.std.proofs.lemmas.Bool.{false≢true, and_parts, leb-true}
 use Rattle.std.proofs.lemmas.Bool.Decides.{nat_tests}
-use Rattle.shadow_map.specs.States.{State, Addressable, Coded, is_addressable, code_of, addressable_front, shadow_byte, lift}
+use Rattle.shadow_map.specs.States.{State, Addressable, Coded, is_addressable, code_of, addressable_front, shadow_byte}
+use Rattle.shadow_map.specs.States.{lift}
 use Rattle.shadow_map.specs.Causes.{has_none_addressable}
 use Rattle.asan_check.specs.declared.report.Class.{Class}
 use Rattle.asan_check.specs.declared.report.Class.TheVariants as class
@@ -13,7 +15,8 @@ use Rattle.asan_check.specs.Codes.{classes, class_among, class_of_code}
 abbrev AreHigh : List (ℕ × Class) → Bool
 AreHigh rows = list_all (λ row. leb 128 row.0) rows
 
-unknown_among : (rows : List (ℕ × Class)) → AreHigh rows ≡ true → (shadow : ℕ) → shadow ≤ 8 → class_among rows shadow ≡ class.UnknownCrash
+unknown_among : (rows : List (ℕ × Class)) → AreHigh rows ≡ true → (shadow : ℕ) → shadow ≤ 8
+    → class_among rows shadow ≡ class.UnknownCrash
 unknown_among [] high shadow le = refl
 unknown_among (row ∷ rows) high shadow le =
     let parts = and_parts (leb 128 row.0) (AreHigh rows) high in
@@ -27,8 +30,10 @@ unknown_below = unknown_among classes refl
 some_front : (front : ℕ) (first : State) → 0 < front → front ≤ 8 → shadow_byte front first ≤ 8
 some_front front first some most = grind (arith, nat_tests)
 
-class_by_front : (first : State) (front : ℕ) → is_addressable first ≡ ltb 0 front → front ≤ 8 → class_of_code (shadow_byte front first) ≡ class_of_code (code_of first)
-class_by_front Addressable front is most = unknown_below _ (some_front front Addressable (grind (arith, nat_tests)) most)
+class_by_front : (first : State) (front : ℕ) → is_addressable first ≡ ltb 0 front → front ≤ 8
+    → class_of_code (shadow_byte front first) ≡ class_of_code (code_of first)
+class_by_front Addressable front is most =
+    unknown_below _ (some_front front Addressable (grind (arith, nat_tests)) most)
 class_by_front (Coded code) zero is most = refl
 class_by_front (Coded code) (suc front) is most = absurd (false≢true (is ∙ grind (arith, nat_tests)))
 
@@ -37,7 +42,8 @@ module _ (states : ℕ → State) where
   front_most byte zero = omega arith
   front_most byte (suc count) = go (is_addressable (states byte)) (front_most (byte + 1) count)
     where
-      go : (t : Bool) → addressable_front states (byte + 1) count ≤ count → cond t (suc (addressable_front states (byte + 1) count)) 0 ≤ suc count
+      go : (t : Bool) → addressable_front states (byte + 1) count ≤ count
+          → cond t (suc (addressable_front states (byte + 1) count)) 0 ≤ suc count
       go true le = omega arith
       go false le = omega arith
 
@@ -53,14 +59,26 @@ module _ (states : ℕ → State) where
 
   -- a shadow byte decides the class of its granule's first byte
   pub class_shown : (granule : ℕ) → class_of_code (lift states granule) ≡ class_of_code (code_of (states (8 * granule)))
-  class_shown granule = class_by_front (states (8 * granule)) (addressable_front states (8 * granule) 8) (first_is granule) (front_most (8 * granule) 8)
+  class_shown granule = class_by_front (states (8 * granule)) (addressable_front states (8 * granule) 8)
+      (first_is granule) (front_most (8 * granule) 8)
 
   -- whether a granule has no addressable byte, where none is addressable and where the first one is
-  pub none_is : (granule : ℕ) → ((i : ℕ) → i < 8 → is_addressable (states (8 * granule + i)) ≡ false) → has_none_addressable states granule ≡ true
+  pub none_is : (granule : ℕ) → ((i : ℕ) → i < 8 → is_addressable (states (8 * granule + i)) ≡ false)
+      → has_none_addressable states granule ≡ true
   none_is granule bad =
-      rw (bad 0 (omega arith), bad 1 (omega arith), bad 2 (omega arith), bad 3 (omega arith), bad 4 (omega arith), bad 5 (omega arith), bad 6 (omega arith), bad 7 (omega arith)) refl
+      rw (
+        bad 0 (omega arith),
+        bad 1 (omega arith),
+        bad 2 (omega arith),
+        bad 3 (omega arith),
+        bad 4 (omega arith),
+        bad 5 (omega arith),
+        bad 6 (omega arith),
+        bad 7 (omega arith),
+      ) refl
 
-  pub some_is : (granule : ℕ) → is_addressable (states (8 * granule)) ≡ true → has_none_addressable states granule ≡ false
+  pub some_is : (granule : ℕ) → is_addressable (states (8 * granule)) ≡ true
+      → has_none_addressable states granule ≡ false
   some_is granule first =
       let here : is_addressable (states (8 * granule + 0)) ≡ true = rw (add-zero (8 * granule)) first in
       rw here refl

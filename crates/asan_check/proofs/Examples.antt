@@ -42,7 +42,12 @@ most = largest_region version.Two
 abbrev region : (at size : ℕ) → IsTrue (nat_le size most && nat_le (at + size) address_end) → Region
 region at size ok =
     let parts = and_parts (nat_le size most) (nat_le (at + size) address_end) ok in
-    record { at = at; size = size; small = leb-true size most parts.0; in_range = leb-true (at + size) address_end parts.1 }
+    record {
+      at = at;
+      size = size;
+      small = leb-true size most parts.0;
+      in_range = leb-true (at + size) address_end parts.1;
+    }
 
 abbrev pub malloc : (at size : ℕ) → IsTrue (nat_le size most && nat_le (at + size) address_end) → Event
 malloc at size ok = event.Malloc (region at size ok)
@@ -59,9 +64,16 @@ IsShade at number = IsTrue (nat_lt (number % 4) 3 && nat_le (number / 4) most &&
 
 abbrev shade : (at number : ℕ) → IsShade at number → Shade
 shade at number ok =
-    let parts = and_parts (nat_lt (number % 4) 3 && nat_le (number / 4) most) (nat_le (at + number / 4) address_end) ok in
+    let parts = and_parts (nat_lt (number % 4) 3 && nat_le (number / 4) most) (nat_le (at + number / 4) address_end)
+    ok in
     let own = and_parts (nat_lt (number % 4) 3) (nat_le (number / 4) most) parts.0 in
-    record { at = at; size_and_kind = number; known_kind = ltb-true (number % 4) 3 own.0; small = leb-true (number / 4) most own.1; in_range = leb-true (at + number / 4) address_end parts.1 }
+    record {
+      at = at;
+      size_and_kind = number;
+      known_kind = ltb-true (number % 4) 3 own.0;
+      small = leb-true (number / 4) most own.1;
+      in_range = leb-true (at + number / 4) address_end parts.1;
+    }
 
 abbrev pub poison_of : (k : Kind) (at size : ℕ) → IsShade at (packed k size) → Event
 poison_of k at size ok = event.Poison (shade at (packed k size) ok)
@@ -121,8 +133,10 @@ poison_to_the_end = refl
 
 -- an unpoison makes the front of a granule addressable
 poison_then_unpoison :
-    verdicts usual ((poison 0x2000 10 refl) ∷ (load 0x2008 1 refl) ∷ (load 0x2000 1 refl) ∷ (unpoison 0x2000 3 refl) ∷ (load 0x2002 1 refl) ∷ (load 0x2003 1 refl) ∷ [])
-    ≡ (report 3 (fault.Access false 1 0x2000 0x2000 class.UseAfterPoison 0xf7)) ∷ (report 6 (fault.Access false 1 0x2003 0x2003 class.UnknownCrash 3)) ∷ []
+    verdicts usual ((poison 0x2000 10 refl) ∷ (load 0x2008 1 refl) ∷ (load 0x2000 1 refl) ∷ (unpoison 0x2000 3 refl)
+    ∷ (load 0x2002 1 refl) ∷ (load 0x2003 1 refl) ∷ [])
+    ≡ (report 3 (fault.Access false 1 0x2000 0x2000 class.UseAfterPoison 0xf7))
+    ∷ (report 6 (fault.Access false 1 0x2003 0x2003 class.UnknownCrash 3)) ∷ []
 poison_then_unpoison = refl
 
 -- the first byte of a granule decides its class
@@ -133,8 +147,10 @@ two_kinds_in_a_granule = refl
 
 -- redzones of the stack and of globals have classes of their own
 stack_and_global_poison :
-    verdicts usual ((poison_of kind.Stack 0x2000 16 refl) ∷ (poison_of kind.Global 0x2010 16 refl) ∷ (load 0x2008 1 refl) ∷ (store 0x2010 4 refl) ∷ (unpoison 0x2000 32 refl) ∷ (load 0x2000 8 refl) ∷ [])
-    ≡ (report 3 (fault.Access false 1 0x2008 0x2008 class.StackBufferOverflow 0xf2)) ∷ (report 4 (fault.Access true 4 0x2010 0x2010 class.GlobalBufferOverflow 0xf9)) ∷ []
+    verdicts usual ((poison_of kind.Stack 0x2000 16 refl) ∷ (poison_of kind.Global 0x2010 16 refl)
+    ∷ (load 0x2008 1 refl) ∷ (store 0x2010 4 refl) ∷ (unpoison 0x2000 32 refl) ∷ (load 0x2000 8 refl) ∷ [])
+    ≡ (report 3 (fault.Access false 1 0x2008 0x2008 class.StackBufferOverflow 0xf2))
+    ∷ (report 4 (fault.Access true 4 0x2010 0x2010 class.GlobalBufferOverflow 0xf9)) ∷ []
 stack_and_global_poison = refl
 
 -- the class of an access that starts before a redzone comes from the next granule
@@ -145,8 +161,12 @@ half_a_granule = refl
 
 -- a poison of a whole granule recodes it
 block_recoded_by_each_kind :
-    verdicts usual ((malloc 0x1000 8 refl) ∷ (poison_of kind.Stack 0x1000 8 refl) ∷ (load 0x1004 1 refl) ∷ (poison_of kind.Global 0x1000 8 refl) ∷ (store 0x1006 2 refl) ∷ (poison 0x1000 8 refl) ∷ (load 0x1000 8 refl) ∷ [])
-    ≡ (report 3 (fault.Access false 1 0x1004 0x1004 class.StackBufferOverflow 0xf2)) ∷ (report 5 (fault.Access true 2 0x1006 0x1006 class.GlobalBufferOverflow 0xf9)) ∷ (report 7 (fault.Access false 8 0x1000 0x1000 class.UseAfterPoison 0xf7)) ∷ []
+    verdicts usual ((malloc 0x1000 8 refl) ∷ (poison_of kind.Stack 0x1000 8 refl) ∷ (load 0x1004 1 refl)
+    ∷ (poison_of kind.Global 0x1000 8 refl) ∷ (store 0x1006 2 refl) ∷ (poison 0x1000 8 refl) ∷ (load 0x1000 8 refl)
+    ∷ [])
+    ≡ (report 3 (fault.Access false 1 0x1004 0x1004 class.StackBufferOverflow 0xf2))
+    ∷ (report 5 (fault.Access true 2 0x1006 0x1006 class.GlobalBufferOverflow 0xf9))
+    ∷ (report 7 (fault.Access false 8 0x1000 0x1000 class.UseAfterPoison 0xf7)) ∷ []
 block_recoded_by_each_kind = refl
 
 -- the first byte of a granule decides the kind too
@@ -165,31 +185,40 @@ last_granule = refl
 
 -- of two spans of 72 bytes the bound leaves the later
 quarantine_releases_the_oldest :
-    verdicts 72 ((malloc 0x1000 8 refl) ∷ (malloc 0x2000 8 refl) ∷ (free 0x1000 refl) ∷ (free 0x2000 refl) ∷ (load 0x1000 1 refl) ∷ (load 0x2000 1 refl) ∷ [])
-    ≡ (report 5 (fault.Access false 1 0x1000 0x1000 class.HeapBufferOverflow 0xfa)) ∷ (report 6 (fault.Access false 1 0x2000 0x2000 class.HeapUseAfterFree 0xfd)) ∷ []
+    verdicts 72 ((malloc 0x1000 8 refl) ∷ (malloc 0x2000 8 refl) ∷ (free 0x1000 refl) ∷ (free 0x2000 refl)
+    ∷ (load 0x1000 1 refl) ∷ (load 0x2000 1 refl) ∷ [])
+    ≡ (report 5 (fault.Access false 1 0x1000 0x1000 class.HeapBufferOverflow 0xfa))
+    ∷ (report 6 (fault.Access false 1 0x2000 0x2000 class.HeapUseAfterFree 0xfd)) ∷ []
 quarantine_releases_the_oldest = refl
 
 -- a block whose own span is over the bound pushes out the older ones and is released itself
 own_span_over_the_bound :
-    verdicts 72 ((malloc 0x1000 8 refl) ∷ (malloc 0x2000 16 refl) ∷ (free 0x1000 refl) ∷ (free 0x2000 refl) ∷ (load 0x1000 1 refl) ∷ (load 0x2000 1 refl) ∷ [])
-    ≡ (report 5 (fault.Access false 1 0x1000 0x1000 class.HeapBufferOverflow 0xfa)) ∷ (report 6 (fault.Access false 1 0x2000 0x2000 class.HeapBufferOverflow 0xfa)) ∷ []
+    verdicts 72 ((malloc 0x1000 8 refl) ∷ (malloc 0x2000 16 refl) ∷ (free 0x1000 refl) ∷ (free 0x2000 refl)
+    ∷ (load 0x1000 1 refl) ∷ (load 0x2000 1 refl) ∷ [])
+    ≡ (report 5 (fault.Access false 1 0x1000 0x1000 class.HeapBufferOverflow 0xfa))
+    ∷ (report 6 (fault.Access false 1 0x2000 0x2000 class.HeapBufferOverflow 0xfa)) ∷ []
 own_span_over_the_bound = refl
 
 -- a block of 2^32 bytes, whose span is over the usual bound: its own free releases it
 four_gigabyte_block_is_released :
-    verdicts usual ((malloc 0x100000000 4294967296 refl) ∷ (load 0x1ffffffff 1 refl) ∷ (load 0x200000000 1 refl) ∷ (free 0x100000000 refl) ∷ (load 0x180000000 1 refl) ∷ [])
-    ≡ (report 3 (fault.Access false 1 0x200000000 0x200000000 class.HeapBufferOverflow 0xfa)) ∷ (report 5 (fault.Access false 1 0x180000000 0x180000000 class.HeapBufferOverflow 0xfa)) ∷ []
+    verdicts usual ((malloc 0x100000000 4294967296 refl) ∷ (load 0x1ffffffff 1 refl) ∷ (load 0x200000000 1 refl)
+    ∷ (free 0x100000000 refl) ∷ (load 0x180000000 1 refl) ∷ [])
+    ≡ (report 3 (fault.Access false 1 0x200000000 0x200000000 class.HeapBufferOverflow 0xfa))
+    ∷ (report 5 (fault.Access false 1 0x180000000 0x180000000 class.HeapBufferOverflow 0xfa)) ∷ []
 four_gigabyte_block_is_released = refl
 
 -- the same block where the bound is the largest
 four_gigabyte_block_is_held :
-    verdicts largest_quarantine ((malloc 0x100000000 4294967296 refl) ∷ (load 0x1ffffffff 1 refl) ∷ (load 0x200000000 1 refl) ∷ (free 0x100000000 refl) ∷ (load 0x180000000 1 refl) ∷ [])
-    ≡ (report 3 (fault.Access false 1 0x200000000 0x200000000 class.HeapBufferOverflow 0xfa)) ∷ (report 5 (fault.Access false 1 0x180000000 0x180000000 class.HeapUseAfterFree 0xfd)) ∷ []
+    verdicts largest_quarantine ((malloc 0x100000000 4294967296 refl) ∷ (load 0x1ffffffff 1 refl)
+    ∷ (load 0x200000000 1 refl) ∷ (free 0x100000000 refl) ∷ (load 0x180000000 1 refl) ∷ [])
+    ≡ (report 3 (fault.Access false 1 0x200000000 0x200000000 class.HeapBufferOverflow 0xfa))
+    ∷ (report 5 (fault.Access false 1 0x180000000 0x180000000 class.HeapUseAfterFree 0xfd)) ∷ []
 four_gigabyte_block_is_held = refl
 
 -- a release repaints poison and unpoison that came into the span
 release_repaints_the_span :
-    verdicts 72 ((malloc 0x1000 8 refl) ∷ (malloc 0x2000 8 refl) ∷ (free 0x1000 refl) ∷ (unpoison 0x1000 8 refl) ∷ (load 0x1000 1 refl) ∷ (free 0x2000 refl) ∷ (load 0x1000 1 refl) ∷ [])
+    verdicts 72 ((malloc 0x1000 8 refl) ∷ (malloc 0x2000 8 refl) ∷ (free 0x1000 refl) ∷ (unpoison 0x1000 8 refl)
+    ∷ (load 0x1000 1 refl) ∷ (free 0x2000 refl) ∷ (load 0x1000 1 refl) ∷ [])
     ≡ (report 7 (fault.Access false 1 0x1000 0x1000 class.HeapBufferOverflow 0xfa)) ∷ []
 release_repaints_the_span = refl
 
@@ -215,7 +244,8 @@ malloc_meets_a_released_span = refl
 
 -- a span may begin where another ends
 spans_may_touch :
-    verdicts usual ((malloc 0x1000 8 refl) ∷ (malloc 0x1048 8 refl) ∷ (malloc 0x1090 8 refl) ∷ (malloc 0x10d0 8 refl) ∷ [])
+    verdicts usual ((malloc 0x1000 8 refl) ∷ (malloc 0x1048 8 refl) ∷ (malloc 0x1090 8 refl) ∷ (malloc 0x10d0 8 refl)
+    ∷ [])
     ≡ (report 4 (fault.BadMalloc 0x10d0 8)) ∷ []
 spans_may_touch = refl
 
@@ -239,8 +269,10 @@ free_inside_and_of_null = refl
 
 -- a block of size 0; a malloc at address 0; one without room below; one that is not aligned
 empty_null_and_bad_mallocs :
-    verdicts usual ((malloc 0x1000 0 refl) ∷ (load 0x1000 1 refl) ∷ (malloc 0x0 16 refl) ∷ (malloc 0x18 8 refl) ∷ (malloc 0x3004 8 refl) ∷ [])
-    ≡ (report 2 (fault.Access false 1 0x1000 0x1000 class.HeapBufferOverflow 0xfa)) ∷ (report 4 (fault.BadMalloc 0x18 8)) ∷ (report 5 (fault.BadMalloc 0x3004 8)) ∷ []
+    verdicts usual ((malloc 0x1000 0 refl) ∷ (load 0x1000 1 refl) ∷ (malloc 0x0 16 refl) ∷ (malloc 0x18 8 refl)
+    ∷ (malloc 0x3004 8 refl) ∷ [])
+    ≡ (report 2 (fault.Access false 1 0x1000 0x1000 class.HeapBufferOverflow 0xfa))
+    ∷ (report 4 (fault.BadMalloc 0x18 8)) ∷ (report 5 (fault.BadMalloc 0x3004 8)) ∷ []
 empty_null_and_bad_mallocs = refl
 
 -- a block at 32 has its redzone from address 0 on
@@ -271,13 +303,15 @@ largest_malloc_past_the_end = refl
 
 -- the last place of a block of that size
 last_place_of_the_largest_block :
-    verdicts usual ((malloc 0x7ffeffffffe0 4294967296 refl) ∷ (load 0x7fffffffffdf 1 refl) ∷ (load 0x7fffffffffe0 1 refl) ∷ [])
+    verdicts usual ((malloc 0x7ffeffffffe0 4294967296 refl) ∷ (load 0x7fffffffffdf 1 refl)
+    ∷ (load 0x7fffffffffe0 1 refl) ∷ [])
     ≡ (report 3 (fault.Access false 1 0x7fffffffffe0 0x7fffffffffe0 class.HeapBufferOverflow 0xfa)) ∷ []
 last_place_of_the_largest_block = refl
 
 -- a poison of that size, up to the last address
 poison_up_to_the_last_address :
-    verdicts usual ((poison_of kind.Global 0x7fff00000000 4294967296 refl) ∷ (load 0x7fffffffffff 1 refl) ∷ (load 0x7ffefffffff8 8 refl) ∷ (unpoison 0x7fff00000000 4294967296 refl) ∷ (load 0x7fffffffffff 1 refl) ∷ [])
+    verdicts usual ((poison_of kind.Global 0x7fff00000000 4294967296 refl) ∷ (load 0x7fffffffffff 1 refl)
+    ∷ (load 0x7ffefffffff8 8 refl) ∷ (unpoison 0x7fff00000000 4294967296 refl) ∷ (load 0x7fffffffffff 1 refl) ∷ [])
     ≡ (report 2 (fault.Access false 1 0x7fffffffffff 0x7fffffffffff class.GlobalBufferOverflow 0xf9)) ∷ []
 poison_up_to_the_last_address = refl
 
@@ -295,7 +329,8 @@ malloc_past_the_end = refl
 
 -- a region of size 0 may lie at 2^47, but no block
 empty_malloc_at_the_end :
-    verdicts usual ((malloc 0x800000000000 0 refl) ∷ (poison 0x800000000000 0 refl) ∷ (unpoison 0x800000000000 0 refl) ∷ [])
+    verdicts usual ((malloc 0x800000000000 0 refl) ∷ (poison 0x800000000000 0 refl) ∷ (unpoison 0x800000000000 0 refl)
+    ∷ [])
     ≡ (report 1 (fault.BadMalloc 0x800000000000 0)) ∷ []
 empty_malloc_at_the_end = refl
 
@@ -303,19 +338,23 @@ empty_malloc_at_the_end = refl
 
 -- a block that was handed out twice, and then asked for once more in vain: since the second malloc
 since_the_malloc_that_was_admitted :
-    since_malloc 71 (reverse ((malloc 0x1000 8 refl) ∷ (poison 0x1000 8 refl) ∷ (free 0x1000 refl) ∷ (malloc 0x1000 8 refl) ∷ (malloc 0x1000 8 refl) ∷ (load 0x1000 1 refl) ∷ [])) (record { at = 0x1000; size = 8 })
+    since_malloc 71 (reverse ((malloc 0x1000 8 refl) ∷ (poison 0x1000 8 refl) ∷ (free 0x1000 refl)
+    ∷ (malloc 0x1000 8 refl) ∷ (malloc 0x1000 8 refl) ∷ (load 0x1000 1 refl)
+    ∷ [])) (record { at = 0x1000; size = 8 })
     ≡ (load 0x1000 1 refl) ∷ (malloc 0x1000 8 refl) ∷ []
 since_the_malloc_that_was_admitted = refl
 
 -- a block that was freed twice: since the first free
 since_the_free_of_the_live_block :
-    since_free usual (reverse ((malloc 0x1000 8 refl) ∷ (poison 0x1000 8 refl) ∷ (free 0x1000 refl) ∷ (poison 0x2000 8 refl) ∷ (free 0x1000 refl) ∷ [])) (record { at = 0x1000; size = 8 })
+    since_free usual (reverse ((malloc 0x1000 8 refl) ∷ (poison 0x1000 8 refl) ∷ (free 0x1000 refl)
+    ∷ (poison 0x2000 8 refl) ∷ (free 0x1000 refl) ∷ [])) (record { at = 0x1000; size = 8 })
     ≡ (free 0x1000 refl) ∷ (poison 0x2000 8 refl) ∷ []
 since_the_free_of_the_live_block = refl
 
 -- a granule that was poisoned, and no byte of which a malloc elsewhere covers
 poisoned_beside_a_block :
-    IsPoisonedSince usual ((malloc 0x3000 8 refl) ∷ (poison_of kind.Stack 0x1004 12 refl) ∷ []) (shade 0x1004 (packed kind.Stack 12) refl) 0x201
+    IsPoisonedSince usual ((malloc 0x3000 8 refl) ∷ (poison_of kind.Stack 0x1004 12 refl) ∷ [])
+    (shade 0x1004 (packed kind.Stack 12) refl) 0x201
 poisoned_beside_a_block = record {
   before = [];
   since = malloc 0x3000 8 refl ∷ [];
@@ -323,5 +362,8 @@ poisoned_beside_a_block = record {
   whole = (omega arith, omega arith);
   laid = Block 0x3000 8 ∷ [];
   laid_since = refl;
-  uncovered = (λ byte here. (let off : lies_in 0x2fe0 0x3028 byte ≡ false = grind (arith, nat_tests) in rw off refl), tt);
+  uncovered = (
+    λ byte here. (let off : lies_in 0x2fe0 0x3028 byte ≡ false = grind (arith, nat_tests) in rw off refl),
+    tt,
+  );
 }

@@ -24,29 +24,38 @@ module _ (bound : ℕ) (past : List Event) (at : ℕ) where
   -- nor where a live block starts
   pub free_of_live : (b : Extent) → Contains (live bound past) b → b.at ≡ at → free_fault bound past at ≡ None
   free_of_live b has here =
-      rw (or_right (eqb at 0) (list_any (starts_at at) (live bound past)) (passes_any (starts_at at) (live bound past) b has (eq-eqb b.at at here))) refl
+      rw (or_right (eqb at 0) (list_any (starts_at at) (live bound past))
+      (passes_any (starts_at at) (live bound past) b has (eq-eqb b.at at here))) refl
 
   -- where a held block starts it is a double free
-  pub free_of_held : 0 < at → list_any (starts_at at) (live bound past) ≡ false → list_any (starts_at at) (held bound past) ≡ true →
+  pub free_of_held : 0 < at → list_any (starts_at at) (live bound past) ≡ false
+      → list_any (starts_at at) (held bound past) ≡ true →
       free_fault bound past at ≡ Some (fault.DoubleFree at)
-  free_of_held some none_live one_held = rw (or_from (eqb at 0) (list_any (starts_at at) (live bound past)) (not_zero at some) none_live, one_held) refl
+  free_of_held some none_live one_held = rw (
+    or_from (eqb at 0) (list_any (starts_at at) (live bound past))
+        (not_zero at some) none_live,
+    one_held,
+  ) refl
 
   -- elsewhere it is a bad free
-  pub free_of_none : 0 < at → list_any (starts_at at) (live bound past) ≡ false → list_any (starts_at at) (held bound past) ≡ false →
+  pub free_of_none : 0 < at → list_any (starts_at at) (live bound past) ≡ false
+      → list_any (starts_at at) (held bound past) ≡ false →
       free_fault bound past at ≡ Some (fault.BadFree at)
-  free_of_none some none_live none_held = rw (or_from (eqb at 0) (list_any (starts_at at) (live bound past)) (not_zero at some) none_live, none_held) refl
+  free_of_none some none_live none_held = rw (
+    or_from (eqb at 0) (list_any (starts_at at) (live bound past))
+        (not_zero at some) none_live,
+    none_held,
+  ) refl
 
   -- ---- a malloc
 
-  -- at address 0 nothing is wrong
-  pub malloc_of_null : (size : ℕ) → at ≡ 0 → malloc_fault bound past at size ≡ None
-  malloc_of_null size zero_is = rw (or_left (eqb at 0) (admits bound past (record { at = at; size = size })) (eq-eqb at 0 zero_is)) refl
-
-  -- nor where it is admitted
-  pub malloc_admitted : (size : ℕ) → admits bound past (record { at = at; size = size }) ≡ true → malloc_fault bound past at size ≡ None
+  -- nothing is wrong where it is admitted
+  pub malloc_admitted : (size : ℕ) → admits bound past (record { at = at; size = size }) ≡ true
+      → malloc_fault bound past at size ≡ None
   malloc_admitted size ok = rw (or_right (eqb at 0) (admits bound past (record { at = at; size = size })) ok) refl
 
   -- elsewhere it is a bad malloc
   pub malloc_refused : (size : ℕ) → 0 < at → admits bound past (record { at = at; size = size }) ≡ false →
       malloc_fault bound past at size ≡ Some (fault.BadMalloc at size)
-  malloc_refused size some refused = rw (or_from (eqb at 0) (admits bound past (record { at = at; size = size })) (not_zero at some) refused) refl
+  malloc_refused size some refused = rw (or_from (eqb at 0) (admits bound past (record { at = at; size = size }))
+      (not_zero at some) refused) refl

@@ -1,10 +1,13 @@
--- Marks that leave a byte as it was: those of blocks whose spans it isn't in, and of regions that share no granule with it.
-use Rattle.std.proofs.Common.{◌≡◌, ℕ, ◌+◌, ◌*◌, ◌/◌, ◌≤◌, ◌<◌, Bool, true, false, cond, leb, ltb, List, [], ◌∷◌, Some, None, refl, ◌∙◌, arith, inl, inr}
+-- Marks that leave a byte as it was: those of blocks whose spans it isn't in, and of regions that share no granule
+-- with it.
+use Rattle.std.proofs.Common.{◌≡◌, ℕ, ◌+◌, ◌*◌, ◌/◌, ◌≤◌, ◌<◌, Bool, true, false, cond, leb, ltb, List, [], ◌∷◌, Some}
+use Rattle.std.proofs.Common.{None, refl, ◌∙◌, arith, inl, inr}
 use Rattle.std.specs.Prelude.{◌&&◌, unwrap_or, Contains}
 use Rattle.std.proofs.lemmas.Bool.{and_parts, ltb-true, leb-true, cases_lt, false_from_ne_true}
 use Rattle.std.proofs.lemmas.Bool.Decides.{nat_tests}
 use Rattle.trace_record.specs.declared.event.Region.{Region}
-use Rattle.shadow_map.specs.States.{State, Addressable, Mark, Block, Poison, Unpoison, lies_in, granule_lies_in, state_of}
+use Rattle.shadow_map.specs.States.{State, Addressable, Mark, Block, Poison, Unpoison, lies_in, granule_lies_in}
+use Rattle.shadow_map.specs.States.{state_of}
 use Rattle.heap_book.specs.Spans.{Extent, span_from, span_to, meets}
 use Rattle.asan_units.specs.Units.{round_up}
 use Rattle.asan_check.specs.History.{with_marks, freed_mark, released_mark}
@@ -39,17 +42,26 @@ module _ (b other : Extent) (byte : ℕ) (apart : meets b other ≡ false) (in_s
   released_leaves marks = rw off_span refl
 
 -- the same for a mark of each block of a list
-pub marked_leaves : (mark : Extent → Mark) (blocks : List Extent) (marks : List Mark) (byte : ℕ) → ((b : Extent) → Contains blocks b → Leaves (mark b) byte) →
+pub marked_leaves : (mark : Extent → Mark) (blocks : List Extent) (marks : List Mark) (byte : ℕ)
+    → ((b : Extent) → Contains blocks b → Leaves (mark b) byte) →
     state_of (with_marks mark blocks marks) byte ≡ state_of marks byte
 marked_leaves mark [] marks byte each = refl
 marked_leaves mark (b ∷ blocks) marks byte each =
-    marked_leaves mark blocks (mark b ∷ marks) byte (λ c has. each c (in_tail c b blocks has)) ∙ each b (in_head b blocks) marks
+    marked_leaves mark blocks (mark b ∷ marks) byte (λ c has. each c (in_tail c b blocks has))
+    ∙ each b (in_head b blocks) marks
 
 -- ---- the marks of regions
 
-module _ (at size from to byte : ℕ) (clear : ¬ SharesGranule at size from to) (above : from ≤ byte) (below : byte < to) where
+module _ (at size from to byte : ℕ) (clear : ¬ SharesGranule at size from to) (above : from ≤ byte)
+    (below : byte < to) where
   shares : (own : ℕ) → at ≤ own → own < at + size → own / 8 ≡ byte / 8 → ⊥
-  shares own least most same = clear record { own = own; other = byte; in_region = (least, most); in_range = (above, below); one_granule = same }
+  shares own least most same = clear record {
+    own = own;
+    other = byte;
+    in_region = (least, most);
+    in_range = (above, below);
+    one_granule = same;
+  }
 
   not_whole : granule_lies_in at (at + size) byte ≡ false
   not_whole = false_from_ne_true _ (λ whole.
@@ -82,8 +94,10 @@ module _ (at size from to byte : ℕ) (clear : ¬ SharesGranule at size from to)
   unpoison_leaves marks = rw not_reached refl
 
 -- an addressable byte stays so under an unpoison, wherever it is
-pub unpoison_keeps : (r : Region) (byte : ℕ) (marks : List Mark) → state_of marks byte ≡ Addressable → state_of (Unpoison r.at r.size ∷ marks) byte ≡ Addressable
-unpoison_keeps r byte marks is = go (ltb 0 r.size && ltb byte (r.at + r.size) && ltb r.at (8 * (byte / 8) + 8)) (state_of marks byte) is
+pub unpoison_keeps : (r : Region) (byte : ℕ) (marks : List Mark) → state_of marks byte ≡ Addressable
+    → state_of (Unpoison r.at r.size ∷ marks) byte ≡ Addressable
+unpoison_keeps r byte marks is = go (ltb 0 r.size && ltb byte (r.at + r.size) && ltb r.at (8 * (byte / 8) + 8))
+    (state_of marks byte) is
   where
     go : (t : Bool) (s : State) → s ≡ Addressable → unwrap_or (cond t (Some Addressable) None) s ≡ Addressable
     go true s is = refl

@@ -16,21 +16,26 @@ use Rattle.heap_book.proofs.Held.{held-within, held-past, held-total}
 use Rattle.heap_book.proofs.NeverMeet.{meets-flip}
 use Rattle.asan_check.specs.History.{live, freed, held, marks, with_marks, freed_mark, released_mark, released_from}
 use Rattle.asan_check.proofs.Steps.{live_free, held_free, spans_apart}
-use Rattle.asan_check.proofs.Members.{at_each, passes_any, none_passes, none_from, filter_all, filter_none, apart_starts, apart_across, apart_left, apart_right, starts_once}
+use Rattle.asan_check.proofs.Members.{at_each, passes_any, none_passes, none_from, filter_all, filter_none}
+use Rattle.asan_check.proofs.Members.{apart_starts, apart_across, apart_left, apart_right, starts_once}
 
 -- ---- lists
 
 -- one more released block is one more mark
-pub marked_push : (mark : Extent → Mark) (blocks : List Extent) (b : Extent) (marks : List Mark) → with_marks mark (blocks ++ b ∷ []) marks ≡ mark b ∷ with_marks mark blocks marks
+pub marked_push : (mark : Extent → Mark) (blocks : List Extent) (b : Extent) (marks : List Mark)
+    → with_marks mark (blocks ++ b ∷ []) marks ≡ mark b ∷ with_marks mark blocks marks
 marked_push mark [] b marks = refl
 marked_push mark (c ∷ blocks) b marks = marked_push mark blocks b (mark c ∷ marks)
 
 -- what is gone from a list of which the end stays is its front
-gone_front : (front stays : List Extent) → IsDistinct meets (front ++ stays) → released_from (front ++ stays) stays ≡ front
+gone_front : (front stays : List Extent) → IsDistinct meets (front ++ stays)
+    → released_from (front ++ stays) stays ≡ front
 gone_front front stays apart =
     filter-append (λ b. not (list_any (starts_at b.at) stays)) front stays
     ∙ ap (λ xs. xs ++ filter (λ b. not (list_any (starts_at b.at) stays)) stays)
-    (filter_all _ front (λ x has. not_from_false _ (none_from (starts_at x.at) stays (λ y in_stays. apart_starts x y (apart_across front stays x y apart has in_stays)))))
+    (filter_all _ front (λ x has. not_from_false _
+    (none_from (starts_at x.at) stays (λ y in_stays. apart_starts x y
+    (apart_across front stays x y apart has in_stays)))))
     ∙ ap (λ xs. front ++ xs)
     (filter_none _ stays (λ x has. not_from_true _ (passes_any (starts_at x.at) stays x has (start x.at))))
     ∙ append-nil front
@@ -40,14 +45,12 @@ gone_front front stays apart =
 
 -- ---- a free of a live block
 
-module _ (bound : ℕ) (past : List Event) (p : Place) (b : Extent) (is_live : Contains (live bound past) b) (here : b.at ≡ p.at) where
+module _ (bound : ℕ) (past : List Event) (p : Place) (b : Extent) (is_live : Contains (live bound past) b)
+    (here : b.at ≡ p.at) where
   -- the block is the only live one that starts there
   pub freed_block : filter (starts_at p.at) (live bound past) ≡ b ∷ []
-  freed_block = starts_once (live bound past) b p.at (apart_left (live bound past) (held bound past) (spans_apart bound past)) is_live here
-
-  -- it is live no more
-  pub live_after : live bound (event.Free p ∷ past) ≡ filter (λ x. not (starts_at p.at x)) (live bound past)
-  live_after = live_free bound p past
+  freed_block = starts_once (live bound past) b p.at
+      (apart_left (live bound past) (held bound past) (spans_apart bound past)) is_live here
 
   -- it joins the back of the quarantine, which then holds what the bound leaves
   pub held_after : held bound (event.Free p ∷ past) ≡ held_of bound (held bound past ++ b ∷ [])
@@ -58,9 +61,11 @@ module _ (bound : ℕ) (past : List Event) (p : Place) (b : Extent) (is_live : C
   queue_apart =
       let all = spans_apart bound past in
       let first = IsDistinct-cons meets b (held bound past)
-      (at_each (λ y. meets b y ≡ false) (held bound past) (λ y has. apart_across (live bound past) (held bound past) b y all is_live has))
+      (at_each (λ y. meets b y ≡ false) (held bound past)
+      (λ y has. apart_across (live bound past) (held bound past) b y all is_live has))
       (apart_right (live bound past) (held bound past) all) in
-      IsDistinct-IsPermutation meets meets-flip (b ∷ held bound past) (held bound past ++ b ∷ []) (IsPermutation-append_comm (b ∷ []) (held bound past)) first
+      IsDistinct-IsPermutation meets meets-flip (b ∷ held bound past) (held bound past ++ b ∷ [])
+      (IsPermutation-append_comm (b ∷ []) (held bound past)) first
 
   -- where blocks were taken from the front of the queue until what is held was left, those are the ones that are gone
   pub gone_is : (evicted : List Extent) → evicted ++ held bound (event.Free p ∷ past) ≡ held bound past ++ b ∷ [] →
@@ -76,8 +81,8 @@ module _ (bound : ℕ) (past : List Event) (p : Place) (b : Extent) (is_live : C
 
   -- ---- the release of what the bound no longer holds
 
-  -- a queue on its way there: these blocks were taken from the front of what the free had queued, and what is held of the
-  -- rest is what is held after the free
+  -- a queue on its way there: these blocks were taken from the front of what the free had queued, and what is held of
+  -- the rest is what is held after the free
   pub record IsReleasing (evicted queue : List Extent) : Type 0 where
     pub parts : evicted ++ queue ≡ held bound past ++ b ∷ []
     pub left : held_of bound queue ≡ held bound (event.Free p ∷ past)
@@ -87,7 +92,8 @@ module _ (bound : ℕ) (past : List Event) (p : Place) (b : Extent) (is_live : C
   releasing_starts = record { parts = refl; left = sym held_after }
 
   -- while the spans add up to more than the bound, the oldest goes
-  pub releasing_goes_on : (evicted : List Extent) (oldest : Extent) (rest : List Extent) → IsReleasing evicted (oldest ∷ rest) →
+  pub releasing_goes_on : (evicted : List Extent) (oldest : Extent) (rest : List Extent)
+      → IsReleasing evicted (oldest ∷ rest) →
       bound < sum_by span_bytes (oldest ∷ rest) → IsReleasing (evicted ++ oldest ∷ []) rest
   releasing_goes_on evicted oldest rest so_far past_bound = record {
     parts = append_assoc evicted (oldest ∷ []) rest ∙ so_far.parts;
@@ -96,7 +102,8 @@ module _ (bound : ℕ) (past : List Event) (p : Place) (b : Extent) (is_live : C
 
   -- once they don't, the queue is what is held after the free, and its marks are the block's and those of what went
   pub releasing_ends : (evicted queue : List Extent) → IsReleasing evicted queue → sum_by span_bytes queue ≤ bound →
-      (queue ≡ held bound (event.Free p ∷ past)) × (marks bound (event.Free p ∷ past) ≡ with_marks released_mark evicted (freed_mark b ∷ marks bound past))
+      (queue ≡ held bound (event.Free p ∷ past))
+      × (marks bound (event.Free p ∷ past) ≡ with_marks released_mark evicted (freed_mark b ∷ marks bound past))
   releasing_ends evicted queue so_far within =
       let is : queue ≡ held bound (event.Free p ∷ past) = sym (held-within bound queue within) ∙ so_far.left in
       (is, marks_after evicted (ap (λ xs. evicted ++ xs) (sym is) ∙ so_far.parts))
@@ -105,13 +112,15 @@ module _ (bound : ℕ) (past : List Event) (p : Place) (b : Extent) (is_live : C
 
 module _ (bound : ℕ) (past : List Event) (p : Place) (none : list_any (starts_at p.at) (live bound past) ≡ false) where
   nothing_freed : filter (starts_at p.at) (live bound past) ≡ []
-  nothing_freed = filter_none (starts_at p.at) (live bound past) (λ x has. none_passes (starts_at p.at) (live bound past) x none has)
+  nothing_freed = filter_none (starts_at p.at) (live bound past)
+      (λ x has. none_passes (starts_at p.at) (live bound past) x none has)
 
   -- the live blocks stay
   pub live_stays : live bound (event.Free p ∷ past) ≡ live bound past
   live_stays =
       live_free bound p past
-      ∙ filter_all (λ x. not (starts_at p.at x)) (live bound past) (λ x has. not_from_false _ (none_passes (starts_at p.at) (live bound past) x none has))
+      ∙ filter_all (λ x. not (starts_at p.at x)) (live bound past)
+      (λ x has. not_from_false _ (none_passes (starts_at p.at) (live bound past) x none has))
 
   -- the quarantine stays: it is within its bound already
   pub held_stays : held bound (event.Free p ∷ past) ≡ held bound past
@@ -123,4 +132,9 @@ module _ (bound : ℕ) (past : List Event) (p : Place) (none : list_any (starts_
 
   -- and there is no mark
   pub marks_stay : marks bound (event.Free p ∷ past) ≡ marks bound past
-  marks_stay = rw (nothing_freed, held_stays, append-nil (held bound past), gone_front [] (held bound past) (apart_right (live bound past) (held bound past) (spans_apart bound past))) refl
+  marks_stay = rw (
+    nothing_freed,
+    held_stays,
+    append-nil (held bound past),
+    gone_front [] (held bound past) (apart_right (live bound past) (held bound past) (spans_apart bound past)),
+  ) refl

@@ -1,5 +1,6 @@
 -- The elements of a list, and blocks whose spans don't meet, by their addresses.
-use Rattle.std.proofs.Common.{◌≡◌, ℕ, zero, suc, Bool, true, false, cond, List, [], ◌∷◌, ◌++◌, refl, sym, ap, subst, ◌∙◌, arith, inl, inr}
+use Rattle.std.proofs.Common.{◌≡◌, ℕ, zero, suc, Bool, true, false, cond, List, [], ◌∷◌, ◌++◌, refl, sym, ap, subst}
+use Rattle.std.proofs.Common.{◌∙◌, arith, inl, inr}
 use Rattle.std.specs.Prelude.{◌⊎◌, filter, Contains}
 use Rattle.std.specs.List.{AllByRecursion, IsDistinct, list_any}
 use Rattle.std.proofs.lemmas.Bool.{false≢true, or_parts, or_right, or_left, or_cases, ne_eqb, eq-eqb}
@@ -72,7 +73,8 @@ module _ {X : Type 0} where
   -- a filter that all pass, or none
   pub filter_all : (p : X → Bool) (xs : List X) → ((x : X) → Contains xs x → p x ≡ true) → filter p xs ≡ xs
   filter_all p [] each = refl
-  filter_all p (y ∷ ys) each = rw (each y (in_head y ys)) (ap (λ zs. y ∷ zs) (filter_all p ys (λ x has. each x (in_tail x y ys has))))
+  filter_all p (y ∷ ys) each = rw (each y (in_head y ys))
+      (ap (λ zs. y ∷ zs) (filter_all p ys (λ x has. each x (in_tail x y ys has))))
 
   pub filter_none : (p : X → Bool) (xs : List X) → ((x : X) → Contains xs x → p x ≡ false) → filter p xs ≡ []
   filter_none p [] each = refl
@@ -96,7 +98,8 @@ module _ {X : Type 0} where
   from_filtered p [] x has = absurd (in_none x has)
   from_filtered p (y ∷ ys) x has = go (p y) refl has (from_filtered p ys x)
     where
-      go : (t : Bool) → p y ≡ t → Contains (cond t (y ∷ filter p ys) (filter p ys)) x → (Contains (filter p ys) x → Contains ys x × (p x ≡ true)) → Contains (y ∷ ys) x × (p x ≡ true)
+      go : (t : Bool) → p y ≡ t → Contains (cond t (y ∷ filter p ys) (filter p ys)) x
+          → (Contains (filter p ys) x → Contains ys x × (p x ≡ true)) → Contains (y ∷ ys) x × (p x ≡ true)
       go false is h rest = let r = rest h in (in_tail x y ys r.0, r.1)
       go true is h rest =
           elim (cons_cases x y (filter p ys) h) [
@@ -115,11 +118,14 @@ pub apart_starts : (x y : Extent) → meets x y ≡ false → starts_at x.at y �
 apart_starts x y apart = ne_eqb y.at x.at (λ same. false≢true (sym apart ∙ meets_same x y (sym same)))
 
 -- a block of the one list meets none of the other
-pub apart_across : (xs ys : List Extent) (x y : Extent) → IsDistinct meets (xs ++ ys) → Contains xs x → Contains ys y → meets x y ≡ false
+pub apart_across : (xs ys : List Extent) (x y : Extent) → IsDistinct meets (xs ++ ys) → Contains xs x → Contains ys y
+    → meets x y ≡ false
 apart_across [] ys x y apart has_x has_y = absurd (in_none x has_x)
 apart_across (z ∷ zs) ys x y apart has_x has_y =
     elim (cons_cases x z zs has_x) [
-      | inl same ↦ ap (λ w. meets w y) (sym same) ∙ at_element (λ w. meets z w ≡ false) (zs ++ ys) y (IsDistinct-head meets z (zs ++ ys) apart) (in_right zs has_y)
+      | inl same ↦ ap (λ w. meets w y) (sym same)
+          ∙ at_element (λ w. meets z w ≡ false) (zs ++ ys) y (IsDistinct-head meets z (zs ++ ys) apart)
+          (in_right zs has_y)
       | inr rest ↦ apart_across zs ys x y (IsDistinct-tail meets z (zs ++ ys) apart) rest has_y
     ]
   where
@@ -133,7 +139,8 @@ unfolding IsDistinct
 apart_left [] ys apart = tt
 apart_left (x ∷ xs) ys apart = (front xs apart.0, apart_left xs ys apart.1)
   where
-    front : (zs : List Extent) → AllByRecursion (λ y. meets x y ≡ false) (zs ++ ys) → AllByRecursion (λ y. meets x y ≡ false) zs
+    front : (zs : List Extent) → AllByRecursion (λ y. meets x y ≡ false) (zs ++ ys)
+        → AllByRecursion (λ y. meets x y ≡ false) zs
     front [] all = tt
     front (z ∷ zs) all = (all.0, front zs all.1)
 
@@ -142,7 +149,8 @@ apart_right [] ys apart = apart
 apart_right (x ∷ xs) ys apart = apart_right xs ys (IsDistinct-tail meets x (xs ++ ys) apart)
 
 -- two blocks of a list that start at different addresses don't meet
-pub apart_beside : (xs : List Extent) (x y : Extent) → IsDistinct meets xs → Contains xs x → Contains xs y → starts_at x.at y ≡ false → meets x y ≡ false
+pub apart_beside : (xs : List Extent) (x y : Extent) → IsDistinct meets xs → Contains xs x → Contains xs y
+    → starts_at x.at y ≡ false → meets x y ≡ false
 apart_beside [] x y apart has_x has_y other = absurd (in_none x has_x)
 apart_beside (z ∷ zs) x y apart has_x has_y other =
     let first = IsDistinct-head meets z zs apart in
@@ -152,29 +160,15 @@ apart_beside (z ∷ zs) x y apart has_x has_y other =
         | inr rest ↦ ap (λ w. meets w y) (sym is_x) ∙ at_element (λ w. meets z w ≡ false) zs y first rest
       ]
       | inr in_x ↦ elim (cons_cases y z zs has_y) [
-        | inl is_y ↦ meets-flip x y ∙ ap (λ w. meets w x) (sym is_y) ∙ at_element (λ w. meets z w ≡ false) zs x first in_x
+        | inl is_y ↦ meets-flip x y ∙ ap (λ w. meets w x) (sym is_y)
+            ∙ at_element (λ w. meets z w ≡ false) zs x first in_x
         | inr in_y ↦ apart_beside zs x y (IsDistinct-tail meets z zs apart) in_x in_y other
       ]
     ]
 
--- and two that start at one address are one
-pub same_block : (xs : List Extent) (x y : Extent) → IsDistinct meets xs → Contains xs x → Contains xs y → x.at ≡ y.at → x ≡ y
-same_block [] x y apart has_x has_y same = absurd (in_none x has_x)
-same_block (z ∷ zs) x y apart has_x has_y same =
-    let first = IsDistinct-head meets z zs apart in
-    elim (cons_cases x z zs has_x) [
-      | inl is_x ↦ elim (cons_cases y z zs has_y) [
-        | inl is_y ↦ sym is_x ∙ is_y
-        | inr rest ↦ absurd (false≢true (sym (at_element (λ w. meets z w ≡ false) zs y first rest) ∙ meets_same z y (ap (λ w. w.at) is_x ∙ same)))
-      ]
-      | inr in_x ↦ elim (cons_cases y z zs has_y) [
-        | inl is_y ↦ absurd (false≢true (sym (at_element (λ w. meets z w ≡ false) zs x first in_x) ∙ meets_same z x (ap (λ w. w.at) is_y ∙ sym same)))
-        | inr in_y ↦ same_block zs x y (IsDistinct-tail meets z zs apart) in_x in_y same
-      ]
-    ]
-
 -- the blocks of a list that start where one of them does are that one alone
-pub starts_once : (xs : List Extent) (x : Extent) (at : ℕ) → IsDistinct meets xs → Contains xs x → x.at ≡ at → filter (starts_at at) xs ≡ x ∷ []
+pub starts_once : (xs : List Extent) (x : Extent) (at : ℕ) → IsDistinct meets xs → Contains xs x
+    → x.at ≡ at → filter (starts_at at) xs ≡ x ∷ []
 starts_once [] x at apart has here = absurd (in_none x has)
 starts_once (z ∷ zs) x at apart has here =
     let first = IsDistinct-head meets z zs apart in
@@ -183,9 +177,11 @@ starts_once (z ∷ zs) x at apart has here =
           let is : starts_at at z ≡ true = eq-eqb z.at at (ap (λ w. w.at) same ∙ here) in
           let others : filter (starts_at at) zs ≡ [] =
           filter_none (starts_at at) zs (λ y in_y.
-          subst (λ (q : ℕ). starts_at q y ≡ false) (ap (λ w. w.at) same ∙ here) (apart_starts z y (at_element (λ w. meets z w ≡ false) zs y first in_y))) in
+          subst (λ (q : ℕ). starts_at q y ≡ false) (ap (λ w. w.at) same
+          ∙ here) (apart_starts z y (at_element (λ w. meets z w ≡ false) zs y first in_y))) in
           rw (is, others) (ap (λ w. w ∷ []) same)
       | inr rest ↦
-          let off : starts_at at z ≡ false = subst (λ (q : ℕ). starts_at q z ≡ false) here (apart_starts x z (meets-flip x z ∙ at_element (λ w. meets z w ≡ false) zs x first rest)) in
+          let off : starts_at at z ≡ false = subst (λ (q : ℕ). starts_at q z ≡ false) here
+          (apart_starts x z (meets-flip x z ∙ at_element (λ w. meets z w ≡ false) zs x first rest)) in
           rw off (starts_once zs x at (IsDistinct-tail meets z zs apart) rest here)
     ]

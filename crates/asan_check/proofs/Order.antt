@@ -1,9 +1,11 @@
 -- Events in their order, oldest first, against histories, which have the newest first.
-use Rattle.std.proofs.Common.{◌≡◌, ℕ, ◌-◌, ◌<◌, ◌≤◌, List, [], ◌∷◌, ◌++◌, Option, Some, None, length, take, drop, refl, sym, ap, subst, ◌∙◌, arith, inl, inr, append_assoc}
+use Rattle.std.proofs.Common.{◌≡◌, ℕ, ◌-◌, ◌<◌, ◌≤◌, List, [], ◌∷◌, ◌++◌, Option, Some, None, length, take, drop, refl}
+use Rattle.std.proofs.Common.{sym, ap, subst, ◌∙◌, arith, inl, inr, append_assoc}
 use Rattle.std.specs.Prelude.{◌↔◌, ◌&&◌, nat_lt, max, IsTrue, Contains, reverse, option_to_list}
 use Rattle.std.proofs.lemmas.Bool.Decides.{nat_tests}
 use Rattle.std.proofs.lemmas.List.Elements.{Contains-append_left, Contains-append_right, Contains-append_cases}
-use Rattle.std.proofs.lemmas.List.{append-nil, reverse-append, reverse-reverse, length-reverse, drop_at, take-append-drop, length-drop}
+use Rattle.std.proofs.lemmas.List.{append-nil, reverse-append, reverse-reverse, length-reverse, drop_at}
+use Rattle.std.proofs.lemmas.List.{take-append-drop, length-drop}
 use Rattle.trace_record.specs.declared.event.Event.{Event}
 use Rattle.asan_check.specs.declared.report.Report.{Report}
 use Rattle.heap_book.specs.Spans.{Extent, span_from, span_to, meets}
@@ -11,19 +13,20 @@ use Rattle.asan_check.specs.Verdicts.{verdict, verdicts_of, verdicts}
 use Rattle.asan_check.specs.Laws.{SharesByte, IsReportedAmong}
 use Rattle.asan_check.proofs.Members.{in_head, in_none, cons_cases}
 
--- one more event adds its verdict at the end
-pub verdicts-push : (bound : ℕ) (events : List Event) (e : Event) → verdicts bound (events ++ e ∷ []) ≡ verdicts bound events ++ option_to_list (verdict bound (reverse events) e)
-verdicts-push bound events e = ap (verdicts_of bound) (reverse-append events (e ∷ []))
-
 -- the history of the first n events is what is left of the whole one without its newest
-pub first_of : (events : List Event) (n : ℕ) → n ≤ length events → drop (length (reverse events) - n) (reverse events) ≡ reverse (take n events)
+pub first_of : (events : List Event) (n : ℕ) → n ≤ length events
+    → drop (length (reverse events) - n) (reverse events) ≡ reverse (take n events)
 first_of events n le =
-    let parts : reverse events ≡ reverse (drop n events) ++ reverse (take n events) = ap reverse (sym (take-append-drop n events)) ∙ reverse-append (take n events) (drop n events) in
-    let long : length (reverse (drop n events)) ≡ length (reverse events) - n = omega (arith, length-reverse (drop n events), length-drop n events, length-reverse events) in
-    ap (drop (length (reverse events) - n)) parts ∙ drop_at (reverse (drop n events)) (reverse (take n events)) (length (reverse events) - n) long
+    let parts : reverse events ≡ reverse (drop n events) ++ reverse (take n events) =
+    ap reverse (sym (take-append-drop n events)) ∙ reverse-append (take n events) (drop n events) in
+    let long : length (reverse (drop n events)) ≡ length (reverse events) - n =
+    omega (arith, length-reverse (drop n events), length-drop n events, length-reverse events) in
+    ap (drop (length (reverse events) - n)) parts
+    ∙ drop_at (reverse (drop n events)) (reverse (take n events)) (length (reverse events) - n) long
 
 -- the verdicts on more events begin with those on the first of them
-pub verdicts_begin : (bound : ℕ) (newer past : List Event) → (rest : List Report) × (verdicts_of bound (newer ++ past) ≡ verdicts_of bound past ++ rest)
+pub verdicts_begin : (bound : ℕ) (newer past : List Event)
+    → (rest : List Report) × (verdicts_of bound (newer ++ past) ≡ verdicts_of bound past ++ rest)
 verdicts_begin bound [] past = ([], sym (append-nil (verdicts_of bound past)))
 verdicts_begin bound (e ∷ newer) past =
     let before = verdicts_begin bound newer past in
@@ -32,17 +35,20 @@ verdicts_begin bound (e ∷ newer) past =
 
 -- the verdict on an event stands between those on the events before it and those on the events after it
 pub each_in_place : (bound : ℕ) (before after : List Event) (event : Event) → (later : List Report)
-    × (verdicts bound (before ++ event ∷ after) ≡ (verdicts bound before ++ option_to_list (verdict bound (reverse before) event)) ++ later)
+    × (verdicts bound (before ++ event ∷ after)
+    ≡ (verdicts bound before ++ option_to_list (verdict bound (reverse before) event)) ++ later)
 each_in_place bound before after event =
     let past = event ∷ reverse before in
     let parts : reverse (before ++ event ∷ after) ≡ reverse after ++ past =
-    reverse-append before (event ∷ after) ∙ (ap (λ l. l ++ reverse before) (reverse-append (event ∷ []) after) ∙ append_assoc (reverse after) (event ∷ []) (reverse before)) in
+    reverse-append before (event ∷ after) ∙ (ap (λ l. l ++ reverse before) (reverse-append (event ∷ []) after)
+    ∙ append_assoc (reverse after) (event ∷ []) (reverse before)) in
     let rest = verdicts_begin bound (reverse after) past in
     (rest.0, ap (verdicts_of bound) parts ∙ rest.1)
 
 -- a report on a history is the verdict on one of its events
 module _ (bound : ℕ) where
-  in_one : (verdict_on : Option Report) (report : Report) → Contains (option_to_list verdict_on) report → verdict_on ≡ Some report
+  in_one : (verdict_on : Option Report) (report : Report) → Contains (option_to_list verdict_on) report
+      → verdict_on ≡ Some report
   in_one None report has = absurd (in_none report has)
   in_one (Some one) report has = elim (cons_cases report one [] has) [
     | inl same ↦ ap Some same
@@ -55,11 +61,13 @@ module _ (bound : ℕ) where
   found_among [] report has = absurd (in_none report has)
   found_among (e ∷ past) report has =
       elim (Contains-append_cases (verdicts_of bound past) (option_to_list (verdict bound past e)) report has) [
-        | inl older ↦ let found = found_among past report older in (e ∷ found.0, found.1, found.2, ap (λ es. e ∷ es) found.3, found.4)
+        | inl older ↦ let found = found_among past report older in
+            (e ∷ found.0, found.1, found.2, ap (λ es. e ∷ es) found.3, found.4)
         | inr here ↦ ([], e, past, refl, in_one (verdict bound past e) report here)
       ]
 
-  pub reported_among : (events : List Event) (report : Report) → Contains (verdicts bound events) report ↔ IsReportedAmong bound events report
+  pub reported_among : (events : List Event) (report : Report)
+      → Contains (verdicts bound events) report ↔ IsReportedAmong bound events report
   reported_among events report = (
     λ has.
         let found = found_among (reverse events) report has in
@@ -69,22 +77,27 @@ module _ (bound : ℕ) where
           event = found.1;
           after = reverse found.0;
           split = sym (reverse-reverse events) ∙ ap reverse found.3 ∙ reverse-append found.0 (found.1 ∷ found.2)
-              ∙ ap (λ es. es ++ reverse found.0) (reverse-append (found.1 ∷ []) found.2) ∙ append_assoc (reverse found.2) (found.1 ∷ []) (reverse found.0);
+              ∙ ap (λ es. es ++ reverse found.0) (reverse-append (found.1 ∷ []) found.2)
+              ∙ append_assoc (reverse found.2) (found.1 ∷ []) (reverse found.0);
           is_verdict = ap (λ past. verdict bound past found.1) again ∙ found.4;
         },
     λ among.
         let placed = each_in_place bound among.before among.after among.event in
-        let one : Contains (option_to_list (verdict bound (reverse among.before) among.event)) report = rw among.is_verdict (in_head report []) in
+        let one : Contains (option_to_list (verdict bound (reverse among.before) among.event)) report =
+        rw among.is_verdict (in_head report []) in
         subst (λ es. Contains (verdicts bound es) report) (sym among.split)
-        (rw placed.1 (Contains-append_left (verdicts bound among.before ++ option_to_list (verdict bound (reverse among.before) among.event)) placed.0 report
-        (Contains-append_right (verdicts bound among.before) (option_to_list (verdict bound (reverse among.before) among.event)) report one))),
+        (rw placed.1 (Contains-append_left (verdicts bound among.before
+        ++ option_to_list (verdict bound (reverse among.before) among.event)) placed.0 report
+        (Contains-append_right (verdicts bound among.before)
+        (option_to_list (verdict bound (reverse among.before) among.event)) report one))),
   )
 
 -- blocks meet at the first byte of the span that starts last
 pub meet_where_shared : (one other : Extent) → IsTrue (meets one other) ↔ SharesByte one other
 meet_where_shared one other = (
   λ meet.
-      let parts : (span_from one < span_to other) × (span_from other < span_to one) = both (span_from one) (span_to one) (span_from other) (span_to other) meet in
+      let parts : (span_from one < span_to other) × (span_from other < span_to one) =
+      both (span_from one) (span_to one) (span_from other) (span_to other) meet in
       let first = parts.0 in
       let second = parts.1 in
       record {

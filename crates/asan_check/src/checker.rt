@@ -1,6 +1,6 @@
 //! The checker, which keeps the blocks and the shadow of a process and takes in its events.
 ghost use Rattle.std.specs.Prelude.{◌≡◌, ℕ, ◌+◌, ◌<◌, ◌≤◌, ◌^◌, ◌↔◌, List, [], ◌∷◌, ◌++◌, IfOk};
-ghost use Rattle.std.specs.Prelude.{IsErr, IsTrue, IsSome, IsSomeAnd, OnOk, OnErr, true, false};
+ghost use Rattle.std.specs.Prelude.{IsErr, IsTrue, IsSome, OnOk, OnErr, true, false};
 ghost use Rattle.std.specs.Prelude.{not, length, take, reverse, None, Some, option_to_list};
 ghost use Rattle.std.specs.Prelude.{MatchOption};
 ghost use Rattle.asan_units.specs.Units.{address_end, largest_quarantine};

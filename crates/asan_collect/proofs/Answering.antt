@@ -13,11 +13,30 @@ use Rattle.asan_stream.specs.Outcomes.{is_read}
 
 module _ {F A : Type 0} where
   pub outcome_of_bytes : (seen : F → FeedState) (options : Options) (bytes : List ℕ) (feed : F) (result : Outcome F A)
-      → (seen feed).to_come ≡ Some bytes → IsAnswerTo seen options (arrival.Came feed) result → IsTrue (is_read result) → IsOutcomeOfBytes options.limit options.quarantine bytes result
+      → (seen feed).to_come ≡ Some bytes → IsAnswerTo seen options (arrival.Came feed) result → IsTrue (is_read result)
+      → IsOutcomeOfBytes options.limit options.quarantine bytes result
   outcome_of_bytes seen options bytes feed (outcome.Settled f end reports) known answer read =
-      record { before = seen feed; after = seen answer.0; feed = answer.0; events = answer.1; end = answer.2; bytes_are = known; spelled = answer.3; results = answer.4 }
+      record {
+        before = seen feed;
+        after = seen answer.0;
+        feed = answer.0;
+        events = answer.1;
+        end = answer.2;
+        bytes_are = known;
+        spelled = answer.3;
+        results = answer.4;
+      }
   outcome_of_bytes seen options bytes feed (outcome.NoMemory f end checked reports) known answer read =
-      record { before = seen feed; after = seen answer.0; feed = answer.0; events = answer.1; end = answer.2; bytes_are = known; spelled = answer.3; results = answer.4 }
+      record {
+        before = seen feed;
+        after = seen answer.0;
+        feed = answer.0;
+        events = answer.1;
+        end = answer.2;
+        bytes_are = known;
+        spelled = answer.3;
+        results = answer.4;
+      }
   outcome_of_bytes seen options bytes feed outcome.NotOpened known answer read = absurd (false≢true read)
   outcome_of_bytes seen options bytes feed outcome.NotStarted known answer read = absurd (false≢true read)
   outcome_of_bytes seen options bytes feed outcome.Unsettled known answer read = absurd (false≢true read)

@@ -16,15 +16,18 @@ use Rattle.asan_collect.proofs.Counting.{all_counted}
 use Rattle.asan_collect.proofs.Rights.{all_few}
 use Rattle.asan_collect.proofs.Senders.{pairs_back, pairs_fit}
 
-pub collected : {F A : Type 0} (seen : F → FeedState) (options : Options) (old new : DoorState F) (arrivals : List (Arrival F))
+pub collected : {F A : Type 0} (seen : F → FeedState) (options : Options) (old new : DoorState F)
+    (arrivals : List (Arrival F))
     (xs ys zs : List (Sender F A)) (outcomes : List (Outcome F A))
     → Arrived old.to_arrive new.to_arrive arrivals → IsTrue new.is_shut ⊎ (length arrivals ≡ most_senders)
-    → new.refusals ≡ refused_among arrivals + old.refusals → IsAllThatCame old.left (length arrivals) → length arrivals ≤ most_senders
+    → new.refusals ≡ refused_among arrivals + old.refusals → IsAllThatCame old.left (length arrivals)
+    → length arrivals ≤ most_senders
     → Pairwise (Came seen options) arrivals xs → Each (Becomes seen options.limit) xs ys
     → Each (Rejoins seen options.quarantine) ys zs → Pairwise (Gets seen) zs outcomes
     → AreCollected seen options old new outcomes
 collected seen options old new arrivals xs ys zs outcomes arrived all refusals count few came read back gets =
-    let fit : Pairwise (IsAnswerTo seen options) arrivals outcomes = pairs_fit seen options arrivals zs outcomes (pairs_back seen options arrivals xs ys zs came read back) gets in
+    let fit : Pairwise (IsAnswerTo seen options) arrivals outcomes =
+    pairs_fit seen options arrivals zs outcomes (pairs_back seen options arrivals xs ys zs came read back) gets in
     record {
       answers = (arrivals, arrived, all, fit);
       count = rw fit.same_length count;

@@ -15,7 +15,8 @@ refused-after (arrival.Came feed) count = omega arith
 refused-after arrival.Refused count = omega arith
 refused-after arrival.Over count = omega arith
 
-pub refused-push : {F : Type 0} (xs : List (Arrival F)) (a : Arrival F) → refused_among (xs ++ a ∷ []) ≡ refused a + refused_among xs
+pub refused-push : {F : Type 0} (xs : List (Arrival F)) (a : Arrival F)
+    → refused_among (xs ++ a ∷ []) ≡ refused a + refused_among xs
 refused-push [] a = refl
 refused-push (x ∷ xs) a = let rest = refused-push xs a in omega arith
 
@@ -30,7 +31,8 @@ module _ {X Y : Type 0} (R : X → Y → Type 0) where
   }
 
 module _ {F A : Type 0} (seen : F → FeedState) (options : Options) where
-  one_counted : (a : Arrival F) (result : Outcome F A) → IsAnswerTo seen options a result → not_opened result ≡ refused a
+  one_counted : (a : Arrival F) (result : Outcome F A) → IsAnswerTo seen options a result
+      → not_opened result ≡ refused a
   one_counted (arrival.Came feed) (outcome.Settled f n rs) fits = refl
   one_counted (arrival.Came feed) (outcome.NoMemory f n k rs) fits = refl
   one_counted (arrival.Came feed) outcome.NotOpened fits = absurd fits
@@ -40,7 +42,8 @@ module _ {F A : Type 0} (seen : F → FeedState) (options : Options) where
   one_counted arrival.Over result fits = absurd fits
 
   -- one outcome is not-opened for each refusal
-  pub all_counted : (arrivals : List (Arrival F)) (outcomes : List (Outcome F A)) → Pairwise (IsAnswerTo seen options) arrivals outcomes → not_opened_among outcomes ≡ refused_among arrivals
+  pub all_counted : (arrivals : List (Arrival F)) (outcomes : List (Outcome F A))
+      → Pairwise (IsAnswerTo seen options) arrivals outcomes → not_opened_among outcomes ≡ refused_among arrivals
   all_counted [] [] fit = refl
   all_counted [] (result ∷ outcomes) fit = absurd (let same = fit.same_length in omega arith)
   all_counted (a ∷ arrivals) [] fit = absurd (let same = fit.same_length in omega arith)

@@ -1,5 +1,6 @@
 -- The benches of each checker, as they go on.
-use Rattle.std.proofs.Common.{ℕ, suc, ◌≡◌, ◌<◌, ◌≤◌, ◌+◌, ◌*◌, ◌%◌, ◌/◌, ◌++◌, ◌∷◌, [], List, length, length-append, refl, ◌∙◌, sym, ap, arith, slice_index_or, slice_set, inl, inr}
+use Rattle.std.proofs.Common.{ℕ, suc, ◌≡◌, ◌<◌, ◌≤◌, ◌+◌, ◌*◌, ◌%◌, ◌/◌, ◌++◌, ◌∷◌, [], List, length, length-append}
+use Rattle.std.proofs.Common.{refl, ◌∙◌, sym, ap, arith, slice_index_or, slice_set, inl, inr}
 use Rattle.std.specs.Vec.{vec_capacity}
 use Rattle.std.proofs.Math.Nat.{div-add-mod, mod-lt, mul-le-mul_left, lt_of_mul-lt-mul_left, mul-suc}
 use Rattle.std.proofs.lemmas.Bool.{cases_eq}
@@ -11,7 +12,8 @@ use Rattle.asan_collect.specs.declared.sender.Sender.TheVariants as sender
 use Rattle.asan_collect.specs.declared.checker_threads.CheckerThread.{CheckerThread}
 use Rattle.asan_collect.specs.declared.checker_threads.CheckerThread.TheVariants as running
 use Rattle.asan_collect.specs.Arrivals.{Pairwise}
-use Rattle.asan_collect.specs.Shares.{Share, ComesBack, GivesUp, Returns, SharesAt, AreEmpty, HasRoom, Deals, WillComeBack}
+use Rattle.asan_collect.specs.Shares.{Share, ComesBack, GivesUp, Returns, SharesAt, AreEmpty, HasRoom, Deals}
+use Rattle.asan_collect.specs.Shares.{WillComeBack}
 use Rattle.asan_collect.specs.Ranges.{most_senders}
 use Rattle.asan_collect.specs.Senders.{Each, Becomes, Ends, Keeps, IsAt, AreAt, IsFresh, AllFresh, WillBe}
 use Rattle.asan_collect.proofs.Senders.{at_kept, at_later, at_more, at_push, each_after}
@@ -42,16 +44,19 @@ module _ {A : Type 0} where
     room = h.room;
   }
 
-  pub dealt_length : (at : ℕ) (b : Bench A) (shares after : List (Share A)) → Deals at b shares after → length after ≡ length shares
+  pub dealt_length : (at : ℕ) (b : Bench A) (shares after : List (Share A)) → Deals at b shares after
+      → length after ≡ length shares
   dealt_length at b shares after s = rw s.set (length-set shares at s.share)
 
-  pub room_dealt : (w i : ℕ) (b : Bench A) (shares after : List (Share A)) → HasRoom w i shares → Deals (i % w) b shares after → HasRoom w (i + 1) after
+  pub room_dealt : (w i : ℕ) (b : Bench A) (shares after : List (Share A)) → HasRoom w i shares
+      → Deals (i % w) b shares after → HasRoom w (i + 1) after
   room_dealt w i b shares after h s =
       let at : i % w < length shares = rw h.all (mod-lt i h.some) in
       let n = length (slice_index_or shares (i % w) s.share).items in
       let few = few_dealt w i n (h.few (i % w) s.share at) in
       let whole = div-add-mod i w in
-      let more : length s.share.items ≡ suc n = let l = ap length s.items in let e = length-append (slice_index_or shares (i % w) s.share).items (b ∷ []) in omega arith in
+      let more : length s.share.items ≡ suc n = let l = ap length s.items in
+      let e = length-append (slice_index_or shares (i % w) s.share).items (b ∷ []) in omega arith in
       let next = mul-suc w n in
       record {
         some = h.some;
@@ -62,24 +67,30 @@ module _ {A : Type 0} where
               let was = h.few k d (let same = dealt_length (i % w) b shares after s in omega arith) in omega arith)
         ];
         room = λ k d below. elim (cases_eq k (i % w)) [
-          | inl e ↦ rw (s.set, e, get_or-set_same shares (i % w) s.share d at) (let was = h.room (i % w) s.share at in let more = mul-le-mul_left w s.capacity in omega arith)
-          | inr other ↦ rw (s.set, get_or-set_other shares (i % w) k s.share d other) (h.room k d (let same = dealt_length (i % w) b shares after s in omega arith))
+          | inl e ↦ rw (s.set, e, get_or-set_same shares (i % w) s.share d at) (let was = h.room (i % w) s.share at in
+              let more = mul-le-mul_left w s.capacity in omega arith)
+          | inr other ↦ rw (s.set, get_or-set_other shares (i % w) k s.share d other)
+              (h.room k d (let same = dealt_length (i % w) b shares after s in omega arith))
         ];
       }
 
-  pub empty_push : (w : ℕ) (shares : List (Share A)) (share : Share A) → AreEmpty w shares → share.items ≡ [] → most_senders ≤ w * vec_capacity share → AreEmpty w (shares ++ share ∷ [])
+  pub empty_push : (w : ℕ) (shares : List (Share A)) (share : Share A) → AreEmpty w shares → share.items ≡ []
+      → most_senders ≤ w * vec_capacity share → AreEmpty w (shares ++ share ∷ [])
   empty_push w shares share h none room = record {
     none = λ k d below. elim (cases_eq k (length shares)) [
       | inl e ↦ rw (get_or_at shares share [] d k (sym e)) none
-      | inr n ↦ let low : k < length shares = omega (arith, length-append shares (share ∷ [])) in rw (get_or_append_left shares (share ∷ []) d k low) (h.none k d low)
+      | inr n ↦ let low : k < length shares = omega (arith, length-append shares (share ∷ [])) in
+          rw (get_or_append_left shares (share ∷ []) d k low) (h.none k d low)
     ];
     room = λ k d below. elim (cases_eq k (length shares)) [
       | inl e ↦ rw (get_or_at shares share [] d k (sym e)) room
-      | inr n ↦ let low : k < length shares = omega (arith, length-append shares (share ∷ [])) in rw (get_or_append_left shares (share ∷ []) d k low) (h.room k d low)
+      | inr n ↦ let low : k < length shares = omega (arith, length-append shares (share ∷ [])) in
+          rw (get_or_append_left shares (share ∷ []) d k low) (h.room k d low)
     ];
   }
 
-  pub room_first : (w : ℕ) (shares : List (Share A)) → 0 < w → length shares ≡ w → AreEmpty w shares → HasRoom w 0 shares
+  pub room_first : (w : ℕ) (shares : List (Share A)) → 0 < w → length shares ≡ w → AreEmpty w shares
+      → HasRoom w 0 shares
   room_first w shares some all h = record {
     some = some;
     all = all;
@@ -104,7 +115,8 @@ module _ {F A : Type 0} where
   gives_up_on (sender.Read d) y z p q = rw p at q
   gives_up_on (sender.Joined d b) y z p q = rw p at q
 
-  pub shares_put : (bound : ℕ) (senders : List (Sender F A)) (shares : List (Share A)) (k : ℕ) (v : Share A) → k < length shares
+  pub shares_put : (bound : ℕ) (senders : List (Sender F A)) (shares : List (Share A)) (k : ℕ) (v : Share A)
+      → k < length shares
       → SharesAt bound senders shares → AreAt bound senders v.items → SharesAt bound senders (slice_set shares k v)
   shares_put bound senders shares k v low h here = record {
     each = λ i d below. elim (cases_eq i k) [
@@ -114,34 +126,55 @@ module _ {F A : Type 0} where
   }
 
   -- one more sender
-  pub shares_more : (bound : ℕ) (senders : List (Sender F A)) (s : Sender F A) (shares : List (Share A)) → SharesAt bound senders shares → SharesAt bound (senders ++ s ∷ []) shares
-  shares_more bound senders s shares h = record { each = λ k d below. at_more bound senders s (slice_index_or shares k d).items (h.each k d below) }
+  pub shares_more : (bound : ℕ) (senders : List (Sender F A)) (s : Sender F A) (shares : List (Share A))
+      → SharesAt bound senders shares → SharesAt bound (senders ++ s ∷ []) shares
+  shares_more bound senders s shares h = record {
+    each =
+        λ k d below. at_more bound senders s (slice_index_or shares k d).items (h.each k d below);
+  }
 
   -- one more bench
-  pub shares_dealt : (bound at : ℕ) (senders : List (Sender F A)) (b : Bench A) (shares after : List (Share A)) → at < length shares
+  pub shares_dealt : (bound at : ℕ) (senders : List (Sender F A)) (b : Bench A) (shares after : List (Share A))
+      → at < length shares
       → SharesAt bound senders shares → IsAt bound senders b → Deals at b shares after → SharesAt bound senders after
   shares_dealt bound at senders b shares after low h here s =
-      rw s.set (shares_put bound senders shares at s.share low h (rw s.items (at_push bound senders (slice_index_or shares at s.share).items b (h.each at s.share low) here)))
+      rw s.set (shares_put bound senders shares at s.share low h
+      (rw s.items (at_push bound senders (slice_index_or shares at s.share).items b (h.each at s.share low) here)))
 
-  pub shares_none : (bound w : ℕ) (senders : List (Sender F A)) (shares : List (Share A)) → AreEmpty w shares → SharesAt bound senders shares
-  shares_none bound w senders shares h = record { each = λ k d below. rw (h.none k d below) (record { each = λ i b low. absurd (omega arith) }) }
+  pub shares_none : (bound w : ℕ) (senders : List (Sender F A)) (shares : List (Share A)) → AreEmpty w shares
+      → SharesAt bound senders shares
+  shares_none bound w senders shares h = record {
+    each =
+        λ k d below. rw (h.none k d below) (record { each = λ i b low. absurd (omega arith) });
+  }
 
-  pub shares_front : (bound : ℕ) (senders : List (Sender F A)) (shares : List (Share A)) (v : Share A) → SharesAt bound senders (shares ++ v ∷ []) → SharesAt bound senders shares
-  shares_front bound senders shares v h = record { each = λ k d below. rw (get_or_append_left shares (v ∷ []) d k below) at (h.each k d (omega (arith, length-append shares (v ∷ [])))) }
+  pub shares_front : (bound : ℕ) (senders : List (Sender F A)) (shares : List (Share A)) (v : Share A)
+      → SharesAt bound senders (shares ++ v ∷ []) → SharesAt bound senders shares
+  shares_front bound senders shares v h = record {
+    each =
+        λ k d below. rw (get_or_append_left shares (v ∷ []) d k below)
+        at (h.each k d (omega (arith, length-append shares (v ∷ []))));
+  }
 
-  pub shares_last : (bound : ℕ) (senders : List (Sender F A)) (shares : List (Share A)) (v : Share A) → SharesAt bound senders (shares ++ v ∷ []) → AreAt bound senders v.items
-  shares_last bound senders shares v h = rw (get_or_at shares v [] v (length shares) refl) at (h.each (length shares) v (omega (arith, length-append shares (v ∷ []))))
+  pub shares_last : (bound : ℕ) (senders : List (Sender F A)) (shares : List (Share A)) (v : Share A)
+      → SharesAt bound senders (shares ++ v ∷ []) → AreAt bound senders v.items
+  shares_last bound senders shares v h = rw (get_or_at shares v [] v (length shares) refl)
+      at (h.each (length shares) v (omega (arith, length-append shares (v ∷ []))))
 
   pub shares_kept : (R : Sender F A → Sender F A → Type 0) → ((s t : Sender F A) → R s t → Keeps s t)
-      → (bound : ℕ) (xs ys : List (Sender F A)) (shares : List (Share A)) → Each R xs ys → SharesAt bound xs shares → SharesAt bound ys shares
-  shares_kept R keeps bound xs ys shares r h = record { each = λ k d below. at_kept R keeps bound xs ys (slice_index_or shares k d).items r (h.each k d below) }
+      → (bound : ℕ) (xs ys : List (Sender F A)) (shares : List (Share A)) → Each R xs ys → SharesAt bound xs shares
+      → SharesAt bound ys shares
+  shares_kept R keeps bound xs ys shares r h =
+      record { each = λ k d below. at_kept R keeps bound xs ys (slice_index_or shares k d).items r (h.each k d below) }
 
-  pub shares_back : (bound : ℕ) (senders : List (Sender F A)) (xs ys : List (Share A)) → Each ComesBack xs ys → SharesAt bound senders xs → SharesAt bound senders ys
+  pub shares_back : (bound : ℕ) (senders : List (Sender F A)) (xs ys : List (Share A)) → Each ComesBack xs ys
+      → SharesAt bound senders xs → SharesAt bound senders ys
   shares_back bound senders xs ys r h = record {
     each = λ k d below.
         let few : k < length xs = let e = r.same_length in omega arith in
         elim (r.each k d few) [
-          | inl on ↦ at_later bound senders (slice_index_or xs k d).items (slice_index_or ys k d).items on (h.each k d few)
+          | inl on ↦ at_later bound senders (slice_index_or xs k d).items (slice_index_or ys k d).items on
+              (h.each k d few)
           | inr none ↦ rw none (record { each = λ i b low. absurd (omega arith) })
         ];
   }
@@ -181,13 +214,17 @@ module _ {F A : Type 0} (seen : F → FeedState) where
   will_after limit x y (sender.Joined d b) p q = becomes_after limit x y (sender.Joined d b) p q
 
   -- all readers were started and have ended
-  pub read_all : (limit : ℕ) (xs ys zs : List (Sender F A)) → Each (WillBe seen limit) xs ys → Each (Ends seen) ys zs → Each (Becomes seen limit) xs zs
-  read_all limit xs ys zs = each_after (WillBe seen limit) (Ends seen) (Becomes seen limit) (λ x y z p q. q limit x p) xs ys zs
+  pub read_all : (limit : ℕ) (xs ys zs : List (Sender F A)) → Each (WillBe seen limit) xs ys → Each (Ends seen) ys zs
+      → Each (Becomes seen limit) xs zs
+  read_all limit xs ys zs = each_after (WillBe seen limit) (Ends seen) (Becomes seen limit) (λ x y z p q. q limit x p)
+      xs ys zs
 
 module _ {A : Type 0} where
   -- all checkers were started and have ended
-  pub checked_all : (xs zs : List (Share A)) (checkers : List (CheckerThread A)) → Pairwise WillComeBack xs checkers → Pairwise Returns checkers zs → Each ComesBack xs zs
+  pub checked_all : (xs zs : List (Share A)) (checkers : List (CheckerThread A)) → Pairwise WillComeBack xs checkers
+      → Pairwise Returns checkers zs → Each ComesBack xs zs
   checked_all xs zs checkers p q = record {
     same_length = q.same_length ∙ p.same_length;
-    each = λ i d below. q.each i running.Lost d (let e = p.same_length in omega arith) (slice_index_or xs i d) (p.each i d running.Lost below);
+    each = λ i d below. q.each i running.Lost d (let e = p.same_length in
+        omega arith) (slice_index_or xs i d) (p.each i d running.Lost below);
   }

@@ -1,6 +1,6 @@
 //! Readers on threads of their own: all are started, and later all are joined.
 
-ghost use Rattle.std.specs.Prelude.{◌≡◌, ◌<◌, ◌≤◌, ℕ};
+ghost use Rattle.std.specs.Prelude.{◌≡◌, ◌<◌, ◌≤◌};
 ghost use Rattle.asan_stream.specs.Ranges.{most_events};
 ghost use Rattle.asan_stream.specs.Readers.{IsReaderOf};
 ghost use Rattle.asan_collect.specs.Senders.{AllFresh, Each, Ends, IsFresh, WillBe};

@@ -133,7 +133,8 @@ pub(crate) fn run_all<
         move |scope| -> Returned<F, A>
             requires { AllFresh F.seen senders.items
                 × (0 < vec_len shares) × (room.items ≡ []) × (vec_len shares ≤ vec_capacity room) }
-            ensures senders { Each (Becomes F.seen options.limit) senders.items result.senders.items }
+            ensures senders { Each (Becomes F.seen options.limit)
+                senders.items result.senders.items }
             ensures shares { Each ComesBack shares.items result.shares.items }
         {
             let (mut senders, mut shares) = (senders, shares);
@@ -215,7 +216,8 @@ pub(crate) fn run_printing<
             requires { AllFresh F.seen senders.items
                 × (0 < vec_len shares) × (room.items ≡ []) × (vec_len shares ≤ vec_capacity room) }
             ensures same { result.0.ghost_name ≡ w.entry.ghost_name }
-            ensures senders { Each (Becomes F.seen options.limit) senders.items result.1.senders.items }
+            ensures senders { Each (Becomes F.seen options.limit)
+                senders.items result.1.senders.items }
             ensures shares { Each ComesBack shares.items result.1.shares.items }
             ensures printed { HasPrinted (W.contents w.entry.now) (W.contents result.0.now)
                 printers result.2 }

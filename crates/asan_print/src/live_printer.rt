@@ -1,6 +1,6 @@
 //! Printing lines of several processes as they come.
 
-ghost use Rattle.std.specs.Prelude.{◌≡◌, ℕ, ◌+◌, ◌<◌, ◌≤◌, ◌^◌, ◌∷◌, ◌++◌, List, [], Option, OnOk};
+ghost use Rattle.std.specs.Prelude.{◌≡◌, ℕ, ◌+◌, ◌<◌, ◌^◌, ◌∷◌, ◌++◌, List, [], Option, OnOk};
 ghost use Rattle.std.specs.Prelude.{◌≢◌, IfErr, IsTrue, None, false, length, slice_index_or, take};
 ghost use Rattle.std.specs.Io.KnownBytes.{Appends};
 ghost use Rattle.asan_check.specs.Lines.{report_line, end_line, longest_line};

@@ -1,9 +1,11 @@
 -- What one more item does to where a checker stands after the items of a lane.
-use Rattle.std.proofs.Common.{◌≡◌, ℕ, ◌+◌, ◌-◌, ◌<◌, ◌≤◌, ◌^◌, List, [], ◌∷◌, ◌++◌, length, take, drop, Option, Result, Ok, Err, refl, sym, ap, subst, ◌∙◌, inl, inr, arith, length-append, true, false}
+use Rattle.std.proofs.Common.{◌≡◌, ℕ, ◌+◌, ◌-◌, ◌<◌, ◌≤◌, ◌^◌, List, [], ◌∷◌, ◌++◌, length, take, drop, Option, Result}
+use Rattle.std.proofs.Common.{Ok, Err, refl, sym, ap, subst, ◌∙◌, inl, inr, arith, length-append, true, false}
 use Rattle.std.specs.Prelude.{Bool, ◌||◌, IfOk, OnErr, IsErr, reverse, option_to_list}
 use Rattle.std.specs.Coded.{Coded-set, coded_list, le_prop}
 use Rattle.std.proofs.Math.Logic.{∥∥₁_map, ∥∥₁_elim}
-use Rattle.std.proofs.lemmas.List.{length-reverse, length-drop, take_all, take-append-le, length-take-le, append-nil, reverse-append}
+use Rattle.std.proofs.lemmas.List.{length-reverse, length-drop, take_all, take-append-le, length-take-le, append-nil}
+use Rattle.std.proofs.lemmas.List.{reverse-append}
 use Rattle.std.proofs.lemmas.Bool.{cases_lt, false≢true}
 use Rattle.trace_record.specs.declared.event.Event.{Event}
 use Rattle.trace_record.specs.declared.end.End.{End}
@@ -22,7 +24,8 @@ use Rattle.asan_stream.specs.Outboxes.{IsFront}
 use Rattle.asan_stream.proofs.Stepping.{stepped, reverse-more, checked_within, reports_short, reports_whole}
 use Rattle.asan_stream.proofs.Consequences.{few_of}
 
-pub events_of-event : (items : List Item) (e : Event) → events_of (items ++ item.Event e ∷ []) ≡ events_of items ++ e ∷ []
+pub events_of-event : (items : List Item) (e : Event)
+    → events_of (items ++ item.Event e ∷ []) ≡ events_of items ++ e ∷ []
 events_of-event [] e = refl
 events_of-event (item.Event first ∷ items) e = ap (λ events. first ∷ events) (events_of-event items e)
 events_of-event (item.End end ∷ items) e = events_of-event items e
@@ -95,18 +98,22 @@ none_more events full = elim (cases_lt (length events) most_events) [
 ]
 
 -- what begins a list still begins it where more follows
-pub begins_more : (first some rest : List Report) → take (length first) some ≡ first → take (length first) (some ++ rest) ≡ first
+pub begins_more : (first some rest : List Report) → take (length first) some ≡ first
+    → take (length first) (some ++ rest) ≡ first
 begins_more first some rest begins =
     let within : length first ≤ length some = elim (cases_lt (length some) (length first)) [
-      | inl short ↦ absurd (let whole = ap length (take_all (length first) some (omega arith)) in let same = ap length begins in omega arith)
+      | inl short ↦ absurd (let whole = ap length (take_all (length first) some (omega arith)) in
+          let same = ap length begins in omega arith)
       | inr long ↦ long
     ] in
     take-append-le (length first) some rest within ∙ begins
 
 module _ {A : Type 0} where
   -- a checker has checked no more events than it was handed
-  pub checked_few : (bound : ℕ) (c : Checker A) (events : List Event) → ∥ StandsOrFailed bound c (reverse events) ∥₁ → checked_of c ≤ length events
-  checked_few bound c events stands = ∥∥₁_elim stands le_prop (λ s. let n = checked_within bound c (reverse events) s in omega (arith, length-reverse events))
+  pub checked_few : (bound : ℕ) (c : Checker A) (events : List Event) → ∥ StandsOrFailed bound c (reverse events) ∥₁
+      → checked_of c ≤ length events
+  checked_few bound c events stands = ∥∥₁_elim stands le_prop (λ s. let n = checked_within bound c (reverse events) s in
+      omega (arith, length-reverse events))
 
   -- a step adds to the reports at the end
   pub grown : (bound : ℕ) (c new : Checker A) (r : Result (Option Report) Failed) (e : Event) (past : List Event)
@@ -114,7 +121,11 @@ module _ {A : Type 0} where
       → OnErr r ((has_failed new ≡ true) × (checked_of new ≡ checked_of c) × (reports_of new ≡ reports_of c))
       → (has_failed c ≡ true → IsErr r × (new ≡ c))
       → StandsOrFailed bound c past → (rest : List Report) × (reports_of new ≡ reports_of c ++ rest)
-  grown bound c new (Ok x) e past ok kept stays (inl s) = (option_to_list (verdict bound past e), (ok bound past s).1.reports ∙ ap (λ rs. rs ++ option_to_list (verdict bound past e)) (sym s.reports))
+  grown bound c new (Ok x) e past ok kept stays (inl s) = (
+    option_to_list (verdict bound past e),
+    (ok bound past s).1.reports
+        ∙ ap (λ rs. rs ++ option_to_list (verdict bound past e)) (sym s.reports),
+  )
   grown bound c new (Ok x) e past ok kept stays (inr f) = absurd (false≢true (stays f.failed).0)
   grown bound c new (Err x) e past ok kept stays s = ([], kept.2 ∙ sym (append-nil (reports_of c)))
 
@@ -124,7 +135,8 @@ module _ {A : Type 0} where
       → OnErr r ((has_failed new ≡ true) × (checked_of new ≡ checked_of c) × (reports_of new ≡ reports_of c))
       → (has_failed c ≡ true → IsErr r × (new ≡ c))
       → StandsAfter c items → IsFront (reports_of c) (reports_of new)
-  front_event c new r e items ok kept stays stands = ∥∥₁_elim stands (reports-prop (take (length (reports_of c)) (reports_of new)) (reports_of c)) (λ s.
+  front_event c new r e items ok kept stays stands =
+      ∥∥₁_elim stands (reports-prop (take (length (reports_of c)) (reports_of new)) (reports_of c)) (λ s.
       let rest = grown (bound_of c) c new r e (reverse (events_of items)) ok kept stays s in
       let all = take_all (length (reports_of c)) (reports_of c) (omega arith) in
       ap (take (length (reports_of c))) rest.1 ∙ begins_more (reports_of c) (reports_of c) rest.0 all)
@@ -134,12 +146,15 @@ module _ {A : Type 0} where
       → ((bound : ℕ) (past : List Event) → StandsOrFailed bound c past → IsFront (reports_of c) (reports_of new))
       → StandsAfter c items → IsFront (reports_of c) (reports_of new)
   front_batch c new items front stands =
-      ∥∥₁_elim stands (reports-prop (take (length (reports_of c)) (reports_of new)) (reports_of c)) (λ s. front (bound_of c) (reverse (events_of items)) s)
+      ∥∥₁_elim stands (reports-prop (take (length (reports_of c)) (reports_of new)) (reports_of c))
+      (λ s. front (bound_of c) (reverse (events_of items)) s)
 
   -- what a bench knows of its checker
-  pub seen_so_far : (c : Checker A) (events : ℕ) (items : List Item) → StandsAfter c items → events ≡ length (events_of items) → events ≤ most_events → HasChecked c events c items
+  pub seen_so_far : (c : Checker A) (events : ℕ) (items : List Item) → StandsAfter c items
+      → events ≡ length (events_of items) → events ≤ most_events → HasChecked c events c items
   seen_so_far c events items stands count few =
-      let all : take most_events (events_of items) ≡ events_of items = take_all most_events (events_of items) (omega arith) in
+      let all : take most_events (events_of items) ≡ events_of items =
+      take_all most_events (events_of items) (omega arith) in
       record {
         count = count ∙ ap length (sym all);
         stands = subst (λ es. ∥ StandsOrFailed (bound_of c) c (reverse es) ∥₁) (sym all) stands;
@@ -147,21 +162,28 @@ module _ {A : Type 0} where
       }
 
   -- it was handed the same events by some more items
-  seen_same : (first c : Checker A) (n : ℕ) (items more : List Item) → take most_events (events_of more) ≡ take most_events (events_of items) → HasChecked first n c items → HasChecked first n c more
+  seen_same : (first c : Checker A) (n : ℕ) (items more : List Item)
+      → take most_events (events_of more) ≡ take most_events (events_of items) → HasChecked first n c items
+      → HasChecked first n c more
   seen_same first c n items more same seen = record {
     count = seen.count ∙ ap length (sym same);
     stands = subst (λ es. ∥ StandsOrFailed (bound_of first) c (reverse es) ∥₁) (sym same) seen.stands;
     begins = seen.begins;
   }
 
-  pub seen_end : (first c : Checker A) (n : ℕ) (items : List Item) (end : End) → HasChecked first n c items → HasChecked first n c (items ++ item.End end ∷ [])
-  seen_end first c n items end seen = seen_same first c n items (items ++ item.End end ∷ []) (ap (take most_events) (events_of-end items end)) seen
+  pub seen_end : (first c : Checker A) (n : ℕ) (items : List Item) (end : End) → HasChecked first n c items
+      → HasChecked first n c (items ++ item.End end ∷ [])
+  seen_end first c n items end seen = seen_same first c n items (items ++ item.End end ∷ [])
+      (ap (take most_events) (events_of-end items end)) seen
 
   -- an event past the first 2^24 is not handed on
-  pub seen_past : (first c : Checker A) (n : ℕ) (items : List Item) (e : Event) → most_events ≤ n → HasChecked first n c items → HasChecked first n c (items ++ item.Event e ∷ [])
+  pub seen_past : (first c : Checker A) (n : ℕ) (items : List Item) (e : Event) → most_events ≤ n
+      → HasChecked first n c items → HasChecked first n c (items ++ item.Event e ∷ [])
   seen_past first c n items e full seen =
-      let long : most_events ≤ length (events_of items) = none_more (events_of items) (let count = seen.count in omega arith) in
-      seen_same first c n items (items ++ item.Event e ∷ []) (ap (take most_events) (events_of-event items e) ∙ take-append-le most_events (events_of items) (e ∷ []) long) seen
+      let long : most_events ≤ length (events_of items) =
+      none_more (events_of items) (let count = seen.count in omega arith) in
+      seen_same first c n items (items ++ item.Event e ∷ []) (ap (take most_events) (events_of-event items e)
+      ∙ take-append-le most_events (events_of items) (e ∷ []) long) seen
 
   -- an event is handed on
   pub seen_more : (first c new : Checker A) (n : ℕ) (r : Result (Option Report) Failed) (e : Event) (items : List Item)
@@ -175,71 +197,88 @@ module _ {A : Type 0} where
       let short : length es < most_events = all_first es (let count = seen.count in omega arith) in
       let whole : take most_events es ≡ es = take_all most_events es (omega arith) in
       let more : take most_events (events_of (items ++ item.Event e ∷ [])) ≡ es ++ e ∷ [] =
-      ap (take most_events) (events_of-event items e) ∙ take_all most_events (es ++ e ∷ []) (omega (arith, length-append es (e ∷ []))) in
-      let stood : ∥ StandsOrFailed (bound_of first) c (reverse es) ∥₁ = subst (λ es. ∥ StandsOrFailed (bound_of first) c (reverse es) ∥₁) whole seen.stands in
+      ap (take most_events) (events_of-event items e)
+      ∙ take_all most_events (es ++ e ∷ []) (omega (arith, length-append es (e ∷ []))) in
+      let stood : ∥ StandsOrFailed (bound_of first) c (reverse es) ∥₁ =
+      subst (λ es. ∥ StandsOrFailed (bound_of first) c (reverse es) ∥₁) whole seen.stands in
       record {
         count = let count = seen.count in omega (arith, ap length whole, ap length more, length-append es (e ∷ []));
-        stands = subst (λ es. ∥ StandsOrFailed (bound_of first) new (reverse es) ∥₁) (sym more) (steps (bound_of first) c new r e es ok err stays stood);
-        begins = ∥∥₁_elim stood (reports-prop (take (length (reports_of first)) (reports_of new)) (reports_of first)) (λ s.
+        stands = subst (λ es. ∥ StandsOrFailed (bound_of first) new (reverse es) ∥₁) (sym more)
+            (steps (bound_of first) c new r e es ok err stays stood);
+        begins = ∥∥₁_elim stood (reports-prop (take (length (reports_of first)) (reports_of new)) (reports_of first))
+            (λ s.
             let rest = grown (bound_of first) c new r e (reverse es) ok kept stays s in
-            ap (take (length (reports_of first))) rest.1 ∙ begins_more (reports_of first) (reports_of c) rest.0 seen.begins);
+            ap (take (length (reports_of first))) rest.1
+            ∙ begins_more (reports_of first) (reports_of c) rest.0 seen.begins);
       }
 
   -- what a checker has that was handed a whole stream
-  pub stream_seen : (first c : Checker A) (n : ℕ) (items : List Item) (events : List Event) (end : End) → HasChecked first n c items → items ≡ items_of events end → length events ≤ most_events
+  pub stream_seen : (first c : Checker A) (n : ℕ) (items : List Item) (events : List Event) (end : End)
+      → HasChecked first n c items → items ≡ items_of events end → length events ≤ most_events
       → (n ≡ length events) × ∥ StandsOrFailed (bound_of first) c (reverse events) ∥₁
   stream_seen first c n items events end seen are few =
-      let all : take most_events (events_of items) ≡ events = ap (take most_events) (ap events_of are ∙ events_of-items events end) ∙ take_all most_events events few in
+      let all : take most_events (events_of items) ≡ events =
+      ap (take most_events) (ap events_of are ∙ events_of-items events end) ∙ take_all most_events events few in
       (seen.count ∙ ap length all, subst (λ es. ∥ StandsOrFailed (bound_of first) c (reverse es) ∥₁) all seen.stands)
 
-  pub whole_stream : (bound : ℕ) (c : Checker A) (events : List Event) → ∥ StandsOrFailed bound c (reverse events) ∥₁ → (checked_of c < length events → ⊥) → reports_of c ≡ verdicts bound events
-  whole_stream bound c events stands none = ∥∥₁_elim stands (reports-prop (reports_of c) (verdicts bound events)) (λ s. reports_whole bound c events s none)
+  pub whole_stream : (bound : ℕ) (c : Checker A) (events : List Event) → ∥ StandsOrFailed bound c (reverse events) ∥₁
+      → (checked_of c < length events → ⊥) → reports_of c ≡ verdicts bound events
+  whole_stream bound c events stands none = ∥∥₁_elim stands (reports-prop (reports_of c) (verdicts bound events))
+      (λ s. reports_whole bound c events s none)
 
-  pub first_of_stream : (bound : ℕ) (c : Checker A) (events : List Event) → ∥ StandsOrFailed bound c (reverse events) ∥₁ → checked_of c < length events → reports_of c ≡ verdicts bound (take (checked_of c) events)
-  first_of_stream bound c events stands some = ∥∥₁_elim stands (reports-prop (reports_of c) (verdicts bound (take (checked_of c) events))) (λ s. reports_short bound c events s some)
+  pub first_of_stream : (bound : ℕ) (c : Checker A) (events : List Event) → ∥ StandsOrFailed bound c (reverse events) ∥₁
+      → checked_of c < length events → reports_of c ≡ verdicts bound (take (checked_of c) events)
+  first_of_stream bound c events stands some =
+      ∥∥₁_elim stands (reports-prop (reports_of c) (verdicts bound (take (checked_of c) events)))
+      (λ s. reports_short bound c events s some)
 
-  few_reported : (bound : ℕ) (c : Checker A) (past : List Event) → StandsOrFailed bound c past → length (reports_of c) ≤ length past
+  few_reported : (bound : ℕ) (c : Checker A) (past : List Event) → StandsOrFailed bound c past
+      → length (reports_of c) ≤ length past
   few_reported bound c past (inl s) = rw s.reports (few_of bound past)
-  few_reported bound c past (inr f) = let few = few_of bound (drop (length past - checked_of c) past) in rw f.reports (omega (arith, length-drop (length past - checked_of c) past))
+  few_reported bound c past (inr f) = let few = few_of bound (drop (length past - checked_of c) past) in
+      rw f.reports (omega (arith, length-drop (length past - checked_of c) past))
 
-  pub few_seen : (first c : Checker A) (n : ℕ) (items : List Item) → HasChecked first n c items → length (reports_of c) ≤ most_events
+  pub few_seen : (first c : Checker A) (n : ℕ) (items : List Item) → HasChecked first n c items
+      → length (reports_of c) ≤ most_events
   few_seen first c n items seen = ∥∥₁_elim seen.stands le_prop (λ s.
       let few = few_reported (bound_of first) c (reverse (take most_events (events_of items))) s in
       let most = few_first (events_of items) in
       omega (arith, length-reverse (take most_events (events_of items))))
 
   -- a bench whose lane gave an event, which its checker was handed
-  pub stands_event : (old new : Checker A) (r : Result (Option Report) Failed) (e : Event) (items more : List Item) → more ≡ items ++ item.Event e ∷ []
+  pub stands_event : (old new : Checker A) (r : Result (Option Report) Failed) (e : Event) (items more : List Item)
+      → more ≡ items ++ item.Event e ∷ []
       → IfOk r (λ report. (b : ℕ) (p : List Event) → Stands b old p → (report ≡ verdict b p e) × Stands b new (e ∷ p))
       → OnErr r ((b : ℕ) (p : List Event) → Stands b old p → FailedAt b new (e ∷ p) × (checked_of new ≡ length p))
       → (has_failed old ≡ true → IsErr r × (new ≡ old))
       → bound_of new ≡ bound_of old → StandsAfter old items → StandsAfter new more
   stands_event old new r e items more taken ok err stays same stands =
       subst (λ b. ∥ StandsOrFailed b new (reverse (events_of more)) ∥₁) (sym same)
-      (subst (λ es. ∥ StandsOrFailed (bound_of old) new (reverse es) ∥₁) (sym (ap events_of taken ∙ events_of-event items e))
+      (subst (λ es. ∥ StandsOrFailed (bound_of old) new (reverse es) ∥₁)
+      (sym (ap events_of taken ∙ events_of-event items e))
       (steps (bound_of old) old new r e (events_of items) ok err stays stands))
 
   -- a bench whose lane gave the end
-  pub stands_end : (c : Checker A) (items more : List Item) (end : End) → more ≡ items ++ item.End end ∷ [] → StandsAfter c items → StandsAfter c more
+  pub stands_end : (c : Checker A) (items more : List Item) (end : End) → more ≡ items ++ item.End end ∷ []
+      → StandsAfter c items → StandsAfter c more
   stands_end c items more end taken stands =
-      subst (λ es. ∥ StandsOrFailed (bound_of c) c (reverse es) ∥₁) (sym (ap events_of taken ∙ events_of-end items end)) stands
+      subst (λ es. ∥ StandsOrFailed (bound_of c) c (reverse es) ∥₁) (sym (ap events_of taken ∙ events_of-end items end))
+      stands
 
   -- a bench whose lane gave more items, whose events its checker was handed
   pub stands_batch : (old new : Checker A) (items more : List Item) (events : List Event) → events ≡ events_of more
-      → ((bound : ℕ) (past : List Event) → StandsOrFailed bound old past → StandsOrFailed bound new (reverse events ++ past))
+      → ((bound : ℕ) (past : List Event) → StandsOrFailed bound old past
+      → StandsOrFailed bound new (reverse events ++ past))
       → bound_of new ≡ bound_of old → StandsAfter old items → StandsAfter new (items ++ more)
   stands_batch old new items more events are handed same stands =
       let all : reverse (events_of (items ++ more)) ≡ reverse events ++ reverse (events_of items) =
-      ap reverse (events_of-append items more ∙ ap (λ es. events_of items ++ es) (sym are)) ∙ reverse-append (events_of items) events in
+      ap reverse (events_of-append items more ∙ ap (λ es. events_of items ++ es) (sym are))
+      ∙ reverse-append (events_of items) events in
       subst (λ b. ∥ StandsOrFailed b new (reverse (events_of (items ++ more))) ∥₁) (sym same)
       (subst (λ es. ∥ StandsOrFailed (bound_of old) new es ∥₁) (sym all)
       (∥∥₁_map stands (λ s. handed (bound_of old) (reverse (events_of items)) s)))
 
-  -- a checker that was handed few events has room for more
-  pub room_for : (bound : ℕ) (c : Checker A) (events : List Event) (n count : ℕ) → ∥ StandsOrFailed bound c (reverse events) ∥₁ → n ≡ length events
-      → n + count ≤ most_events → checked_of c + count < 2 ^ 64
-  room_for bound c events n count stands counted few = let most = checked_few bound c events stands in omega arith
-
   -- a checker that was handed few events has room for one more
-  pub room_for_one : (bound : ℕ) (c : Checker A) (events : List Event) (n : ℕ) → ∥ StandsOrFailed bound c (reverse events) ∥₁ → n ≡ length events → n < most_events → checked_of c + 1 < 2 ^ 64
+  pub room_for_one : (bound : ℕ) (c : Checker A) (events : List Event) (n : ℕ)
+      → ∥ StandsOrFailed bound c (reverse events) ∥₁ → n ≡ length events → n < most_events → checked_of c + 1 < 2 ^ 64
   room_for_one bound c events n stands count few = let most = checked_few bound c events stands in omega arith

@@ -32,7 +32,8 @@ few_verdicts : (bound : ℕ) (events : List Event) → length (verdicts bound ev
 few_verdicts bound events = let few = few_of bound (reverse events) in omega (arith, length-reverse events)
 
 -- a text that has ended has no more events than the limit
-pub ended_within : (limit : ℕ) (text : List ℕ) (events : List Event) (f : Fate) → MayEnd limit text events f → length events ≤ limit
+pub ended_within : (limit : ℕ) (text : List ℕ) (events : List Event) (f : Fate) → MayEnd limit text events f
+    → length events ≤ limit
 ended_within limit text events fate.Closed ended = ended.0
 ended_within limit text events (fate.Malformed f) (inl bad) = let none = ap length bad.1.none in omega arith
 ended_within limit text events (fate.Malformed f) (inr bad) = let less = bad.0 in omega arith
@@ -42,7 +43,8 @@ ended_within limit text events fate.NoClose ended = ended.1
 ended_within limit text events fate.ReadFailed ended = open_within limit text events ended.0 ended.1
 
 module _ {F A : Type 0} where
-  few_in : (bound : ℕ) (events : List Event) (feed : F) (end : End) (result : Outcome F A) → HasResults bound events feed end result → length (reports_of result) ≤ length events
+  few_in : (bound : ℕ) (events : List Event) (feed : F) (end : End) (result : Outcome F A)
+      → HasResults bound events feed end result → length (reports_of result) ≤ length events
   few_in bound events feed end (outcome.Settled f n reports) results = rw results.2 (few_verdicts bound events)
   few_in bound events feed end (outcome.NoMemory f n checked reports) results =
       let few = few_verdicts bound (take checked events) in
@@ -62,10 +64,15 @@ module _ {F A : Type 0} where
       omega arith
 
   -- an outcome stops soon where its feed and its end do
-  pub stops_soon : (seen : F → FeedState) (options : Options) (before feed : F) (events : List Event) (end : End) (result : Outcome F A)
-      → HasResults options.quarantine events feed end result → (IsDecidedFate end.fate → IsDecidedSoon options.limit (seen before) (seen feed) end) → StopsSoon seen options before result
-  stops_soon seen options before feed events end (outcome.Settled f n reports) results soon = rw (results.0, results.1) soon
-  stops_soon seen options before feed events end (outcome.NoMemory f n checked reports) results soon = rw (results.0, results.1) soon
+  pub stops_soon : (seen : F → FeedState) (options : Options) (before feed : F) (events : List Event) (end : End)
+      (result : Outcome F A)
+      → HasResults options.quarantine events feed end result
+      → (IsDecidedFate end.fate → IsDecidedSoon options.limit (seen before) (seen feed) end)
+      → StopsSoon seen options before result
+  stops_soon seen options before feed events end (outcome.Settled f n reports) results soon =
+      rw (results.0, results.1) soon
+  stops_soon seen options before feed events end (outcome.NoMemory f n checked reports) results soon =
+      rw (results.0, results.1) soon
   stops_soon seen options before feed events end outcome.NotOpened results soon = absurd results
   stops_soon seen options before feed events end outcome.NotStarted results soon = absurd results
   stops_soon seen options before feed events end outcome.Unsettled results soon = absurd results

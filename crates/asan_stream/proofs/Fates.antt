@@ -33,4 +33,5 @@ decided_more_may_come fate.ReadFailed d s = s
 
 -- a text and a piece, cut where the piece was used
 pub split_piece : (text piece : List ℕ) (used : ℕ) → text ++ piece ≡ (text ++ take used piece) ++ drop used piece
-split_piece text piece used = ap (λ p. text ++ p) (sym (take-append-drop used piece)) ∙ sym (append_assoc text (take used piece) (drop used piece))
+split_piece text piece used = ap (λ p. text ++ p) (sym (take-append-drop used piece))
+    ∙ sym (append_assoc text (take used piece) (drop used piece))

@@ -1,30 +1,17 @@
 -- Benches that go on.
-use Rattle.std.proofs.Common.{ℕ, ◌≡◌, ◌+◌, ◌<◌, ◌++◌, List, [], ◌∷◌, length, take, refl, ap, ◌∙◌, sym, arith, append_assoc, append-nil, slice_index_or, slice_set, subst, inl, inr}
+use Rattle.std.proofs.Common.{ℕ, ◌≡◌, ◌+◌, ◌<◌, ◌++◌, List, [], length, take, refl, ap, ◌∙◌, sym, arith, append_assoc}
+use Rattle.std.proofs.Common.{append-nil, slice_index_or, slice_set, subst, inl, inr}
 use Rattle.std.proofs.lemmas.Bool.{cases_eq}
 use Rattle.std.proofs.lemmas.List.{length-set, get_or-set_same, get_or-set_other, get_or_default}
 use Rattle.trace_lane.specs.Lanes.{out_lane, taken_list}
 use Rattle.asan_check.specs.Standing.{bound_of, reports_of}
-use Rattle.asan_stream.specs.declared.item.Item.{Item}
 use Rattle.asan_stream.specs.declared.bench.Bench.{Bench}
-use Rattle.asan_stream.specs.declared.bench.Turn.{Turn}
-use Rattle.asan_stream.specs.declared.bench.Turn.TheVariants as turn
-use Rattle.asan_stream.specs.Benches.{lane_of, taken_of, found_of, report_lane_of, Takes, Turns}
+use Rattle.asan_stream.specs.Benches.{lane_of, taken_of, found_of, report_lane_of}
 use Rattle.asan_stream.specs.Outboxes.{IsFront, KeepsLane, lane_into}
 use Rattle.asan_stream.specs.Benches.{Later, EachLater, HasReported}
 use Rattle.asan_stream.proofs.Reporting.{front_same, front_trans, keeps_same, keeps_trans}
 
-taken_more : (did : Turn) (before after : List Item) → Takes did before after → (more : List Item) × (after ≡ before ++ more)
-taken_more turn.Took before after t = (t.0 ∷ [], t.1)
-taken_more turn.Empty before after t = ([], t ∙ sym (append-nil before))
-taken_more turn.Over before after t = ([], t ∙ sym (append-nil before))
-
 module _ {A : Type 0} where
-  -- a turn of a bench takes it further
-  pub later_turn : (a b : Bench A) (did : Turn) → Turns a did b → Later a b
-  later_turn a b did t =
-      let m = taken_more did (taken_of a) (taken_of b) t.taken in
-      record { process = t.process; lane = t.lane; bound = t.bound; report_lane = t.report_lane; found = t.found; more = m.0; taken = m.1 }
-
   pub later_trans : (a b c : Bench A) → Later a b → Later b c → Later a c
   later_trans a b c p q = record {
     process = q.process ∙ p.process;
@@ -37,10 +24,19 @@ module _ {A : Type 0} where
   }
 
   pub later_refl : (a : Bench A) → Later a a
-  later_refl a = record { process = refl; lane = refl; bound = refl; report_lane = keeps_same _; found = front_same _; more = []; taken = sym (append-nil _) }
+  later_refl a = record {
+    process = refl;
+    lane = refl;
+    bound = refl;
+    report_lane = keeps_same _;
+    found = front_same _;
+    more = [];
+    taken = sym (append-nil _);
+  }
 
   -- a bench that has put some reports, and done nothing else
-  pub later_reported : (a b : Bench A) → KeepsLane (report_lane_of a) (report_lane_of b) → b.process ≡ a.process → b.lane ≡ a.lane → b.checker ≡ a.checker → Later a b
+  pub later_reported : (a b : Bench A) → KeepsLane (report_lane_of a) (report_lane_of b) → b.process ≡ a.process
+      → b.lane ≡ a.lane → b.checker ≡ a.checker → Later a b
   later_reported a b keeps process lane checker = record {
     process = process;
     lane = ap out_lane lane;
@@ -52,7 +48,8 @@ module _ {A : Type 0} where
   }
 
   -- a bench that was asked in between whether its lane was left
-  pub later_left : (a b x c : Bench A) → Later a b → Later x c → x.process ≡ b.process → lane_of x ≡ lane_of b → taken_of x ≡ taken_of b → x.outbox ≡ b.outbox → x.checker ≡ b.checker → Later a c
+  pub later_left : (a b x c : Bench A) → Later a b → Later x c → x.process ≡ b.process → lane_of x ≡ lane_of b
+      → taken_of x ≡ taken_of b → x.outbox ≡ b.outbox → x.checker ≡ b.checker → Later a c
   later_left a b x c first second process lane taken outbox checker = later_trans a b c first (record {
     process = second.process ∙ process;
     lane = second.lane ∙ lane;
@@ -69,19 +66,23 @@ module _ {A : Type 0} where
   pub each_trans : (xs ys zs : List (Bench A)) → EachLater xs ys → EachLater ys zs → EachLater xs zs
   each_trans xs ys zs p q = record {
     same_length = q.same_length ∙ p.same_length;
-    each = λ i d below. later_trans (slice_index_or xs i d) (slice_index_or ys i d) (slice_index_or zs i d) (p.each i d below) (q.each i d (let e = p.same_length in omega arith));
+    each = λ i d below. later_trans (slice_index_or xs i d) (slice_index_or ys i d) (slice_index_or zs i d)
+        (p.each i d below) (q.each i d (let e = p.same_length in omega arith));
   }
 
   -- one of the benches has worked
-  pub each_worked : (xs ys : List (Bench A)) (i : ℕ) (b new : Bench A) → i < length ys → b ≡ slice_index_or ys i b → Later b new → EachLater xs ys → EachLater xs (slice_set ys i new)
+  pub each_worked : (xs ys : List (Bench A)) (i : ℕ) (b new : Bench A) → i < length ys → b ≡ slice_index_or ys i b
+      → Later b new → EachLater xs ys → EachLater xs (slice_set ys i new)
   each_worked xs ys i b new low is later r =
       let len : length ys ≡ length xs = r.same_length in
       record {
         same_length = length-set ys i new ∙ len;
         each = λ k d below. elim (cases_eq k i) [
           | inl e ↦
-              let on : Later (slice_index_or ys i d) new = subst (λ x. Later x new) (is ∙ get_or_default ys i b d low) later in
-              rw (e, get_or-set_same ys i new d low) (later_trans (slice_index_or xs i d) (slice_index_or ys i d) new (r.each i d (omega arith)) on)
+              let on : Later (slice_index_or ys i d) new =
+              subst (λ x. Later x new) (is ∙ get_or_default ys i b d low) later in
+              rw (e, get_or-set_same ys i new d low)
+              (later_trans (slice_index_or xs i d) (slice_index_or ys i d) new (r.each i d (omega arith)) on)
           | inr n ↦ rw (get_or-set_other ys i k new d n) (r.each k d below)
         ];
       }
@@ -93,7 +94,8 @@ module _ {A : Type 0} where
       HasReported (slice_index_or xs k d) (found_of (slice_index_or xs k d))
 
   -- and one more, which has worked
-  pub reported_worked : (xs : List (Bench A)) (i : ℕ) (new : Bench A) → i < length xs → FirstReported i xs → HasReported new (found_of new) → FirstReported (i + 1) (slice_set xs i new)
+  pub reported_worked : (xs : List (Bench A)) (i : ℕ) (new : Bench A) → i < length xs → FirstReported i xs
+      → HasReported new (found_of new) → FirstReported (i + 1) (slice_set xs i new)
   reported_worked xs i new low before all k d below = elim (cases_eq k i) [
     | inl e ↦ rw (e, get_or-set_same xs i new d low) all
     | inr n ↦ rw (get_or-set_other xs i k new d n) (before k d (omega arith))

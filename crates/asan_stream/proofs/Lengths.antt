@@ -1,12 +1,10 @@
 -- How long a text can become before something ends it, and how far a read goes past its end.
-use Rattle.std.proofs.Common.{◌≡◌, ℕ, ◌+◌, ◌-◌, ◌*◌, ◌<◌, ◌≤◌, List, ◌++◌, length, take, drop, ap, ◌∙◌, inl, inr, arith, length-append}
-use Rattle.std.proofs.lemmas.List.{length-take-le, length-drop}
+use Rattle.std.proofs.Common.{◌≡◌, ℕ, ◌+◌, ◌-◌, ◌*◌, ◌<◌, List, ◌++◌, length, ap, ◌∙◌, inl, inr, arith, length-append}
 use Rattle.trace_record.specs.declared.event.Event.{Event}
 use Rattle.trace_record.specs.Spelling.{header, spellings}
 use Rattle.trace_record.specs.Standing.{Standing, StandsAt}
 use Rattle.trace_record.proofs.Lengths.{open_short}
 use Rattle.trace_record.proofs.Steps.{in_header_offset, made_offset}
-use Rattle.asan_stream.specs.Ranges.{read_size}
 
 -- how many bytes a decoder has read
 abbrev pub read_of : Standing → ℕ
@@ -20,9 +18,14 @@ all_read d text events at =
           let whole = ap length h.rest_is in
           omega arith
       | inr r ↦
-          let place : d.offset ≡ 8 + length (spellings r.version events) = at.offset ∙ made_offset r.version text events d.rest r.made in
+          let place : d.offset ≡ 8 + length (spellings r.version events) = at.offset
+          ∙ made_offset r.version text events d.rest r.made in
           let whole = ap length r.made.split in
-          omega (arith, length-append (header r.version ++ spellings r.version events) d.rest, length-append (header r.version) (spellings r.version events))
+          omega (
+            arith,
+            length-append (header r.version ++ spellings r.version events) d.rest,
+            length-append (header r.version) (spellings r.version events),
+          )
     ]
 
 -- how many bytes more decide a stream at the latest
@@ -30,18 +33,11 @@ abbrev pub left_of : Standing → ℕ
 left_of d = (18 * d.limit + 9) - read_of d
 
 -- a read that gives a byte leaves fewer of them
-pub fewer_left : (d new : Standing) (text piece : List ℕ) (events later : List Event) → new.limit ≡ d.limit → 0 < length piece
+pub fewer_left : (d new : Standing) (text piece : List ℕ) (events later : List Event) → new.limit ≡ d.limit
+    → 0 < length piece
     → StandsAt d text events → StandsAt new (text ++ piece) later → left_of new < left_of d
 fewer_left d new text piece events later limit some before after =
     let was = all_read d text events before in
     let is = all_read new (text ++ piece) later after in
     let room = open_short d.limit text events d.rest before.reads in
     omega (arith, length-append text piece)
-
--- a read that gives some bytes moves a piece with some
-pub some_moved : (count : ℕ) (buffer : List ℕ) → 0 < count → count ≤ length buffer → 0 < length (take count buffer)
-some_moved count buffer some fits = omega (arith, length-take-le count buffer fits)
-
--- fewer bytes than a read asks for follow one that was used
-pub few_follow : (used count : ℕ) (buffer : List ℕ) → 0 < used → count ≤ length buffer → length buffer ≡ read_size → length (drop used (take count buffer)) < read_size
-few_follow used count buffer some fits room = omega (arith, length-drop used (take count buffer), length-take-le count buffer fits)

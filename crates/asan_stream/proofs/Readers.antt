@@ -19,13 +19,19 @@ if_some None P Q p f = p
 if_some (Some x) P Q p f = f x p
 
 module _ {F A : Type 0} (seen : F → FeedState) where
-  pub reader_done : (limit : ℕ) (feed after : F) (lane now : LaneIn Item A) (lane_end : Option (LaneEnd Item A)) (end : End) (events : List Event)
+  pub reader_done : (limit : ℕ) (feed after : F) (lane now : LaneIn Item A) (lane_end : Option (LaneEnd Item A))
+      (end : End) (events : List Event)
       → IfSome lane_end (λ e. (end_lane e ≡ in_lane now) × (end_list e ≡ put_list now ++ item.End end ∷ []))
       → in_lane now ≡ in_lane lane → put_list now ≡ put_list lane ++ event_items events
       → IsSpelled limit (seen feed) (seen after) events end
-      → IfSome lane_end (λ e. (end_lane e ≡ in_lane lane) × IsPut seen limit feed after end (put_list lane) (end_list e))
+      → IfSome lane_end (λ e. (end_lane e ≡ in_lane lane)
+      × IsPut seen limit feed after end (put_list lane) (end_list e))
   reader_done limit feed after lane now lane_end end events ended same put spelled =
       if_some lane_end _ _ ended (λ e is. (
         is.0 ∙ same,
-        record { events = events; spelled = spelled; list = end_put (put_list lane) (put_list now) (end_list e) events end put is.1 },
+        record {
+          events = events;
+          spelled = spelled;
+          list = end_put (put_list lane) (put_list now) (end_list e) events end put is.1;
+        },
       ))

@@ -1,5 +1,6 @@
 -- What was read of a feed, batch by batch, and how its stream ended.
-use Rattle.std.proofs.Common.{◌≡◌, ℕ, ◌<◌, ◌≤◌, ◌⊎◌, List, [], ◌++◌, length, take, drop, Option, Some, None, sym, ap, subst, ◌∙◌, inl, inr, arith}
+use Rattle.std.proofs.Common.{◌≡◌, ℕ, ◌<◌, ◌≤◌, ◌⊎◌, List, [], ◌++◌, length, take, drop, Option, Some, None, sym, ap}
+use Rattle.std.proofs.Common.{subst, ◌∙◌, inl, inr, arith}
 use Rattle.std.specs.Prelude.{IfSome, is_some}
 use Rattle.std.specs.Io.KnownBytes.{Consumes, IsAtEnd}
 use Rattle.std.proofs.KnownBytes.{Consumes-trans}
@@ -36,10 +37,13 @@ piece_short p =
 
 module _ {F : Type 0} (seen : F → FeedState) (limit : ℕ) (first : F) where
   -- more was read after a piece that was used up
-  pub taken_on : (feed now : F) (text old new : List ℕ) → Consumes (seen first).to_come (seen feed).to_come (text ++ old) → old ≡ []
-      → Consumes (seen feed).to_come (seen now).to_come new → Consumes (seen first).to_come (seen now).to_come (text ++ new)
+  pub taken_on : (feed now : F) (text old new : List ℕ)
+      → Consumes (seen first).to_come (seen feed).to_come (text ++ old) → old ≡ []
+      → Consumes (seen feed).to_come (seen now).to_come new
+      → Consumes (seen first).to_come (seen now).to_come (text ++ new)
   taken_on feed now text old new before none more =
-      Consumes-trans (seen first).to_come (seen feed).to_come (seen now).to_come text new (rw (none, append-nil text) at before) more
+      Consumes-trans (seen first).to_come (seen feed).to_come (seen now).to_come text new
+      (rw (none, append-nil text) at before) more
 
   -- some of the piece was decoded: the text is open still, or one of these bytes decided the end
   pub batch_read : (s new : Source F) (text : List ℕ) (before events : List Event) (used : ℕ) (found : Option End)
@@ -97,7 +101,8 @@ module _ {F : Type 0} (seen : F → FeedState) (limit : ℕ) (first : F) where
   -- the end of a stream where a read failed
   pub end_at_fault : (s : Source F) (events : List Event) (end : End) → HasEnded seen limit first s events
       → IfSome s.decoder.stop (λ e. end ≡ e)
-      → ((text : List ℕ) (es : List Event) → StandsAt s.decoder text es → Spells s.decoder.limit text es end × (end.fate ≡ fate.ReadFailed))
+      → ((text : List ℕ) (es : List Event) → StandsAt s.decoder text es
+      → Spells s.decoder.limit text es end × (end.fate ≡ fate.ReadFailed))
       → 0 < (seen s.feed).faults → IsEndOf seen limit first s.feed events end
   end_at_fault s events end (inl d) stopped ends some = decided_end s events end d stopped
   end_at_fault s events end (inr b) stopped ends some =

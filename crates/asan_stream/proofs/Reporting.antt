@@ -1,5 +1,6 @@
 -- Reports on their way out of a bench.
-use Rattle.std.proofs.Common.{◌≡◌, ◌≤◌, List, ◌++◌, length, take, drop, Option, None, Some, refl, sym, ap, subst, ◌∙◌, arith, inl, inr}
+use Rattle.std.proofs.Common.{◌≡◌, ◌≤◌, List, ◌++◌, length, take, drop, Option, None, Some, refl, sym, ap, subst, ◌∙◌}
+use Rattle.std.proofs.Common.{arith, inl, inr}
 use Rattle.std.proofs.lemmas.Bool.{cases_lt}
 use Rattle.std.proofs.lemmas.List.{take_all, take-append-le, take-append-drop}
 use Rattle.trace_lane.specs.Lanes.{Lane}
@@ -13,7 +14,8 @@ front_same xs = take_all (length xs) xs (omega arith)
 
 front_within : (xs ys : List Report) → IsFront xs ys → length xs ≤ length ys
 front_within xs ys front = elim (cases_lt (length ys) (length xs)) [
-  | inl short ↦ absurd (let whole = ap length (take_all (length xs) ys (omega arith)) in let same = ap length front in omega arith)
+  | inl short ↦ absurd (let whole = ap length (take_all (length xs) ys (omega arith)) in let same = ap length front in
+      omega arith)
   | inr long ↦ long
 ]
 
@@ -41,5 +43,6 @@ module _ {A : Type 0} where
       let within = front_within xs ys front in
       record {
         few = omega arith;
-        first = holds.first ∙ sym (ap (take o.put) (rest_of xs ys front) ∙ take-append-le o.put xs (drop (length xs) ys) few);
+        first = holds.first ∙ sym (ap (take o.put) (rest_of xs ys front)
+            ∙ take-append-le o.put xs (drop (length xs) ys) few);
       }

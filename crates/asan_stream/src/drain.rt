@@ -1,6 +1,6 @@
 //! Emptying a lane that was finished.
 
-ghost use Rattle.std.specs.Prelude.{◌≡◌, ◌∷◌, ◌++◌, [], List, ℕ};
+ghost use Rattle.std.specs.Prelude.{◌≡◌, ◌∷◌, ◌++◌, [], List};
 ghost use Rattle.trace_lane.specs.Lanes.{out_lane, end_lane, taken_list, end_list};
 ghost use Rattle.asan_check.specs.declared.checker.Checker.{Checker as AChecker};
 ghost use Rattle.asan_stream.specs.declared.item.Item.{Item as AnItem};

@@ -1,6 +1,6 @@
 //! The options of a check.
 
-ghost use Rattle.std.specs.Prelude.{◌≡◌, ◌^◌, ◌<◌, ◌≤◌, IfErr, IfOk, IsTrue, MatchResult, None};
+ghost use Rattle.std.specs.Prelude.{◌≡◌, ◌<◌, ◌≤◌, IfErr, IfOk, IsTrue, MatchResult, None};
 ghost use Rattle.std.specs.Prelude.{Some, is_ok};
 ghost use Rattle.asan_units.specs.Units.{largest_quarantine};
 ghost use Rattle.asan_stream.specs.Ranges.{most_ring, most_workers, most_events};

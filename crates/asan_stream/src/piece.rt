@@ -19,7 +19,7 @@ pub(crate) struct Piece {
 }
 
 impl Piece {
-    ghost use Rattle.std.specs.Prelude.{◌≡◌, ◌+◌, ◌-◌, ◌<◌, ◌^◌, [], IfOk, IsTrue, OnErr, drop};
+    ghost use Rattle.std.specs.Prelude.{◌≡◌, ◌+◌, ◌-◌, ◌<◌, ◌^◌, [], IfOk, OnErr, drop};
     ghost use Rattle.std.specs.Prelude.{length, if◌then◌else◌, is_ok};
     ghost use Rattle.std.specs.Io.KnownBytes.{Consumes, Keeps, IsAtEnd};
     ghost use Rattle.asan_stream.specs.Pieces.{rest_of};

@@ -1,9 +1,9 @@
 -- Which freed blocks are held, as blocks are freed and let go.
 --
--- A caller frees a block, which joins the queue, and then lets go of the oldest until the queue is within the bound. Each
--- step leaves `held_of bound queue` as it is (`held-past`), so at the end the queue is what is held of all that were in it
--- (`held-settled`).
-use Rattle.std.proofs.Common.{◌≡◌, ℕ, ◌+◌, ◌≤◌, ◌<◌, true, false, leb, List, [], ◌∷◌, ◌++◌, refl, sym, ◌∙◌, arith, inl, inr}
+-- A caller frees a block, which joins the queue, and then lets go of the oldest until the queue is within the bound.
+-- Each step leaves `held_of bound queue` as it is (`held-past`), so at the end the queue is what is held of all that
+-- were in it.
+use Rattle.std.proofs.Common.{◌≡◌, ℕ, ◌+◌, ◌≤◌, ◌<◌, true, false, leb, List, [], ◌∷◌, ◌++◌, refl, ◌∙◌, arith, inl, inr}
 use Rattle.std.specs.Prelude.{sum_by}
 use Rattle.std.proofs.lemmas.Bool.{cases_lt}
 use Rattle.std.proofs.lemmas.Bool.Decides.{nat_tests}
@@ -19,14 +19,11 @@ held-within bound (b ∷ bs) le =
     rw (fits, held-within bound bs (omega arith)) refl
 
 -- past the bound the oldest is not
-pub held-past : (bound : ℕ) (b : Extent) (bs : List Extent) → bound < sum_by span_bytes (b ∷ bs) → held_of bound (b ∷ bs) ≡ held_of bound bs
+pub held-past : (bound : ℕ) (b : Extent) (bs : List Extent) → bound < sum_by span_bytes (b ∷ bs)
+    → held_of bound (b ∷ bs) ≡ held_of bound bs
 held-past bound b bs lt =
     let past : leb (sum_by span_bytes (b ∷ bs)) bound ≡ false = grind (arith, nat_tests) in
     rw past refl
-
--- a queue from which the oldest went until it was within the bound is what is held of all
-pub held-settled : (bound : ℕ) (queue freed : List Extent) → held_of bound queue ≡ held_of bound freed → sum_by span_bytes queue ≤ bound → queue ≡ held_of bound freed
-held-settled bound queue freed held le = sym (held-within bound queue le) ∙ held
 
 -- what is held is within the bound
 pub held-total : (bound : ℕ) (bs : List Extent) → sum_by span_bytes (held_of bound bs) ≤ bound
@@ -42,11 +39,8 @@ pub held-append : (bound : ℕ) (bs cs : List Extent) → held_of bound (bs ++ c
 held-append bound [] cs = refl
 held-append bound (b ∷ bs) cs =
     elim (cases_lt bound (sum_by span_bytes (b ∷ bs))) [
-      | inl lt ↦ let more : sum_by span_bytes ((b ∷ bs) ++ cs) ≡ sum_by span_bytes (b ∷ bs) + sum_by span_bytes cs = sum_by-append span_bytes (b ∷ bs) cs in
+      | inl lt ↦ let more : sum_by span_bytes ((b ∷ bs) ++ cs) ≡ sum_by span_bytes (b ∷ bs) + sum_by span_bytes cs =
+          sum_by-append span_bytes (b ∷ bs) cs in
           rw (held-past bound b bs lt) (held-past bound b (bs ++ cs) (omega arith) ∙ held-append bound bs cs)
       | inr le ↦ rw (held-within bound (b ∷ bs) le) refl
     ]
-
--- the same of one more
-pub held-push : (bound : ℕ) (bs : List Extent) (b : Extent) → held_of bound (bs ++ b ∷ []) ≡ held_of bound (held_of bound bs ++ b ∷ [])
-held-push bound bs b = held-append bound bs (b ∷ [])

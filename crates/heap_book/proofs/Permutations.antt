@@ -4,7 +4,8 @@ use Rattle.std.specs.Prelude.{◌&&◌, sum_by, filter}
 use Rattle.std.specs.List.Sorted.{IsPermutation}
 use Rattle.std.proofs.lemmas.Bool.Decides.{nat_tests}
 use Rattle.std.proofs.lemmas.List.Sums.{sum_by-cons}
-use Rattle.std.proofs.lemmas.List.Sorted.{IsPermutation-refl, IsPermutation-sym, IsPermutation-trans, IsPermutation-cons, IsPermutation-middle, sum_by-IsPermutation, sum_by_popped}
+use Rattle.std.proofs.lemmas.List.Sorted.{IsPermutation-refl, IsPermutation-sym, IsPermutation-trans}
+use Rattle.std.proofs.lemmas.List.Sorted.{IsPermutation-cons, IsPermutation-middle, sum_by-IsPermutation, sum_by_popped}
 use Rattle.heap_book.specs.Spans.{Extent}
 
 -- whether two blocks are the same
@@ -42,14 +43,18 @@ taken_out : (b : Extent) (cs : List Extent) → 0 < count b cs → (rest : List 
 taken_out b [] has = absurd (omega arith)
 taken_out b (c ∷ cs) has = go (same b c) refl (taken_out b cs)
   where
-    go : (t : Bool) → same b c ≡ t → (0 < count b cs → (rest : List Extent) × IsPermutation cs (b ∷ rest)) → (rest : List Extent) × IsPermutation (c ∷ cs) (b ∷ rest)
+    go : (t : Bool) → same b c ≡ t → (0 < count b cs → (rest : List Extent) × IsPermutation cs (b ∷ rest))
+        → (rest : List Extent) × IsPermutation (c ∷ cs) (b ∷ rest)
     go true is later = (cs, rw (same-true b c is) (IsPermutation-refl (c ∷ cs)))
     go false is later =
         let here : one b c ≡ 0 = rw is refl in
         let all : count b (c ∷ cs) ≡ one b c + count b cs = sum_by-cons (one b) c cs in
         let found = later (omega arith) in
-        let front = IsPermutation-cons c cs (b ∷ found.0) found.1 in
-        (c ∷ found.0, IsPermutation-trans (c ∷ cs) (c ∷ b ∷ found.0) (b ∷ c ∷ found.0) front (IsPermutation-middle (c ∷ []) b found.0))
+        let front = IsPermutation-cons c cs (b ∷ found.0) found.1 in (
+          c ∷ found.0,
+          IsPermutation-trans (c ∷ cs) (c ∷ b ∷ found.0) (b ∷ c ∷ found.0) front
+              (IsPermutation-middle (c ∷ []) b found.0),
+        )
 
 -- two lists that have each block equally often
 pub IsPermutation-from_counts : (bs cs : List Extent) → ((b : Extent) → count b bs ≡ count b cs) → IsPermutation bs cs
@@ -69,7 +74,9 @@ IsPermutation-from_counts (b ∷ bs) cs equal =
     let right : count d found.0 + one d b ≡ count d cs = sum_by_popped (one d) b cs found.0 found.1 in
     let same_count : count d (b ∷ bs) ≡ count d cs = equal d in
     omega arith in
-    IsPermutation-trans (b ∷ bs) (b ∷ found.0) cs (IsPermutation-cons b bs found.0 (IsPermutation-from_counts bs found.0 rest)) (IsPermutation-sym cs (b ∷ found.0) found.1)
+    IsPermutation-trans (b ∷ bs) (b ∷ found.0) cs
+    (IsPermutation-cons b bs found.0 (IsPermutation-from_counts bs found.0 rest))
+    (IsPermutation-sym cs (b ∷ found.0) found.1)
 
 -- the same block goes from the front of both
 pub IsPermutation-tail : (b : Extent) (bs cs : List Extent) → IsPermutation (b ∷ bs) (b ∷ cs) → IsPermutation bs cs
@@ -80,14 +87,17 @@ IsPermutation-tail b bs cs perm = IsPermutation-from_counts bs cs (λ d.
     omega arith)
 
 -- what passes a test, as a sum over the whole list
-count-filter : (p : Extent → Bool) (d : Extent) (bs : List Extent) → count d (filter p bs) ≡ sum_by (λ b. cond (p b) (one d b) 0) bs
+count-filter : (p : Extent → Bool) (d : Extent) (bs : List Extent)
+    → count d (filter p bs) ≡ sum_by (λ b. cond (p b) (one d b) 0) bs
 count-filter p d [] = refl
 count-filter p d (b ∷ bs) = go (p b) refl (count-filter p d bs)
   where
-    all : sum_by (λ b. cond (p b) (one d b) 0) (b ∷ bs) ≡ cond (p b) (one d b) 0 + sum_by (λ b. cond (p b) (one d b) 0) bs
+    all : sum_by (λ b. cond (p b) (one d b) 0) (b ∷ bs)
+        ≡ cond (p b) (one d b) 0 + sum_by (λ b. cond (p b) (one d b) 0) bs
     all = sum_by-cons (λ b. cond (p b) (one d b) 0) b bs
 
-    go : (t : Bool) → p b ≡ t → count d (filter p bs) ≡ sum_by (λ b. cond (p b) (one d b) 0) bs → count d (cond t (b ∷ filter p bs) (filter p bs)) ≡ sum_by (λ b. cond (p b) (one d b) 0) (b ∷ bs)
+    go : (t : Bool) → p b ≡ t → count d (filter p bs) ≡ sum_by (λ b. cond (p b) (one d b) 0) bs
+        → count d (cond t (b ∷ filter p bs) (filter p bs)) ≡ sum_by (λ b. cond (p b) (one d b) 0) (b ∷ bs)
     go true is rest =
         let here : cond (p b) (one d b) 0 ≡ one d b = rw is refl in
         let front : count d (b ∷ filter p bs) ≡ one d b + count d (filter p bs) = sum_by-cons (one d) b (filter p bs) in
@@ -99,6 +109,8 @@ count-filter p d (b ∷ bs) = go (p b) refl (count-filter p d bs)
         omega arith
 
 -- what passes a test keeps being a permutation
-pub IsPermutation-filter : (p : Extent → Bool) (bs cs : List Extent) → IsPermutation bs cs → IsPermutation (filter p bs) (filter p cs)
+pub IsPermutation-filter : (p : Extent → Bool) (bs cs : List Extent) → IsPermutation bs cs
+    → IsPermutation (filter p bs) (filter p cs)
 IsPermutation-filter p bs cs perm = IsPermutation-from_counts (filter p bs) (filter p cs) (λ d.
-    count-filter p d bs ∙ sym (sum_by-IsPermutation (λ b. cond (p b) (one d b) 0) bs cs perm) ∙ sym (count-filter p d cs))
+    count-filter p d bs ∙ sym (sum_by-IsPermutation (λ b. cond (p b) (one d b) 0) bs cs perm)
+    ∙ sym (count-filter p d cs))

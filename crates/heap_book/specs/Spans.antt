@@ -2,7 +2,7 @@
 --
 -- Redzones, and a quarantine that is a queue with a bound, are those of the paper of 2012. That the
 -- quarantine counts the bytes of spans is this project's choice (profile).
-use Rattle.std.specs.Prelude.{◌≡◌, ℕ, ◌+◌, ◌-◌, ◌*◌, ◌/◌, ◌%◌, ◌^◌, ◌≤◌, List, [], ◌∷◌, sum_by}
+use Rattle.std.specs.Prelude.{ℕ, ◌+◌, ◌-◌, ◌*◌, ◌%◌, ◌≤◌, List, [], ◌∷◌, sum_by}
 use Rattle.std.specs.Prelude.{Bool, not, ◌&&◌, ◌==◌, nat_lt, nat_le, if◌then◌else◌}
 use Rattle.std.specs.List.{list_any}
 use Rattle.asan_units.specs.Units.{address_end, granule_size, IsGranuleStart, round_up, redzone}

@@ -1,5 +1,5 @@
 //! A block and its span.
-ghost use Rattle.std.specs.Prelude.{◌≡◌, ◌+◌, ◌^◌, ◌≤◌, ◌↔◌, IsSome, IfSome};
+ghost use Rattle.std.specs.Prelude.{◌≡◌, ◌+◌, ◌≤◌, ◌↔◌, IsSome, IfSome};
 ghost use Rattle.asan_units.specs.Units.{address_end};
 ghost use Rattle.heap_book.specs.Spans.{IsPlaced, span_from, span_to};
 

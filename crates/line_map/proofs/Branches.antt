@@ -1,9 +1,12 @@
 -- The marks of a branch by those of its nodes.
-use Rattle.std.proofs.Common.{◌≡◌, ◌≢◌, ℕ, zero, suc, ◌+◌, ◌-◌, ◌*◌, ◌/◌, ◌%◌, ◌<◌, ◌≤◌, cond, eqb, true, false, List, [], ◌∷◌, ◌++◌, Option, Some, None, length, get_or, set, length-append, refl, sym, ap, ◌∙◌, arith, inl, inr}
+use Rattle.std.proofs.Common.{◌≡◌, ◌≢◌, ℕ, zero, suc, ◌+◌, ◌-◌, ◌*◌, ◌/◌, ◌%◌, ◌<◌, ◌≤◌, cond, eqb, true, false, List}
+use Rattle.std.proofs.Common.{[], ◌∷◌, ◌++◌, Option, Some, None, length, get_or, set, length-append, refl, sym, ap, ◌∙◌}
+use Rattle.std.proofs.Common.{arith, inl, inr}
 use Rattle.std.specs.Prelude.{map, nat_lt, IsSome}
 use Rattle.std.proofs.lemmas.Bool.{cases_eq, cases_lt}
 use Rattle.std.proofs.lemmas.Bool.Decides.{nat_tests}
-use Rattle.std.proofs.lemmas.List.{get_or-map, get_or-set_same, get_or-set_other, get_or_past, get_or_append_left, get_or_default, map-set, length-set, length-map}
+use Rattle.std.proofs.lemmas.List.{get_or-map, get_or-set_same, get_or-set_other, get_or_past, get_or_append_left}
+use Rattle.std.proofs.lemmas.List.{get_or_default, map-set, length-set, length-map}
 use Rattle.std.proofs.Math.Seq.{get_or-append_seam}
 use Rattle.std.proofs.lemmas.Nat.{div-mul-add, mod-mul-add, div-add-mod'}
 use Rattle.std.proofs.Math.Nat.{mod-lt, mul-le-mul_right}
@@ -48,20 +51,10 @@ reached number width line le =
     let more : number * width ≤ line / width * width = mul-le-mul_right width le in
     omega arith
 
-pub whole : (count width line : ℕ) → 0 < width → count * width ≤ line → count ≤ line / width
-whole count width line positive le =
-    elim (cases_lt (line / width) count) [
-      | inl lt ↦
-          let split : line / width * width + line % width ≡ line = div-add-mod' line width in
-          let rest : line % width < width = mod-lt line positive in
-          let more : (line / width + 1) * width ≤ count * width = mul-le-mul_right width (omega arith) in
-          absurd (omega arith)
-      | inr ge ↦ ge
-    ]
-
 -- ---- the last line with a mark, where the lines above an end have none
 pub raised : (marks : ℕ → Option Mark) (low end : ℕ) (result : Option ℕ) → low ≤ end →
-    ((line : ℕ) → low ≤ line → line < end → marks line ≡ None) → IsLastLine marks low result → IsLastLine marks end result
+    ((line : ℕ) → low ≤ line → line < end → marks line ≡ None) → IsLastLine marks low result
+    → IsLastLine marks end result
 raised marks low end None le none last = λ line lt.
     elim (cases_lt line low) [
       | inl below ↦ last line below
@@ -86,7 +79,8 @@ module _ {S : Type 0} (mark_at : S → ℕ → Option Mark) (width first : ℕ) 
   marks line = nodes_mark mark_at width first nodes line
 
   -- a node that is kept
-  pub kept_mark : (place line : ℕ) (node : S) → place < length nodes → node ≡ get_or nodes place node → line / width ≡ first + place →
+  pub kept_mark : (place line : ℕ) (node : S) → place < length nodes → node ≡ get_or nodes place node
+      → line / width ≡ first + place →
       marks line ≡ mark_at node (line % width)
   kept_mark place line node lt is same =
       let there : S → Option Mark = λ node. mark_at node (line % width) in
@@ -109,7 +103,8 @@ module _ {S : Type 0} (mark_at : S → ℕ → Option Mark) (width first : ℕ) 
       rw no (get_or_past (map there nodes) (line / width - first) None (omega arith))
 
   -- ---- the last line of a node that has a mark, as one of the branch
-  module _ (place : ℕ) (node : S) (positive : 0 < width) (kept : place < length nodes) (is : node ≡ get_or nodes place node) where
+  module _ (place : ℕ) (node : S) (positive : 0 < width) (kept : place < length nodes)
+      (is : node ≡ get_or nodes place node) where
     pub none_below : (end : ℕ) → end ≤ width → IsLastLine (mark_at node) end None →
         (line : ℕ) → (first + place) * width ≤ line → line < (first + place) * width + end → marks line ≡ None
     none_below end most none line low high =
@@ -122,12 +117,15 @@ module _ {S : Type 0} (mark_at : S → ℕ → Option Mark) (width first : ℕ) 
         IsLastLine marks ((first + place) * width + end) (Some ((first + place) * width + found))
     last_below end found most last =
         let below : found < end = last.0 in
-        let here : ((first + place) * width + found) / width ≡ first + place = div-mul-add (first + place) width found (omega arith) in
-        let rest : ((first + place) * width + found) % width ≡ found = mod-mul-add (first + place) width found (omega arith) in (
+        let here : ((first + place) * width + found) / width ≡ first + place =
+        div-mul-add (first + place) width found (omega arith) in
+        let rest : ((first + place) * width + found) % width ≡ found =
+        mod-mul-add (first + place) width found (omega arith) in (
           omega arith,
           some_of (kept_mark place ((first + place) * width + found) node kept is here ∙ ap (mark_at node) rest) last.1,
           λ line past lt.
-              let there : line / width ≡ first + place = within (first + place) width line (omega arith) (omega arith) in
+              let there : line / width ≡ first + place =
+              within (first + place) width line (omega arith) (omega arith) in
               let split : line / width * width + line % width ≡ line = div-add-mod' line width in
               let same : line / width * width ≡ (first + place) * width = ap (λ i. i * width) there in
               kept_mark place line node kept is there ∙ last.2 (line % width) (omega arith) (omega arith),
@@ -144,28 +142,35 @@ module _ {S : Type 0} (mark_at : S → ℕ → Option Mark) (width first : ℕ) 
 
     here_mark : (line : ℕ) → line / width ≡ first + place → now line ≡ mark_at new (line % width)
     here_mark line same =
-        kept_mark mark_at width first (set nodes place new) place line new (rw length-set lt) (sym (get_or-set_same nodes place new new lt)) same
+        kept_mark mark_at width first (set nodes place new) place line new (rw length-set lt)
+        (sym (get_or-set_same nodes place new new lt)) same
 
     other_mark : (line : ℕ) → line / width ≢ first + place → now line ≡ old line
     other_mark line other =
         elim (cases_lt (line / width) first) [
-          | inl below ↦ below_mark mark_at width first (set nodes place new) line below ∙ sym (below_mark mark_at width first nodes line below)
+          | inl below ↦ below_mark mark_at width first (set nodes place new) line below
+              ∙ sym (below_mark mark_at width first nodes line below)
           | inr above ↦
               let there : S → Option Mark = λ node. mark_at node (line % width) in
               let no : nat_lt (line / width) first ≡ false = grind (arith, nat_tests) in
               rw no
-              (ap (λ (marks : List (Option Mark)). get_or marks (line / width - first) None) (map-set there nodes place new)
+              (ap (λ (marks : List (Option Mark)). get_or marks (line / width - first) None)
+              (map-set there nodes place new)
               ∙ get_or-set_other (map there nodes) place (line / width - first) (there new) None (omega arith))
         ]
 
     -- one line of it is given a mark, or loses its own
-    pub node_put : (line : ℕ) (mark : Option Mark) (node : S) → 0 < width → line / width ≡ first + place → node ≡ get_or nodes place node →
-        IsPut width (mark_at node) (mark_at new) (line % width) mark → (index : ℕ) → now index ≡ cond (eqb index line) mark (old index)
+    pub node_put : (line : ℕ) (mark : Option Mark) (node : S) → 0 < width → line / width ≡ first + place
+        → node ≡ get_or nodes place node →
+        IsPut width (mark_at node) (mark_at new) (line % width) mark → (index : ℕ)
+        → now index ≡ cond (eqb index line) mark (old index)
     node_put line mark node positive here is put index =
         elim (cases_eq (index / width) (line / width)) [
           | inl same ↦
-              let was : old index ≡ mark_at node (index % width) = kept_mark mark_at width first nodes place index node lt is (same ∙ here) in
-              here_mark index (same ∙ here) ∙ put (index % width) (mod-lt index positive) ∙ rw (was, same_line width line index same) refl
+              let was : old index ≡ mark_at node (index % width) =
+              kept_mark mark_at width first nodes place index node lt is (same ∙ here) in
+              here_mark index (same ∙ here) ∙ put (index % width) (mod-lt index positive)
+              ∙ rw (was, same_line width line index same) refl
           | inr other ↦ rw (other_line width line index other) (other_mark index (λ same. other (same ∙ sym here)))
         ]
 
@@ -174,7 +179,8 @@ module _ {S : Type 0} (mark_at : S → ℕ → Option Mark) (width first : ℕ) 
         (line : ℕ) → now line ≡ old line
     node_same node is same line =
         elim (cases_eq (line / width) (first + place)) [
-          | inl here ↦ here_mark line here ∙ same (line % width) ∙ sym (kept_mark mark_at width first nodes place line node lt is here)
+          | inl here ↦ here_mark line here ∙ same (line % width)
+              ∙ sym (kept_mark mark_at width first nodes place line node lt is here)
           | inr other ↦ other_mark line other
         ]
 
@@ -184,7 +190,8 @@ module _ {S : Type 0} (mark_at : S → ℕ → Option Mark) (width first : ℕ) 
     pub pushed : (line : ℕ) → nodes_mark mark_at width first (nodes ++ node ∷ []) line ≡ old line
     pushed line =
         elim (cases_lt (line / width) first) [
-          | inl below ↦ below_mark mark_at width first (nodes ++ node ∷ []) line below ∙ sym (below_mark mark_at width first nodes line below)
+          | inl below ↦ below_mark mark_at width first (nodes ++ node ∷ []) line below
+              ∙ sym (below_mark mark_at width first nodes line below)
           | inr above ↦
               let len : length (nodes ++ node ∷ []) ≡ length nodes + 1 = length-append nodes (node ∷ []) in
               elim (cases_lt (line / width) (first + length nodes)) [
@@ -200,9 +207,11 @@ module _ {S : Type 0} (mark_at : S → ℕ → Option Mark) (width first : ℕ) 
                 | inr past ↦
                     elim (cases_eq (line / width) (first + length nodes)) [
                       | inl same ↦
-                          kept_mark mark_at width first (nodes ++ node ∷ []) (length nodes) line node (omega arith) (sym (get_or-append_seam nodes node [] node)) same
+                          kept_mark mark_at width first (nodes ++ node ∷ []) (length nodes) line node (omega arith)
+                          (sym (get_or-append_seam nodes node [] node)) same
                           ∙ none (line % width) ∙ sym (above_mark mark_at width first nodes line past)
-                      | inr other ↦ above_mark mark_at width first (nodes ++ node ∷ []) line (omega arith) ∙ sym (above_mark mark_at width first nodes line past)
+                      | inr other ↦ above_mark mark_at width first (nodes ++ node ∷ []) line (omega arith)
+                          ∙ sym (above_mark mark_at width first nodes line past)
                     ]
               ]
         ]
@@ -214,7 +223,8 @@ module _ {S : Type 0} (mark_at : S → ℕ → Option Mark) (width first : ℕ) 
           | inl below ↦
               (elim (cases_lt (line / width) (first - 1)) [
                 | inl low ↦ below_mark mark_at width (first - 1) (node ∷ nodes) line low
-                | inr high ↦ kept_mark mark_at width (first - 1) (node ∷ nodes) 0 line node (omega arith) refl (omega arith) ∙ none (line % width)
+                | inr high ↦ kept_mark mark_at width (first - 1) (node ∷ nodes) 0 line node (omega arith) refl
+                    (omega arith) ∙ none (line % width)
               ]) ∙ sym (below_mark mark_at width first nodes line below)
           | inr above ↦
               let there : S → Option Mark = λ node. mark_at node (line % width) in

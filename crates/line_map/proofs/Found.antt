@@ -1,5 +1,6 @@
 -- What the entries of all lines have, by the marks of the lines.
-use Rattle.std.proofs.Common.{◌≡◌, ◌≢◌, ℕ, ◌+◌, ◌*◌, ◌/◌, ◌%◌, ◌^◌, ◌<◌, ◌≤◌, true, false, eqb, [], Option, Some, None, Result, Ok, Err, OnOk, OnErr, refl, sym, ap, ◌∙◌, arith, inl, inr}
+use Rattle.std.proofs.Common.{◌≡◌, ◌≢◌, ℕ, ◌+◌, ◌*◌, ◌/◌, ◌%◌, ◌^◌, ◌<◌, ◌≤◌, true, false, eqb, [], Option, Some, None}
+use Rattle.std.proofs.Common.{Result, Ok, Err, OnOk, OnErr, refl, sym, ap, ◌∙◌, arith, inl, inr}
 use Rattle.std.specs.Prelude.{IsSome}
 use Rattle.std.specs.Map.{remove_entry, set_value}
 use Rattle.std.specs.BTreeMap.{is_at, insert_entry}
@@ -11,7 +12,8 @@ use Rattle.line_map.specs.declared.mark.Mark.{Mark}
 use Rattle.line_map.specs.Nodes.{IsPut, IsLastBelow}
 use Rattle.line_map.specs.Maps.{slot_at, IsLastBefore}
 use Rattle.line_map.specs.Entries.{entries_of, AreInLine}
-use Rattle.line_map.proofs.Entries.{slot_in, found-past, found-in, entries-same, entries-insert, entries-set, entries-remove, entries-none}
+use Rattle.line_map.proofs.Entries.{slot_in, found-past, found-in, entries-same, entries-insert, entries-set}
+use Rattle.line_map.proofs.Entries.{entries-remove, entries-none}
 
 -- what holds whether a call succeeded or not
 pub either : {T E A : Type 0} (result : Result T E) → OnOk result A → OnErr result A → A
@@ -29,34 +31,40 @@ of-same marks new same = entries-same marks new (2 ^ 41) 0 (λ line low high. sa
 module _ (marks : ℕ → Option Mark) (within : AreInLine marks) where
   pub slot-in : (at : ℕ) → at / 64 < 2 ^ 41 → slot_at (entries_of marks) at ≡ slot_in (marks (at / 64)) (at % 64)
   unfolding entries_of
-  slot-in at lt = found-in marks (2 ^ 41) 0 at (λ line mark lt is. within line mark (omega arith) is) (omega arith) (omega arith)
+  slot-in at lt = found-in marks (2 ^ 41) 0 at (λ line mark lt is. within line mark (omega arith) is) (omega arith)
+      (omega arith)
 
   pub slot-past : (at : ℕ) → 2 ^ 41 ≤ at / 64 → slot_at (entries_of marks) at ≡ None
   unfolding entries_of
-  slot-past at past = found-past marks (2 ^ 41) 0 at (λ line mark lt is. within line mark (omega arith) is) (omega arith)
+  slot-past at past = found-past marks (2 ^ 41) 0 at (λ line mark lt is. within line mark (omega arith) is)
+      (omega arith)
 
   pub no-mark : (at : ℕ) → at / 64 < 2 ^ 41 → marks (at / 64) ≡ None → slot_at (entries_of marks) at ≡ None
   no-mark at lt none = slot-in at lt ∙ ap (λ mark. slot_in mark (at % 64)) none
 
-  pub other-place : (at : ℕ) (mark : Mark) → at / 64 < 2 ^ 41 → marks (at / 64) ≡ Some mark → mark.offset ≢ at % 64 → slot_at (entries_of marks) at ≡ None
+  pub other-place : (at : ℕ) (mark : Mark) → at / 64 < 2 ^ 41 → marks (at / 64) ≡ Some mark → mark.offset ≢ at % 64
+      → slot_at (entries_of marks) at ≡ None
   other-place at mark lt some other =
       let no : eqb mark.offset (at % 64) ≡ false = grind (arith, nat_tests) in
       slot-in at lt ∙ ap (λ mark. slot_in mark (at % 64)) some ∙ rw no refl
 
-  pub this-place : (at : ℕ) (mark : Mark) → at / 64 < 2 ^ 41 → marks (at / 64) ≡ Some mark → mark.offset ≡ at % 64 → slot_at (entries_of marks) at ≡ Some mark.slot
+  pub this-place : (at : ℕ) (mark : Mark) → at / 64 < 2 ^ 41 → marks (at / 64) ≡ Some mark → mark.offset ≡ at % 64
+      → slot_at (entries_of marks) at ≡ Some mark.slot
   this-place at mark lt some same =
       let yes : eqb mark.offset (at % 64) ≡ true = grind (arith, nat_tests) in
       slot-in at lt ∙ ap (λ mark. slot_in mark (at % 64)) some ∙ rw yes refl
 
   -- where there is a slot, its line has the mark
-  pub marked : (at : ℕ) → IsSome (slot_at (entries_of marks) at) → (at / 64 < 2 ^ 41) × ((mark : Mark) × (marks (at / 64) ≡ Some mark) × (mark.offset ≡ at % 64))
+  pub marked : (at : ℕ) → IsSome (slot_at (entries_of marks) at)
+      → (at / 64 < 2 ^ 41) × ((mark : Mark) × (marks (at / 64) ≡ Some mark) × (mark.offset ≡ at % 64))
   marked at there =
       elim (cases_lt (at / 64) (2 ^ 41)) [
         | inl lt ↦ (lt, go lt (marks (at / 64)) refl)
         | inr past ↦ absurd (let none = slot-past at past in cc)
       ]
     where
-      go : at / 64 < 2 ^ 41 → (had : Option Mark) → marks (at / 64) ≡ had → (mark : Mark) × (marks (at / 64) ≡ Some mark) × (mark.offset ≡ at % 64)
+      go : at / 64 < 2 ^ 41 → (had : Option Mark) → marks (at / 64) ≡ had
+          → (mark : Mark) × (marks (at / 64) ≡ Some mark) × (mark.offset ≡ at % 64)
       go lt None is = absurd (let none = no-mark at lt is in cc)
       go lt (Some mark) is =
           elim (cases_eq mark.offset (at % 64)) [
@@ -65,7 +73,8 @@ module _ (marks : ℕ → Option Mark) (within : AreInLine marks) where
           ]
 
   -- where a line has no slot, it has no mark
-  pub unmarked : (at : ℕ) → at / 64 < 2 ^ 41 → ((other : ℕ) → other / 64 ≡ at / 64 → slot_at (entries_of marks) other ≡ None) → marks (at / 64) ≡ None
+  pub unmarked : (at : ℕ) → at / 64 < 2 ^ 41
+      → ((other : ℕ) → other / 64 ≡ at / 64 → slot_at (entries_of marks) other ≡ None) → marks (at / 64) ≡ None
   unmarked at lt alone = go (marks (at / 64)) refl
     where
       go : (had : Option Mark) → marks (at / 64) ≡ had → marks (at / 64) ≡ None
@@ -76,12 +85,15 @@ module _ (marks : ℕ → Option Mark) (within : AreInLine marks) where
           let line : other / 64 ≡ at / 64 = omega arith in
           let place : mark.offset ≡ other % 64 = omega arith in
           let none : slot_at (entries_of marks) other ≡ None = alone other line in
-          let some : slot_at (entries_of marks) other ≡ Some mark.slot = this-place other mark (omega arith) (ap marks line ∙ is) place in
+          let some : slot_at (entries_of marks) other ≡ Some mark.slot =
+          this-place other mark (omega arith) (ap marks line ∙ is) place in
           absurd cc
 
   -- ---- the last one before an address, where there is none from a line on
-  module _ (low end : ℕ) (most : low ≤ 2 ^ 41) (rest : (at : ℕ) → at < end → low ≤ at / 64 → at / 64 < 2 ^ 41 → slot_at (entries_of marks) at ≡ None) where
-    none-from : (at : ℕ) → at < end → (at / 64 < low → slot_at (entries_of marks) at ≡ None) → slot_at (entries_of marks) at ≡ None
+  module _ (low end : ℕ) (most : low ≤ 2 ^ 41) (rest : (at : ℕ) → at < end → low ≤ at / 64 → at / 64 < 2 ^ 41
+      → slot_at (entries_of marks) at ≡ None) where
+    none-from : (at : ℕ) → at < end → (at / 64 < low → slot_at (entries_of marks) at ≡ None)
+        → slot_at (entries_of marks) at ≡ None
     none-from at lt below =
         elim (cases_lt (at / 64) low) [
           | inl less ↦ below less
@@ -94,7 +106,8 @@ module _ (marks : ℕ → Option Mark) (within : AreInLine marks) where
     pub last-none : IsLastBelow marks low None → IsLastBefore (entries_of marks) end None
     last-none none = λ at lt. none-from at lt (λ less. no-mark at (omega arith) (none (at / 64) less))
 
-    pub last-some : (line : ℕ) (mark : Mark) → IsLastBelow marks low (Some (line, mark)) → line * 64 + mark.offset < end →
+    pub last-some : (line : ℕ) (mark : Mark) → IsLastBelow marks low (Some (line, mark)) → line * 64 + mark.offset < end
+        →
         IsLastBefore (entries_of marks) end (Some (line * 64 + mark.offset, mark.slot))
     last-some line mark last lt =
         let below : line < low = last.0 in
@@ -109,7 +122,8 @@ module _ (marks : ℕ → Option Mark) (within : AreInLine marks) where
                 | inl past ↦
                     let none : slot_at (entries_of marks) at ≡ None = none-from at less (λ under.
                     elim (cases_eq (at / 64) line) [
-                      | inl same ↦ let elsewhere : mark.offset ≢ at % 64 = omega arith in other-place at mark (omega arith) (ap marks same ∙ last.1) elsewhere
+                      | inl same ↦ let elsewhere : mark.offset ≢ at % 64 = omega arith in
+                          other-place at mark (omega arith) (ap marks same ∙ last.1) elsewhere
                       | inr other ↦ no-mark at (omega arith) (last.2 (at / 64) (omega arith) under)
                     ]) in
                     absurd cc
@@ -120,7 +134,8 @@ module _ (marks : ℕ → Option Mark) (within : AreInLine marks) where
 -- ---- one mark that is another now
 module _ (marks new : ℕ → Option Mark) (at : ℕ) where
   -- it lies in its line
-  pub in-line-put : (mark : Mark) → mark.offset < 64 → AreInLine marks → IsPut (2 ^ 41) marks new (at / 64) (Some mark) → AreInLine new
+  pub in-line-put : (mark : Mark) → mark.offset < 64 → AreInLine marks → IsPut (2 ^ 41) marks new (at / 64) (Some mark)
+      → AreInLine new
   in-line-put mark low within put line other lt is =
       elim (cases_eq line (at / 64)) [
         | inl same ↦
@@ -147,20 +162,28 @@ module _ (marks new : ℕ → Option Mark) (at : ℕ) where
             within line other lt (sym now ∙ is)
       ]
 
-  pub of-insert : (slot : Slot) → AreInLine marks → IsPut (2 ^ 41) marks new (at / 64) (Some (record { offset = at % 64; slot = slot })) → marks (at / 64) ≡ None → at / 64 < 2 ^ 41 →
+  pub of-insert : (slot : Slot) → AreInLine marks
+      → IsPut (2 ^ 41) marks new (at / 64) (Some (record { offset = at % 64; slot = slot })) → marks (at / 64) ≡ None
+      → at / 64 < 2 ^ 41 →
       entries_of new ≡ insert_entry nat_cmp (entries_of marks) at slot
   unfolding entries_of
   of-insert slot within put none lt =
-      entries-insert marks new at slot (2 ^ 41) 0 (λ line mark lt is. within line mark (omega arith) is) (λ line lt. put line (omega arith)) none (omega arith) (omega arith)
+      entries-insert marks new at slot (2 ^ 41) 0 (λ line mark lt is. within line mark (omega arith) is)
+      (λ line lt. put line (omega arith)) none (omega arith) (omega arith)
 
-  pub of-set : (slot : Slot) (old : Mark) → AreInLine marks → IsPut (2 ^ 41) marks new (at / 64) (Some (record { offset = at % 64; slot = slot })) → marks (at / 64) ≡ Some old → old.offset ≡ at % 64 → at / 64 < 2 ^ 41 →
+  pub of-set : (slot : Slot) (old : Mark) → AreInLine marks
+      → IsPut (2 ^ 41) marks new (at / 64) (Some (record { offset = at % 64; slot = slot }))
+      → marks (at / 64) ≡ Some old → old.offset ≡ at % 64 → at / 64 < 2 ^ 41 →
       entries_of new ≡ set_value (is_at (nat_cmp at)) (entries_of marks) slot
   unfolding entries_of
   of-set slot old within put some place lt =
-      entries-set marks new at slot old some place (2 ^ 41) 0 (λ line mark lt is. within line mark (omega arith) is) (λ line lt. put line (omega arith)) (omega arith) (omega arith)
+      entries-set marks new at slot old some place (2 ^ 41) 0 (λ line mark lt is. within line mark (omega arith) is)
+      (λ line lt. put line (omega arith)) (omega arith) (omega arith)
 
-  pub of-remove : (old : Mark) → AreInLine marks → IsPut (2 ^ 41) marks new (at / 64) None → marks (at / 64) ≡ Some old → old.offset ≡ at % 64 → at / 64 < 2 ^ 41 →
+  pub of-remove : (old : Mark) → AreInLine marks → IsPut (2 ^ 41) marks new (at / 64) None → marks (at / 64) ≡ Some old
+      → old.offset ≡ at % 64 → at / 64 < 2 ^ 41 →
       entries_of new ≡ remove_entry (is_at (nat_cmp at)) (entries_of marks)
   unfolding entries_of
   of-remove old within put some place lt =
-      entries-remove marks new at old some place (2 ^ 41) 0 (λ line mark lt is. within line mark (omega arith) is) (λ line lt. put line (omega arith)) (omega arith) (omega arith)
+      entries-remove marks new at old some place (2 ^ 41) 0 (λ line mark lt is. within line mark (omega arith) is)
+      (λ line lt. put line (omega arith)) (omega arith) (omega arith)

@@ -1,5 +1,7 @@
 -- The marks of a leaf: of one line more that has an entry, of one less, and the last of them.
-use Rattle.std.proofs.Common.{◌≡◌, ◌≢◌, ℕ, zero, suc, ◌+◌, ◌-◌, ◌*◌, ◌/◌, ◌%◌, ◌^◌, ◌<◌, ◌≤◌, min, max, cond, eqb, ◌⊎◌, Bool, true, false, not, Option, Some, None, List, [], ◌∷◌, ◌++◌, length, get_or, set, refl, sym, ap, ◌∙◌, arith, inl, inr}
+use Rattle.std.proofs.Common.{◌≡◌, ◌≢◌, ℕ, zero, suc, ◌+◌, ◌-◌, ◌*◌, ◌/◌, ◌%◌, ◌^◌, ◌<◌, ◌≤◌, cond, eqb, ◌⊎◌, Bool}
+use Rattle.std.proofs.Common.{true, false, not, Option, Some, None, List, [], ◌∷◌, length, get_or, set, refl, sym, ap}
+use Rattle.std.proofs.Common.{◌∙◌, arith, inl, inr}
 use Rattle.std.specs.Prelude.{IsSome, option_map, slice_get, bit_and, bit_or, bit_xor, count_ones}
 use Rattle.std.specs.List.{insert, remove}
 use Rattle.std.specs.Int.{bit_at}
@@ -8,7 +10,8 @@ use Rattle.std.proofs.Math.Nat.{mod-lt, pow-suc}
 use Rattle.std.proofs.lemmas.Bool.{false≢true, cases_eq, cases_lt}
 use Rattle.std.proofs.lemmas.Bool.Decides.{nat_tests}
 use Rattle.std.proofs.lemmas.Nat.{mod-pow-add, ones_cat, ones-le, shr_split, shr-shr, pow_pos, and_mask, zero_from_ones}
-use Rattle.std.proofs.lemmas.Nat.Bits.{bit_at-lt, bit_at_or, bit_at_xor, bit_at-pow_same, bit_at-pow_other, bit_at-zero, bit_at_cat_low, bit_at_cat_high, bit_at_above, same_from_bits, and_pow}
+use Rattle.std.proofs.lemmas.Nat.Bits.{bit_at-lt, bit_at_or, bit_at_xor, bit_at-pow_same, bit_at-pow_other, bit_at-zero}
+use Rattle.std.proofs.lemmas.Nat.Bits.{bit_at_cat_low, bit_at_cat_high, bit_at_above, same_from_bits, and_pow}
 use Rattle.line_map.specs.declared.mark.Mark.{Mark}
 use Rattle.line_map.specs.declared.entry.Entry.{Entry}
 use Rattle.line_map.specs.Marks.{mark_of}
@@ -21,7 +24,8 @@ ones_zero = omega (arith, ones-le 0 0 (omega arith))
 
 ones_one : (b : ℕ) → b < 2 → count_ones b ≡ b
 ones_one zero lt = ones_zero
-ones_one (suc zero) lt = let le = ones-le 1 1 (omega arith) in let some : count_ones 1 ≢ 0 = λ none. (let z = zero_from_ones 1 none in absurd (omega arith)) in omega arith
+ones_one (suc zero) lt = let le = ones-le 1 1 (omega arith) in
+    let some : count_ones 1 ≢ 0 = λ none. (let z = zero_from_ones 1 none in absurd (omega arith)) in omega arith
 ones_one (suc (suc b)) lt = absurd (omega arith)
 
 pub below_first : (lines : ℕ) → entries_below lines 0 ≡ 0
@@ -31,15 +35,18 @@ pub below_next : (lines line : ℕ) → entries_below lines (line + 1) ≡ entri
 below_next lines line =
     let b = bit_at lines line in
     let turned : line + 1 ≡ 1 + line = omega arith in
-    let parts : lines % 2 ^ (line + 1) ≡ b * 2 ^ line + lines % 2 ^ line = ap (λ k. lines % 2 ^ k) turned ∙ mod-pow-add lines 1 line in
-    let cat : count_ones (b * 2 ^ line + lines % 2 ^ line) ≡ count_ones b + count_ones (lines % 2 ^ line) = ones_cat line b (lines % 2 ^ line) (mod-lt lines (pow_pos line)) in
+    let parts : lines % 2 ^ (line + 1) ≡ b * 2 ^ line + lines % 2 ^ line = ap (λ k. lines % 2 ^ k) turned
+    ∙ mod-pow-add lines 1 line in
+    let cat : count_ones (b * 2 ^ line + lines % 2 ^ line) ≡ count_ones b + count_ones (lines % 2 ^ line) =
+    ones_cat line b (lines % 2 ^ line) (mod-lt lines (pow_pos line)) in
     let one : count_ones b ≡ b = ones_one b (bit_at-lt lines line) in
     let all : entries_below lines (line + 1) ≡ count_ones (b * 2 ^ line + lines % 2 ^ line) = ap count_ones parts in
     omega arith
 
 -- the entries in all, and those below a line
 pub in_all : (lines line : ℕ) → count_ones lines ≡ count_ones (lines / 2 ^ line) + entries_below lines line
-in_all lines line = ap count_ones (sym (shr_split lines line)) ∙ ones_cat line (lines / 2 ^ line) (lines % 2 ^ line) (mod-lt lines (pow_pos line))
+in_all lines line = ap count_ones (sym (shr_split lines line))
+    ∙ ones_cat line (lines / 2 ^ line) (lines % 2 ^ line) (mod-lt lines (pow_pos line))
 
 module _ (lines low : ℕ) where
   up_to : (count : ℕ) → entries_below lines low ≤ entries_below lines (low + count)
@@ -56,7 +63,8 @@ below_le lines low high le =
     rw same (up_to lines low (high - low))
 
 -- a line with an entry counts
-pub below_lt : (lines low high : ℕ) → bit_at lines low ≡ 1 → low < high → entries_below lines low < entries_below lines high
+pub below_lt : (lines low high : ℕ) → bit_at lines low ≡ 1 → low < high
+    → entries_below lines low < entries_below lines high
 below_lt lines low high has lt =
     let step = below_next lines low in
     let le = below_le lines (low + 1) high (omega arith) in
@@ -93,7 +101,8 @@ has_test lines line = rw (and_pow lines line) (go (bit_at lines line) (bit_at-lt
   where
     go : (b : ℕ) → b < 2 → not (eqb (b * 2 ^ line) 0) ≡ eqb b 1
     go zero lt = let none : 0 * 2 ^ line ≡ 0 = omega arith in rw none refl
-    go (suc zero) lt = let some : eqb (1 * 2 ^ line) 0 ≡ false = not_same (1 * 2 ^ line) 0 (λ none. (let pos = pow_pos line in absurd (omega arith))) in rw some refl
+    go (suc zero) lt = let some : eqb (1 * 2 ^ line) 0 ≡ false =
+        not_same (1 * 2 ^ line) 0 (λ none. (let pos = pow_pos line in absurd (omega arith))) in rw some refl
     go (suc (suc b)) lt = absurd (omega arith)
 
 -- ---- an element of a list where one is put, taken out or changed
@@ -109,13 +118,15 @@ module _ {X : Type 0} where
   put_at [] (suc i) x le = absurd (omega arith)
   put_at (y ∷ xs) (suc i) x le = put_at xs i x (omega arith)
 
-  put_past : (xs : List X) (i : ℕ) (x : X) (k : ℕ) → k < i → i ≤ length xs → slice_get (insert xs i x) k ≡ slice_get xs k
+  put_past : (xs : List X) (i : ℕ) (x : X) (k : ℕ) → k < i → i ≤ length xs
+      → slice_get (insert xs i x) k ≡ slice_get xs k
   put_past xs zero x k lt le = absurd (omega arith)
   put_past [] (suc i) x k lt le = absurd (omega arith)
   put_past (y ∷ xs) (suc i) x zero lt le = refl
   put_past (y ∷ xs) (suc i) x (suc k) lt le = put_past xs i x k (omega arith) (omega arith)
 
-  put_before : (xs : List X) (i : ℕ) (x : X) (k : ℕ) → i ≤ k → i ≤ length xs → slice_get (insert xs i x) (suc k) ≡ slice_get xs k
+  put_before : (xs : List X) (i : ℕ) (x : X) (k : ℕ) → i ≤ k → i ≤ length xs
+      → slice_get (insert xs i x) (suc k) ≡ slice_get xs k
   put_before xs zero x k low le = refl
   put_before [] (suc i) x k low le = absurd (omega arith)
   put_before (y ∷ xs) (suc i) x zero low le = absurd (omega arith)
@@ -154,19 +165,22 @@ mark_at lines es line = cond (has_entry lines line) (option_map mark_of (slice_g
 pub without : (lines : ℕ) (es : List Entry) (line : ℕ) → bit_at lines line ≡ 0 → mark_at lines es line ≡ None
 without lines es line none = rw none refl
 
-pub with_one : (lines : ℕ) (es : List Entry) (line : ℕ) → bit_at lines line ≡ 1 → mark_at lines es line ≡ option_map mark_of (slice_get es (entries_below lines line))
+pub with_one : (lines : ℕ) (es : List Entry) (line : ℕ) → bit_at lines line ≡ 1
+    → mark_at lines es line ≡ option_map mark_of (slice_get es (entries_below lines line))
 with_one lines es line one = rw one refl
 
 -- where a line has a mark, it has an entry
 pub one_there : (lines : ℕ) (es : List Entry) (line : ℕ) → IsSome (mark_at lines es line) → bit_at lines line ≡ 1
 one_there lines es line there = go (has_entry lines line) refl there
   where
-    go : (has : Bool) → has_entry lines line ≡ has → IsSome (cond has (option_map mark_of (slice_get es (entries_below lines line))) None) → bit_at lines line ≡ 1
+    go : (has : Bool) → has_entry lines line ≡ has
+        → IsSome (cond has (option_map mark_of (slice_get es (entries_below lines line))) None) → bit_at lines line ≡ 1
     go true has there = has_one lines line has
     go false has there = absurd (false≢true there)
 
 -- a line without an entry stays without
-pub still_none : (lines : ℕ) (es : List Entry) (line : ℕ) → bit_at lines line ≡ 0 → (index : ℕ) → mark_at lines es index ≡ cond (eqb index line) None (mark_at lines es index)
+pub still_none : (lines : ℕ) (es : List Entry) (line : ℕ) → bit_at lines line ≡ 0 → (index : ℕ)
+    → mark_at lines es index ≡ cond (eqb index line) None (mark_at lines es index)
 still_none lines es line none index =
     elim (cases_eq index line) [
       | inl same ↦ rw (same, itself line) (without lines es line none)
@@ -174,14 +188,17 @@ still_none lines es line none index =
     ]
 
 -- the mark is that of the entry in its place
-pub marked : (lines : ℕ) (es : List Entry) (line : ℕ) (d : Entry) → count_ones lines ≡ length es → bit_at lines line ≡ 1 → mark_at lines es line ≡ Some (mark_of (get_or es (entries_below lines line) d))
+pub marked : (lines : ℕ) (es : List Entry) (line : ℕ) (d : Entry) → count_ones lines ≡ length es → bit_at lines line ≡ 1
+    → mark_at lines es line ≡ Some (mark_of (get_or es (entries_below lines line) d))
 marked lines es line d counted one =
     let lt = place_lt lines line one in
     with_one lines es line one ∙ ap (option_map mark_of) (some_at es (entries_below lines line) d (omega arith))
 
 -- a line with an entry has a mark
-pub mark_there : (lines : ℕ) (es : List Entry) (line : ℕ) → count_ones lines ≡ length es → bit_at lines line ≡ 1 → IsSome (mark_at lines es line)
-mark_there lines es line counted one = let lt = place_lt lines line one in rw (with_one lines es line one) (some_in es (entries_below lines line) (omega arith))
+pub mark_there : (lines : ℕ) (es : List Entry) (line : ℕ) → count_ones lines ≡ length es → bit_at lines line ≡ 1
+    → IsSome (mark_at lines es line)
+mark_there lines es line counted one = let lt = place_lt lines line one in
+    rw (with_one lines es line one) (some_in es (entries_below lines line) (omega arith))
   where
     some_in : (es : List Entry) (place : ℕ) → place < length es → IsSome (option_map mark_of (slice_get es place))
     some_in [] place lt = absurd (omega arith)
@@ -189,13 +206,16 @@ mark_there lines es line counted one = let lt = place_lt lines line one in rw (w
     some_in (e ∷ es) (suc place) lt = some_in es place (omega arith)
 
 -- another entry in the place of a line's
-pub replaced : (lines : ℕ) (es : List Entry) (line : ℕ) (e : Entry) (mark : Mark) → mark_of e ≡ mark → count_ones lines ≡ length es → bit_at lines line ≡ 1 → (index : ℕ) →
-    mark_at lines (set es (entries_below lines line) e) index ≡ cond (eqb index line) (Some mark) (mark_at lines es index)
+pub replaced : (lines : ℕ) (es : List Entry) (line : ℕ) (e : Entry) (mark : Mark) → mark_of e ≡ mark
+    → count_ones lines ≡ length es → bit_at lines line ≡ 1 → (index : ℕ) →
+    mark_at lines (set es (entries_below lines line) e) index
+    ≡ cond (eqb index line) (Some mark) (mark_at lines es index)
 replaced lines es line e mark is counted one index =
     elim (cases_eq index line) [
       | inl same ↦
           let lt = place_lt lines line one in
-          rw (same, itself line) (with_one lines (set es (entries_below lines line) e) line one ∙ ap (option_map mark_of) (changed es (entries_below lines line) e (omega arith)) ∙ ap Some is)
+          rw (same, itself line) (with_one lines (set es (entries_below lines line) e) line one
+          ∙ ap (option_map mark_of) (changed es (entries_below lines line) e (omega arith)) ∙ ap Some is)
       | inr other ↦ rw (not_same index line other) (go other (bit_at lines index) refl (bit_at-lt lines index))
     ]
   where
@@ -206,24 +226,29 @@ replaced lines es line e mark is counted one index =
           | inr ge ↦ let less = below_lt lines line index one (omega arith) in λ same. absurd (omega arith)
         ]
 
-    go : index ≢ line → (b : ℕ) → bit_at lines index ≡ b → b < 2 → mark_at lines (set es (entries_below lines line) e) index ≡ mark_at lines es index
-    go other zero none lt = without lines (set es (entries_below lines line) e) index none ∙ sym (without lines es index none)
+    go : index ≢ line → (b : ℕ) → bit_at lines index ≡ b → b < 2
+        → mark_at lines (set es (entries_below lines line) e) index ≡ mark_at lines es index
+    go other zero none lt = without lines (set es (entries_below lines line) e) index none
+        ∙ sym (without lines es index none)
     go other (suc zero) used lt =
         with_one lines (set es (entries_below lines line) e) index used
-        ∙ ap (option_map mark_of) (unchanged es (entries_below lines line) e (entries_below lines index) (apart other used))
+        ∙ ap (option_map mark_of) (unchanged es (entries_below lines line) e (entries_below lines index)
+        (apart other used))
         ∙ sym (with_one lines es index used)
     go other (suc (suc b)) none lt = absurd (omega arith)
 
 -- of two sets of lines, the one has one line more than the other
 abbrev pub OneMore : ℕ → ℕ → ℕ → Type 0
-OneMore few many line = (bit_at few line ≡ 0) × (bit_at many line ≡ 1) × ((other : ℕ) → other ≢ line → bit_at many other ≡ bit_at few other)
+OneMore few many line = (bit_at few line ≡ 0) × (bit_at many line ≡ 1)
+    × ((other : ℕ) → other ≢ line → bit_at many other ≡ bit_at few other)
 
 pub one_more : (lines line : ℕ) → has_entry lines line ≡ false → OneMore lines (bit_or lines (2 ^ line)) line
 one_more lines line free =
     let none = has_none lines line free in (
       none,
       (let here = bit_at_or lines (2 ^ line) line in let own = bit_at-pow_same line in omega arith),
-      λ other apart. (let there = bit_at_or lines (2 ^ line) other in let own = bit_at-pow_other line other apart in omega arith),
+      λ other apart. (let there = bit_at_or lines (2 ^ line) other in let own = bit_at-pow_other line other apart in
+          omega arith),
     )
 
 pub one_less : (lines line : ℕ) → has_entry lines line ≡ true → OneMore (bit_xor lines (2 ^ line)) lines line
@@ -231,7 +256,8 @@ one_less lines line used =
     let one = has_one lines line used in (
       (let here = bit_at_xor lines (2 ^ line) line in let own = bit_at-pow_same line in omega arith),
       one,
-      λ other apart. (let there = bit_at_xor lines (2 ^ line) other in let own = bit_at-pow_other line other apart in let few = bit_at-lt lines other in omega arith),
+      λ other apart. (let there = bit_at_xor lines (2 ^ line) other in let own = bit_at-pow_other line other apart in
+          let few = bit_at-lt lines other in omega arith),
     )
 
 module _ (few many line : ℕ) (more : OneMore few many line) where
@@ -268,7 +294,9 @@ module _ (few many line : ℕ) (more : OneMore few many line) where
   one_more_in_all =
       let all = in_all few (line + 1) in
       let all' = in_all many (line + 1) in
-      let same : many / 2 ^ (line + 1) ≡ few / 2 ^ (line + 1) = same_from_bits (many / 2 ^ (line + 1)) (few / 2 ^ (line + 1)) (λ i. bit_past many i ∙ more.2 (line + 1 + i) (λ same. absurd (omega arith)) ∙ sym (bit_past few i)) in
+      let same : many / 2 ^ (line + 1) ≡ few / 2 ^ (line + 1) =
+      same_from_bits (many / 2 ^ (line + 1)) (few / 2 ^ (line + 1)) (λ i. bit_past many i
+      ∙ more.2 (line + 1 + i) (λ same. absurd (omega arith)) ∙ sym (bit_past few i)) in
       let past : count_ones (many / 2 ^ (line + 1)) ≡ count_ones (few / 2 ^ (line + 1)) = ap count_ones same in
       let later = later_place (line + 1) (omega arith) in
       omega arith
@@ -277,15 +305,19 @@ module _ (few many line : ℕ) (more : OneMore few many line) where
       bit_past lines i = ap (λ n. n % 2) (shr-shr lines (line + 1) i)
 
   -- an entry more, in its place
-  pub added : (es : List Entry) (e : Entry) (mark : Mark) → mark_of e ≡ mark → count_ones few ≡ length es → (index : ℕ) →
-      mark_at many (insert es (entries_below few line) e) index ≡ cond (eqb index line) (Some mark) (mark_at few es index)
+  pub added : (es : List Entry) (e : Entry) (mark : Mark) → mark_of e ≡ mark → count_ones few ≡ length es → (index : ℕ)
+      →
+      mark_at many (insert es (entries_below few line) e) index
+      ≡ cond (eqb index line) (Some mark) (mark_at few es index)
   added es e mark is counted index =
       elim (cases_eq index line) [
         | inl same ↦ rw (same, itself line)
             (with_one many (insert es (entries_below few line) e) line more.1
-            ∙ ap (λ place. option_map mark_of (slice_get (insert es (entries_below few line) e) place)) (same_place line (omega arith))
+            ∙ ap (λ place. option_map mark_of (slice_get (insert es (entries_below few line) e) place))
+            (same_place line (omega arith))
             ∙ ap (option_map mark_of) (put_at es (entries_below few line) e within) ∙ ap Some is)
-        | inr other ↦ rw (not_same index line other) (go (more.2 index other) (bit_at few index) refl (bit_at-lt few index) (cases_lt index line) other)
+        | inr other ↦ rw (not_same index line other)
+            (go (more.2 index other) (bit_at few index) refl (bit_at-lt few index) (cases_lt index line) other)
       ]
     where
       within : entries_below few line ≤ length es
@@ -294,16 +326,22 @@ module _ (few many line : ℕ) (more : OneMore few many line) where
       at : ℕ → Option Mark
       at place = option_map mark_of (slice_get (insert es (entries_below few line) e) place)
 
-      go : bit_at many index ≡ bit_at few index → (b : ℕ) → bit_at few index ≡ b → b < 2 → (index < line) ⊎ (line ≤ index) → index ≢ line →
+      go : bit_at many index ≡ bit_at few index → (b : ℕ) → bit_at few index ≡ b → b < 2
+          → (index < line) ⊎ (line ≤ index) → index ≢ line →
           mark_at many (insert es (entries_below few line) e) index ≡ mark_at few es index
-      go same zero none lt side other = without many (insert es (entries_below few line) e) index (same ∙ none) ∙ sym (without few es index none)
+      go same zero none lt side other = without many (insert es (entries_below few line) e) index (same ∙ none)
+          ∙ sym (without few es index none)
       go same (suc zero) used lt (inl low) other =
-          with_one many (insert es (entries_below few line) e) index (same ∙ used) ∙ ap at (same_place index (omega arith))
-          ∙ ap (option_map mark_of) (put_past es (entries_below few line) e (entries_below few index) (below_lt few index line used low) within)
+          with_one many (insert es (entries_below few line) e) index (same ∙ used)
+          ∙ ap at (same_place index (omega arith))
+          ∙ ap (option_map mark_of) (put_past es (entries_below few line) e (entries_below few index)
+          (below_lt few index line used low) within)
           ∙ sym (with_one few es index used)
       go same (suc zero) used lt (inr high) other =
-          with_one many (insert es (entries_below few line) e) index (same ∙ used) ∙ ap at (later_place index (omega arith))
-          ∙ ap (option_map mark_of) (put_before es (entries_below few line) e (entries_below few index) (below_le few line index high) within)
+          with_one many (insert es (entries_below few line) e) index (same ∙ used)
+          ∙ ap at (later_place index (omega arith))
+          ∙ ap (option_map mark_of) (put_before es (entries_below few line) e (entries_below few index)
+          (below_le few line index high) within)
           ∙ sym (with_one few es index used)
       go same (suc (suc b)) none lt side other = absurd (omega arith)
 
@@ -313,7 +351,8 @@ module _ (few many line : ℕ) (more : OneMore few many line) where
   left_out es counted index =
       elim (cases_eq index line) [
         | inl same ↦ rw (same, itself line) (without few (remove es (entries_below many line)) line more.0)
-        | inr other ↦ rw (not_same index line other) (go (more.2 index other) (bit_at few index) refl (bit_at-lt few index) (cases_lt index line) other)
+        | inr other ↦ rw (not_same index line other)
+            (go (more.2 index other) (bit_at few index) refl (bit_at-lt few index) (cases_lt index line) other)
       ]
     where
       within : entries_below many line < length es
@@ -322,20 +361,24 @@ module _ (few many line : ℕ) (more : OneMore few many line) where
       at : ℕ → Option Mark
       at place = option_map mark_of (slice_get es place)
 
-      go : bit_at many index ≡ bit_at few index → (b : ℕ) → bit_at few index ≡ b → b < 2 → (index < line) ⊎ (line ≤ index) → index ≢ line →
+      go : bit_at many index ≡ bit_at few index → (b : ℕ) → bit_at few index ≡ b → b < 2
+          → (index < line) ⊎ (line ≤ index) → index ≢ line →
           mark_at few (remove es (entries_below many line)) index ≡ mark_at many es index
-      go same zero none lt side other = without few (remove es (entries_below many line)) index none ∙ sym (without many es index (same ∙ none))
+      go same zero none lt side other = without few (remove es (entries_below many line)) index none
+          ∙ sym (without many es index (same ∙ none))
       go same (suc zero) used lt (inl low) other =
           let place = same_place index (omega arith) in
           let less = below_lt many index line (same ∙ used) low in
           with_one few (remove es (entries_below many line)) index used
-          ∙ ap (option_map mark_of) (taken_past es (entries_below many line) (entries_below few index) (omega arith) within)
+          ∙ ap (option_map mark_of) (taken_past es (entries_below many line) (entries_below few index) (omega arith)
+          within)
           ∙ sym (ap at place) ∙ sym (with_one many es index (same ∙ used))
       go same (suc zero) used lt (inr high) other =
           let place = later_place index (omega arith) in
           let less = below_lt many line index more.1 (omega arith) in
           with_one few (remove es (entries_below many line)) index used
-          ∙ ap (option_map mark_of) (taken_before es (entries_below many line) (entries_below few index) (omega arith) within)
+          ∙ ap (option_map mark_of) (taken_before es (entries_below many line) (entries_below few index) (omega arith)
+          within)
           ∙ sym (ap at place) ∙ sym (with_one many es index (same ∙ used))
       go same (suc (suc b)) none lt side other = absurd (omega arith)
 
@@ -343,10 +386,12 @@ module _ (few many line : ℕ) (more : OneMore few many line) where
 
 module _ (lines end : ℕ) where
   bit_of_rest : (line : ℕ) → line < end → bit_at lines line ≡ bit_at (lines % 2 ^ end) line
-  bit_of_rest line lt = ap (λ n. bit_at n line) (sym (shr_split lines end)) ∙ bit_at_cat_low (lines / 2 ^ end) end (lines % 2 ^ end) line lt
+  bit_of_rest line lt = ap (λ n. bit_at n line) (sym (shr_split lines end))
+      ∙ bit_at_cat_low (lines / 2 ^ end) end (lines % 2 ^ end) line lt
 
   pub none_below : bit_and lines (2 ^ end - 1) ≡ 0 → (line : ℕ) → line < end → bit_at lines line ≡ 0
-  none_below none line lt = bit_of_rest line lt ∙ ap (λ n. bit_at n line) (sym (and_mask lines end) ∙ none) ∙ bit_at-zero line
+  none_below none line lt = bit_of_rest line lt ∙ ap (λ n. bit_at n line) (sym (and_mask lines end) ∙ none)
+      ∙ bit_at-zero line
 
   pub last_below : (line : ℕ) → 2 ^ line ≤ bit_and lines (2 ^ end - 1) → bit_and lines (2 ^ end - 1) < 2 * 2 ^ line
       → (line < end) × (bit_at lines line ≡ 1) × ((later : ℕ) → line < later → later < end → bit_at lines later ≡ 0)
@@ -366,12 +411,14 @@ module _ (lines end : ℕ) where
       top low high =
           let parts : rest ≡ 1 * 2 ^ line + (rest - 2 ^ line) = omega arith in
           let own : line - line ≡ 0 = omega arith in
-          ap (λ n. bit_at n line) parts ∙ bit_at_cat_high 1 line (rest - 2 ^ line) line (omega arith) (omega arith) ∙ ap (bit_at 1) own
+          ap (λ n. bit_at n line) parts ∙ bit_at_cat_high 1 line (rest - 2 ^ line) line (omega arith) (omega arith)
+          ∙ ap (bit_at 1) own
 
       above : rest < 2 * 2 ^ line → (later : ℕ) → line < later → bit_at rest later ≡ 0
       above high later lt = let two = pow-suc 2 line in bit_at_above rest (suc line) later (omega arith) (omega arith)
 
-      go : 2 ^ line ≤ rest → rest < 2 * 2 ^ line → (line < end) × (bit_at lines line ≡ 1) × ((later : ℕ) → line < later → later < end → bit_at lines later ≡ 0)
+      go : 2 ^ line ≤ rest → rest < 2 * 2 ^ line
+          → (line < end) × (bit_at lines line ≡ 1) × ((later : ℕ) → line < later → later < end → bit_at lines later ≡ 0)
       go low high = (
         before low,
         bit_of_rest line (before low) ∙ top low high,

@@ -1,5 +1,5 @@
 -- The marks of a leaf.
-use Rattle.std.specs.Prelude.{ℕ, ◌+◌, ◌*◌, ◌%◌, ◌^◌, ◌==◌, if◌then◌else◌, count_ones}
+use Rattle.std.specs.Prelude.{ℕ, ◌%◌, ◌^◌, ◌==◌, if◌then◌else◌, count_ones}
 use Rattle.std.specs.Prelude.{Bool, Option, None, option_map, slice_get}
 use Rattle.std.specs.Int.{bit_at}
 use Rattle.line_map.specs.declared.mark.Mark.{Mark}

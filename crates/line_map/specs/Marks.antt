@@ -1,5 +1,5 @@
 -- The marks that entries stand for.
-use Rattle.std.specs.Prelude.{ℕ, ◌+◌, ◌*◌, ◌^◌, Option, option_map}
+use Rattle.std.specs.Prelude.{◌+◌, ◌*◌, ◌^◌}
 use Rattle.line_map.specs.declared.mark.Mark.{Mark}
 use Rattle.line_map.specs.declared.entry.Entry.{Entry}
 

@@ -1,5 +1,5 @@
 //! A leaf of a map: lines side by side, some of which have a mark.
-ghost use Rattle.std.specs.Prelude.{◌≡◌, ℕ, ◌-◌, ◌^◌, ◌<◌, ◌≤◌, count_ones, length};
+ghost use Rattle.std.specs.Prelude.{◌≡◌, ◌-◌, ◌^◌, ◌<◌, ◌≤◌, count_ones, length};
 ghost use Rattle.line_map.specs.declared.leaf.TheConstants.{LINES};
 ghost use Rattle.line_map.specs.Nodes.{IsWidth};
 

@@ -1,6 +1,6 @@
 //! The map: slots by address.
-ghost use Rattle.std.specs.Prelude.{◌≡◌, ℕ, ◌/◌, ◌^◌, ◌<◌, None, Some, [], IsSome, OnOk, OnErr};
-ghost use Rattle.std.specs.Map.{lookup, set_value, remove_entry};
+ghost use Rattle.std.specs.Prelude.{◌≡◌, ℕ, ◌/◌, ◌<◌, None, Some, [], IsSome, OnOk, OnErr};
+ghost use Rattle.std.specs.Map.{set_value, remove_entry};
 ghost use Rattle.std.specs.BTreeMap.{insert_entry, is_at};
 ghost use Rattle.std.specs.Ordering.{nat_cmp};
 ghost use Rattle.asan_units.specs.Units.{address_end};

@@ -1,5 +1,5 @@
 //! The tree of lines: five levels of branches over the leaves.
-ghost use Rattle.std.specs.Prelude.{◌≡◌, ℕ, ◌^◌, ◌<◌, ◌≤◌, Some, None, IsSome, OnOk, OnErr};
+ghost use Rattle.std.specs.Prelude.{◌≡◌, ℕ, ◌<◌, ◌≤◌, Some, None, IsSome, OnOk, OnErr};
 ghost use Rattle.line_map.specs.Entries.{line_count};
 ghost use Rattle.line_map.specs.Nodes.{IsPut, IsLastBelow};
 ghost use Rattle.line_map.specs.Trees.{tree_mark};

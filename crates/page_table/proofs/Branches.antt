@@ -1,5 +1,6 @@
 -- The bytes of a branch by those of its nodes.
-use Rattle.std.proofs.Common.{◌≡◌, ◌≢◌, ℕ, zero, suc, ◌+◌, ◌-◌, ◌*◌, ◌/◌, ◌%◌, ◌<◌, ◌≤◌, cond, leb, ltb, Bool, true, false, List, [], ◌∷◌, length, get_or, set, refl, sym, ap, ◌∙◌, arith, inl, inr}
+use Rattle.std.proofs.Common.{◌≡◌, ◌≢◌, ℕ, zero, suc, ◌+◌, ◌-◌, ◌*◌, ◌/◌, ◌%◌, ◌<◌, ◌≤◌, cond, leb, ltb, Bool, true}
+use Rattle.std.proofs.Common.{false, List, [], ◌∷◌, length, get_or, set, refl, sym, ap, ◌∙◌, arith, inl, inr}
 use Rattle.std.specs.Prelude.{◌&&◌, map}
 use Rattle.std.proofs.lemmas.Bool.{cases_eq, cases_lt}
 use Rattle.std.proofs.lemmas.Bool.Decides.{nat_tests}
@@ -10,7 +11,8 @@ use Rattle.page_table.specs.declared.run.Run.{Run}
 use Rattle.page_table.specs.Runs.{byte_of_runs}
 use Rattle.page_table.specs.Nodes.{IsFilled, HasRunsUpTo}
 
-pub past_the_kept : {X : Type 0} (f : X → ℕ) (nodes : List X) (place rest : ℕ) → length nodes ≤ place → get_or (map f nodes) place rest ≡ rest
+pub past_the_kept : {X : Type 0} (f : X → ℕ) (nodes : List X) (place rest : ℕ) → length nodes ≤ place
+    → get_or (map f nodes) place rest ≡ rest
 past_the_kept f [] place rest le = refl
 past_the_kept f (node ∷ nodes) zero rest le = absurd (omega arith)
 past_the_kept f (node ∷ nodes) (suc place) rest le = past_the_kept f nodes place rest (omega arith)
@@ -22,13 +24,15 @@ either false byte = refl
 -- the indices from one up to another, which lie in one node, as they stand within that node and within the branch
 module _ (width from to index : ℕ) where
   same_node : from ≤ to → index / width ≡ from / width →
-      (leb (from % width) (index % width) && ltb (index % width) (from % width + (to - from))) ≡ (leb from index && ltb index to)
+      (leb (from % width) (index % width) && ltb (index % width) (from % width + (to - from)))
+      ≡ (leb from index && ltb index to)
   same_node order same =
       let split : from / width * width + from % width ≡ from = div-add-mod' from width in
       let also : from / width * width + index % width ≡ index = rw (← same) (div-add-mod' index width) in
       grind (arith, nat_tests)
 
-  other_node : to ≤ from - from % width + width → index / width ≢ from / width → (leb from index && ltb index to) ≡ false
+  other_node : to ≤ from - from % width + width → index / width ≢ from / width
+      → (leb from index && ltb index to) ≡ false
   other_node end other =
       let split : from / width * width + from % width ≡ from = div-add-mod' from width in
       elim (cases_lt index from) [
@@ -36,7 +40,8 @@ module _ (width from to index : ℕ) where
         | inr ge ↦ elim (cases_lt index to) [
           | inl lt ↦
               let node : index ≡ from / width * width + (index - from / width * width) = omega arith in
-              absurd (other (ap (λ i. i / width) node ∙ div-mul-add (from / width) width (index - from / width * width) (omega arith)))
+              absurd (other (ap (λ i. i / width) node
+              ∙ div-mul-add (from / width) width (index - from / width * width) (omega arith)))
           | inr past ↦ grind (arith, nat_tests)
         ]
       ]
@@ -52,39 +57,53 @@ module _ {S : Type 0} (byte_at : S → ℕ → ℕ) (width : ℕ) where
   abbrev pub byte_from : List S → ℕ → ℕ → ℕ
   byte_from nodes rest index = get_or (map (λ node. byte_at node (index % width)) nodes) (index / width) rest
 
-  module _ (nodes : List S) (from to byte rest index : ℕ) (order : from ≤ to) (within : to ≤ from - from % width + width) where
+  module _ (nodes : List S) (from to byte rest index : ℕ) (order : from ≤ to)
+      (within : to ≤ from - from % width + width) where
     -- these indices lie in a node, and are set there
-    pub node_set : (node new : S) (there here : ℕ → ℕ) → 0 < width → from / width < length nodes → node ≡ get_or nodes (from / width) node →
+    pub node_set : (node new : S) (there here : ℕ → ℕ) → 0 < width → from / width < length nodes
+        → node ≡ get_or nodes (from / width) node →
         (index / width ≡ from / width → there (index % width) ≡ here index) →
-        ((place : ℕ) → place < width → byte_at new place ≡ cond (leb (from % width) place && ltb place (from % width + (to - from))) (there place) (byte_at node place)) →
-        byte_from (set nodes (from / width) new) rest index ≡ cond (leb from index && ltb index to) (here index) (byte_from nodes rest index)
+        ((place : ℕ) → place < width → byte_at new place
+        ≡ cond (leb (from % width) place && ltb place (from % width + (to - from))) (there place)
+        (byte_at node place)) →
+        byte_from (set nodes (from / width) new) rest index
+        ≡ cond (leb from index && ltb index to) (here index) (byte_from nodes rest index)
     node_set node new there here positive lt is agree filled =
         let place = from / width in
         let byte_there : S → ℕ = λ node. byte_at node (index % width) in
         elim (cases_eq (index / width) place) [
           | inl same ↦
               let now : byte_from (set nodes place new) rest index ≡ byte_there new =
-              rw same (get_or-map byte_there (set nodes place new) place new rest (rw length-set lt) ∙ ap byte_there (get_or-set_same nodes place new new lt)) in
-              let was : byte_from nodes rest index ≡ byte_there node = rw same (get_or-map byte_there nodes place node rest lt ∙ ap byte_there (sym is)) in
-              now ∙ filled (index % width) (mod-lt index positive) ∙ rw (was, agree same, same_node width from to index order same) refl
+              rw same (get_or-map byte_there (set nodes place new) place new rest (rw length-set lt)
+              ∙ ap byte_there (get_or-set_same nodes place new new lt)) in
+              let was : byte_from nodes rest index ≡ byte_there node =
+              rw same (get_or-map byte_there nodes place node rest lt ∙ ap byte_there (sym is)) in
+              now ∙ filled (index % width) (mod-lt index positive)
+              ∙ rw (was, agree same, same_node width from to index order same) refl
           | inr other ↦
               rw (other_node width from to index within other)
-              (ap (λ (bytes : List ℕ). get_or bytes (index / width) rest) (map-set byte_there nodes place new) ∙ get_or-set_other (map byte_there nodes) place (index / width) (byte_there new) rest other)
+              (ap (λ (bytes : List ℕ). get_or bytes (index / width) rest) (map-set byte_there nodes place new)
+              ∙ get_or-set_other (map byte_there nodes) place (index / width) (byte_there new) rest other)
         ]
 
     -- and all get one byte
-    pub node_filled : (node new : S) → 0 < width → from / width < length nodes → node ≡ get_or nodes (from / width) node →
+    pub node_filled : (node new : S) → 0 < width → from / width < length nodes → node ≡ get_or nodes (from / width) node
+        →
         IsFilled width (byte_at node) (byte_at new) (from % width) (from % width + (to - from)) byte →
-        byte_from (set nodes (from / width) new) rest index ≡ cond (leb from index && ltb index to) byte (byte_from nodes rest index)
+        byte_from (set nodes (from / width) new) rest index
+        ≡ cond (leb from index && ltb index to) byte (byte_from nodes rest index)
     node_filled node new positive lt is filled =
         node_set node new (λ place. byte) (λ index. byte) positive lt is (λ same. refl) filled
 
     -- and get what some runs say
-    pub node_has_runs : (runs : List Run) (node new : S) → 0 < width → from / width < length nodes → node ≡ get_or nodes (from / width) node →
+    pub node_has_runs : (runs : List Run) (node new : S) → 0 < width → from / width < length nodes
+        → node ≡ get_or nodes (from / width) node →
         HasRunsUpTo width (byte_at node) (byte_at new) (from % width) (from % width + (to - from)) runs →
-        byte_from (set nodes (from / width) new) rest index ≡ cond (leb from index && ltb index to) (byte_of_runs runs (index - from)) (byte_from nodes rest index)
+        byte_from (set nodes (from / width) new) rest index
+        ≡ cond (leb from index && ltb index to) (byte_of_runs runs (index - from)) (byte_from nodes rest index)
     node_has_runs runs node new positive lt is filled =
-        node_set node new (λ place. byte_of_runs runs (place - from % width)) (λ index. byte_of_runs runs (index - from)) positive lt is
+        node_set node new (λ place. byte_of_runs runs (place - from % width))
+        (λ index. byte_of_runs runs (index - from)) positive lt is
         (λ same. ap (byte_of_runs runs) (same_offset width from index same)) filled
 
     -- these indices lie in a node that is not kept, and the rest has the byte
@@ -93,7 +112,8 @@ module _ {S : Type 0} (byte_at : S → ℕ → ℕ) (width : ℕ) where
     rest_filled le is =
         elim (cases_eq (index / width) (from / width)) [
           | inl same ↦
-              let was : byte_from nodes rest index ≡ byte = rw same (past_the_kept (λ node. byte_at node (index % width)) nodes (from / width) rest le ∙ is) in
+              let was : byte_from nodes rest index ≡ byte =
+              rw same (past_the_kept (λ node. byte_at node (index % width)) nodes (from / width) rest le ∙ is) in
               rw was (either (leb from index && ltb index to) byte)
           | inr other ↦ rw (other_node width from to index within other) refl
         ]
@@ -128,13 +148,18 @@ module _ {S : Type 0} (byte_at : S → ℕ → ℕ) (width : ℕ) where
       past_the_kept (λ node. byte_at node (index % width)) nodes (index / width) rest (omega arith)
 
   -- one of the nodes has the bytes that it had
-  pub node_same : (nodes : List S) (place rest index : ℕ) (node new : S) → 0 < width → place < length nodes → node ≡ get_or nodes place node →
-      ((i : ℕ) → i < width → byte_at new i ≡ byte_at node i) → byte_from (set nodes place new) rest index ≡ byte_from nodes rest index
+  pub node_same : (nodes : List S) (place rest index : ℕ) (node new : S) → 0 < width → place < length nodes
+      → node ≡ get_or nodes place node →
+      ((i : ℕ) → i < width → byte_at new i ≡ byte_at node i)
+      → byte_from (set nodes place new) rest index ≡ byte_from nodes rest index
   node_same nodes place rest index node new positive lt is same =
       let there : S → ℕ = λ node. byte_at node (index % width) in
       elim (cases_eq (index / width) place) [
         | inl here ↦
-            rw here (get_or-map there (set nodes place new) place new rest (rw length-set lt) ∙ ap there (get_or-set_same nodes place new new lt)
-            ∙ same (index % width) (mod-lt index positive) ∙ sym (get_or-map there nodes place node rest lt ∙ ap there (sym is)))
-        | inr other ↦ ap (λ (bytes : List ℕ). get_or bytes (index / width) rest) (map-set there nodes place new) ∙ get_or-set_other (map there nodes) place (index / width) (there new) rest other
+            rw here (get_or-map there (set nodes place new) place new rest (rw length-set lt)
+            ∙ ap there (get_or-set_same nodes place new new lt)
+            ∙ same (index % width) (mod-lt index positive)
+            ∙ sym (get_or-map there nodes place node rest lt ∙ ap there (sym is)))
+        | inr other ↦ ap (λ (bytes : List ℕ). get_or bytes (index / width) rest) (map-set there nodes place new)
+            ∙ get_or-set_other (map there nodes) place (index / width) (there new) rest other
       ]

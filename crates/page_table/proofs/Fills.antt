@@ -6,16 +6,20 @@ use Rattle.std.proofs.lemmas.Bool.Decides.{nat_tests}
 use Rattle.page_table.specs.Nodes.{IsFilled, IsFilledInPart}
 
 goes_on : (from at next byte old index : ℕ) → from ≤ at → at ≤ next →
-    cond (leb at index && ltb index next) byte (cond (leb from index && ltb index at) byte old) ≡ cond (leb from index && ltb index next) byte old
+    cond (leb at index && ltb index next) byte (cond (leb from index && ltb index at) byte old)
+    ≡ cond (leb from index && ltb index next) byte old
 goes_on from at next byte old index low more = grind (arith, nat_tests)
 
 none_filled : (width : ℕ) (old : ℕ → ℕ) (from byte : ℕ) → IsFilled width old old from from byte
-none_filled width old from byte index lt = let none : (leb from index && ltb index from) ≡ false = grind (arith, nat_tests) in rw none refl
+none_filled width old from byte index lt = let none : (leb from index && ltb index from) ≡ false =
+    grind (arith, nat_tests) in rw none refl
 
 -- a fill goes on where one has ended
-module _ (width : ℕ) (old now new : ℕ → ℕ) (from at byte : ℕ) (low : from ≤ at) (done : IsFilled width old now from at byte) where
+module _ (width : ℕ) (old now new : ℕ → ℕ) (from at byte : ℕ) (low : from ≤ at)
+    (done : IsFilled width old now from at byte) where
   filled_on : (next : ℕ) → at ≤ next → IsFilled width now new at next byte → IsFilled width old new from next byte
-  filled_on next more filled index lt = filled index lt ∙ rw (done index lt) (goes_on from at next byte (old index) index low more)
+  filled_on next more filled index lt = filled index lt
+      ∙ rw (done index lt) (goes_on from at next byte (old index) index low more)
 
   pub broken_off_later : (next to : ℕ) → next ≤ to → to ≤ width →
       IsFilledInPart width now new at next byte → IsFilledInPart width old new from to byte

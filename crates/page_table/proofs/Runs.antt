@@ -1,5 +1,6 @@
 -- Runs, one after another.
-use Rattle.std.proofs.Common.{◌≡◌, ℕ, zero, suc, ◌+◌, ◌-◌, ◌<◌, ◌≤◌, cond, leb, ltb, true, false, List, [], ◌∷◌, length, take, get_or, refl, sym, ap, ◌∙◌, arith, inl, inr}
+use Rattle.std.proofs.Common.{◌≡◌, ℕ, zero, suc, ◌+◌, ◌-◌, ◌<◌, ◌≤◌, cond, leb, ltb, true, false, List, [], ◌∷◌, length}
+use Rattle.std.proofs.Common.{take, get_or, refl, sym, ap, ◌∙◌, arith, inl, inr}
 use Rattle.std.proofs.lemmas.Bool.{cases_lt}
 use Rattle.std.proofs.lemmas.Bool.Decides.{nat_tests}
 use Rattle.std.proofs.lemmas.List.{take_more}
@@ -29,19 +30,22 @@ byte_in_run (first ∷ runs) zero offset lt low high =
 byte_in_run (first ∷ runs) (suc i) offset lt low high =
     let long = length_cons first (take i runs) in
     let past : ltb offset first.length ≡ false = grind (arith, nat_tests) in
-    first_step first runs offset ∙ rw past (byte_in_run runs i (offset - first.length) (omega arith) (omega arith) (omega arith))
+    first_step first runs offset ∙ rw past (byte_in_run runs i (offset - first.length) (omega arith) (omega arith)
+    (omega arith))
 
 -- the runs up to one, and the runs with it
 pub length_on : (runs : List Run) (i : ℕ) → i < length runs →
     length_of (take (i + 1) runs) ≡ length_of (take i runs) + (get_or runs i no_run).length
 length_on runs i lt =
-    ap length_of (take_more runs i no_run lt) ∙ sum_by-append (λ r. r.length) (take i runs) (get_or runs i no_run ∷ []) ∙ ap (λ n. length_of (take i runs) + n) (length_cons (get_or runs i no_run) [] ∙ omega arith)
+    ap length_of (take_more runs i no_run lt) ∙ sum_by-append (λ r. r.length) (take i runs) (get_or runs i no_run ∷ [])
+    ∙ ap (λ n. length_of (take i runs) + n) (length_cons (get_or runs i no_run) [] ∙ omega arith)
 
 pub length_within : (runs : List Run) (i : ℕ) → length_of (take i runs) ≤ length_of runs
 length_within runs i = sum_by-take-le (λ r. r.length) runs i
 
 -- runs that are filled in up to one of them, and then a part of it
-module _ (width : ℕ) (old now new : ℕ → ℕ) (from at : ℕ) (runs : List Run) (i : ℕ) (lt : i < length runs) (reached : at ≡ from + length_of (take i runs)) where
+module _ (width : ℕ) (old now new : ℕ → ℕ) (from at : ℕ) (runs : List Run) (i : ℕ) (lt : i < length runs)
+    (reached : at ≡ from + length_of (take i runs)) where
   pub filled_on : (to : ℕ) → at ≤ to → to ≤ at + (get_or runs i no_run).length →
       HasRunsUpTo width old now from at runs → IsFilled width now new at to (get_or runs i no_run).byte →
       HasRunsUpTo width old new from to runs

@@ -1,5 +1,5 @@
 //! A leaf of a table.
-ghost use Rattle.std.specs.Prelude.{◌≡◌, ◌≢◌, ℕ, ◌+◌, ◌-◌, ◌<◌, ◌≤◌, ◌&&◌, nat_le, nat_lt};
+ghost use Rattle.std.specs.Prelude.{◌≡◌, ℕ, ◌+◌, ◌-◌, ◌<◌, ◌≤◌, ◌&&◌, nat_le, nat_lt};
 ghost use Rattle.std.specs.Prelude.{if◌then◌else◌, IfOk, slice_index};
 ghost use Rattle.page_table.specs.declared.leaf.TheConstants.{LEAF};
 ghost use Rattle.page_table.specs.Nodes.{IsWidth, HasRuns};

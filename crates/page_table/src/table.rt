@@ -1,5 +1,5 @@
 //! The table.
-ghost use Rattle.std.specs.Prelude.{◌≡◌, ℕ, ◌+◌, ◌^◌, ◌<◌, ◌≤◌, IfSome, OnOk, OnErr};
+ghost use Rattle.std.specs.Prelude.{◌≡◌, ℕ, ◌+◌, ◌<◌, ◌≤◌, IfSome, OnOk, OnErr};
 ghost use Rattle.asan_units.specs.Units.{granule_count};
 ghost use Rattle.page_table.specs.Runs.{length_of};
 ghost use Rattle.page_table.specs.Nodes.{IsFirstNonzero};

@@ -33,15 +33,19 @@ module _ (Z : Al) where
   abbrev pub account_at : Held → ℕ × ℕ
   account_at r = (r.ref_ptr.0, r.ref_ptr.1 + up 8 (up (align (α Z)) 0 + size (α Z)))
 
-  module _ {M : Type 1} {𝓤 : Ura M} (𝓛 : Logic 𝓤) (κ₁ κ₂ : Lft) (q₁ q₂ : Share) (r : Held) (vs : List Val) (Rest : Fml) where
+  module _ {M : Type 1} {𝓤 : Ura M} (𝓛 : Logic 𝓤) (κ₁ κ₂ : Lft) (q₁ q₂ : Share) (r : Held) (vs : List Val)
+      (Rest : Fml) where
     open 𝓛 use {A}
 
     -- what comes with `self` at the entry, in the order in which the calls need it
     pub enters :
-        ent 𝓤 (sep 𝓤 (sep 𝓤 (A.lft κ₁ q₁) (sep 𝓤 (A.lft κ₂ q₂) (emp 𝓤))) (sep 𝓤 (sem 𝓛 ((type_at self (κ₁, (κ₂, tt))).own_val r vs)) (sem 𝓛 Rest)))
-        (sep 𝓤 (sem 𝓛 (lent κ₁ (account_at r) r.now.account)) (sep 𝓤 (A.lft κ₁ q₁) (sep 𝓤 (sem 𝓛 (seen Z κ₁ (inner_at r) r.now.inner)) (A.lft κ₂ q₂))))
+        ent 𝓤 (sep 𝓤 (sep 𝓤 (A.lft κ₁ q₁) (sep 𝓤 (A.lft κ₂ q₂) (emp 𝓤)))
+        (sep 𝓤 (sem 𝓛 ((type_at self (κ₁, (κ₂, tt))).own_val r vs)) (sem 𝓛 Rest)))
+        (sep 𝓤 (sem 𝓛 (lent κ₁ (account_at r) r.now.account))
+        (sep 𝓤 (A.lft κ₁ q₁) (sep 𝓤 (sem 𝓛 (seen Z κ₁ (inner_at r) r.now.inner)) (A.lft κ₂ q₂))))
     enters =
-        qed 𝓛 (((‵ (flft κ₁ q₁) ⊛ ‵ (flft κ₂ q₂) ⊛ ‵ ftrue) ⊛ ‵ ((type_at self (κ₁, (κ₂, tt))).own_val r vs) ⊛ ‵ Rest) ∷ []) ∵
+        qed 𝓛 (((‵ (flft κ₁ q₁) ⊛ ‵ (flft κ₂ q₂) ⊛ ‵ ftrue) ⊛ ‵ ((type_at self (κ₁, (κ₂, tt))).own_val r vs) ⊛ ‵ Rest)
+        ∷ []) ∵
         split3 ! $ split3 ! $ move ! (3 ∷ []) $ fsplit ! $ drop ! $ unhide ! $ fsplit ! $ fsplit ! $
         use1 𝓛 (‵ (seen Z κ₁ (inner_at r) r.now.inner)) (id⊢ 𝓤 _) $ move ! (1 ∷ []) $ fsplit ! $
         use1 𝓛 (‵ (lent κ₁ (account_at r) r.now.account)) (id⊢ 𝓤 _) $

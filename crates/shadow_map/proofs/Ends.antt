@@ -1,8 +1,10 @@
 -- No mark reaches past the last address.
-use Rattle.std.proofs.Common.{◌≡◌, ℕ, ◌+◌, ◌-◌, ◌*◌, ◌/◌, ◌^◌, ◌≤◌, true, false, ltb, List, [], ◌∷◌, refl, sym, ap, ◌∙◌, arith}
+use Rattle.std.proofs.Common.{◌≡◌, ℕ, ◌+◌, ◌-◌, ◌*◌, ◌/◌, ◌^◌, ◌≤◌, true, false, ltb, List, [], ◌∷◌, refl, sym, ap, ◌∙◌}
+use Rattle.std.proofs.Common.{arith}
 use Rattle.std.specs.Prelude.{◌&&◌, nat_lt}
 use Rattle.std.proofs.lemmas.Bool.Decides.{nat_tests}
-use Rattle.shadow_map.specs.States.{Mark, Fill, Block, Poison, Unpoison, lies_in, granule_lies_in, is_addressable, state_of, lift, AreMarks}
+use Rattle.shadow_map.specs.States.{Mark, Fill, Block, Poison, Unpoison, lies_in, granule_lies_in, is_addressable}
+use Rattle.shadow_map.specs.States.{state_of, lift, AreMarks}
 use Rattle.asan_units.specs.Units.{redzone, round_up}
 use Rattle.shadow_map.specs.Laws.{AllPastTheEndIsAddressable}
 use Rattle.shadow_map.proofs.Fronts.{front_of_marks}
@@ -29,10 +31,12 @@ all_past_the_end_is_addressable (Unpoison at size ∷ marks) ok byte le =
     rw off (all_past_the_end_is_addressable marks ok.1 byte le)
 
 -- so the granules there have shadow byte 0
-pub lift_past_the_end : (marks : List Mark) → AreMarks marks → (granule : ℕ) → 2 ^ 44 ≤ granule → 0 ≡ lift (state_of marks) granule
+pub lift_past_the_end : (marks : List Mark) → AreMarks marks → (granule : ℕ) → 2 ^ 44 ≤ granule
+    → 0 ≡ lift (state_of marks) granule
 lift_past_the_end marks ok granule le =
     let p = front_of_marks marks ok granule in
     let last : nat_lt 7 p.0 ≡ true =
-    sym (p.1.each 7 (omega arith)) ∙ ap is_addressable (all_past_the_end_is_addressable marks ok (8 * granule + 7) (omega arith)) in
+    sym (p.1.each 7 (omega arith)) ∙ ap is_addressable
+    (all_past_the_end_is_addressable marks ok (8 * granule + 7) (omega arith)) in
     let whole : p.0 ≡ 8 = let most = p.1.most in grind (arith, nat_tests) in
     sym (lift_is (state_of marks) granule p.0 p.1 ∙ rw whole refl)

@@ -61,10 +61,12 @@ then_unpoison = refl
 then_poison : lift (state_of (Poison 0x1000 8 0xf7 ∷ Unpoison 0x1006 1 ∷ Block 0x1000 5 ∷ [])) 0x200 ≡ 0xf7
 then_poison = refl
 
-then_freed : lift (state_of (Fill 0x1000 0x1008 0xfd ∷ Poison 0x1000 8 0xf7 ∷ Unpoison 0x1006 1 ∷ Block 0x1000 5 ∷ [])) 0x200 ≡ 0xfd
+then_freed : lift (state_of (Fill 0x1000 0x1008 0xfd ∷ Poison 0x1000 8 0xf7 ∷ Unpoison 0x1006 1 ∷ Block 0x1000 5 ∷ []))
+    0x200 ≡ 0xfd
 then_freed = refl
 
--- of an addressable granule, poison of bytes 2 to 4 leaves it, then of bytes 2 to 7 gives 2, then unpoison of byte 4 gives 5
+-- of an addressable granule, poison of bytes 2 to 4 leaves it, then of bytes 2 to 7 gives 2, then unpoison of byte 4
+-- gives 5
 poison_in_the_middle : lift (state_of (Poison 0x1002 3 0xf7 ∷ [])) 0x200 ≡ 0
 poison_in_the_middle = refl
 
@@ -74,7 +76,8 @@ poison_to_the_end = refl
 unpoison_one_byte : lift (state_of (Unpoison 0x1004 1 ∷ Poison 0x1002 6 0xf7 ∷ Poison 0x1002 3 0xf7 ∷ [])) 0x200 ≡ 5
 unpoison_one_byte = refl
 
--- of a granule whose first 5 bytes are addressable, poison of bytes 0 to 4 gives f7, of 5 to 7 leaves it, of 3 to 5 gives 3
+-- of a granule whose first 5 bytes are addressable, poison of bytes 0 to 4 gives f7, of 5 to 7 leaves it, of 3 to 5
+-- gives 3
 poison_all_that_is_left : lift (state_of (Poison 0x1000 5 0xf7 ∷ Block 0x1000 5 ∷ [])) 0x200 ≡ 0xf7
 poison_all_that_is_left = refl
 
@@ -113,5 +116,6 @@ stack_poison_to_the_end = refl
 last_granule : lift (state_of (Poison 0x7ffffffffffc 4 0xf7 ∷ [])) 0xfffffffffff ≡ 4
 last_granule = refl
 
-bad_byte_in_last_granule : bad_byte_of (state_of (Poison 0x7ffffffffffc 4 0xf7 ∷ [])) 0x7ffffffffffe 1 ≡ Some 0x7ffffffffffe
+bad_byte_in_last_granule : bad_byte_of (state_of (Poison 0x7ffffffffffc 4 0xf7 ∷ [])) 0x7ffffffffffe 1
+    ≡ Some 0x7ffffffffffe
 bad_byte_in_last_granule = refl

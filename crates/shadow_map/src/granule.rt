@@ -1,5 +1,5 @@
 //! One granule: its shadow byte, and what a call makes of it.
-ghost use Rattle.std.specs.Prelude.{◌≡◌, ◌-◌, ◌*◌, ◌^◌, ◌<◌, ◌≤◌, min};
+ghost use Rattle.std.specs.Prelude.{◌≡◌, ◌-◌, ◌*◌, ◌<◌, ◌≤◌, min};
 ghost use Rattle.shadow_map.specs.Granules.{front_of, poisoned_byte, unpoisoned_byte, changed_byte};
 ghost use Rattle.shadow_map.specs.Granules.{inside_byte};
 ghost use Rattle.asan_units.specs.Units.{granule_size, granule_count, first_byte};

@@ -1,5 +1,5 @@
 //! The calls that mark memory.
-ghost use Rattle.std.specs.Prelude.{◌≡◌, ◌≢◌, ℕ, ◌+◌, ◌-◌, ◌/◌, ◌%◌, ◌^◌, ◌<◌, ◌≤◌, ◌==◌, ◌&&◌};
+ghost use Rattle.std.specs.Prelude.{◌≡◌, ◌≢◌, ℕ, ◌+◌, ◌-◌, ◌/◌, ◌%◌, ◌<◌, ◌≤◌, ◌==◌, ◌&&◌};
 ghost use Rattle.std.specs.Prelude.{not, if◌then◌else◌, OnOk, OnErr};
 ghost use Rattle.shadow_map.specs.States.{IsCode, Fill, Block, Poison, Unpoison};
 ghost use Rattle.asan_units.specs.Units.{address_end, granule_size, granule_of};

@@ -41,7 +41,8 @@ impl<'s, A: Allocator + Copy> ShadowReader<'s, A> {
 #[inline]
 pub fn bad_byte_by(shadow: u8, at: u64, size: u64) -> Option<u64>
     requires { at < address_end }
-    ensures { (marks : List Mark) → AreMarks marks → shadow ≡ lift (state_of marks) (granule_of at) →
+    ensures { (marks : List Mark) → AreMarks marks →
+        shadow ≡ lift (state_of marks) (granule_of at) →
         result ≡ bad_byte_of (state_of marks) at size }
 {
     // Most granules are addressable as a whole.

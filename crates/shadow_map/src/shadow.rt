@@ -1,7 +1,7 @@
 //! The shadow, and what is asked of it.
 ghost use Rattle.page_table.specs.Nodes.{IsFirstNonzero};
 ghost use Rattle.page_table.specs.Runs.{length_of, byte_of_runs};
-ghost use Rattle.std.specs.Prelude.{◌≡◌, ◌≢◌, ℕ, ◌+◌, ◌-◌, ◌/◌, ◌^◌, ◌<◌, ◌≤◌, ◌&&◌, not, nat_le};
+ghost use Rattle.std.specs.Prelude.{◌≡◌, ◌≢◌, ℕ, ◌+◌, ◌-◌, ◌/◌, ◌<◌, ◌≤◌, ◌&&◌, not, nat_le};
 ghost use Rattle.std.specs.Prelude.{nat_lt, if◌then◌else◌, List, [], IsTrue, OnOk, OnErr};
 ghost use Rattle.shadow_map.specs.States.{Mark, is_addressable, state_of, lift};
 ghost use Rattle.shadow_map.specs.States.{least_unaddressable, bad_byte_of};

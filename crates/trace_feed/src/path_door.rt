@@ -2,7 +2,7 @@
 
 ghost use Rattle.std.specs.Prelude.{◌≡◌, ◌==◌, ◌-◌, ◌<◌, ◌^◌, ◌↔◌, [], IsTrue, None, Some};
 ghost use Rattle.std.specs.Prelude.{drop, length, map, string_bytes};
-ghost use Rattle.trace_feed.specs.Doors.{Arrives, CountsDown, IfCame, is_over, refusals_after};
+ghost use Rattle.trace_feed.specs.Doors.{CountsDown, IfCame, is_over, refusals_after};
 
 use crate::door::{Arrival, Door};
 use crate::read_feed::ReadFeed;

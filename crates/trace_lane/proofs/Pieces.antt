@@ -1,5 +1,7 @@
 -- What is left of a part of a list once its first item was taken.
-use Rattle.std.proofs.Common.{ℕ, ◌≡◌, ◌+◌, ◌-◌, ◌<◌, ◌≤◌, ◌++◌, Bool, true, false, cond, List, [], ◌∷◌, length, take, drop, refl, ap, ◌∙◌, sym, arith, add-one, append_assoc, length-append, length-drop, drop-cons, slice_index_or}
+use Rattle.std.proofs.Common.{ℕ, ◌≡◌, ◌+◌, ◌-◌, ◌<◌, ◌≤◌, ◌++◌, Bool, true, false, cond, List, [], ◌∷◌, length, take}
+use Rattle.std.proofs.Common.{drop, refl, ap, ◌∙◌, sym, arith, add-one, append_assoc, length-append, length-drop}
+use Rattle.std.proofs.Common.{drop-cons, slice_index_or}
 use Rattle.std.proofs.lemmas.List.{append-nil, take_at, length-take-le}
 use Rattle.trace_lane.specs.Pieces.{piece}
 
@@ -23,17 +25,22 @@ pub taken : {T : Type 0} (all before s : List T) (i j : ℕ) (x : T) → all ≡
     → x ≡ slice_index_or s i x → take (length all - (j - (i + 1))) all ≡ before ++ x ∷ []
 taken all before s i j x is low high at =
     let e = moved all before s i j x is low high at in
-    let rest : length (piece (i + 1) j s) ≡ j - (i + 1) = length-take-le (j - (i + 1)) (drop (i + 1) s) (omega (arith, length-drop (i + 1) s)) in
-    rw e (take_at (before ++ x ∷ []) (piece (i + 1) j s) _ (omega (arith, rest, length-append (before ++ x ∷ []) (piece (i + 1) j s))))
+    let rest : length (piece (i + 1) j s) ≡ j - (i + 1) =
+    length-take-le (j - (i + 1)) (drop (i + 1) s) (omega (arith, length-drop (i + 1) s)) in
+    rw e (take_at (before ++ x ∷ []) (piece (i + 1) j s) _
+    (omega (arith, rest, length-append (before ++ x ∷ []) (piece (i + 1) j s))))
 
 -- and all that was received still ends with what is left of the part
-pub still_last : {T : Type 0} (all before s : List T) (i j : ℕ) (x : T) → all ≡ before ++ piece i j s → i < j → j ≤ length s
+pub still_last : {T : Type 0} (all before s : List T) (i j : ℕ) (x : T) → all ≡ before ++ piece i j s → i < j
+    → j ≤ length s
     → x ≡ slice_index_or s i x → all ≡ take (length all - (j - (i + 1))) all ++ piece (i + 1) j s
 still_last all before s i j x is low high at =
-    moved all before s i j x is low high at ∙ ap (λ l. l ++ piece (i + 1) j s) (sym (taken all before s i j x is low high at))
+    moved all before s i j x is low high at ∙ ap (λ l. l ++ piece (i + 1) j s)
+    (sym (taken all before s i j x is low high at))
 
 -- more items became known to wait in the ring, after those in the buffer
 pub more_known : {T : Type 0} (buffered known now more : List T) (settled : Bool) → known ++ more ≡ now
     → (rest : List T) × (buffered ++ cond settled now [] ≡ (buffered ++ cond settled known []) ++ rest)
-more_known buffered known now more true e = (more, ap (λ l. buffered ++ l) (sym e) ∙ sym (append_assoc buffered known more))
+more_known buffered known now more true e =
+    (more, ap (λ l. buffered ++ l) (sym e) ∙ sym (append_assoc buffered known more))
 more_known buffered known now more false e = ([], sym (append-nil (buffered ++ [])))

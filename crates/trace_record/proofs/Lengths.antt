@@ -1,12 +1,14 @@
 -- How long an open text can be.
-use Rattle.std.proofs.Common.{◌≡◌, ℕ, ◌+◌, ◌*◌, ◌<◌, ◌≤◌, List, [], ◌∷◌, ◌++◌, length, Some, ap, subst, inl, inr, arith, length-append}
+use Rattle.std.proofs.Common.{◌≡◌, ℕ, ◌+◌, ◌*◌, ◌<◌, ◌≤◌, List, [], ◌∷◌, ◌++◌, length, Some, ap, subst, inl, inr, arith}
+use Rattle.std.proofs.Common.{length-append}
 use Rattle.trace_record.specs.declared.event.Event.{Event}
 use Rattle.trace_record.specs.declared.version.Version.{Version}
 use Rattle.trace_record.specs.declared.version.Version.TheVariants as version
 use Rattle.trace_record.specs.declared.fields.Fields.{Fields}
 use Rattle.trace_record.specs.declared.fields.Numbers.{Numbers}
 use Rattle.trace_record.specs.declared.fields.Numbers.TheVariants as numbers
-use Rattle.trace_record.specs.Spelling.{header, record_bytes, bytes_of, fields_of, spelling, spellings, poison_length, record_length}
+use Rattle.trace_record.specs.Spelling.{header, record_bytes, bytes_of, fields_of, spelling, spellings, poison_length}
+use Rattle.trace_record.specs.Spelling.{record_length}
 use Rattle.trace_record.specs.Stream.{version_of, IsMadeOf, IsOpenWith, MayFollow}
 use Rattle.trace_record.proofs.Same.{event_fits}
 use Rattle.trace_record.proofs.Steps.{poison_lengths, record_length-within, made_version}
@@ -36,10 +38,15 @@ spelling_small v e = let most = poison_lengths v in let short = spelling_short v
 spellings_short : (v : Version) (es : List Event) → length (spellings v es) ≤ poison_length v * length es
 spellings_short version.One [] = omega arith
 spellings_short version.Two [] = omega arith
-spellings_short version.One (e ∷ es) = let one = spelling_short version.One e in let rest = spellings_short version.One es in omega (arith, length-append (spelling version.One e) (spellings version.One es))
-spellings_short version.Two (e ∷ es) = let one = spelling_short version.Two e in let rest = spellings_short version.Two es in omega (arith, length-append (spelling version.Two e) (spellings version.Two es))
+spellings_short version.One (e ∷ es) = let one = spelling_short version.One e in
+    let rest = spellings_short version.One es in
+    omega (arith, length-append (spelling version.One e) (spellings version.One es))
+spellings_short version.Two (e ∷ es) = let one = spelling_short version.Two e in
+    let rest = spellings_short version.Two es in
+    omega (arith, length-append (spelling version.Two e) (spellings version.Two es))
 
-rest_short : (v : Version) (limit n : ℕ) (rest : List ℕ) → MayFollow v limit n rest → poison_length v * n + length rest ≤ poison_length v * limit
+rest_short : (v : Version) (limit n : ℕ) (rest : List ℕ) → MayFollow v limit n rest
+    → poison_length v * n + length rest ≤ poison_length v * limit
 rest_short version.One limit n [] f = omega arith
 rest_short version.Two limit n [] f = omega arith
 rest_short version.One limit n (code ∷ more) f =
@@ -54,7 +61,8 @@ rest_short version.Two limit n (code ∷ more) f =
     omega arith
 
 -- an open text of a version is no longer than the header and the longest records that its limit allows
-made_short : (v : Version) (limit : ℕ) (text : List ℕ) (events : List Event) (rest : List ℕ) → IsMadeOf v text events rest → MayFollow v limit (length events) rest → length text ≤ poison_length v * limit + 8
+made_short : (v : Version) (limit : ℕ) (text : List ℕ) (events : List Event) (rest : List ℕ)
+    → IsMadeOf v text events rest → MayFollow v limit (length events) rest → length text ≤ poison_length v * limit + 8
 made_short v limit text events rest made follows =
     let e = ap length made.split in
     let most = rest_short v limit (length events) rest follows in
@@ -66,14 +74,18 @@ longest version.One limit n short = omega arith
 longest version.Two limit n short = short
 
 -- an open text of any version
-pub open_short : (limit : ℕ) (text : List ℕ) (events : List Event) (rest : List ℕ) → IsOpenWith limit text events rest → length text ≤ 18 * limit + 8
+pub open_short : (limit : ℕ) (text : List ℕ) (events : List Event) (rest : List ℕ) → IsOpenWith limit text events rest
+    → length text ≤ 18 * limit + 8
 open_short limit text events rest (inl h) = let lt = h.short in omega arith
-open_short limit text events rest (inr r) = longest r.version limit (length text) (made_short r.version limit text events rest r.made r.follows)
+open_short limit text events rest (inr r) =
+    longest r.version limit (length text) (made_short r.version limit text events rest r.made r.follows)
 
 -- an open text of version 1
-pub open_short_1 : (limit : ℕ) (text : List ℕ) (events : List Event) (rest : List ℕ) → version_of text ≡ Some version.One → IsOpenWith limit text events rest → length text ≤ 17 * limit + 8
+pub open_short_1 : (limit : ℕ) (text : List ℕ) (events : List Event) (rest : List ℕ)
+    → version_of text ≡ Some version.One → IsOpenWith limit text events rest → length text ≤ 17 * limit + 8
 open_short_1 limit text events rest one (inl h) = let lt = h.short in omega arith
 open_short_1 limit text events rest one (inr r) =
     let found : version_of text ≡ Some r.version = made_version r.version text events rest r.made in
     let same : r.version ≡ version.One = (cc) in
-    subst (λ (v : Version). length text ≤ poison_length v * limit + 8) same (made_short r.version limit text events rest r.made r.follows)
+    subst (λ (v : Version). length text ≤ poison_length v * limit + 8) same
+    (made_short r.version limit text events rest r.made r.follows)

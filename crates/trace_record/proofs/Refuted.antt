@@ -1,5 +1,6 @@
 -- Answers and ends that the contracts refuse. Each lemma is named for what would have gone wrong.
-use Rattle.std.proofs.Common.{◌≡◌, ℕ, ◌+◌, ◌*◌, ◌<◌, ◌≤◌, ◌⊎◌, inl, inr, Bool, true, false, List, [], ◌∷◌, ◌++◌, Some, None, refl, ap, arith}
+use Rattle.std.proofs.Common.{◌≡◌, ℕ, ◌+◌, ◌*◌, ◌<◌, ◌≤◌, ◌⊎◌, inl, inr, Bool, true, false, List, [], ◌∷◌, ◌++◌, Some}
+use Rattle.std.proofs.Common.{None, refl, ap, arith}
 use Rattle.std.specs.Prelude.{◌≢◌, IsTrue, length}
 use Rattle.trace_record.specs.declared.event.Event.{Event}
 use Rattle.trace_record.specs.declared.event.Region.{Region}

@@ -4,5 +4,6 @@ use Rattle.asan_check.proofs.lines.end_text.Goals as goal
 
 pub truncate-requires : goal.truncate-requires
 truncate-requires g c = λ _. rw c.len-before.ensures (
-    may_be_cut_back _ c.args.text.now c.push_end-answer.new.text c.push_end-answer.result c.push_end-answer.ensures.appends (sym c.is_err.ensures.value ∙ c.if-is_err.true)
+    may_be_cut_back _ c.args.text.now c.push_end-answer.new.text c.push_end-answer.result
+    c.push_end-answer.ensures.appends (sym c.is_err.ensures.value ∙ c.if-is_err.true)
     )

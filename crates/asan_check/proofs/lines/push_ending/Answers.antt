@@ -28,4 +28,5 @@ returns-in_ok-push_number-in-Ran-2-clause-short g c =
     let second : length events ≤ 20 = c.push_number.ensures.short in
     let third : length offset ≤ 20 = c.push_number-in-Ran.ensures.short in
     let fourth : length reports ≤ 20 = c.push_number-in-Ran-2.ensures.short in
-    on_ok c.push_number-in-Ran-2.result (rw c.in-Ran.is (ran_short fate events offset reports first second third fourth))
+    on_ok c.push_number-in-Ran-2.result (rw c.in-Ran.is
+    (ran_short fate events offset reports first second third fourth))

@@ -37,8 +37,10 @@ loop-preserved g c =
     let after = (g.D.Door.seen c.next.new.self).to_arrive in
     let arrived : Arrived before after (xs ++ a ∷ []) =
     elim c.match-next.branch [
-      | in-Came w ↦ rw w.arrival-is (arrived_came _ _ _ xs _ c.loop.invariant.arrived (rw w.in-Came.is at c.next.ensures.order))
-      | in-Refused w ↦ rw w.arrival-is (arrived_refused _ _ _ xs c.loop.invariant.arrived (rw w.in-Refused.is at c.next.ensures.order))
+      | in-Came w ↦ rw w.arrival-is (arrived_came _ _ _ xs _ c.loop.invariant.arrived
+          (rw w.in-Came.is at c.next.ensures.order))
+      | in-Refused w ↦ rw w.arrival-is (arrived_refused _ _ _ xs c.loop.invariant.arrived
+          (rw w.in-Refused.is at c.next.ensures.order))
     ] in
     let fresh : IsArrived g.D.Feed.Feed.seen a =
     elim c.match-next.branch [
@@ -76,7 +78,8 @@ loop-preserved g c =
     }
 
 pub returns-in-Over-clause-arrived : goal.returns-in-Over-clause-arrived
-returns-in-Over-clause-arrived g c = arrived_over _ _ _ _ c.loop.invariant.arrived (rw c.in-Over.is at c.next.ensures.order)
+returns-in-Over-clause-arrived g c = arrived_over _ _ _ _ c.loop.invariant.arrived
+    (rw c.in-Over.is at c.next.ensures.order)
 
 pub returns-in-Over-clause-refused : goal.returns-in-Over-clause-refused
 returns-in-Over-clause-refused g c = (rw c.in-Over.is at c.next.ensures.count) ∙ c.loop.invariant.refused
@@ -86,7 +89,8 @@ returns-in-Over-clause-all g c = inl (c.next.ensures.over (rw c.in-Over.is refl)
 
 pub returns-in-Over-clause-count : goal.returns-in-Over-clause-count
 returns-in-Over-clause-count g c =
-    let few : length c.loop.arrivals.items ≤ 256 = (let count = c.loop.invariant.count in let turns = c.loop-test.true in omega arith) in
+    let few : length c.loop.arrivals.items ≤ 256 =
+    (let count = c.loop.invariant.count in let turns = c.loop-test.true in omega arith) in
     left_over _ _ _ _ _ few c.loop.invariant.left (rw c.in-Over.is at c.next.ensures.turn)
 
 pub returns-after-loop-clause-count : goal.returns-after-loop-clause-count

@@ -17,6 +17,7 @@ loop-i-preserved g c =
     let low : c.loop-i.i < length ys = search rules in
     elim c.match-index.branch [
       | in-Lost w ↦ rw w.senders-is (each_set GivesUp gives_up_on c.loop-i.i xs ys w.give_up.new.sender (omega arith)
-          (λ d. rw (sym (w.index_mut.ensures.value ∙ get_or_default ys c.loop-i.i w.index_mut.result.now d low)) w.give_up.ensures) c.loop-i.invariant)
+          (λ d. rw (sym (w.index_mut.ensures.value ∙ get_or_default ys c.loop-i.i w.index_mut.result.now d low))
+          w.give_up.ensures) c.loop-i.invariant)
       | in_default w ↦ rw w.senders-is c.loop-i.invariant
     ]

@@ -12,11 +12,13 @@ loop-k-preserved g c =
     let low : k < length now = search rules in
     let here : k < length shares = search rules in
     let is : (d : _) → c.replace-checker.result ≡ slice_index_or c.args.checkers.items k d =
-    λ d. c.replace-checker.ensures.value ∙ (c.index_mut.ensures.value ∙ (get_or_default now k c.index_mut.result.now d low ∙ inv.rest k d (omega arith))) in
+    λ d. c.replace-checker.ensures.value ∙ (c.index_mut.ensures.value
+    ∙ (get_or_default now k c.index_mut.result.now d low ∙ inv.rest k d (omega arith))) in
     record {
       same = inv.same;
       all = inv.all;
-      rest = λ i d above. get_or-set_other now k i c.replace-checker.new.dest d (λ e. omega arith) ∙ inv.rest i d (omega arith);
+      rest = λ i d above. get_or-set_other now k i c.replace-checker.new.dest d (λ e. omega arith)
+          ∙ inv.rest i d (omega arith);
       done = λ i d e below. elim (cases_eq i k) [
         | inl same ↦ rw (same, ← is d, get_or-set_same shares k c.end.result e here) c.end.ensures
         | inr other ↦ rw (get_or-set_other shares k i c.end.result e other) (inv.done i d e (omega arith))

@@ -10,13 +10,16 @@ loop-k-preserved g c =
     let k = c.loop-k.k in
     let low : k < length now = search rules in
     let is : (d : _) → c.replace-share.result ≡ slice_index_or c.args.shares.now.items k d =
-    λ d. c.replace-share.ensures.value ∙ (c.index_mut.ensures.value ∙ (get_or_default now k c.index_mut.result.now d low ∙ inv.1.rest k d (omega arith))) in
-    let here : (e : _) → slice_index_or c.push.new.self.items k e ≡ c.begin.result = λ e. rw (← inv.1.done) (c.in-Ok.ensures.by_index.1 e refl) in (
+    λ d. c.replace-share.ensures.value ∙ (c.index_mut.ensures.value
+    ∙ (get_or_default now k c.index_mut.result.now d low ∙ inv.1.rest k d (omega arith))) in
+    let here : (e : _) → slice_index_or c.push.new.self.items k e ≡ c.begin.result =
+    λ e. rw (← inv.1.done) (c.in-Ok.ensures.by_index.1 e refl) in (
       inv.0,
       record {
         done = omega (arith, inv.1.done, c.in-Ok.ensures.len);
         fits = omega (arith, inv.1.fits, c.in-Ok.ensures.capacity);
-        rest = λ i d above. get_or-set_other now k i c.replace-share.new.dest d (λ e. omega arith) ∙ inv.1.rest i d (omega arith);
+        rest = λ i d above. get_or-set_other now k i c.replace-share.new.dest d (λ e. omega arith)
+            ∙ inv.1.rest i d (omega arith);
         each = λ i d e below. elim (cases_eq i k) [
           | inl same ↦ rw (same, ← is d, here e) c.begin.ensures
           | inr other ↦ rw (c.in-Ok.ensures.by_index.0 i e (omega (arith, inv.1.done))) (inv.1.each i d e (omega arith))

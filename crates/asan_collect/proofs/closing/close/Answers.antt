@@ -13,7 +13,15 @@ returns-clause-lines g c = λ start log printed lines.
     let reports = reports_of answer.outcome in
     let before = report_lines process (taken_at c.args.port) in
     record {
-      lines = (before ++ report_lines process (drop answer.printed reports)) ++ end_line process (ending_of answer.outcome) ∷ [];
-      adds = rw (c.ending.ensures, c.reports-reports.ensures, c.min-printed.ensures, c.reports-reports.ensures, rest_whole answer.printed reports) at (c.close.ensures.adds start log before printed lines);
-      printed = printed_whole process answer.printed (taken_at c.args.port) answer.outcome c.settle_sender-outcome.ensures.printed;
+      lines = (before ++ report_lines process (drop answer.printed reports))
+          ++ end_line process (ending_of answer.outcome) ∷ [];
+      adds = rw (
+        c.ending.ensures,
+        c.reports-reports.ensures,
+        c.min-printed.ensures,
+        c.reports-reports.ensures,
+        rest_whole answer.printed reports,
+      ) at (c.close.ensures.adds start log before printed lines);
+      printed = printed_whole process answer.printed (taken_at c.args.port) answer.outcome
+          c.settle_sender-outcome.ensures.printed;
     }

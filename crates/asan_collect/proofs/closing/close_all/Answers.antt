@@ -1,4 +1,5 @@
-use Rattle.std.proofs.Common.{◌≡◌, ◌<◌, ◌∙◌, ◌++◌, ◌∷◌, [], None, sym, subst, refl, ap, length, arith, rules, slice_index_or, inl, inr}
+use Rattle.std.proofs.Common.{◌≡◌, ◌<◌, ◌∙◌, ◌++◌, ◌∷◌, [], None, sym, subst, refl, ap, length, arith, rules}
+use Rattle.std.proofs.Common.{slice_index_or, inl, inr}
 use Rattle.std.proofs.lemmas.Bool.{cases_eq}
 use Rattle.std.proofs.lemmas.List.{get_or_default, get_or-set_other}
 use Rattle.asan_print.specs.Logs.{lines_of, report_lines}
@@ -14,12 +15,14 @@ loop-i-init g c = record {
   wide = refl;
   going = record {
     done = (let whole = c.args.room.ok in omega (arith, whole.0, ap length c.requires.empty));
-    fits = (let few = c.requires.few in let room = c.requires.room in let whole = c.args.senders.ok in omega (arith, whole.0));
+    fits = (let few = c.requires.few in let room = c.requires.room in let whole = c.args.senders.ok in
+        omega (arith, whole.0));
     rest = λ k d above. refl;
     each = λ k d e below. absurd (omega arith);
   };
   rest = λ k d above. refl;
-  lines = λ start h. none_closed start _ c.args.printers.printer c.args.printers.ports.items c.args.room.items c.requires.empty h;
+  lines = λ start h. none_closed start _ c.args.printers.printer c.args.printers.ports.items c.args.room.items
+      c.requires.empty h;
 }
 
 pub close-outcome-requires-clause-joined : goal.close-outcome-requires-clause-joined
@@ -29,7 +32,9 @@ close-outcome-requires-clause-joined g c =
     let i = c.loop-i.i in
     let low : i < length now = search rules in
     let was = c.replace-sender.result in
-    let is : was ≡ slice_index_or c.args.senders.items i was = c.replace-sender.ensures.value ∙ (c.index_mut.ensures.value ∙ (get_or_default now i c.index_mut.result.now was low ∙ inv.going.rest i was (omega arith))) in
+    let is : was ≡ slice_index_or c.args.senders.items i was = c.replace-sender.ensures.value
+    ∙ (c.index_mut.ensures.value ∙ (get_or_default now i c.index_mut.result.now was low
+    ∙ inv.going.rest i was (omega arith))) in
     subst IsJoined (sym is) (c.requires.joined.each i was (search rules))
 
 pub close-outcome-requires-clause-port : goal.close-outcome-requires-clause-port
@@ -45,9 +50,14 @@ close-outcome-requires-clause-port g c =
     let port_low : i < length ports = search rules in
     let was = c.replace-sender.result in
     let port = c.replace-port.result in
-    let is : was ≡ slice_index_or c.args.senders.items i was = c.replace-sender.ensures.value ∙ (c.index_mut.ensures.value ∙ (get_or_default now i c.index_mut.result.now was low ∙ inv.going.rest i was (omega arith))) in
-    let port_is : port ≡ slice_index_or c.args.printers.ports.items i None = c.replace-port.ensures.value ∙ (c.index_mut-in-loop-i.ensures.value ∙ (get_or_default ports i c.index_mut-in-loop-i.result.now None port_low ∙ inv.rest i None (omega arith))) in
-    fits_at_port port was (subst (λ x. Fits (lane_at x) was) (sym port_is) (subst (Fits (lanes_of c.args.printers.ports.items i)) (sym is) (c.requires.fits.each i was first)))
+    let is : was ≡ slice_index_or c.args.senders.items i was = c.replace-sender.ensures.value
+    ∙ (c.index_mut.ensures.value ∙ (get_or_default now i c.index_mut.result.now was low
+    ∙ inv.going.rest i was (omega arith))) in
+    let port_is : port ≡ slice_index_or c.args.printers.ports.items i None = c.replace-port.ensures.value
+    ∙ (c.index_mut-in-loop-i.ensures.value ∙ (get_or_default ports i c.index_mut-in-loop-i.result.now None port_low
+    ∙ inv.rest i None (omega arith))) in
+    fits_at_port port was (subst (λ x. Fits (lane_at x) was) (sym port_is)
+    (subst (Fits (lanes_of c.args.printers.ports.items i)) (sym is) (c.requires.fits.each i was first)))
 
 pub loop-i-preserved : goal.loop-i-preserved
 loop-i-preserved g c =
@@ -64,29 +74,38 @@ loop-i-preserved g c =
     let port_first : i < length c.args.printers.ports.items = search rules in
     let port = c.replace-port.result in
     let is : (d : _) → c.replace-sender.result ≡ slice_index_or c.args.senders.items i d =
-    λ d. c.replace-sender.ensures.value ∙ (c.index_mut.ensures.value ∙ (get_or_default now i c.index_mut.result.now d low ∙ inv.going.rest i d (omega arith))) in
-    let port_is : port ≡ slice_index_or c.args.printers.ports.items i None = c.replace-port.ensures.value ∙ (c.index_mut-in-loop-i.ensures.value ∙ (get_or_default ports i c.index_mut-in-loop-i.result.now None port_low ∙ inv.rest i None (omega arith))) in
+    λ d. c.replace-sender.ensures.value ∙ (c.index_mut.ensures.value
+    ∙ (get_or_default now i c.index_mut.result.now d low ∙ inv.going.rest i d (omega arith))) in
+    let port_is : port ≡ slice_index_or c.args.printers.ports.items i None = c.replace-port.ensures.value
+    ∙ (c.index_mut-in-loop-i.ensures.value ∙ (get_or_default ports i c.index_mut-in-loop-i.result.now None port_low
+    ∙ inv.rest i None (omega arith))) in
     let long : length outcomes ≡ i = search rules in
     let pushed : c.push.new.self.items ≡ outcomes ++ result ∷ [] = search rules in
-    let here : (e : _) → slice_index_or c.push.new.self.items i e ≡ result = λ e. rw (← inv.going.done) (c.in-Ok.ensures.by_index.1 e refl) in
+    let here : (e : _) → slice_index_or c.push.new.self.items i e ≡ result =
+    λ e. rw (← inv.going.done) (c.in-Ok.ensures.by_index.1 e refl) in
     record {
       same = inv.same;
       wide = inv.wide;
       going = record {
         done = omega (arith, inv.going.done, c.in-Ok.ensures.len);
         fits = omega (arith, inv.going.fits, c.in-Ok.ensures.capacity);
-        rest = λ k d above. get_or-set_other now i k c.replace-sender.new.dest d (λ e. omega arith) ∙ inv.going.rest k d (omega arith);
+        rest = λ k d above. get_or-set_other now i k c.replace-sender.new.dest d (λ e. omega arith)
+            ∙ inv.going.rest k d (omega arith);
         each = λ k d e below. elim (cases_eq k i) [
           | inl same ↦ rw (same, ← is d, here e) c.close-outcome.ensures.outcome
-          | inr other ↦ rw (c.in-Ok.ensures.by_index.0 k e (omega (arith, inv.going.done))) (inv.going.each k d e (omega arith))
+          | inr other ↦ rw (c.in-Ok.ensures.by_index.0 k e (omega (arith, inv.going.done)))
+              (inv.going.each k d e (omega arith))
         ];
       };
-      rest = λ k d above. get_or-set_other ports i k c.replace-port.new.dest d (λ e. omega arith) ∙ inv.rest k d (omega arith);
+      rest = λ k d above. get_or-set_other ports i k c.replace-port.new.dest d (λ e. omega arith)
+          ∙ inv.rest k d (omega arith);
       lines = λ start h.
           let was = inv.lines start h in
-          let own : lines_of i was.log ≡ report_lines i (taken_at port) = was.waiting i None (omega arith) port_first ∙ ap (λ o. report_lines i (taken_at o)) (sym port_is) in
+          let own : lines_of i was.log ≡ report_lines i (taken_at port) = was.waiting i None (omega arith) port_first
+          ∙ ap (λ o. report_lines i (taken_at o)) (sym port_is) in
           let closes = c.close-outcome.ensures.lines start was.log was.printed own in
-          rw pushed (one_closed start _ c.close-outcome.new.printer c.args.printers.ports.items outcomes result _ c.loop-i.printer was (omega arith) (rw long closes));
+          rw pushed (one_closed start _ c.close-outcome.new.printer c.args.printers.ports.items outcomes result _
+          c.loop-i.printer was (omega arith) (rw long closes));
     }
 
 pub returns-clause-outcomes : goal.returns-clause-outcomes
@@ -101,5 +120,6 @@ returns-clause-printed g c = λ start h.
     let done = inv.going.done in
     let all = c.requires.ports in
     let same : length c.loop-i.outcomes.items ≡ length c.args.printers.ports.items = search rules in
-    all_closed start _ _ c.loop-i.printer c.args.printers.ports.items c.loop-i.outcomes.items c.finish-wrote.result same (inv.lines start h)
+    all_closed start _ _ c.loop-i.printer c.args.printers.ports.items c.loop-i.outcomes.items c.finish-wrote.result same
+    (inv.lines start h)
     c.finish-wrote.ensures.ok c.finish-wrote.ensures.fault c.finish-wrote.ensures.short

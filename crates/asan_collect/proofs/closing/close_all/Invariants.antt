@@ -12,7 +12,8 @@ invariant-loop-i g l = record {
   wide : vec_len l.ports ≡ vec_len l.initial.ports;
   going : Going (Gets g.F.Feed.seen) (vec_len l.initial.senders) l.i (vec_len l.outcomes) (vec_capacity l.outcomes)
       (slice_index_or l.initial.senders.items) (slice_index_or l.senders.items) (slice_index_or l.outcomes.items);
-  rest : (k : ℕ) (d : Option (Port g.row.A.Denot)) → l.i ≤ k → slice_index_or l.ports.items k d ≡ slice_index_or l.initial.ports.items k d;
+  rest : (k : ℕ) (d : Option (Port g.row.A.Denot)) → l.i ≤ k
+      → slice_index_or l.ports.items k d ≡ slice_index_or l.initial.ports.items k d;
   lines : (start : Option (List ℕ)) →
       Follows start (g.W.Write.contents l.initial.w) l.initial.printer l.initial.ports.items →
       HasClosed start (g.W.Write.contents l.w) l.printer l.initial.ports.items l.outcomes.items;

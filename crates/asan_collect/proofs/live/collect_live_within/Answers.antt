@@ -12,8 +12,11 @@ use Rattle.asan_collect.proofs.live.collect_live_within.Goals as goal
 pub returns-clause-collected : goal.returns-clause-collected
 returns-clause-collected g c =
     let asked = c.ask-arrivals.ensures in
-    collected g.D.Feed.Feed.seen c.args.options (g.D.Door.seen c.args.door.now) (g.D.Door.seen c.ask-arrivals.new.door) c.ask-arrivals.result.items c.open_all-opened.result.senders.items c.run_printing-back.result.0.senders.items c.place_all.new.senders.items c.close_all.result.outcomes.items
-    asked.arrived asked.all asked.refused asked.count asked.few c.open_all-opened.ensures.came c.run_printing-back.ensures.senders c.place_all.ensures.rejoins c.close_all.ensures.outcomes
+    collected g.D.Feed.Feed.seen c.args.options (g.D.Door.seen c.args.door.now) (g.D.Door.seen c.ask-arrivals.new.door)
+    c.ask-arrivals.result.items c.open_all-opened.result.senders.items c.run_printing-back.result.0.senders.items
+    c.place_all.new.senders.items c.close_all.result.outcomes.items
+    asked.arrived asked.all asked.refused asked.count asked.few c.open_all-opened.ensures.came
+    c.run_printing-back.ensures.senders c.place_all.ensures.rejoins c.close_all.ensures.outcomes
 
 pub place_all-requires : goal.place_all-requires
 place_all-requires g c =
@@ -21,8 +24,10 @@ place_all-requires g c =
     let limit = c.args.options.limit in
     let opened = c.open_all-opened.result in
     let back = c.run_printing-back.result.0 in
-    shares_kept (Becomes seen limit) (becomes_keeps seen limit) c.args.options.quarantine opened.senders.items back.senders.items back.shares.items c.run_printing-back.ensures.senders
-    (shares_back c.args.options.quarantine opened.senders.items opened.shares.items back.shares.items c.run_printing-back.ensures.shares c.open_all-opened.ensures.shares)
+    shares_kept (Becomes seen limit) (becomes_keeps seen limit) c.args.options.quarantine opened.senders.items
+    back.senders.items back.shares.items c.run_printing-back.ensures.senders
+    (shares_back c.args.options.quarantine opened.senders.items opened.shares.items back.shares.items
+    c.run_printing-back.ensures.shares c.open_all-opened.ensures.shares)
 
 pub close_all-requires-clause-room : goal.close_all-requires-clause-room
 close_all-requires-clause-room g c =
@@ -37,7 +42,8 @@ pub close_all-requires-clause-joined : goal.close_all-requires-clause-joined
 close_all-requires-clause-joined g c =
     let seen = g.D.Feed.Feed.seen in
     pairs_joined seen c.args.options c.ask-arrivals.result.items c.place_all.new.senders.items
-    (pairs_back seen c.args.options c.ask-arrivals.result.items c.open_all-opened.result.senders.items c.run_printing-back.result.0.senders.items c.place_all.new.senders.items
+    (pairs_back seen c.args.options c.ask-arrivals.result.items c.open_all-opened.result.senders.items
+    c.run_printing-back.result.0.senders.items c.place_all.new.senders.items
     c.open_all-opened.ensures.came c.run_printing-back.ensures.senders c.place_all.ensures.rejoins)
 
 pub ask-arrivals-requires-clause-empty : goal.ask-arrivals-requires-clause-empty
@@ -55,12 +61,16 @@ close_all-requires-clause-fits g c =
     let a = c.open_all-opened.ensures.ports in
     let b = c.run_printing-back.ensures.senders.same_length in
     let d = c.place_all.ensures.rejoins.same_length in
-    fit_same opened.ports.items back.1.ports.items c.place_all.new.senders.items (omega arith) c.run_printing-back.ensures.printed.lanes
-    (c.place_all.ensures.fit lanes (fit_read seen c.args.options.limit lanes opened.senders.items back.0.senders.items c.run_printing-back.ensures.senders c.open_all-opened.ensures.fits)
-    (have_back lanes opened.shares.items back.0.shares.items c.run_printing-back.ensures.shares c.open_all-opened.ensures.have))
+    fit_same opened.ports.items back.1.ports.items c.place_all.new.senders.items (omega arith)
+    c.run_printing-back.ensures.printed.lanes
+    (c.place_all.ensures.fit lanes (fit_read seen c.args.options.limit lanes opened.senders.items back.0.senders.items
+    c.run_printing-back.ensures.senders c.open_all-opened.ensures.fits)
+    (have_back lanes opened.shares.items back.0.shares.items c.run_printing-back.ensures.shares
+    c.open_all-opened.ensures.have))
 
 pub returns-clause-printed : goal.returns-clause-printed
 returns-clause-printed g c =
     let start = g.W.Write.contents c.args.w.now in
     c.close_all.ensures.printed start (c.run_printing-back.ensures.printed.lines start
-    (follows_start start c.new-printer.result c.open_all-opened.result.ports.items (c.new-printer.ensures start) c.open_all-opened.ensures.untaken))
+    (follows_start start c.new-printer.result c.open_all-opened.result.ports.items (c.new-printer.ensures start)
+    c.open_all-opened.ensures.untaken))

@@ -7,9 +7,11 @@ loop-init g c = record { lanes = same_lanes c.args.printers.now.ports.items; lin
 
 pub loop-preserved : goal.loop-preserved
 loop-preserved g c =
-    let lanes : SameLanes c.loop.printers.ports.items c.round.new.ports = rw c.deref_mut.ensures.value at c.round.ensures.lanes in
+    let lanes : SameLanes c.loop.printers.ports.items c.round.new.ports =
+    rw c.deref_mut.ensures.value at c.round.ensures.lanes in
     let lines = rw c.deref_mut.ensures.value at c.round.ensures.lines in
-    let back = written_back c.loop.printers.ports.len c.loop.printers.ports.items c.round.new.ports lanes.same_length c.loop.printers.ports.ok.0 in
+    let back = written_back c.loop.printers.ports.len c.loop.printers.ports.items c.round.new.ports lanes.same_length
+    c.loop.printers.ports.ok.0 in
     record {
       lanes = rw back (same_lanes_on _ _ _ c.loop.invariant.lanes lanes);
       lines = λ start h. rw back (lines start (c.loop.invariant.lines start h));
@@ -17,9 +19,11 @@ loop-preserved g c =
 
 pub loop-preserved-then-round : goal.loop-preserved-then-round
 loop-preserved-then-round g c =
-    let lanes : SameLanes c.loop.printers.ports.items c.round.new.ports = rw c.deref_mut.ensures.value at c.round.ensures.lanes in
+    let lanes : SameLanes c.loop.printers.ports.items c.round.new.ports =
+    rw c.deref_mut.ensures.value at c.round.ensures.lanes in
     let lines = rw c.deref_mut.ensures.value at c.round.ensures.lines in
-    let back = written_back c.loop.printers.ports.len c.loop.printers.ports.items c.round.new.ports lanes.same_length c.loop.printers.ports.ok.0 in
+    let back = written_back c.loop.printers.ports.len c.loop.printers.ports.items c.round.new.ports lanes.same_length
+    c.loop.printers.ports.ok.0 in
     record {
       lanes = rw back (same_lanes_on _ _ _ c.loop.invariant.lanes lanes);
       lines = λ start h. rw back (lines start (c.loop.invariant.lines start h));
@@ -27,9 +31,11 @@ loop-preserved-then-round g c =
 
 pub returns-then-is_last : goal.returns-then-is_last
 returns-then-is_last g c =
-    let lanes : SameLanes c.loop.printers.ports.items c.round.new.ports = rw c.deref_mut.ensures.value at c.round.ensures.lanes in
+    let lanes : SameLanes c.loop.printers.ports.items c.round.new.ports =
+    rw c.deref_mut.ensures.value at c.round.ensures.lanes in
     let lines = rw c.deref_mut.ensures.value at c.round.ensures.lines in
-    let back = written_back c.loop.printers.ports.len c.loop.printers.ports.items c.round.new.ports lanes.same_length c.loop.printers.ports.ok.0 in
+    let back = written_back c.loop.printers.ports.len c.loop.printers.ports.items c.round.new.ports lanes.same_length
+    c.loop.printers.ports.ok.0 in
     record {
       lanes = rw back (same_lanes_on _ _ _ c.loop.invariant.lanes lanes);
       lines = λ start h. rw back (lines start (c.loop.invariant.lines start h));

@@ -12,7 +12,8 @@ loop-i-preserved g c =
     let ys = c.loop-i.senders.items in
     let low : c.loop-i.i < length ys = search rules in
     upto_set (Ends g.F.Feed.seen) c.loop-i.i c.args.senders.now.items ys c.finish_at.new.sender low
-    (λ d. rw (sym (c.index_mut.ensures.value ∙ get_or_default ys c.loop-i.i c.index_mut.result.now d low)) c.finish_at.ensures) c.loop-i.invariant
+    (λ d. rw (sym (c.index_mut.ensures.value ∙ get_or_default ys c.loop-i.i c.index_mut.result.now d low))
+    c.finish_at.ensures) c.loop-i.invariant
 
 pub returns : goal.returns
 returns g c =

@@ -12,7 +12,8 @@ start_at-requires-clause-fresh g c κs within =
     let ys = c.loop-i.senders.items in
     let low : c.loop-i.i < length ys = search rules in
     let d = c.index_mut.result.now in
-    let is : d ≡ slice_index_or c.args.senders.now.items c.loop-i.i d = c.index_mut.ensures.value ∙ (get_or_default ys c.loop-i.i d d low ∙ c.loop-i.invariant.rest c.loop-i.i d (omega arith)) in
+    let is : d ≡ slice_index_or c.args.senders.now.items c.loop-i.i d = c.index_mut.ensures.value
+    ∙ (get_or_default ys c.loop-i.i d d low ∙ c.loop-i.invariant.rest c.loop-i.i d (omega arith)) in
     let len = c.loop-i.invariant.same_length in
     subst (IsFresh g.F.Feed.seen) (sym is) (c.requires.fresh.each c.loop-i.i d (omega arith))
 
@@ -20,8 +21,10 @@ pub loop-i-preserved : goal.loop-i-preserved
 loop-i-preserved g c =
     let ys = c.loop-i.senders.items in
     let low : c.loop-i.i < length ys = search rules in
-    upto_set (WillBe g.F.Feed.seen c.args.crew.now.options.limit) c.loop-i.i c.args.senders.now.items ys c.start_at.new.sender low
-    (λ d. rw (sym (c.index_mut.ensures.value ∙ get_or_default ys c.loop-i.i c.index_mut.result.now d low)) c.start_at.ensures) c.loop-i.invariant
+    upto_set (WillBe g.F.Feed.seen c.args.crew.now.options.limit) c.loop-i.i c.args.senders.now.items ys
+    c.start_at.new.sender low
+    (λ d. rw (sym (c.index_mut.ensures.value ∙ get_or_default ys c.loop-i.i c.index_mut.result.now d low))
+    c.start_at.ensures) c.loop-i.invariant
 
 pub returns : goal.returns
 returns g c =

@@ -8,7 +8,8 @@ abbrev pub invariant-loop-bench : goal.invariant-loop-bench
 invariant-loop-bench g l =
     Each (Rejoins g.F.Feed.seen l.bound) l.initial.senders.items l.senders.items
     × AreAt l.bound l.initial.senders.items l.benches.items
-    × ((lanes : ℕ → Option (Lane g.row.A.Denot)) → AllFit lanes l.initial.senders.items → AllHave lanes l.initial.benches.items →
+    × ((lanes : ℕ → Option (Lane g.row.A.Denot)) → AllFit lanes l.initial.senders.items
+    → AllHave lanes l.initial.benches.items →
     AllFit lanes l.senders.items × AllHave lanes l.benches.items)
 
 abbrev pub decreases-loop-bench : goal.decreases-loop-bench

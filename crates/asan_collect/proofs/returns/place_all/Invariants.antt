@@ -9,7 +9,8 @@ abbrev pub invariant-loop-share : goal.invariant-loop-share
 invariant-loop-share g l =
     Each (Rejoins g.F.Feed.seen l.bound) l.initial.senders.items l.senders.items
     × SharesAt l.bound l.initial.senders.items l.shares.items
-    × ((lanes : ℕ → Option (Lane g.row.A.Denot)) → AllFit lanes l.initial.senders.items → SharesHave lanes l.initial.shares.items →
+    × ((lanes : ℕ → Option (Lane g.row.A.Denot)) → AllFit lanes l.initial.senders.items
+    → SharesHave lanes l.initial.shares.items →
     AllFit lanes l.senders.items × SharesHave lanes l.shares.items)
 
 abbrev pub decreases-loop-share : goal.decreases-loop-share

@@ -7,16 +7,20 @@ use Rattle.asan_collect.proofs.threads.run_in.Goals as goal
 
 pub returns-clause-senders : goal.returns-clause-senders
 returns-clause-senders g c =
-    read_all g.F.Feed.seen c.args.crew.now.options.limit c.args.senders.now.items c.start_all-checkers.new.senders.items c.join_all.new.senders.items c.start_all-checkers.ensures.senders c.join_all.ensures.senders
+    read_all g.F.Feed.seen c.args.crew.now.options.limit c.args.senders.now.items c.start_all-checkers.new.senders.items
+    c.join_all.new.senders.items c.start_all-checkers.ensures.senders c.join_all.ensures.senders
 
 pub returns-clause-shares : goal.returns-clause-shares
 returns-clause-shares g c =
     let xs = c.args.shares.now.items in
     let low : 0 < length xs = search rules in
     let was = c.replace-benches.result in
-    let is : (d : _) → was ≡ slice_index_or xs 0 d = λ d. c.replace-benches.ensures.value ∙ (c.index_mut.ensures.value ∙ get_or_default xs 0 c.index_mut.result.now d low) in
-    each_put ComesBack 0 xs c.join_all.new.shares.items c.replace-benches.new.dest c.run_checker-benches.result low (λ d. rw (← is d) (inl c.run_checker-benches.ensures.later))
-    (checked_all _ c.join_all.new.shares.items c.start_all-checkers.result.items c.start_all-checkers.ensures.shares c.join_all.ensures.shares)
+    let is : (d : _) → was ≡ slice_index_or xs 0 d = λ d. c.replace-benches.ensures.value
+    ∙ (c.index_mut.ensures.value ∙ get_or_default xs 0 c.index_mut.result.now d low) in
+    each_put ComesBack 0 xs c.join_all.new.shares.items c.replace-benches.new.dest c.run_checker-benches.result low
+    (λ d. rw (← is d) (inl c.run_checker-benches.ensures.later))
+    (checked_all _ c.join_all.new.shares.items c.start_all-checkers.result.items c.start_all-checkers.ensures.shares
+    c.join_all.ensures.shares)
 
 pub join_all-requires : goal.join_all-requires
 join_all-requires g c =

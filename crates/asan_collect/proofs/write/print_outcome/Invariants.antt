@@ -8,6 +8,7 @@ use Rattle.asan_collect.proofs.write.print_outcome.Given as goal
 abbrev pub invariant-loop-report : goal.invariant-loop-report
 invariant-loop-report g l = record {
   items : l.report-items ≡ reports_of l.outcome;
-  prints : Prints (g.W.Write.contents l.fn.w) (g.W.Write.contents l.w) l.fn.printer l.printer (flat_map (report_line l.process) (take l.report-index l.report-items));
+  prints : Prints (g.W.Write.contents l.fn.w) (g.W.Write.contents l.w) l.fn.printer l.printer
+      (flat_map (report_line l.process) (take l.report-index l.report-items));
   grows : printed_of l.printer ≤ printed_of l.fn.printer + longest_line * l.report-index;
 }

@@ -5,10 +5,13 @@ pub loop-init : goal.loop-init
 loop-init g c = each_refl c.args.benches.now.items
 
 pub returns-then-round-clause-later : goal.returns-then-round-clause-later
-returns-then-round-clause-later g c = each_trans c.args.benches.now.items c.loop.benches.items c.go_round-round.new.benches.items c.loop.invariant c.go_round-round.ensures.later
+returns-then-round-clause-later g c = each_trans c.args.benches.now.items c.loop.benches.items
+    c.go_round-round.new.benches.items c.loop.invariant c.go_round-round.ensures.later
 
 pub loop-preserved : goal.loop-preserved
-loop-preserved g c = each_trans c.args.benches.now.items c.loop.benches.items c.go_round-round.new.benches.items c.loop.invariant c.go_round-round.ensures.later
+loop-preserved g c = each_trans c.args.benches.now.items c.loop.benches.items c.go_round-round.new.benches.items
+    c.loop.invariant c.go_round-round.ensures.later
 
 pub loop-preserved-then-round-2 : goal.loop-preserved-then-round-2
-loop-preserved-then-round-2 g c = each_trans c.args.benches.now.items c.loop.benches.items c.go_round-round.new.benches.items c.loop.invariant c.go_round-round.ensures.later
+loop-preserved-then-round-2 g c = each_trans c.args.benches.now.items c.loop.benches.items
+    c.go_round-round.new.benches.items c.loop.invariant c.go_round-round.ensures.later

@@ -10,12 +10,14 @@ loop-i-init g c = (each_refl c.args.benches.now.items, λ ended k d below. absur
 pub loop-i-preserved : goal.loop-i-preserved
 loop-i-preserved g c =
     let low : c.loop-i.i < length c.loop-i.benches.items = search rules in (
-      each_worked c.args.benches.now.items c.loop-i.benches.items c.loop-i.i c.index_mut-bench.result.now c.work.new.self low c.index_mut-bench.ensures.value c.work.ensures.later c.loop-i.invariant.0,
+      each_worked c.args.benches.now.items c.loop-i.benches.items c.loop-i.i c.index_mut-bench.result.now
+          c.work.new.self low c.index_mut-bench.ensures.value c.work.ensures.later c.loop-i.invariant.0,
       λ ended. elim c.match-work.branch [
         | in-Items w ↦ let no : IsTrue false = subst (λ r. IsTrue r.ended) w.round-is ended in absurd cc
         | in-None w ↦ let no : IsTrue false = subst (λ r. IsTrue r.ended) w.round-is ended in absurd cc
         | in-End w ↦
             let before = c.loop-i.invariant.1 (subst (λ r. IsTrue r.ended) w.round-is ended) in
-            reported_worked c.loop-i.benches.items c.loop-i.i c.work.new.self low before (c.work.ensures.ends w.in-End.is)
+            reported_worked c.loop-i.benches.items c.loop-i.i c.work.new.self low before
+            (c.work.ensures.ends w.in-End.is)
       ],
     )

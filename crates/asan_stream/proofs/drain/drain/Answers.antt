@@ -14,12 +14,14 @@ loop-preserved g c =
     let some : 0 < length (waiting c.loop.lane) = omega arith in
     elim c.match-take.branch [
       | in-Some w ↦
-          let parts = taken_one (taken_list c.loop.lane) (waiting c.loop.lane) (taken_list c.take.new.self) (waiting c.take.new.self) (end_list c.args.end) _ c.loop.counter c.settle-left.result
+          let parts = taken_one (taken_list c.loop.lane) (waiting c.loop.lane) (taken_list c.take.new.self)
+          (waiting c.take.new.self) (end_list c.args.end) _ c.loop.counter c.settle-left.result
           inv.whole left (w.in-Some.ensures.known some) w.in-Some.ensures.some in
           record {
             whole = parts.0;
             left = parts.1;
-            seen = rw (w.checker-is, w.events-is, w.in-Some.ensures.some) (w.check_item.ensures c.args.checker (taken_list c.loop.lane) inv.seen);
+            seen = rw (w.checker-is, w.events-is, w.in-Some.ensures.some)
+                (w.check_item.ensures c.args.checker (taken_list c.loop.lane) inv.seen);
           }
       | in_default w ↦ absurd (false≢true (rw w.in_default.is at (c.take.ensures.succeeds some)))
     ]

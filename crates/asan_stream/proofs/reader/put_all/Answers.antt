@@ -9,5 +9,6 @@ loop-preserved g c =
     record {
       lane = search rules;
       within = search rules;
-      put = c.is_left.ensures.put ∙ put_further _ _ _ c.args.items.now _ c.loop.done c.put_some-more.result was.put (take_rest c.args.items.now c.loop.done) c.put_some-more.ensures.put;
+      put = c.is_left.ensures.put ∙ put_further _ _ _ c.args.items.now _ c.loop.done c.put_some-more.result was.put
+          (take_rest c.args.items.now c.loop.done) c.put_some-more.ensures.put;
     }

@@ -16,11 +16,14 @@ returns-then-batch g c =
     let events = read.1 ++ more in
     let feed = c.into_end-feed-then-batch.result.0 in
     let end = c.into_end-feed-then-batch.result.1 in
-    let ended : HasEnded seen c.args.limit c.args.feed batch.new.self events = rw c.if-batch.true at (batch.ensures.read c.args.limit c.args.feed read.0 read.1 read.2) in
-    let is_end : IsEndOf seen c.args.limit c.args.feed feed events end = c.into_end-feed-then-batch.ensures c.args.limit c.args.feed events ended in
+    let ended : HasEnded seen c.args.limit c.args.feed batch.new.self events =
+    rw c.if-batch.true at (batch.ensures.read c.args.limit c.args.feed read.0 read.1 read.2) in
+    let is_end : IsEndOf seen c.args.limit c.args.feed feed events end =
+    c.into_end-feed-then-batch.ensures c.args.limit c.args.feed events ended in
     reader_done seen c.args.limit c.args.feed feed c.args.lane c.put_events.new.lane c.close-lane_end.result end events
     c.close-lane_end.ensures (c.put_events.ensures.lane ∙ was.lane)
-    (batch_put (put_list c.args.lane) (put_list c.loop-events.lane) (put_list c.put_events.new.lane) read.1 more read.3 (c.put_events.ensures.put c.if-not-put_events.false))
+    (batch_put (put_list c.args.lane) (put_list c.loop-events.lane) (put_list c.put_events.new.lane) read.1 more read.3
+    (c.put_events.ensures.put c.if-not-put_events.false))
     is_end.spelled
 
 pub loop-events-preserved : goal.loop-events-preserved
@@ -40,7 +43,8 @@ loop-events-preserved g c =
         read.0 ++ after.0,
         read.1 ++ more,
         after.2,
-        batch_put (put_list c.args.lane) (put_list c.loop-events.lane) (put_list c.put_events.new.lane) read.1 more read.3 (c.put_events.ensures.put c.if-not-put_events.false),
+        batch_put (put_list c.args.lane) (put_list c.loop-events.lane) (put_list c.put_events.new.lane) read.1 more
+            read.3 (c.put_events.ensures.put c.if-not-put_events.false),
       );
     }
 
@@ -49,5 +53,6 @@ loop-events-smaller g c =
     let read = c.loop-events.invariant.read in
     let batch = c.next_batch-batch in
     let after = rw c.if-batch.false at (batch.ensures.read c.args.limit c.args.feed read.0 read.1 read.2) in
-    fewer_left c.loop-events.source.decoder batch.new.self.decoder read.0 after.0 read.1 (read.1 ++ take batch.result.count batch.new.events)
+    fewer_left c.loop-events.source.decoder batch.new.self.decoder read.0 after.0 read.1
+    (read.1 ++ take batch.result.count batch.new.events)
     (after.2.limit_is ∙ sym read.2.limit_is) after.1 read.2.decoder after.2.decoder

@@ -10,8 +10,10 @@ invariant-loop-from g l = record {
   within : l.from ≤ length l.events;
   counted : checked_of l.checker ≤ checked_of l.fn.checker + l.from;
   bound : bound_of l.checker ≡ bound_of l.fn.checker;
-  stands : (bound : ℕ) (past : List Event) → StandsOrFailed bound l.fn.checker past → StandsOrFailed bound l.checker (reverse (take l.from l.events) ++ past);
-  found : (bound : ℕ) (past : List Event) → StandsOrFailed bound l.fn.checker past → IsFront (reports_of l.fn.checker) (reports_of l.checker);
+  stands : (bound : ℕ) (past : List Event) → StandsOrFailed bound l.fn.checker past
+      → StandsOrFailed bound l.checker (reverse (take l.from l.events) ++ past);
+  found : (bound : ℕ) (past : List Event) → StandsOrFailed bound l.fn.checker past
+      → IsFront (reports_of l.fn.checker) (reports_of l.checker);
 }
 
 abbrev pub decreases-loop-from : goal.decreases-loop-from

@@ -15,7 +15,8 @@ check_each-requires g c =
     let room = c.loop-events.invariant.room in
     let count = batch.ensures.count in
     let same = batch.ensures.room in
-    let few : length (take batch.result.count batch.new.events) ≤ 64 = omega (arith, length-take-le batch.result.count batch.new.events (omega arith)) in
+    let few : length (take batch.result.count batch.new.events) ≤ 64 =
+    omega (arith, length-take-le batch.result.count batch.new.events (omega arith)) in
     record {
       room = room_for_batch _ _ read.1 (take batch.result.count batch.new.events)
           (checked_within c.args.options.quarantine c.loop-events.checker (reverse read.1) read.3)
@@ -33,10 +34,19 @@ returns-then-batch-clause-outcome g c =
     let events = read.1 ++ more in
     let feed = c.into_end-feed.result.0 in
     let end = c.into_end-feed.result.1 in
-    let ended : HasEnded seen limit c.args.feed batch.new.self events = rw c.if-batch.true at (batch.ensures.read limit c.args.feed read.0 read.1 read.2) in
-    let is_end : IsEndOf seen limit c.args.feed feed events end = c.into_end-feed.ensures limit c.args.feed events ended in
-    let stands : StandsOrFailed bound c.check_each.new.checker (reverse events) = rw (reverse-append read.1 more) (c.check_each.ensures.stands bound (reverse read.1) read.3) in
-    (feed, events, end, is_end.spelled, c.outcome_of.ensures.results bound events ∣ stands ∣₁ is_end.spelled.spells.count)
+    let ended : HasEnded seen limit c.args.feed batch.new.self events =
+    rw c.if-batch.true at (batch.ensures.read limit c.args.feed read.0 read.1 read.2) in
+    let is_end : IsEndOf seen limit c.args.feed feed events end =
+    c.into_end-feed.ensures limit c.args.feed events ended in
+    let stands : StandsOrFailed bound c.check_each.new.checker (reverse events) =
+    rw (reverse-append read.1 more) (c.check_each.ensures.stands bound (reverse read.1) read.3) in (
+      feed,
+      events,
+      end,
+      is_end.spelled,
+      c.outcome_of.ensures.results bound events ∣ stands ∣₁
+          is_end.spelled.spells.count,
+    )
 
 pub returns-then-batch-clause-soon : goal.returns-then-batch-clause-soon
 unfolding returns-then-batch-clause-outcome
@@ -46,8 +56,10 @@ returns-then-batch-clause-soon g c =
     let read = c.loop-events.invariant.read in
     let batch = c.next_batch-batch in
     let events = read.1 ++ take batch.result.count batch.new.events in
-    let ended : HasEnded seen limit c.args.feed batch.new.self events = rw c.if-batch.true at (batch.ensures.read limit c.args.feed read.0 read.1 read.2) in
-    stops_soon seen c.args.options c.args.feed c.into_end-feed.result.0 events c.into_end-feed.result.1 c.outcome_of.result
+    let ended : HasEnded seen limit c.args.feed batch.new.self events =
+    rw c.if-batch.true at (batch.ensures.read limit c.args.feed read.0 read.1 read.2) in
+    stops_soon seen c.args.options c.args.feed c.into_end-feed.result.0 events c.into_end-feed.result.1
+    c.outcome_of.result
     (returns-then-batch-clause-outcome g c).4 (c.into_end-feed.ensures limit c.args.feed events ended).soon
 
 pub returns-then-batch-clause-few : goal.returns-then-batch-clause-few
@@ -79,5 +91,6 @@ loop-events-smaller g c =
     let read = c.loop-events.invariant.read in
     let batch = c.next_batch-batch in
     let after = rw c.if-batch.false at (batch.ensures.read c.args.options.limit c.args.feed read.0 read.1 read.2) in
-    fewer_left c.loop-events.source.decoder batch.new.self.decoder read.0 after.0 read.1 (read.1 ++ take batch.result.count batch.new.events)
+    fewer_left c.loop-events.source.decoder batch.new.self.decoder read.0 after.0 read.1
+    (read.1 ++ take batch.result.count batch.new.events)
     (after.2.limit_is ∙ sym read.2.limit_is) after.1 read.2.decoder after.2.decoder

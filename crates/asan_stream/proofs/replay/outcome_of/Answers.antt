@@ -11,7 +11,8 @@ returns-then-checked-events-clause-results g c bound handed stands count =
       refl,
       refl,
       (let less = c.if-checked-events.true in omega arith),
-      c.into_reports-reports.ensures ∙ first_of_stream bound c.args.checker handed stands short ∙ ap (λ n. verdicts bound (take n handed)) (sym checked),
+      c.into_reports-reports.ensures ∙ first_of_stream bound c.args.checker handed stands short
+          ∙ ap (λ n. verdicts bound (take n handed)) (sym checked),
     )
 
 pub returns-else-checked-events-clause-results : goal.returns-else-checked-events-clause-results

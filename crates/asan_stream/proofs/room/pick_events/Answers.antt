@@ -19,17 +19,21 @@ loop-i-preserved c =
     elim c.match-items-i.branch [
       | in-Event w ↦
           let event = w.in-Event.event in
-          let more : take (i + 1) items ≡ before ++ item.Event event ∷ [] = take_more items i one low ∙ ap (λ x. before ++ x ∷ []) (sym c.index-items-i.is ∙ w.in-Event.is) in
-          let fits : count < length events = (let few = was.few in let room = was.room in let enough = c.requires.room in omega arith) in
+          let more : take (i + 1) items ≡ before ++ item.Event event ∷ [] = take_more items i one low
+          ∙ ap (λ x. before ++ x ∷ []) (sym c.index-items-i.is ∙ w.in-Event.is) in
+          let fits : count < length events = (let few = was.few in let room = was.room in
+          let enough = c.requires.room in omega arith) in
           rw (w.events-is, w.count-is, w.ended-is) (record {
             room = length-set events count event ∙ was.room;
             few = (let few = was.few in omega arith);
-            events = take_more_set events count event fits ∙ ap (λ es. es ++ event ∷ []) was.events ∙ sym (ap events_of more ∙ events_of-event before event);
+            events = take_more_set events count event fits ∙ ap (λ es. es ++ event ∷ []) was.events
+                ∙ sym (ap events_of more ∙ events_of-event before event);
             ended = was.ended ∙ sym (ap has_end more ∙ has_end-event before event);
           })
       | in-End w ↦
           let end = w.in-End.field-0 in
-          let more : take (i + 1) items ≡ before ++ item.End end ∷ [] = take_more items i one low ∙ ap (λ x. before ++ x ∷ []) (sym c.index-items-i.is ∙ w.in-End.is) in
+          let more : take (i + 1) items ≡ before ++ item.End end ∷ [] = take_more items i one low
+          ∙ ap (λ x. before ++ x ∷ []) (sym c.index-items-i.is ∙ w.in-End.is) in
           rw (w.events-is, w.count-is, w.ended-is) (record {
             room = was.room;
             few = (let few = was.few in omega arith);

@@ -9,7 +9,8 @@ use Rattle.heap_book.proofs.Following.{met, unmet-last, unmet-none}
 use Rattle.heap_book.proofs.slots.is_free.Goals as goal
 
 -- two spans of which one begins before the other ends, and does not end before the other begins
-meets-past : (b last : Extent) → IsPlaced b → IsPlaced last → last.at < span_to b + 32 → span_from b < span_to last → meets b last ≡ true
+meets-past : (b last : Extent) → IsPlaced b → IsPlaced last → last.at < span_to b + 32 → span_from b < span_to last
+    → meets b last ≡ true
 meets-past b last placed placed' before past = grind (arith, nat_tests)
 
 pub returns-in-Some : goal.returns-in-Some
@@ -24,13 +25,16 @@ returns-in-Some g c =
     let end : c.to.result ≡ span_to b = c.to.ensures.to in
     elim (cases_lt (span_from b) (span_to last)) [
       | inl lt ↦
-          let meet : meets b last ≡ true = meets-past b last c.to.ensures.placed c.to-in-Some.ensures.placed (omega arith) lt in
-          let any : list_any (meets b) (blocks_of c.args.blocks.now) ≡ true = met b last.at slot c.args.blocks.now is.1 meet in
+          let meet : meets b last ≡ true = meets-past b last c.to.ensures.placed c.to-in-Some.ensures.placed
+          (omega arith) lt in
+          let any : list_any (meets b) (blocks_of c.args.blocks.now) ≡ true =
+          met b last.at slot c.args.blocks.now is.1 meet in
           let test : leb c.to-in-Some.result c.from.result ≡ false = grind (arith, nat_tests) in
           rw (any, test) refl
       | inr le ↦
           let any : list_any (meets b) (blocks_of c.args.blocks.now) ≡ false =
-          unmet-last b 0 last.at slot c.args.blocks.now is.1 (λ p lt some. c.in-Some.ensures.2 p (omega arith) some) le c.requires in
+          unmet-last b 0 last.at slot c.args.blocks.now is.1 (λ p lt some. c.in-Some.ensures.2 p (omega arith) some) le
+          c.requires in
           let test : leb c.to-in-Some.result c.from.result ≡ true = grind (arith, nat_tests) in
           rw (any, test) refl
     ]

@@ -13,7 +13,8 @@ loop-run-preserved c =
     let more = length_on runs i lt in
     record {
       reached = omega arith;
-      filled = filled_on LEAF (λ index. slice_index c.args.bytes.now index) (λ index. slice_index c.loop-run.bytes index) (λ index. slice_index c.fill_bytes.new.bytes index)
+      filled = filled_on LEAF (λ index. slice_index c.args.bytes.now index)
+          (λ index. slice_index c.loop-run.bytes index) (λ index. slice_index c.fill_bytes.new.bytes index)
           c.args.from c.loop-run.at runs i lt reached
           _ (omega arith) (omega arith) c.loop-run.invariant.filled (λ index below. c.fill_bytes.ensures index);
     }

@@ -9,5 +9,6 @@ use Rattle.page_table.proofs.leaf.fill_runs.Given as goal
 abbrev pub invariant-loop-run : goal.invariant-loop-run
 invariant-loop-run l = record {
   reached : l.at ≡ l.from + length_of (take l.run-index l.runs);
-  filled : HasRunsUpTo LEAF (λ index. slice_index l.initial.bytes index) (λ index. slice_index l.bytes index) l.from l.at l.runs;
+  filled : HasRunsUpTo LEAF (λ index. slice_index l.initial.bytes index) (λ index. slice_index l.bytes index) l.from
+      l.at l.runs;
 }

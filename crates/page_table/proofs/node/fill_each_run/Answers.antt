@@ -23,9 +23,13 @@ loop-run-preserved g c =
     record {
       reached = next;
       filled = elim c.if-at-next.branch [
-        | then-at-next+in_ok-fill w ↦ rw (w.node-is, w.at-is) (filled_on width (byte_at c.args.node.now) (byte_at c.loop-run.node) (byte_at w.fill.new.self) c.args.from c.loop-run.at runs i lt reached
+        | then-at-next+in_ok-fill w ↦ rw (w.node-is, w.at-is)
+            (filled_on width (byte_at c.args.node.now) (byte_at c.loop-run.node) (byte_at w.fill.new.self) c.args.from
+            c.loop-run.at runs i lt reached
             _ (omega arith) (omega arith) c.loop-run.invariant.filled w.in_ok-fill.ensures.ok)
-        | else-at-next w ↦ (let same : c.if-at-next.at ≡ c.loop-run.at = (let at = w.at-is in let past = w.if-at-next.false in omega arith) in rw (w.node-is, same) c.loop-run.invariant.filled)
+        | else-at-next w ↦ (let same : c.if-at-next.at ≡ c.loop-run.at =
+            (let at = w.at-is in let past = w.if-at-next.false in omega arith) in
+            rw (w.node-is, same) c.loop-run.invariant.filled)
       ];
     }
 
@@ -45,12 +49,14 @@ returns-in_err-fill-clause-err g c =
       e.0,
       (let low = e.1 in omega arith),
       (let high = e.2 in omega arith),
-      filled_on width (byte_at c.args.node.now) (byte_at c.loop-run.node) (byte_at c.fill.new.self) c.args.from c.loop-run.at runs i lt reached
+      filled_on width (byte_at c.args.node.now) (byte_at c.loop-run.node) (byte_at c.fill.new.self) c.args.from
+          c.loop-run.at runs i lt reached
           e.0 e.1 (let high = e.2 in omega arith) c.loop-run.invariant.filled e.3,
       λ same. e.4 (
           let low = e.1 in
           let high = e.2 in
           let past : (leb c.args.from e.0 && ltb e.0 c.loop-run.at) ≡ false = grind (arith, nat_tests) in
-          c.loop-run.invariant.filled e.0 (omega arith) ∙ rw past same ∙ byte_in_run runs i (e.0 - c.args.from) lt (omega arith) (omega arith)
+          c.loop-run.invariant.filled e.0 (omega arith) ∙ rw past same
+          ∙ byte_in_run runs i (e.0 - c.args.from) lt (omega arith) (omega arith)
           ),
     )

@@ -6,5 +6,6 @@ abbrev pub invariant-loop-other : goal.invariant-loop-other
 invariant-loop-other l = record {
   given : (l.first ≡ l.end) ⊎ ((l.place < l.first) × Contains l.places l.first);
   bounded : l.first ≤ l.end;
-  none_before : (k : ℕ) (d : ℕ) → k < l.other-index → l.place < slice_index_or l.places k d → l.first ≤ slice_index_or l.places k d;
+  none_before : (k : ℕ) (d : ℕ) → k < l.other-index → l.place < slice_index_or l.places k d
+      → l.first ≤ slice_index_or l.places k d;
 }

@@ -5,7 +5,8 @@ use Rattle.trace_feed.proofs.put.put_all.Given as goal
 -- the first `written` bytes have gone out
 abbrev pub invariant-loop-written : goal.invariant-loop-written
 invariant-loop-written g l =
-    (l.written ≤ length l.bytes) × Appends (g.W.Write.contents l.initial.w) (g.W.Write.contents l.w) (take l.written l.bytes)
+    (l.written ≤ length l.bytes) × Appends (g.W.Write.contents l.initial.w) (g.W.Write.contents l.w)
+    (take l.written l.bytes)
 
 abbrev pub decreases-loop-written : goal.decreases-loop-written
 decreases-loop-written g l = length l.bytes - l.written

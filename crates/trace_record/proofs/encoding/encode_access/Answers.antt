@@ -10,4 +10,5 @@ returns-clause-front c =
     let coded = set c.args.out.now 0 c.args.code in
     let first = take_more_set c.args.out.now 0 c.args.code (omega arith) in
     let two = take_more_set coded 1 width (omega (arith, length-set {A = ℕ})) in
-    c.put_number.ensures.front ∙ ap (λ (front : List ℕ). front ++ to_le_bytes w64 c.args.access.now.at) (two ∙ ap (λ (front : List ℕ). front ++ width ∷ []) first)
+    c.put_number.ensures.front ∙ ap (λ (front : List ℕ). front ++ to_le_bytes w64 c.args.access.now.at) (two
+    ∙ ap (λ (front : List ℕ). front ++ width ∷ []) first)

@@ -10,8 +10,10 @@ abbrev pub invariant-loop-count : goal.invariant-loop-count
 invariant-loop-count g l = record {
   reads : shadow_of l.shadow ≡ l.self.shadow;
   within : l.count ≤ length l.events;
-  shown : (bound : ℕ) (past : List Event) → ShowsHistory bound l.self past → ShowsHistory bound l.self (reverse (take l.count l.events) ++ past);
-  quiet : (bound : ℕ) (past : List Event) → ShowsHistory bound l.self past → verdicts_of bound (reverse (take l.count l.events) ++ past) ≡ verdicts_of bound past;
+  shown : (bound : ℕ) (past : List Event) → ShowsHistory bound l.self past
+      → ShowsHistory bound l.self (reverse (take l.count l.events) ++ past);
+  quiet : (bound : ℕ) (past : List Event) → ShowsHistory bound l.self past
+      → verdicts_of bound (reverse (take l.count l.events) ++ past) ≡ verdicts_of bound past;
 }
 
 abbrev pub decreases-loop-count : goal.decreases-loop-count

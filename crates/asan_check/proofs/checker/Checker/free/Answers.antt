@@ -33,13 +33,16 @@ returns-in_ok-hold-in-Held-clause-ok g c bound past shown =
     let answer = rw c.in-Held.is at c.in_ok-free.ensures.answer in
     let after = rw c.in-Held.is at c.in_ok-free.ensures.after in
     let here : b.at ≡ p.at = answer.1 ∙ c.at-at.ensures in
-    let was_live : Contains (live bound past) b = Contains-permutation c.args.self.now.book.live (live bound past) b shown.live_blocks answer.2 in (
+    let was_live : Contains (live bound past) b =
+    Contains-permutation c.args.self.now.book.live (live bound past) b shown.live_blocks answer.2 in (
       sym (free_of_live bound past p.at b was_live here),
       c.in_ok-hold-in-Held.ensures.ok bound past p record {
         was_live = was_live;
         here = here;
         shadow = shown.shadow;
-        live_blocks = rw (after.others, here, live_free bound p past) (IsPermutation-filter (λ x. not (starts_at p.at x)) c.args.self.now.book.live (live bound past) shown.live_blocks);
+        live_blocks = rw (after.others, here, live_free bound p past)
+            (IsPermutation-filter (λ x. not (starts_at p.at x)) c.args.self.now.book.live (live bound past)
+            shown.live_blocks);
         queue = after.queue ∙ ap (λ queue. queue ++ b ∷ []) shown.queue;
         bound_is = after.bound ∙ shown.bound_is;
       },
@@ -50,8 +53,11 @@ returns-in-Twice-clause-ok g c bound past shown =
     let p = c.args.place.now in
     let answer = rw c.at-at.ensures at (rw c.in-Twice.is at c.in_ok-free.ensures.answer) in
     let same = rw c.in-Twice.is at c.in_ok-free.ensures.after in
-    let none : list_any (starts_at p.at) (live bound past) ≡ false = sym (list_any-IsPermutation (starts_at p.at) c.args.self.now.book.live (live bound past) shown.live_blocks) ∙ answer.1 in
-    let one : list_any (starts_at p.at) (held bound past) ≡ true = ap (list_any (starts_at p.at)) (sym shown.queue) ∙ answer.2 in (
+    let none : list_any (starts_at p.at) (live bound past) ≡ false =
+    sym (list_any-IsPermutation (starts_at p.at) c.args.self.now.book.live (live bound past) shown.live_blocks)
+    ∙ answer.1 in
+    let one : list_any (starts_at p.at) (held bound past) ≡ true = ap (list_any (starts_at p.at)) (sym shown.queue)
+    ∙ answer.2 in (
       rw c.at-at.ensures (sym (free_of_held bound past p.at answer.0 none one)),
       record {
         shadow = rw (frees.marks_stay bound past p none) shown.shadow;
@@ -66,8 +72,11 @@ returns-in-Stranger-clause-ok g c bound past shown =
     let p = c.args.place.now in
     let answer = rw c.at-at.ensures at (rw c.in-Stranger.is at c.in_ok-free.ensures.answer) in
     let same = rw c.in-Stranger.is at c.in_ok-free.ensures.after in
-    let none : list_any (starts_at p.at) (live bound past) ≡ false = sym (list_any-IsPermutation (starts_at p.at) c.args.self.now.book.live (live bound past) shown.live_blocks) ∙ answer.1 in
-    let other : list_any (starts_at p.at) (held bound past) ≡ false = ap (list_any (starts_at p.at)) (sym shown.queue) ∙ answer.2 in (
+    let none : list_any (starts_at p.at) (live bound past) ≡ false =
+    sym (list_any-IsPermutation (starts_at p.at) c.args.self.now.book.live (live bound past) shown.live_blocks)
+    ∙ answer.1 in
+    let other : list_any (starts_at p.at) (held bound past) ≡ false = ap (list_any (starts_at p.at)) (sym shown.queue)
+    ∙ answer.2 in (
       rw c.at-at.ensures (sym (free_of_none bound past p.at answer.0 none other)),
       record {
         shadow = rw (frees.marks_stay bound past p none) shown.shadow;

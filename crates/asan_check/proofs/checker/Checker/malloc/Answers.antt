@@ -1,6 +1,7 @@
 use Rattle.std.proofs.Common.{◌≡◌, ◌<◌, [], ◌∷◌, ◌++◌, sym, ◌∙◌}
 use Rattle.std.specs.Prelude.{IsPermutation}
-use Rattle.std.proofs.lemmas.List.Sorted.{IsPermutation-sym, IsPermutation-trans, IsPermutation-append_comm, IsPermutation-append_left}
+use Rattle.std.proofs.lemmas.List.Sorted.{IsPermutation-sym, IsPermutation-trans, IsPermutation-append_comm}
+use Rattle.std.proofs.lemmas.List.Sorted.{IsPermutation-append_left}
 use Rattle.asan_check.specs.History.{block_of, live, marks}
 use Rattle.asan_check.proofs.Blocks.{admits_by_any_order}
 use Rattle.asan_check.proofs.Faults.{malloc_admitted, malloc_refused}
@@ -23,7 +24,9 @@ returns-in_ok-block-in-Admitted-clause-ok g c bound past shown =
     (IsPermutation-append_left (b ∷ []) old (live bound past) shown.live_blocks)) in (
       sym (malloc_admitted bound past r.at r.size ok),
       record {
-        shadow = rw (mallocs.marks_after bound past r ok) (rw (c.at-in-Admitted.ensures.at, c.size-in-Admitted.ensures.size, is) at (c.in_ok-block-in-Admitted.ensures.ok (marks bound past) shown.shadow));
+        shadow = rw (mallocs.marks_after bound past r ok)
+            (rw (c.at-in-Admitted.ensures.at, c.size-in-Admitted.ensures.size, is)
+            at (c.in_ok-block-in-Admitted.ensures.ok (marks bound past) shown.shadow));
         live_blocks = rw (mallocs.live_after bound past r ok) lives;
         queue = after.queue ∙ shown.queue ∙ sym (mallocs.held_stays bound past r ok);
         bound_is = after.bound ∙ shown.bound_is;

@@ -10,7 +10,17 @@ returns-clause-stands g c bound past at =
     let shown = good.shown bound past at.shown in
     record {
       running = at.running;
-      shown = record { shadow = shown.shadow; live_blocks = shown.live_blocks; queue = shown.queue; bound_is = shown.bound_is };
-      count = (let before = at.count in omega (arith, length-append (reverse front) past, length-reverse front, length-take-le c.count_good-count.result c.args.events.now good.most));
+      shown = record {
+        shadow = shown.shadow;
+        live_blocks = shown.live_blocks;
+        queue = shown.queue;
+        bound_is = shown.bound_is;
+      };
+      count = (let before = at.count in omega (
+        arith,
+        length-append (reverse front) past,
+        length-reverse front,
+        length-take-le c.count_good-count.result c.args.events.now good.most,
+      ));
       reports = at.reports ∙ sym (good.quiet bound past at.shown);
     }

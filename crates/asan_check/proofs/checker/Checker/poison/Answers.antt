@@ -9,7 +9,8 @@ pub returns-clause-ok : goal.returns-clause-ok
 returns-clause-ok g c =
     on_ok_weaker c.poison.result
     (λ adds bound past shown.
-    let its_code : c.poison_code-code.result ≡ code_of_kind (shade_kind c.args.shade.now) = c.poison_code-code.ensures.kind ∙ ap code_of_kind c.kind.ensures in
+    let its_code : c.poison_code-code.result ≡ code_of_kind (shade_kind c.args.shade.now) =
+    c.poison_code-code.ensures.kind ∙ ap code_of_kind c.kind.ensures in
     record {
       shadow = rw (c.at.ensures, c.size.ensures, its_code) at (adds (marks bound past) shown.shadow);
       live_blocks = shown.live_blocks;

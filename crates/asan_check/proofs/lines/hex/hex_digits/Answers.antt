@@ -8,12 +8,14 @@ loop-left-init c = nothing_written c.args.number 15 refl (omega arith)
 pub loop-left-preserved : goal.loop-left-preserved
 loop-left-preserved c =
     let l = c.loop-left in
-    digit_written c.args.number l.first l.left l.digits c.hex_digit.result l.invariant c.loop-left-test.true c.hex_digit.ensures.glyph c.hex_digit.ensures.ascii
+    digit_written c.args.number l.first l.left l.digits c.hex_digit.result l.invariant c.loop-left-test.true
+    c.hex_digit.ensures.glyph c.hex_digit.ensures.ascii
 
 pub returns-clause-digits : goal.returns-clause-digits
 returns-clause-digits c =
     let l = c.loop-left in
-    all_digits_written c.args.number l.first l.left l.digits c.hex_digit-2.result l.invariant c.loop-left-test.false c.hex_digit-2.ensures.glyph
+    all_digits_written c.args.number l.first l.left l.digits c.hex_digit-2.result l.invariant c.loop-left-test.false
+    c.hex_digit-2.ensures.glyph
 
 pub returns-clause-zeros : goal.returns-clause-zeros
 returns-clause-zeros c =

@@ -19,17 +19,22 @@ pub loop-report-preserved : goal.loop-report-preserved
 loop-report-preserved g c = record {
   adds = λ start log lines r own.
       rw (rest_further c.args.process c.loop-report.report-index none lines c.args.rest.now c.loop-report-test.true)
-      (adds_line start _ _ _ _ c.args.process _ _ log (c.report.ensures.prints start) (c.loop-report.invariant.adds start log lines r own));
+      (adds_line start _ _ _ _ c.args.process _ _ log (c.report.ensures.prints start)
+      (c.loop-report.invariant.adds start log lines r own));
   still = still_on _ _ _ _ _ _ c.report.ensures.broken c.report.ensures.stays c.loop-report.invariant.still;
 }
 
 pub returns-clause-adds : goal.returns-clause-adds
 returns-clause-adds g c = λ start log lines r own.
-    let all : take c.loop-report.report-index c.args.rest.now ≡ c.args.rest.now = take_all _ c.args.rest.now (omega arith) in
-    adds_line start _ _ _ _ c.args.process _ _ log (c.end.ensures.prints start) (rw all at c.loop-report.invariant.adds start log lines r own)
+    let all : take c.loop-report.report-index c.args.rest.now ≡ c.args.rest.now =
+    take_all _ c.args.rest.now (omega arith) in
+    adds_line start _ _ _ _ c.args.process _ _ log (c.end.ensures.prints start)
+    (rw all at c.loop-report.invariant.adds start log lines r own)
 
 pub returns-clause-broken : goal.returns-clause-broken
-returns-clause-broken g c = λ broken. (still_on _ _ _ _ _ _ c.end.ensures.broken c.end.ensures.stays c.loop-report.invariant.still broken).0
+returns-clause-broken g c = λ broken. (still_on _ _ _ _ _ _ c.end.ensures.broken c.end.ensures.stays
+    c.loop-report.invariant.still broken).0
 
 pub returns-clause-stays : goal.returns-clause-stays
-returns-clause-stays g c = λ broken. (still_on _ _ _ _ _ _ c.end.ensures.broken c.end.ensures.stays c.loop-report.invariant.still broken).1
+returns-clause-stays g c = λ broken. (still_on _ _ _ _ _ _ c.end.ensures.broken c.end.ensures.stays
+    c.loop-report.invariant.still broken).1

@@ -11,10 +11,12 @@ loop-count-preserved g c =
       lane = c.take.ensures.lane ∙ c.loop-count.invariant.lane;
       taken = (
         more ++ report ∷ [],
-        c.in-Some-take.ensures.some ∙ ap (λ xs. xs ++ report ∷ []) c.loop-count.invariant.taken.1 ∙ append_assoc _ more (report ∷ []),
+        c.in-Some-take.ensures.some ∙ ap (λ xs. xs ++ report ∷ []) c.loop-count.invariant.taken.1
+            ∙ append_assoc _ more (report ∷ []),
         omega (arith, length-append more (report ∷ [])),
       );
       first = λ none. absurd (omega arith);
-      lines = λ start log r own. adds_report start _ _ _ _ c.args.process report _ _ log c.in-Some-take.ensures.some (c.report.ensures.prints start) (c.loop-count.invariant.lines start log r own);
+      lines = λ start log r own. adds_report start _ _ _ _ c.args.process report _ _ log c.in-Some-take.ensures.some
+          (c.report.ensures.prints start) (c.loop-count.invariant.lines start log r own);
       still = still_on _ _ _ _ _ _ c.report.ensures.broken c.report.ensures.stays c.loop-count.invariant.still;
     }

@@ -1,12 +1,19 @@
-use Rattle.std.proofs.Common.{rules, ◌≡◌, ◌+◌, ◌<◌, ◌≤◌, ◌∙◌, length, slice_index_or, slice_set, true, cond, ap, refl, sym, subst, arith}
+use Rattle.std.proofs.Common.{rules, ◌≡◌, ◌+◌, ◌<◌, ◌≤◌, ◌∙◌, length, slice_index_or, slice_set, true, cond, ap, refl}
+use Rattle.std.proofs.Common.{sym, subst, arith}
 use Rattle.std.proofs.lemmas.List.{get_or_default}
 use Rattle.asan_print.proofs.Logging.{still_on}
-use Rattle.asan_print.proofs.Rounds.{Asked, asked_none, asked_on, lanes_refl, lanes_on, follows_on, follows_flushed, taken_apart}
+use Rattle.asan_print.proofs.Rounds.{Asked, asked_none, asked_on, lanes_refl, lanes_on, follows_on, follows_flushed}
+use Rattle.asan_print.proofs.Rounds.{taken_apart}
 use Rattle.asan_print.proofs.live_printer.LivePrinter.round.Goals.{then-print_from, else-print_from}
 use Rattle.asan_print.proofs.live_printer.LivePrinter.round.Goals as goal
 
 pub loop-process-init : goal.loop-process-init
-loop-process-init g c = record { lanes = lanes_refl c.args.ports.now; lines = λ start f. f; still = λ broken. (refl, refl); asked = asked_none c.args.ports.now }
+loop-process-init g c = record {
+  lanes = lanes_refl c.args.ports.now;
+  lines = λ start f. f;
+  still = λ broken. (refl, refl);
+  asked = asked_none c.args.ports.now;
+}
 
 pub loop-process-preserved : goal.loop-process-preserved
 loop-process-preserved g c =
@@ -25,15 +32,18 @@ loop-process-preserved g c =
     let called = c.print_from.ensures in
     record {
       lanes = lanes_on c.args.ports.now ports process old new low is called.lane c.loop-process.invariant.lanes;
-      lines = λ start f. follows_on start _ _ _ _ ports process old new low is (called.lines start) (c.loop-process.invariant.lines start f);
+      lines = λ start f. follows_on start _ _ _ _ ports process old new low is (called.lines start)
+          (c.loop-process.invariant.lines start f);
       still = still_on _ _ _ _ _ _ called.broken called.stays c.loop-process.invariant.still;
       asked =
           subst (Asked c.args.ports.now (slice_set ports process new) (process + 1)) any
-          (asked_on c.args.ports.now ports process old new took c.loop-process.any low is called.takes called.none called.some called.finds c.loop-process.invariant.asked);
+          (asked_on c.args.ports.now ports process old new took c.loop-process.any low is called.takes called.none
+          called.some called.finds c.loop-process.invariant.asked);
     }
 
 pub returns-clause-lines : goal.returns-clause-lines
-returns-clause-lines g c = λ start f. follows_flushed start _ _ _ _ c.loop-process.ports (c.flush.ensures.lines start) (c.loop-process.invariant.lines start f)
+returns-clause-lines g c = λ start f. follows_flushed start _ _ _ _ c.loop-process.ports (c.flush.ensures.lines start)
+    (c.loop-process.invariant.lines start f)
 
 pub returns-clause-takes : goal.returns-clause-takes
 returns-clause-takes g c =
@@ -41,7 +51,8 @@ returns-clause-takes g c =
     λ i d within. c.loop-process.invariant.asked.takes i d (omega arith) within
 
 pub returns-clause-some : goal.returns-clause-some
-returns-clause-some g c = λ yes. taken_apart c.args.ports.now c.loop-process.ports (c.loop-process.invariant.asked.some yes)
+returns-clause-some g c = λ yes. taken_apart c.args.ports.now c.loop-process.ports
+    (c.loop-process.invariant.asked.some yes)
 
 pub returns-clause-finds : goal.returns-clause-finds
 returns-clause-finds g c =
@@ -49,7 +60,9 @@ returns-clause-finds g c =
     λ i d within has. c.loop-process.invariant.asked.finds i d (omega arith) has
 
 pub returns-clause-broken : goal.returns-clause-broken
-returns-clause-broken g c = λ broken. (still_on _ _ _ _ _ _ c.flush.ensures.broken c.flush.ensures.stays c.loop-process.invariant.still broken).0
+returns-clause-broken g c = λ broken. (still_on _ _ _ _ _ _ c.flush.ensures.broken c.flush.ensures.stays
+    c.loop-process.invariant.still broken).0
 
 pub returns-clause-stays : goal.returns-clause-stays
-returns-clause-stays g c = λ broken. (still_on _ _ _ _ _ _ c.flush.ensures.broken c.flush.ensures.stays c.loop-process.invariant.still broken).1
+returns-clause-stays g c = λ broken. (still_on _ _ _ _ _ _ c.flush.ensures.broken c.flush.ensures.stays
+    c.loop-process.invariant.still broken).1

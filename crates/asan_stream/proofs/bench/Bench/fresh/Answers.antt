@@ -10,4 +10,5 @@ invariant_of-result-clause-stands g c =
     subst (λ items. StandsAfter c.args.checker items) (sym c.requires.fresh) none
 
 pub invariant_of-result-clause-sends : goal.invariant_of-result-clause-sends
-invariant_of-result-clause-sends g c = holds_more c.args.outbox [] (reports_of c.args.checker) refl c.requires.fresh_outbox
+invariant_of-result-clause-sends g c = holds_more c.args.outbox [] (reports_of c.args.checker) refl
+    c.requires.fresh_outbox

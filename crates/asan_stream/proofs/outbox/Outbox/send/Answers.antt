@@ -16,5 +16,6 @@ returns-clause-holds g c =
     let few = c.requires.few in
     record {
       few = omega (arith, length-drop put reports);
-      first = c.is_left.ensures.put ∙ after ∙ ap (λ xs. xs ++ take some (drop put reports)) before ∙ sym (take-add put some reports);
+      first = c.is_left.ensures.put ∙ after ∙ ap (λ xs. xs ++ take some (drop put reports)) before
+          ∙ sym (take-add put some reports);
     }

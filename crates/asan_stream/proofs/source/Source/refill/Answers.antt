@@ -10,7 +10,8 @@ returns-in-Ok-eq0-clause-read g c limit first text events read =
     let none = nil_from_length new (search rules) in
     inr (record {
       text = text;
-      taken = rw (none, append-nil text) at (taken_on g.F.Feed.seen limit first c.args.self.now.feed c.refill.new.feed text (rest_of c.args.self.now.piece) new read.taken c.requires.used_up c.in-Ok-eq0.ensures.bytes);
+      taken = rw (none, append-nil text) at (taken_on g.F.Feed.seen limit first c.args.self.now.feed c.refill.new.feed
+          text (rest_of c.args.self.now.piece) new read.taken c.requires.used_up c.in-Ok-eq0.ensures.bytes);
       decoder = read.decoder;
       limit_is = read.limit_is;
       why = inr (c.in-Ok-eq0.ensures.faults ∙ read.fresh, c.in-Ok-eq0.ensures.at_end (search rules));

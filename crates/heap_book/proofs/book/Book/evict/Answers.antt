@@ -29,7 +29,8 @@ invariant_of-self-2 g c =
     rw (c.remove.ensures, c.at.ensures.at) record {
       apart = follow-remove 0 b.at es c.self.invariant.apart;
       freed = freed_of-rest b rest es freed c.self.invariant.apart;
-      total = (let to = c.to.ensures.to in let from = c.from.ensures.from in let placed = c.to.ensures.placed in omega arith);
+      total = (let to = c.to.ensures.to in let from = c.from.ensures.from in let placed = c.to.ensures.placed in
+          omega arith);
     }
 
 pub returns-clause-past : goal.returns-clause-past
@@ -44,21 +45,26 @@ returns-clause-released g c =
     let freed : IsPermutation (freed_of es) (b ∷ rest) = rw queue at c.self.invariant.freed in
     rw (← c.self.view_is) record {
       queue = queue;
-      live = rw (c.remove.ensures, c.at.ensures.at) (live_of-remove b.at (record { size = b.size; live = false }) es (oldest-found b rest es freed c.self.invariant.apart) refl);
+      live = rw (c.remove.ensures, c.at.ensures.at)
+          (live_of-remove b.at (record { size = b.size; live = false }) es
+          (oldest-found b rest es freed c.self.invariant.apart) refl);
       bound = refl;
     }
 
 pub returns-then-self-clause-apart : goal.returns-then-self-clause-apart
 returns-then-self-clause-apart g c =
-    rw (← c.self.view_is) (taken-apart c.self.inside.blocks c.self.inside.queue.items c.self.invariant.apart c.self.invariant.freed)
+    rw (← c.self.view_is) (taken-apart c.self.inside.blocks c.self.inside.queue.items c.self.invariant.apart
+    c.self.invariant.freed)
 
 pub returns-clause-apart : goal.returns-clause-apart
 returns-clause-apart g c =
-    rw (← c.self.view_is) (taken-apart c.self.inside.blocks c.self.inside.queue.items c.self.invariant.apart c.self.invariant.freed)
+    rw (← c.self.view_is) (taken-apart c.self.inside.blocks c.self.inside.queue.items c.self.invariant.apart
+    c.self.invariant.freed)
 
 pub returns-then-self-clause-within : goal.returns-then-self-clause-within
 returns-then-self-clause-within g c = rw (← c.self.view_is) (let total = c.self.invariant.total in omega arith)
 
 pub returns-then-self-clause-all_held : goal.returns-then-self-clause-all_held
 returns-then-self-clause-all_held g c =
-    rw (← c.self.view_is) (let total = c.self.invariant.total in held-within c.self.inside.bound c.self.inside.queue.items (omega arith))
+    rw (← c.self.view_is) (let total = c.self.invariant.total in
+    held-within c.self.inside.bound c.self.inside.queue.items (omega arith))

@@ -5,4 +5,5 @@ use Rattle.line_map.proofs.branch.Branch.are_empty.Given as goal
 -- the nodes before this one have no marks
 abbrev pub invariant-loop-node : goal.invariant-loop-node
 invariant-loop-node g l =
-    (line : ℕ) → line / g.S.Node.width < l.self.first + l.node-index → branch_mark g.S.Node.mark_at g.S.Node.width l.self line ≡ None
+    (line : ℕ) → line / g.S.Node.width < l.self.first + l.node-index
+    → branch_mark g.S.Node.mark_at g.S.Node.width l.self line ≡ None

@@ -12,15 +12,18 @@ returns-in-Some g c =
     let branch = c.args.self.now in
     let place = c.loop-place.place in
     let positive = (g.met.S.Node.is_width c.requires.fits).0 in
-    let kept : place - 1 < length branch.kept.items = (let le = c.loop-place.invariant.kept in let lt = c.loop-place-test.true in omega arith) in
+    let kept : place - 1 < length branch.kept.items =
+    (let le = c.loop-place.invariant.kept in let lt = c.loop-place-test.true in omega arith) in
     let below = c.loop-place.invariant.below c.loop-place-test.true in
     let step = one_lower branch.first place width c.loop-place-test.true in
     let last = rw c.width-width.ensures at c.in-Some.ensures in
     rw c.width-width.ensures (
     raised (branch_mark mark_at width branch) ((branch.first + (place - 1)) * width + width) (c.args.end * width)
-    (Some ((branch.first + (place - 1)) * width + c.in-Some.line)) (let more = mul-le-mul_right width below in omega arith)
+    (Some ((branch.first + (place - 1)) * width + c.in-Some.line)) (let more = mul-le-mul_right width below in
+    omega arith)
     (λ line low high. c.loop-place.invariant.none line (omega arith) high)
-    (last_below mark_at width branch.first branch.kept.items (place - 1) c.index-node.result.now positive kept c.index-node.ensures width c.in-Some.line (omega arith) last)
+    (last_below mark_at width branch.first branch.kept.items (place - 1) c.index-node.result.now positive kept
+    c.index-node.ensures width c.in-Some.line (omega arith) last)
     )
 
 pub loop-place-preserved-in-None : goal.loop-place-preserved-in-None
@@ -30,7 +33,8 @@ loop-place-preserved-in-None g c =
     let place = c.loop-place.place in
     let positive = (g.met.S.Node.is_width c.requires.fits).0 in
     let step = one_lower branch.first place width c.loop-place-test.true in
-    let kept : place - 1 < length branch.kept.items = (let le = c.loop-place.invariant.kept in let lt = c.loop-place-test.true in omega arith) in
+    let kept : place - 1 < length branch.kept.items =
+    (let le = c.loop-place.invariant.kept in let lt = c.loop-place-test.true in omega arith) in
     let last = rw c.width-width.ensures at c.in-None.ensures in
     record {
       width = c.width-width.ensures;
@@ -38,7 +42,9 @@ loop-place-preserved-in-None g c =
       kept = (let le = c.loop-place.invariant.kept in omega arith);
       none = λ line low high.
           elim (cases_lt line ((branch.first + place) * width)) [
-            | inl lt ↦ none_below g.S.Node.mark_at width branch.first branch.kept.items (place - 1) c.index-node.result.now positive kept c.index-node.ensures width (omega arith) last line low (omega arith)
+            | inl lt ↦ none_below g.S.Node.mark_at width branch.first branch.kept.items (place - 1)
+                c.index-node.result.now positive kept c.index-node.ensures width (omega arith) last line low
+                (omega arith)
             | inr ge ↦ c.loop-place.invariant.none line ge high
           ];
     }
@@ -50,14 +56,16 @@ loop-place-preserved g c =
     let place = c.loop-place.place in
     let positive = (g.met.S.Node.is_width c.requires.fits).0 in
     let step = one_lower branch.first place width c.loop-place-test.true in
-    let kept : place - 1 < length branch.kept.items = (let le = c.loop-place.invariant.kept in let lt = c.loop-place-test.true in omega arith) in
+    let kept : place - 1 < length branch.kept.items =
+    (let le = c.loop-place.invariant.kept in let lt = c.loop-place-test.true in omega arith) in
     record {
       width = c.width-width.ensures;
       below = λ _. (let le = c.loop-place.invariant.below c.loop-place-test.true in omega arith);
       kept = (let le = c.loop-place.invariant.kept in omega arith);
       none = λ line low high.
           elim (cases_lt line ((branch.first + place) * width)) [
-            | inl lt ↦ none_below g.S.Node.mark_at width branch.first branch.kept.items (place - 1) c.index-node.result.now positive kept c.index-node.ensures width (omega arith)
+            | inl lt ↦ none_below g.S.Node.mark_at width branch.first branch.kept.items (place - 1)
+                c.index-node.result.now positive kept c.index-node.ensures width (omega arith)
                 (λ line lt. c.is_empty.ensures c.if-not-is_empty.false line) line low (omega arith)
             | inr ge ↦ c.loop-place.invariant.none line ge high
           ];

@@ -8,7 +8,8 @@ invariant-loop-place g l = record {
   width : l.width ≡ g.S.Node.width;
   below : 0 < l.place → l.self.first + l.place ≤ l.end;
   kept : l.place ≤ length l.self.kept.items;
-  none : (line : ℕ) → (l.self.first + l.place) * g.S.Node.width ≤ line → line < l.end * g.S.Node.width → branch_mark g.S.Node.mark_at g.S.Node.width l.self line ≡ None;
+  none : (line : ℕ) → (l.self.first + l.place) * g.S.Node.width ≤ line → line < l.end * g.S.Node.width
+      → branch_mark g.S.Node.mark_at g.S.Node.width l.self line ≡ None;
 }
 
 abbrev pub decreases-loop-place : goal.decreases-loop-place

@@ -7,6 +7,8 @@ returns-in-Some g c =
     let width = g.S.Node.width in
     let branch = c.args.self.now in
     let found = rw c.width-width.ensures at c.in-Some.ensures.some in
-    let lt : c.in-Some.place < length branch.kept.items = (let is = branch.kept.ok.0 in let less = found.1 in omega arith) in
+    let lt : c.in-Some.place < length branch.kept.items =
+    (let is = branch.kept.ok.0 in let less = found.1 in omega arith) in
     let got = rw c.width-width.ensures at c.get.ensures in
-    got ∙ sym (kept_mark g.S.Node.mark_at width branch.first branch.kept.items c.in-Some.place c.args.line c.index.result.now lt c.index.ensures found.0)
+    got ∙ sym (kept_mark g.S.Node.mark_at width branch.first branch.kept.items c.in-Some.place c.args.line
+    c.index.result.now lt c.index.ensures found.0)

@@ -17,4 +17,5 @@ pub returns-in_err-checked_ilog2 : goal.returns-in_err-checked_ilog2
 returns-in_err-checked_ilog2 g c =
     let leaf = c.args.self.now in
     let none = rw c.bits_below.ensures at c.in_err-checked_ilog2.ensures.none in
-    rw c.from_residual.ensures (λ line lt. without leaf.lines leaf.entries.items line (none_below leaf.lines c.args.end none line lt))
+    rw c.from_residual.ensures (λ line lt. without leaf.lines leaf.entries.items line
+    (none_below leaf.lines c.args.end none line lt))

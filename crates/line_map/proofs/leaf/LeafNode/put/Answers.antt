@@ -1,5 +1,4 @@
-use Rattle.std.proofs.Common.{◌≡◌, ◌<◌, ◌≤◌, true, false, length, sym, ap, ◌∙◌, arith}
-use Rattle.std.specs.List.{insert}
+use Rattle.std.proofs.Common.{◌≡◌, true, false, sym, ◌∙◌, arith}
 use Rattle.std.proofs.lemmas.List.Edits.{length-insert}
 use Rattle.line_map.specs.Leaves.{has_entry}
 use Rattle.line_map.proofs.Leaves.{has_one, place_lt, place_le, replaced, one_more, one_more_in_all, added}
@@ -34,18 +33,23 @@ invariant_of-self-else-has g c =
     let le = place_le leaf.lines c.args.line in
     let place = c.place_of-place.ensures in
     let longer = length-insert es c.place_of-place.result c.new-else-has.result (omega arith) in
-    record { counted = rw (c.bit.ensures, c.in_ok-insert.ensures.items) (one_more_in_all leaf.lines _ c.args.line more ∙ omega arith) }
+    record {
+      counted = rw (c.bit.ensures, c.in_ok-insert.ensures.items) (one_more_in_all leaf.lines _ c.args.line more
+          ∙ omega arith);
+    }
 
 pub returns-then-has-clause-ok : goal.returns-then-has-clause-ok
 returns-then-has-clause-ok g c index below =
     let leaf = c.args.self.now in
     let has : has_entry leaf.lines c.args.line ≡ true = sym c.has.ensures ∙ c.if-has.true in
     rw c.place_of-place.ensures
-    (replaced leaf.lines leaf.entries.items c.args.line c.new.result c.args.mark c.new.ensures leaf.counted (has_one leaf.lines c.args.line has) index)
+    (replaced leaf.lines leaf.entries.items c.args.line c.new.result c.args.mark c.new.ensures leaf.counted
+    (has_one leaf.lines c.args.line has) index)
 
 pub returns-in_ok-insert-clause-ok : goal.returns-in_ok-insert-clause-ok
 returns-in_ok-insert-clause-ok g c index below =
     let leaf = c.args.self.now in
     let free : has_entry leaf.lines c.args.line ≡ false = sym c.has.ensures ∙ c.if-has.false in
     rw (c.bit.ensures, c.in_ok-insert.ensures.items, c.place_of-place.ensures)
-    (added leaf.lines _ c.args.line (one_more leaf.lines c.args.line free) leaf.entries.items c.new-else-has.result c.args.mark c.new-else-has.ensures leaf.counted index)
+    (added leaf.lines _ c.args.line (one_more leaf.lines c.args.line free) leaf.entries.items c.new-else-has.result
+    c.args.mark c.new-else-has.ensures leaf.counted index)

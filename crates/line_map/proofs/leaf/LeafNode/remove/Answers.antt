@@ -1,11 +1,12 @@
-use Rattle.std.proofs.Common.{◌≡◌, ℕ, ◌<◌, ◌^◌, true, false, length, sym, ap, ◌∙◌, arith}
+use Rattle.std.proofs.Common.{◌≡◌, ℕ, ◌^◌, true, false, sym, ◌∙◌, arith}
 use Rattle.std.specs.Prelude.{bit_xor}
 use Rattle.std.specs.List.{remove}
 use Rattle.std.specs.Int.{bit_at}
 use Rattle.std.proofs.lemmas.List.Edits.{length-remove}
 use Rattle.std.proofs.lemmas.Nat.Bits.{bit_at-zero}
 use Rattle.line_map.specs.Leaves.{has_entry, entries_below}
-use Rattle.line_map.proofs.Leaves.{has_one, has_none, place_lt, one_less, one_more_in_all, left_out, without, still_none}
+use Rattle.line_map.proofs.Leaves.{has_one, has_none, place_lt, one_less, one_more_in_all, left_out, without}
+use Rattle.line_map.proofs.Leaves.{still_none}
 use Rattle.line_map.proofs.leaf.LeafNode.remove.Goals as goal
 
 pub remove-requires : goal.remove-requires
@@ -47,7 +48,8 @@ returns-else-self-eq0 g c index below =
     let leaf = c.args.self.now in
     let has : has_entry leaf.lines c.args.line ≡ true = sym c.has.ensures ∙ c.if-has.true in
     rw (c.bit.ensures, c.remove.ensures.items, c.place_of-place.ensures)
-    (left_out (bit_xor leaf.lines (2 ^ c.args.line)) leaf.lines c.args.line (one_less leaf.lines c.args.line has) leaf.entries.items leaf.counted index)
+    (left_out (bit_xor leaf.lines (2 ^ c.args.line)) leaf.lines c.args.line (one_less leaf.lines c.args.line has)
+    leaf.entries.items leaf.counted index)
 
 pub returns-else-has : goal.returns-else-has
 returns-else-has g c index below =

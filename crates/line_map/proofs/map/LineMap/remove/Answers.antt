@@ -11,11 +11,13 @@ remove-requires g c =
     (marked (tree_mark c.self.inside.tree) c.self.invariant c.args.at there).0
 
 pub invariant_of-self : goal.invariant_of-self
-invariant_of-self g c = in-line-gone (tree_mark c.self.inside.tree) (tree_mark c.remove.new.self) c.args.at c.self.invariant c.remove.ensures
+invariant_of-self g c = in-line-gone (tree_mark c.self.inside.tree) (tree_mark c.remove.new.self) c.args.at
+    c.self.invariant c.remove.ensures
 
 pub returns : goal.returns
 returns g c =
     let marks = tree_mark c.self.inside.tree in
     let there : IsSome (slot_at (entries_of marks) c.args.at) = rw c.self.view_is c.requires in
     let had = marked marks c.self.invariant c.args.at there in
-    rw (← c.self.view_is) (of-remove marks (tree_mark c.remove.new.self) c.args.at had.1.0 c.self.invariant c.remove.ensures had.1.1 had.1.2 had.0)
+    rw (← c.self.view_is) (of-remove marks (tree_mark c.remove.new.self) c.args.at had.1.0 c.self.invariant
+    c.remove.ensures had.1.1 had.1.2 had.0)

@@ -19,11 +19,13 @@ set-requires-clause-there g c =
 
 pub invariant_of-self : goal.invariant_of-self
 invariant_of-self g c =
-    in-line-put (tree_mark c.self.inside.tree) (tree_mark c.set.new.self) c.args.at (record { offset = c.args.at % 64; slot = c.args.slot }) (omega arith) c.self.invariant c.set.ensures
+    in-line-put (tree_mark c.self.inside.tree) (tree_mark c.set.new.self) c.args.at
+    (record { offset = c.args.at % 64; slot = c.args.slot }) (omega arith) c.self.invariant c.set.ensures
 
 pub returns : goal.returns
 returns g c =
     let marks = tree_mark c.self.inside.tree in
     let there : IsSome (slot_at (entries_of marks) c.args.at) = rw c.self.view_is c.requires in
     let had = marked marks c.self.invariant c.args.at there in
-    rw (← c.self.view_is) (of-set marks (tree_mark c.set.new.self) c.args.at c.args.slot had.1.0 c.self.invariant c.set.ensures had.1.1 had.1.2 had.0)
+    rw (← c.self.view_is) (of-set marks (tree_mark c.set.new.self) c.args.at c.args.slot had.1.0 c.self.invariant
+    c.set.ensures had.1.1 had.1.2 had.0)

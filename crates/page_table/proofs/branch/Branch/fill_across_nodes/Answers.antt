@@ -11,6 +11,8 @@ returns-in_err-fill_within_node-clause-err g c =
     let p = err_from_is_err_and c.from_residual.result c.from_residual.ensures.1 in
     let bytes = λ (branch : Branch g.row.S.Denot g.row.A.Denot). branch_byte g.S.Node.byte_at g.S.Node.width branch in
     rw p.1
-    (broken_off_later (NODES * g.S.Node.width) (bytes c.args.self.now) (bytes c.loop-at.self) (bytes c.fill_within_node.new.self)
+    (broken_off_later (NODES * g.S.Node.width) (bytes c.args.self.now) (bytes c.loop-at.self)
+    (bytes c.fill_within_node.new.self)
     c.args.from c.loop-at.at c.args.byte c.loop-at.invariant.low c.loop-at.invariant.filled
-    c.min-next.result c.args.to (let is = c.min-next.ensures in omega arith) c.requires.end c.in_err-fill_within_node.ensures.err)
+    c.min-next.result c.args.to (let is = c.min-next.ensures in
+    omega arith) c.requires.end c.in_err-fill_within_node.ensures.err)

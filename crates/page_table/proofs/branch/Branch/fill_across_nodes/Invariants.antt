@@ -9,7 +9,8 @@ abbrev pub invariant-loop-at : goal.invariant-loop-at
 invariant-loop-at g l = record {
   low : l.from ≤ l.at;
   high : l.at ≤ l.to;
-  filled : IsFilled (NODES * g.S.Node.width) (branch_byte g.S.Node.byte_at g.S.Node.width l.initial.self) (branch_byte g.S.Node.byte_at g.S.Node.width l.self) l.from l.at l.byte;
+  filled : IsFilled (NODES * g.S.Node.width) (branch_byte g.S.Node.byte_at g.S.Node.width l.initial.self)
+      (branch_byte g.S.Node.byte_at g.S.Node.width l.self) l.from l.at l.byte;
 }
 
 abbrev pub decreases-loop-at : goal.decreases-loop-at

@@ -11,10 +11,13 @@ returns-then-self-eq0 g c other low high =
     let old = c.args.self.now in
     let i = c.loop-index.index in
     let positive = (g.met.S.Node.is_width c.requires.fits.1).0 in
-    let missing : length old.kept.items ≤ i / width = rw (← c.width-width.ensures) (let is = old.kept.ok.0 in let past = c.if-place-len.true in let len = c.len.ensures in omega arith) in
+    let missing : length old.kept.items ≤ i / width =
+    rw (← c.width-width.ensures) (let is = old.kept.ok.0 in let past = c.if-place-len.true in
+    let len = c.len.ensures in omega arith) in
     elim (cases_lt other i) [
       | inl before ↦ c.loop-index.invariant.none other low before
-      | inr from_here ↦ rest_from g.S.Node.byte_at width old.kept.items i old.rest other positive missing from_here ∙ c.if-self-eq0.true
+      | inr from_here ↦ rest_from g.S.Node.byte_at width old.kept.items i old.rest other positive missing from_here
+          ∙ c.if-self-eq0.true
     ]
 
 pub returns-in-Some : goal.returns-in-Some
@@ -26,14 +29,17 @@ returns-in-Some g c =
     let start = i - i % width in
     let found = c.in-Some.found in
     let node = c.index.result.now in
-    let lt : i / width < length old.kept.items = rw (← c.width-width.ensures) (let is = old.kept.ok.0 in let within = c.if-place-len.false in let len = c.len.ensures in omega arith) in
+    let lt : i / width < length old.kept.items =
+    rw (← c.width-width.ensures) (let is = old.kept.ok.0 in let within = c.if-place-len.false in
+    let len = c.len.ensures in omega arith) in
     let lent = rw c.width-width.ensures at c.index.ensures in
     let next_is = rw c.width-width.ensures at c.min-next.ensures in
     let e = rw c.width-width.ensures at c.in-Some.ensures in
     let reached = e.0 in
     let below = e.1 in
     let from_low = c.loop-index.invariant.low in
-    let inside : (other : ℕ) → start ≤ other → other < start + width → branch_byte byte_at width old other ≡ byte_at node (other - start) =
+    let inside : (other : ℕ) → start ≤ other → other < start + width
+    → branch_byte byte_at width old other ≡ byte_at node (other - start) =
     λ other low high. node_from byte_at width old.kept.items i old.rest other node lt lent low high in
     rw c.width-width.ensures (
       omega arith,
@@ -57,7 +63,9 @@ loop-index-preserved g c =
     let node = c.index.result.now in
     let positive = (g.met.S.Node.is_width c.requires.fits.1).0 in
     let less = mod-lt i positive in
-    let lt : i / width < length old.kept.items = rw (← c.width-width.ensures) (let is = old.kept.ok.0 in let within = c.if-place-len.false in let len = c.len.ensures in omega arith) in
+    let lt : i / width < length old.kept.items =
+    rw (← c.width-width.ensures) (let is = old.kept.ok.0 in let within = c.if-place-len.false in
+    let len = c.len.ensures in omega arith) in
     let lent = rw c.width-width.ensures at c.index.ensures in
     let next_is = rw c.width-width.ensures at c.min-next.ensures in
     let e = rw c.width-width.ensures at c.in_default.ensures in

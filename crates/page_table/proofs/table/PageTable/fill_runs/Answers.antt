@@ -16,6 +16,10 @@ returns-in_err-fill_each_run-clause-err g c =
       torn.0,
       torn.1,
       torn.2,
-      below_place (2 ^ 47) (2 ^ 44) c.args.from torn.0 _ _ (omega arith) within (λ granule. byte_of_runs c.args.runs.now (granule - c.args.from)) (λ index lt. torn.3 index lt ∙ rw (same index lt) refl),
-      λ is. torn.4 (same torn.0 (omega arith) ∙ sym (at_place (2 ^ 47) (2 ^ 44) c.args.from torn.0 (root_byte c.args.self.now) (λ index. 0) (omega arith) within) ∙ is),
+      below_place (2 ^ 47) (2 ^ 44) c.args.from torn.0 _ _ (omega arith) within
+          (λ granule. byte_of_runs c.args.runs.now (granule - c.args.from)) (λ index lt. torn.3 index lt
+          ∙ rw (same index lt) refl),
+      λ is. torn.4 (same torn.0 (omega arith) ∙ sym
+          (at_place (2 ^ 47) (2 ^ 44) c.args.from torn.0 (root_byte c.args.self.now) (λ index. 0) (omega arith) within)
+          ∙ is),
     )

@@ -10,6 +10,10 @@ returns g c =
     let is : IsMark (Block c.args.at c.args.size) = (c.requires.granules, c.requires.room, c.requires.end) in
     let makes = block_makes c.args.at c.args.size is in
     record {
-      ok = on_ok_weaker c.block_granules.result (adds c.args.self.now c.block_granules.new.self (Block c.args.at c.args.size) _ is makes) c.block_granules.ensures.ok;
-      err = on_err_weaker c.block_granules.result (adds_in_part c.args.self.now c.block_granules.new.self (Block c.args.at c.args.size) _ is makes (block_leaves c.args.at c.args.size is)) c.block_granules.ensures.err;
+      ok = on_ok_weaker c.block_granules.result
+          (adds c.args.self.now c.block_granules.new.self (Block c.args.at c.args.size) _ is makes)
+          c.block_granules.ensures.ok;
+      err = on_err_weaker c.block_granules.result
+          (adds_in_part c.args.self.now c.block_granules.new.self (Block c.args.at c.args.size) _ is makes
+          (block_leaves c.args.at c.args.size is)) c.block_granules.ensures.err;
     }

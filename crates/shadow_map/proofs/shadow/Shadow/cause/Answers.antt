@@ -9,7 +9,8 @@ returns-then-own-lt-LEAST_CODE-clause-deciding g c marks shows =
     let own = c.value-own.ensures.shown marks shows in
     let low = c.if-own-lt-LEAST_CODE.true in
     let test : is_negative c.value-own.result ≡ false = grind (arith, nat_tests) in
-    rw (deciding_shown marks shows.are_marks c.args.at c.value-own.result own, test) (c.value-deciding.ensures.shown marks shows)
+    rw (deciding_shown marks shows.are_marks c.args.at c.value-own.result own, test)
+    (c.value-deciding.ensures.shown marks shows)
 
 pub returns-else-own-lt-LEAST_CODE-clause-deciding : goal.returns-else-own-lt-LEAST_CODE-clause-deciding
 returns-else-own-lt-LEAST_CODE-clause-deciding g c marks shows =

@@ -2,7 +2,8 @@ use Rattle.std.proofs.Common.{◌≡◌, cond, ltb, false, refl, ℕ, ◌≤◌,
 use Rattle.std.proofs.lemmas.Bool.Decides.{nat_tests}
 use Rattle.std.proofs.lemmas.Result.{err_from_is_err_and, on_ok_weaker, on_err_weaker}
 use Rattle.shadow_map.specs.Shows.{value_at}
-use Rattle.shadow_map.proofs.Fills.{changed_nothing, change_within, first_unchanged, first_changed, inside_changed, last_changed}
+use Rattle.shadow_map.proofs.Fills.{changed_nothing, change_within, first_unchanged, first_changed, inside_changed}
+use Rattle.shadow_map.proofs.Fills.{last_changed}
 use Rattle.shadow_map.proofs.shadow.Shadow.change.Goals as goal
 
 -- a call that stands at a place has not changed that place yet
@@ -50,7 +51,8 @@ returns-in_err-fill-clause-err g c =
       byte = 8 * e.0;
       in_range = (omega arith, omega arith);
       values = rw place (inside_changed c.args.change at end old one two e.0 e.1 (omega arith) first e.3);
-      due = rw place (λ is. e.4 (from_place old one _ ((at + 7) / 8) first e.0 e.1 ∙ sym is ∙ change_within c.args.change (old e.0) at end e.0 e.1 inside));
+      due = rw place (λ is. e.4 (from_place old one _ ((at + 7) / 8) first e.0 e.1 ∙ sym is
+          ∙ change_within c.args.change (old e.0) at end e.0 e.1 inside));
     }
 
 pub returns-then-first-stop : goal.returns-then-first-stop
@@ -65,9 +67,12 @@ returns-then-first-stop g c =
     let whole : c.max.result ≡ end / 8 = let le = c.if-first-stop.true in let is = c.max.ensures in omega arith in
     let first = first_changed c.args.change at end old one c.in_ok-change_edge.ensures.ok in
     let some : (at + 7) / 8 ≤ end / 8 = let le = c.if-first-stop.true in omega arith in
-    let inside = inside_changed c.args.change at end old one two (end / 8) some (omega arith) first (rw (c.inside.ensures, up, whole) at c.in_ok-fill.ensures.ok) in
+    let inside = inside_changed c.args.change at end old one two (end / 8) some (omega arith) first
+    (rw (c.inside.ensures, up, whole) at c.in_ok-fill.ensures.ok) in
     record {
-      ok = on_ok_weaker c.change_edge-then-first-stop.result (λ each. last_changed c.args.change at end old two three (omega arith) inside each) c.change_edge-then-first-stop.ensures.ok;
+      ok = on_ok_weaker c.change_edge-then-first-stop.result
+          (λ each. last_changed c.args.change at end old two three (omega arith) inside each)
+          c.change_edge-then-first-stop.ensures.ok;
       err = on_err_weaker c.change_edge-then-first-stop.result
           (λ e.
           let cut = e.0 in

@@ -27,6 +27,7 @@ returns g c marks shows =
     let below = e.1 in
     let turn : granule * 8 ≡ 8 * granule = omega arith in
     rw turn at (c.bad_byte_in_granule-2.ensures marks shows)
-    ∙ sym (first_marked marks shows.are_marks c.args.at c.args.size some (sym (c.in_default.ensures marks shows)) granule from (omega arith)
+    ∙ sym (first_marked marks shows.are_marks c.args.at c.args.size some (sym (c.in_default.ensures marks shows))
+    granule from (omega arith)
     (λ other low high. sym (shows.values other (omega arith)) ∙ e.2 other low high)
     (λ zero. e.3 (shows.values granule (omega arith) ∙ zero)))

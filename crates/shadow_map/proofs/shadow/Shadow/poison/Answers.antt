@@ -7,7 +7,9 @@ returns g c =
     let r = c.requires in
     record {
       ok = on_ok_weaker c.change.result
-          (λ each. poison_adds c.args.self.now c.change.new.self c.args.at c.args.size c.args.code r.end r.code each) c.change.ensures.ok;
+          (λ each. poison_adds c.args.self.now c.change.new.self c.args.at c.args.size c.args.code r.end r.code each)
+          c.change.ensures.ok;
       err = on_err_weaker c.change.result
-          (λ torn. poison_adds_in_part c.args.self.now c.change.new.self c.args.at c.args.size c.args.code r.end r.code torn) c.change.ensures.err;
+          (λ torn. poison_adds_in_part c.args.self.now c.change.new.self c.args.at c.args.size c.args.code r.end r.code
+          torn) c.change.ensures.err;
     }

@@ -9,6 +9,9 @@ pub returns : goal.returns
 returns g c =
     let makes = unpoison_makes c.args.at c.args.size c.requires in
     record {
-      ok = on_ok_weaker c.change.result (adds c.args.self.now c.change.new.self (Unpoison c.args.at c.args.size) _ c.requires makes) c.change.ensures.ok;
-      err = on_err_weaker c.change.result (adds_in_part c.args.self.now c.change.new.self (Unpoison c.args.at c.args.size) _ c.requires makes (unpoison_leaves c.args.at c.args.size c.requires)) c.change.ensures.err;
+      ok = on_ok_weaker c.change.result (adds c.args.self.now c.change.new.self (Unpoison c.args.at c.args.size) _
+          c.requires makes) c.change.ensures.ok;
+      err = on_err_weaker c.change.result (adds_in_part c.args.self.now c.change.new.self
+          (Unpoison c.args.at c.args.size) _ c.requires makes (unpoison_leaves c.args.at c.args.size c.requires))
+          c.change.ensures.err;
     }

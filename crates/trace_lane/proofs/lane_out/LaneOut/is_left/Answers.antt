@@ -10,4 +10,5 @@ unfolding waiting
 returns-clause-waits g c =
     let old = c.args.self.now in
     let prefix = c.is_abandoned.ensures.2 in
-    more_known (piece old.from old.to old.buffer.items) (known_items old.ring) (known_items c.is_abandoned.new.self) prefix.0 old.settled prefix.1
+    more_known (piece old.from old.to old.buffer.items) (known_items old.ring) (known_items c.is_abandoned.new.self)
+    prefix.0 old.settled prefix.1

@@ -21,6 +21,8 @@ returns-in-Ok-clause-answers c text events rest part h is =
 pub returns-in-Err-clause-answers : goal.returns-in-Err-clause-answers
 returns-in-Err-clause-answers c text events rest part h is =
     let v = c.args.self.now.version in
-    let bad : Says v (rest ++ part) (Err c.in-Err.flaw) = subst (λ (said : Result Event Flaw). Says v (rest ++ part) said) c.in-Err.is is in
-    let ended = bad_record _ part text events h c.requires.in_records bad.0 c.in-Err.flaw bad.1.whole bad.1.fit bad.1.first c.requires.room in
+    let bad : Says v (rest ++ part) (Err c.in-Err.flaw) =
+    subst (λ (said : Result Event Flaw). Says v (rest ++ part) said) c.in-Err.is is in
+    let ended = bad_record _ part text events h c.requires.in_records bad.0 c.in-Err.flaw bad.1.whole bad.1.fit
+    bad.1.first c.requires.room in
     rw (c.stop.ensures.answer, c.stop.ensures.stops) (ended.0, tt, ended.1)

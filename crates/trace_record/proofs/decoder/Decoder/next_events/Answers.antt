@@ -24,13 +24,17 @@ loop-count-preserved c =
       some = omega (arith, length-set out c.loop-count.count front.event);
       moved = λ _. (let some_size = some.0 in omega arith);
       answers = λ text events at.
-          let stood = some.2 (text ++ take c.loop-count.used piece) (events ++ take c.loop-count.count out) (was.answers text events at) in
+          let stood = some.2 (text ++ take c.loop-count.used piece) (events ++ take c.loop-count.count out)
+          (was.answers text events at) in
           let bytes = joined text piece c.loop-count.used front.size in
-          let more = append_assoc events (take c.loop-count.count out) (front.event ∷ []) ∙ ap (λ (es : List Event). events ++ es) (sym (take_more_set out c.loop-count.count front.event (omega arith))) in
+          let more = append_assoc events (take c.loop-count.count out) (front.event ∷ [])
+          ∙ ap (λ (es : List Event). events ++ es)
+          (sym (take_more_set out c.loop-count.count front.event (omega arith))) in
           rw (bytes, more) at stood;
     }
 
 pub returns-in_default-clause-answers : goal.returns-in_default-clause-answers
 returns-in_default-clause-answers c text events at =
-    subst (λ (d : Standing). StandsAt d (text ++ take c.loop-count.used c.args.piece.now) (events ++ take c.loop-count.count c.loop-count.out))
+    subst (λ (d : Standing). StandsAt d (text ++ take c.loop-count.used c.args.piece.now)
+    (events ++ take c.loop-count.count c.loop-count.out))
     (sym c.in_default.ensures.none) (c.loop-count.invariant.answers text events at)

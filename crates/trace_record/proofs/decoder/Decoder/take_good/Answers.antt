@@ -12,7 +12,9 @@ invariant_of-self c =
     let was = c.self.invariant in
     let le : 8 ≤ c.self.inside.offset = rw (← c.self.view_is) at c.requires.in_records in
     let none : c.self.inside.partial ≡ [] = rw (← c.self.view_is) at c.requires.none_cut in
-    let size : front.size ≡ length (spelling c.self.inside.version front.event) = sym (length-take-le front.size c.args.piece.now c.in_ok-front.ensures.0) ∙ ap length c.in_ok-front.ensures.1.1 in
+    let size : front.size ≡ length (spelling c.self.inside.version front.event) =
+    sym (length-take-le front.size c.args.piece.now c.in_ok-front.ensures.0)
+    ∙ ap length c.in_ok-front.ensures.1.1 in
     let small = spelling_small c.self.inside.version front.event in
     record {
       limited = was.limited;
@@ -29,7 +31,8 @@ returns-clause-some c =
     let part = take front.size c.args.piece.now in
     let fits : front.size ≤ length c.args.piece.now = c.in_ok-front.ensures.0 in
     let says : Says v part (Ok front.event) = c.in_ok-front.ensures.1 in
-    let size : front.size ≡ length (spelling v front.event) = sym (length-take-le front.size c.args.piece.now fits) ∙ ap length says.1 in
+    let size : front.size ≡ length (spelling v front.event) = sym (length-take-le front.size c.args.piece.now fits)
+    ∙ ap length says.1 in
     let some = spelling_some v front.event in (
       omega arith,
       fits,

@@ -16,7 +16,8 @@ returns-then-self-from-clause-takes c = record {
       let one = take_more c.args.piece.now 0 0 c.requires.begun in
       let not : get_or c.args.piece.now 0 0 ≢ 7 = omega arith in
       let full = subst (λ (d : Standing). d.events ≡ d.limit) c.self.view_is (omega arith) in
-      let ended = too_many _ _ text events h c.requires.in_records (get_or c.args.piece.now 0 0) c.requires.none_cut one not full in
+      let ended = too_many _ _ text events h c.requires.in_records (get_or c.args.piece.now 0 0) c.requires.none_cut one
+      not full in
       rw (c.stop.ensures.answer, c.stop.ensures.stops) (ended.0, tt, ended.1);
 }
 
@@ -30,8 +31,10 @@ returns-then-size-eq0-clause-takes c = record {
   answers = λ text events h.
       let one = take_more c.args.piece.now 0 0 c.requires.begun in
       let not : get_or c.args.piece.now 0 0 ≢ 7 = omega arith in
-      let room = subst (λ (d : Standing). d.events < d.limit) c.self.view_is (let counted = c.self.invariant.counted in omega arith) in
-      let ended = bad_code _ _ text events h c.requires.in_records (get_or c.args.piece.now 0 0) c.requires.none_cut one not room (sym c.requires.size ∙ omega arith) in
+      let room = subst (λ (d : Standing). d.events < d.limit) c.self.view_is (let counted = c.self.invariant.counted in
+      omega arith) in
+      let ended = bad_code _ _ text events h c.requires.in_records (get_or c.args.piece.now 0 0) c.requires.none_cut one
+      not room (sym c.requires.size ∙ omega arith) in
       rw (c.stop-then-size-eq0.ensures.answer, c.stop-then-size-eq0.ensures.stops) (ended.0, tt, ended.1);
 }
 
@@ -43,7 +46,9 @@ returns-clause-takes c = record {
   limit = search rules;
   stop = search rules;
   answers = λ text events h.
-      let at = subst (λ (rest : List ℕ). StandsAt (record c.args.self.now { rest = rest }) text events) c.requires.none_cut h in
-      let says = subst (λ (d : Standing). Says d.version (take c.args.size c.args.piece.now) c.read_record-said.result) c.self.view_is c.read_record-said.ensures in
+      let at = subst (λ (rest : List ℕ). StandsAt (record c.args.self.now { rest = rest }) text events)
+      c.requires.none_cut h in
+      let says = subst (λ (d : Standing). Says d.version (take c.args.size c.args.piece.now) c.read_record-said.result)
+      c.self.view_is c.read_record-said.ensures in
       rw c.finish.ensures.used (c.finish.ensures.answers text events [] (take c.args.size c.args.piece.now) at says);
 }
