@@ -117,7 +117,9 @@ def base_of_branch() -> str:
 
 def changed_crates(base: str) -> Set[str]:
     """Returns the crates with a file that differs from BASE, committed or not, or that git does not
-    know yet."""
+    know yet. Where crates.txt or HANDLES differs, it is all of them."""
+    if git("diff", "--name-only", base, "--", "crates.txt", "HANDLES"):
+        return set(crates_listed())
     files = git("diff", "--name-only", base, "--", "crates").splitlines()
     files += git("ls-files", "--others", "--exclude-standard", "--", "crates").splitlines()
     return {it.split("/")[1] for it in files if it.count("/") >= 2}
