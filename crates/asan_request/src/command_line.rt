@@ -1,0 +1,95 @@
+//! What is read of the words of the command line.
+
+ghost use Rattle.std.specs.Prelude.{◌≡◌, ◌↔◌, [], Ok, IfOk, IfSome, IsTrue, Some, codes, false};
+ghost use Rattle.std.specs.Prelude.{option_map, string_bytes};
+ghost use Rattle.clap.specs.Words.{first_value, found_of, one_text};
+ghost use Rattle.asan_inputs.specs.Verbose.{is_verbose as is_verbose_of};
+ghost use Rattle.asan_request.specs.Requests.{HasFewFiles, IsQuiet};
+ghost use Rattle.asan_request.specs.Settings.{AreFilesOf, AreOptionsOf, IsFlag, IsGiven};
+ghost use Rattle.asan_request.specs.Settings.{SaysVerbose};
+
+use crate::arguments::{
+    CHECK, COUNT, FILES, HelpTexts, LIVE, READY, SERVE, SOCKET, VERBOSE, command,
+};
+use crate::refusal::Refusal;
+use crate::request::Request;
+use crate::settings::options_of;
+use asan_inputs::{Serving, is_sender_count, is_verbose, names_of};
+use clap::ArgMatches;
+use clap::error::ErrorKind;
+use std::alloc::Global;
+
+/// What the words after the program's name ask for, or why they are not carried out.
+pub fn read_words(alloc: Global, words: &[String]) -> Result<Request, Refusal>
+    ensures input { (result ≡ Ok Request.Input) ↔ (words.now ≡ []) }
+    ensures few_files { IfOk result HasFewFiles }
+    ensures quiet { is_verbose_of words.now ≡ false → IfOk result IsQuiet }
+{
+    if words.is_empty() {
+        return Ok(Request::Input);
+    }
+    let texts = HelpTexts::new(alloc)?;
+    let mut command = command(alloc, &texts)?;
+    let matches = command.try_get_matches_from_mut(words)?;
+    let request = match matches.subcommand() {
+        Some((CHECK, of_check)) => Some(files_of(alloc, of_check, words)?),
+        Some((SERVE, of_serve)) => serving_of(alloc, of_serve)?.map(Request::Serve),
+        _ => None,
+    };
+    match request {
+        Some(request) => Ok(request),
+        None => Err(Refusal::Mistake(command.error(
+            ErrorKind::MissingSubcommand,
+            "a command is missing",
+        )?)),
+    }
+}
+
+/// The files that were found, and how they are checked.
+fn files_of(alloc: Global, matches: &ArgMatches<'_>, words: &[String]) -> Result<Request, Refusal>
+    ensures found { IfOk result (AreFilesOf (found_of matches.now)) }
+    ensures few_files { IfOk result HasFewFiles }
+    ensures verbose { IsTrue (is_verbose_of words.now) →
+        IfOk result (SaysVerbose (found_of matches.now)) }
+    ensures quiet { is_verbose_of words.now ≡ false → IfOk result IsQuiet }
+{
+    Ok(Request::Files {
+        names: names_of(alloc, matches.get_strs(FILES).unwrap_or(&[]))?,
+        options: options_of(matches)?,
+        verbose: is_verbose(words, matches.get_flag(VERBOSE)),
+        is_live: matches.get_flag(LIVE),
+    })
+}
+
+/// The socket that was found and how it is served, unless its path or a number of senders in range
+/// is missing.
+fn serving_of(alloc: Global, matches: &ArgMatches<'_>) -> Result<Option<Serving>, Refusal>
+    ensures socket { IfOk result (λ serving. IfSome serving (λ s.
+        first_value (found_of matches.now) (codes "socket") ≡ Some (string_bytes s.socket))) }
+    ensures count { IfOk result (λ serving. IfSome serving (λ s.
+        IsGiven 32 (one_text (found_of matches.now) (codes "count")) s.count)) }
+    ensures ready { IfOk result (λ serving. IfSome serving (λ s.
+        first_value (found_of matches.now) (codes "ready") ≡ option_map string_bytes s.ready)) }
+    ensures options { IfOk result (λ serving. IfSome serving (λ s.
+        AreOptionsOf (found_of matches.now) s.options)) }
+    ensures live { IfOk result (λ serving. IfSome serving (λ s.
+        IsFlag (one_text (found_of matches.now) (codes "live")) s.is_live)) }
+{
+    let (Some(socket), Some(count)) = (matches.get_str(SOCKET), matches.get_one(COUNT)) else {
+        return Ok(None);
+    };
+    if !is_sender_count(count) {
+        return Ok(None);
+    }
+    let ready = match matches.get_str(READY) {
+        Some(path) => Some(String::from_str(alloc, path)?),
+        None => None,
+    };
+    Ok(Some(Serving {
+        socket: String::from_str(alloc, socket)?,
+        count,
+        ready,
+        options: options_of(matches)?,
+        is_live: matches.get_flag(LIVE),
+    }))
+}

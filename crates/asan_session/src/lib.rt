@@ -1,0 +1,10 @@
+//! A session of the program: the traces of a door, or one feed, are checked, what became of them is
+//! printed, and the status to end with follows from it.
+#![tactic(auto)]
+
+mod memory;
+mod print;
+mod say;
+
+pub use print::{report_each, report_feed};
+pub use say::{no_memory, say};

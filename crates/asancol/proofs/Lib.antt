@@ -1,4 +1,0 @@
-mod Names
-mod Printing
-mod Reading
-mod Refusing

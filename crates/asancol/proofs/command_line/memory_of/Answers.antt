@@ -1,7 +1,0 @@
-use Rattle.std.specs.Str.Parse.{ExplainsUnsignedError, HasUnsignedDigitsIfOk, ParsesUnsigned}
-use Rattle.asancol.proofs.Reading.{set_if}
-use Rattle.asancol.proofs.command_line.memory_of.Goals as goal
-
-pub returns : goal.returns
-returns c =
-    set_if (λ text r. ParsesUnsigned 64 10 text r × ExplainsUnsignedError 10 text r × HasUnsignedDigitsIfOk text r) 64 (λ text r given. given.0) _ _ c.get_one.ensures.none c.get_one.ensures.value

@@ -1,9 +1,0 @@
-use Rattle.std.proofs.Common.{◌≡◌, cond, take, map, string_bytes}
-use Rattle.asancol.specs.Sources.{inputs_among}
-use Rattle.asancol.proofs.command_line.names_of.Given as goal
-
-abbrev pub invariant-loop-file : goal.invariant-loop-file
-invariant-loop-file l = record {
-  names : map string_bytes l.names.items ≡ map (λ file. file.now) (take l.file-index l.files);
-  inputs : inputs_among (map (λ file. file.now) (take l.file-index l.files)) ≡ cond l.has_input 1 0;
-}

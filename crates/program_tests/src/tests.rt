@@ -1,0 +1,36 @@
+//! What no run of the built program can show: an output of which only the flush fails.
+
+use asan_program::run;
+use std::alloc::Global;
+use std::test::Fail;
+use test_writers::{Ending, ShortWriter};
+
+#[test]
+fn output_that_is_not_flushed(rt: HostRuntime) -> Result<(), Fail> {
+    let mut help = Vec::new(rt.alloc());
+    help.push(String::from_str(rt.alloc(), "--help")?)?;
+    let mut check = Vec::new(rt.alloc());
+    check.push(String::from_str(rt.alloc(), "check")?)?;
+    check.push(String::from_str(rt.alloc(), "-")?)?;
+    for words in [&[], help.as_slice(), check.as_slice()] {
+        let mut output = writer(rt.alloc());
+        output.flushes = false;
+        let mut faults = writer(rt.alloc());
+        let status = run(&rt, words, b"".as_slice(), &mut output, &mut faults);
+        assert_eq!(rt; status, 4);
+        assert!(rt; !output.held.is_empty());
+        assert!(rt; faults.held.is_empty());
+    }
+    Ok(())
+}
+
+/// A writer with room enough.
+fn writer(alloc: Global) -> ShortWriter {
+    ShortWriter {
+        held: Vec::new(alloc),
+        room: usize::MAX,
+        step: 1000,
+        ending: Ending::Fails,
+        flushes: true,
+    }
+}
