@@ -1,6 +1,6 @@
 -- Worked histories, each with the reports that it comes to, computed by the definitions.
 use Rattle.std.proofs.Common.{◌≡◌, ℕ, ◌+◌, ◌*◌, ◌/◌, ◌%◌, true, false, [], ◌∷◌, refl, arith}
-use Rattle.std.specs.Prelude.{◌&&◌, nat_le, nat_lt, IsTrue, reverse}
+use Rattle.std.specs.Prelude.{◌&&◌, ◌==◌, nat_le, nat_lt, IsTrue, List, reverse}
 use Rattle.std.proofs.lemmas.Bool.{and_parts, leb-true, ltb-true}
 use Rattle.std.proofs.lemmas.Bool.Decides.{nat_tests}
 use Rattle.trace_record.specs.Ranges.{largest_region}
@@ -21,6 +21,7 @@ use Rattle.asan_check.specs.declared.report.Fault.TheVariants as fault
 use Rattle.asan_check.specs.declared.report.Report.{Report}
 use Rattle.asan_check.specs.Verdicts.{verdicts}
 use Rattle.asan_check.specs.Laws.{since_malloc, since_free, IsPoisonedSince}
+use Rattle.asan_check.specs.Thinning.{faults_of, renumbered, thinned}
 
 -- ---- events, whose ranges compute at written-out numbers
 
@@ -367,3 +368,31 @@ poisoned_beside_a_block = record {
     tt,
   );
 }
+
+-- ---- loads and stores that are left out
+
+-- a bad store after a malloc, and its fault
+abbrev bad_store : List Event
+bad_store = (store 0x1004 4 refl) ∷ (malloc 0x1000 5 refl) ∷ []
+
+fault_of_the_store :
+    faults_of usual bad_store ≡ fault.Access true 4 0x1004 0x1005 class.HeapBufferOverflow 5 ∷ []
+fault_of_the_store = refl
+
+-- where the bad store is left out its fault is lost, so what is left out has to be good
+fault_that_is_lost : faults_of usual (thinned (λ number. true) bad_store) ≡ []
+fault_that_is_lost = refl
+
+-- no test leaves out a free, and so the second one is still reported
+frees_stay :
+    faults_of usual (thinned (λ number. true) ((free 0x1000 refl) ∷ (load 0x1000 1 refl) ∷ (free 0x1000 refl)
+    ∷ (malloc 0x1000 8 refl) ∷ []))
+    ≡ fault.DoubleFree 0x1000 ∷ []
+frees_stay = refl
+
+-- the store is event 3 of the whole, and event 2 where the good load before it is left out
+number_after_a_load :
+    renumbered (λ number. number == 2) ((store 0x1004 4 refl) ∷ (load 0x1000 1 refl)
+    ∷ (malloc 0x1000 5 refl) ∷ []) (record { number = 2; fault = fault.BadFree 0 })
+    ≡ record { number = 3; fault = fault.BadFree 0 }
+number_after_a_load = refl
