@@ -4,7 +4,7 @@
 
 mod memory;
 mod print;
-mod say;
+mod said;
 
 pub use print::{report_each, report_feed};
-pub use say::{no_memory, say};
+pub use said::{no_memory, say};
