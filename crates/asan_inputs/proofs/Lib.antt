@@ -1,1 +1,1 @@
-mod Inputs
+mod Turns

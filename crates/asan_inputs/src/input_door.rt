@@ -43,7 +43,7 @@ impl<'a, R: Files, I> Model for InputDoor<'a, R, I> {
 }
 
 /// A door over the files of these names, in order. The first `-` is `input`, and no file.
-#[tactic(auto, using(crate::proofs::Inputs::place_within))]
+#[tactic(auto, using(crate::proofs::Turns::place_within))]
 pub fn door_of<'a, R: Files, I: Read + Drop>(
     rt: &'a R,
     alloc: Global,
@@ -103,7 +103,7 @@ impl<'a, R: Files, I: Read + Drop> Door for InputDoor<'a, R, I> {
 
     /// Opens the next file, or gives the input in its turn. A file that can't be opened is
     /// `Refused`. Each call uses up one name, until none is left.
-    #[tactic(auto, using(crate::proofs::Inputs::names_in_turn, crate::proofs::Inputs::place_in_turn))]
+    #[tactic(auto, using(crate::proofs::Turns::names_in_turn, crate::proofs::Turns::place_in_turn))]
     fn next(&mut self) -> Arrival<Source<ReadFeed<R::File>, ReadFeed<I>>>
         requires { self.old.refusals < 2 ^ 64 - 1 }
         ensures turn { CountsDown

@@ -8,22 +8,27 @@ use Rattle.asan_stream.specs.declared.options.BadOption.{BadOption}
 use Rattle.asan_stream.specs.declared.options.BadOption.TheVariants as option
 use Rattle.asan_stream.specs.declared.options.Options.{Options}
 use Rattle.clap.specs.declared.parser.matches.Found.{Found}
-use Rattle.asan_request.specs.Settings.{AreOptionsOf, AreSizesOf, IsBadOption, IsBadSize, IsGiven, IsSet, IsSetIfGiven, IsReadAs}
+use Rattle.asan_request.specs.Settings.{AreOptionsOf, AreSizesOf, IsBadOption, IsBadSize, IsGiven, IsSet, IsSetIfGiven}
+use Rattle.asan_request.specs.Settings.{IsReadAs}
 use Rattle.asan_stream.specs.Ranges.{usual_quarantine, usual_limit, usual_ring, usual_workers}
 
 module _ {E : Type 0} (gives : List ℕ → Result ℕ E → Type 0) (bits : ℕ)
     (parses : (text : List ℕ) (r : Result ℕ E) → gives text r → ParsesUnsigned bits 10 text r) where
-  pub spelled : (text : List ℕ) (got : Option ℕ) (default : ℕ) → ReadsOne gives text got → IsReadAs bits text (unwrap_or got default)
+  pub spelled : (text : List ℕ) (got : Option ℕ) (default : ℕ) → ReadsOne gives text got
+      → IsReadAs bits text (unwrap_or got default)
   spelled text (Some v) default so numeral fits = (parses text (Ok v) so).1
   spelled text None default so numeral fits = absurd ((parses text (Err so.0) so.1) (numeral, fits))
 
   pub set_by : (text : Option (List ℕ)) (got : Option ℕ) (default : ℕ)
-      → (text ≡ None → got ≡ None) → ((t : List ℕ) → text ≡ Some t → ReadsOne gives t got) → IsSet bits text default (unwrap_or got default)
+      → (text ≡ None → got ≡ None) → ((t : List ℕ) → text ≡ Some t → ReadsOne gives t got)
+      → IsSet bits text default (unwrap_or got default)
   set_by None got default none some = rw (none refl) refl
   set_by (Some t) got default none some = spelled t got default (some t refl)
 
-  pub set_of : (text : Option (List ℕ)) (got : Option ℕ) (own default value : ℕ) → value ≡ unwrap_or got own → own ≡ default
-      → (text ≡ None → got ≡ None) → ((t : List ℕ) → text ≡ Some t → ReadsOne gives t got) → IsSet bits text default value
+  pub set_of : (text : Option (List ℕ)) (got : Option ℕ) (own default value : ℕ) → value ≡ unwrap_or got own
+      → own ≡ default
+      → (text ≡ None → got ≡ None) → ((t : List ℕ) → text ≡ Some t → ReadsOne gives t got)
+      → IsSet bits text default value
   set_of text got own default value is own_is none some =
       let by : IsSet bits text default (unwrap_or got default) = set_by text got default none some in
       rw (is, own_is) by
@@ -40,7 +45,8 @@ module _ {E : Type 0} (gives : List ℕ → Result ℕ E → Type 0) (bits : ℕ
       → (text ≡ None → got ≡ None) → ((t : List ℕ) → text ≡ Some t → ReadsOne gives t got) → IsSetIfGiven bits text got
   set_if None got none some = none refl
   set_if (Some t) (Some v) none some = λ numeral fits. ap Some (parses t (Ok v) (some t refl)).1
-  set_if (Some t) None none some = λ numeral fits. absurd (let so = some t refl in (parses t (Err so.0) so.1) (numeral, fits))
+  set_if (Some t) None none some = λ numeral fits. absurd (let so = some t refl in
+      (parses t (Err so.0) so.1) (numeral, fits))
 
 -- options that were made of these values are those that were found, without a bound on memory
 pub made_of : {E : Type 0} (P : E → Type 0) (r : Result Options E) (found : Found) (quarantine ring workers limit : ℕ)
@@ -54,7 +60,8 @@ made_of P (Ok o) found quarantine ring workers limit so a b c d = (rw so.0 a, rw
 made_of P (Err e) found quarantine ring workers limit so a b c d = tt
 
 -- and where they weren't made, the first that is out of its range is one of those that were found
-pub refused_of : (P : Options → Type 0) (r : Result Options BadOption) (found : Found) (quarantine ring workers limit : ℕ)
+pub refused_of : (P : Options → Type 0) (r : Result Options BadOption) (found : Found)
+    (quarantine ring workers limit : ℕ)
     → MatchResult r P (λ bad. bad_option_of quarantine ring workers limit ≡ Some bad)
     → IsSet 64 (one_text found (codes "quarantine")) usual_quarantine quarantine
     → IsSet 32 (one_text found (codes "ring")) usual_ring ring
@@ -62,7 +69,8 @@ pub refused_of : (P : Options → Type 0) (r : Result Options BadOption) (found 
     → IsSet 32 (one_text found (codes "limit")) usual_limit limit
     → IfErr r (IsBadSize found)
 refused_of P (Ok o) found quarantine ring workers limit so a b c d = tt
-refused_of P (Err bad) found quarantine ring workers limit so a b c d = (quarantine, ring, workers, limit, (a, b, c, d), so)
+refused_of P (Err bad) found quarantine ring workers limit so a b c d =
+    (quarantine, ring, workers, limit, (a, b, c, d), so)
 
 -- with a bound on memory that was found they are all that was found
 pub bounded_of : {E : Type 0} (r : Result Options E) (o : Options) (found : Found) (bytes : ℕ)
@@ -86,7 +94,8 @@ bad_size_of found bad first = inl first
 
 -- and without one they are, where none was found
 pub unbounded_of : (o : Options) (found : Found)
-    → AreSizesOf found o → o.memory ≡ None → IsSetIfGiven 64 (one_text found (codes "memory")) None → AreOptionsOf found o
+    → AreSizesOf found o → o.memory ≡ None → IsSetIfGiven 64 (one_text found (codes "memory")) None
+    → AreOptionsOf found o
 unbounded_of o found sizes none given = (sizes, rw none given)
 
 -- what is read of all the options

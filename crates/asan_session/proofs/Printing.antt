@@ -32,8 +32,10 @@ module _ {F A : Type 0} where
   status_where outcomes false status is = inl is
 
   -- the whole text went out, and then the writer was flushed
-  pub gone_whole : (before mid after : Option (List ℕ)) (text : List ℕ) (outcomes : List (Outcome F A)) (wrote : Bool) (status : ℕ)
-      → Keeps mid after → status ≡ status_of outcomes wrote → Appends before mid text → HasGoneOut before after text outcomes status
+  pub gone_whole : (before mid after : Option (List ℕ)) (text : List ℕ) (outcomes : List (Outcome F A)) (wrote : Bool)
+      (status : ℕ)
+      → Keeps mid after → status ≡ status_of outcomes wrote → Appends before mid text
+      → HasGoneOut before after text outcomes status
   gone_whole before mid after text outcomes wrote status kept is sent =
       let all = Appends-kept before mid after text sent kept in
       record {
@@ -42,19 +44,14 @@ module _ {F A : Type 0} where
         status_is = status_where outcomes wrote status is;
       }
 
-  -- only the first bytes went out
-  pub gone_part : (before after : Option (List ℕ)) (text : List ℕ) (outcomes : List (Outcome F A)) (written status : ℕ)
-      → status ≡ unwritten → Appends before after (take written text) → HasGoneOut before after text outcomes status
-  gone_part before after text outcomes written status is sent = record {
-    part = (written, sent);
-    whole = λ other. absurd (other is);
-    status_is = inl is;
-  }
-
   -- lines went out as reports came, and then the writer was flushed
-  pub gone_live : (r : Result (Unit {0}) WriteFault) (before mid after : Option (List ℕ)) (outcomes : List (Outcome F A)) (status : ℕ) → ArePrinted before mid outcomes r
+  pub gone_live : (r : Result (Unit {0}) WriteFault) (before mid after : Option (List ℕ))
+      (outcomes : List (Outcome F A)) (status : ℕ) → ArePrinted before mid outcomes r
       → OnOk r ((b : Option (List ℕ)) (text : List ℕ) → Appends b mid text → HasGoneOut b after text outcomes status)
-      → IfErr r (λ e. (b : Option (List ℕ)) (text : List ℕ) → Appends b mid (take e.written text) → HasGoneOut b after text outcomes status)
+      → IfErr r (λ e. (b : Option (List ℕ)) (text : List ℕ) → Appends b mid (take e.written text)
+      → HasGoneOut b after text outcomes status)
       → IsPrintedLive before after outcomes status
-  gone_live (Ok x) before mid after outcomes status printed ok fault = (printed.log, printed.lines, ok before (joined printed.log) printed.all)
-  gone_live (Err e) before mid after outcomes status printed ok fault = (printed.log, printed.lines, fault before (joined printed.log) printed.part)
+  gone_live (Ok x) before mid after outcomes status printed ok fault =
+      (printed.log, printed.lines, ok before (joined printed.log) printed.all)
+  gone_live (Err e) before mid after outcomes status printed ok fault =
+      (printed.log, printed.lines, fault before (joined printed.log) printed.part)

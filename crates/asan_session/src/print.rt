@@ -1,7 +1,7 @@
 //! What is printed of the traces, and the status that follows from it.
 
 ghost use Rattle.std.specs.Prelude.{◌≡◌, ◌<◌, ◌≤◌, ◌⊎◌, ◌^◌, All, IfOk, None, OnErr, length};
-ghost use Rattle.std.specs.Prelude.{IfErr, List, OnOk, Option, false, take, true, ℕ};
+ghost use Rattle.std.specs.Prelude.{IfErr, List, OnOk, Option, take, ℕ};
 ghost use Rattle.std.specs.Io.KnownBytes.{Appends};
 ghost use Rattle.refusing_allocator.specs.Rules.{bound_of};
 ghost use Rattle.asan_stream.specs.Ranges.{most_reports};

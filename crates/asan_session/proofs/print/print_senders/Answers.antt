@@ -5,7 +5,9 @@ pub returns-then-is_live-clause-ok : goal.returns-then-is_live-clause-ok
 returns-then-is_live-clause-ok g c =
     let live = c.in_ok-live.live in
     let all = c.in_ok-live.ensures in
-    let gone = gone_live live.wrote _ _ _ live.outcomes.items c.flush-status.result all.printed (rw c.deref.ensures.value at c.flush-status.ensures.ok) (rw c.deref.ensures.value at c.flush-status.ensures.fault) in
+    let gone = gone_live live.wrote _ _ _ live.outcomes.items c.flush-status.result all.printed
+    (rw c.deref.ensures.value at c.flush-status.ensures.ok)
+    (rw c.deref.ensures.value at c.flush-status.ensures.fault) in
     record {
       answers = all.collected.answers;
       count = all.collected.count;

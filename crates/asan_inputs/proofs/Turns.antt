@@ -1,10 +1,13 @@
 -- Standard input among the names of files.
-use Rattle.std.proofs.Common.{arith, Bool, true, ◌≡◌, ◌<◌, ◌≤◌, ℕ, ◌+◌, ◌-◌, Option, None, Some, List, [], ◌∷◌, String, length, suc, zero, take, drop, get_or, map, string_bytes, refl, sym, ap, ◌∙◌}
+use Rattle.std.proofs.Common.{arith, Bool, true, ◌≡◌, ◌<◌, ◌≤◌, ℕ, ◌+◌, ◌-◌, Option, None, Some, List, [], ◌∷◌, String}
+use Rattle.std.proofs.Common.{length, suc, zero, take, drop, get_or, map, string_bytes, refl, sym, ap, ◌∙◌}
 use Rattle.std.specs.Prelude.{IfSome}
 use Rattle.std.specs.List.{filter, insert, remove}
 use Rattle.std.specs.Str.{bytes_eq}
 use Rattle.std.specs.declared.alloc.Global.{Global}
-use Rattle.std.proofs.lemmas.List.{drop-map, drop_at, get_or-map, length-append, length-drop, length-map, length-take, length-take-le, map-append, set-get_or, set_split, take-append-drop, take-map, take_at}
+use Rattle.std.proofs.lemmas.List.{drop-map, drop_at, get_or-map, length-append, length-drop, length-map, length-take}
+use Rattle.std.proofs.lemmas.List.{length-take-le, map-append, set-get_or, set_split, take-append-drop, take-map}
+use Rattle.std.proofs.lemmas.List.{take_at}
 use Rattle.std.proofs.lemmas.List.Elements.{filter-append}
 use Rattle.std.proofs.lemmas.List.Filters.{length-filter_more}
 use Rattle.std.proofs.lemmas.List.Quantifiers.{position-Some}
@@ -15,7 +18,8 @@ use Rattle.asan_inputs.specs.Sources.{input_name, input_place, inputs_among, nam
 put_back : {X : Type 0} (xs : List X) (i : ℕ) (d : X) → i < length xs → insert (remove xs i) i (get_or xs i d) ≡ xs
 put_back xs i d within =
     let front : length (take i xs) ≡ i = length-take-le i xs (omega arith) in
-    rw (take_at (take i xs) (drop (suc i) xs) i front, drop_at (take i xs) (drop (suc i) xs) i front) (sym (set_split xs i (get_or xs i d) within) ∙ set-get_or xs i d)
+    rw (take_at (take i xs) (drop (suc i) xs) i front, drop_at (take i xs) (drop (suc i) xs) i front)
+    (sym (set_split xs i (get_or xs i d) within) ∙ set-get_or xs i d)
 
 -- where the first `-` was left out, its place gives it back
 restored : (names : List (String Global)) (place : ℕ) → input_place names ≡ Some place
@@ -25,7 +29,8 @@ restored (first ∷ rest) place is =
     let names = first ∷ rest in
     let ns = map string_bytes names in
     let found = position-Some (λ name. bytes_eq (string_bytes name) input_name) names place first is in
-    let own : get_or ns place input_name ≡ string_bytes (get_or names place first) = get_or-map string_bytes names place first input_name found.0 in
+    let own : get_or ns place input_name ≡ string_bytes (get_or names place first) =
+    get_or-map string_bytes names place first input_name found.0 in
     let named : string_bytes (get_or names place first) ≡ input_name = (bytes_eq-Decides _ _).0 found.1 in
     let within : place < length ns = rw (length-map names string_bytes) found.0 in
     let back : insert (remove ns place) place (get_or ns place input_name) ≡ ns = put_back ns place input_name within in
@@ -34,7 +39,8 @@ restored (first ∷ rest) place is =
 map_removed : {X Y : Type 0} (f : X → Y) (xs : List X) (i : ℕ) → map f (remove xs i) ≡ remove (map f xs) i
 map_removed f xs i = rw (map-append f (take i xs) (drop (suc i) xs), take-map f i xs, drop-map f (suc i) xs) refl
 
-pub names_restored : (names paths : List (String Global)) (place : ℕ) → input_place names ≡ Some place → map string_bytes paths ≡ map string_bytes names
+pub names_restored : (names paths : List (String Global)) (place : ℕ) → input_place names ≡ Some place
+    → map string_bytes paths ≡ map string_bytes names
     → names_with (Some place) (map string_bytes (remove paths place)) ≡ map string_bytes names
 names_restored names paths place is same = rw (map_removed string_bytes paths place, same) (restored names place is)
 
@@ -47,7 +53,9 @@ place_within (first ∷ rest) paths (Some at) is same =
     let names = first ∷ rest in
     let found = position-Some (λ name. bytes_eq (string_bytes name) input_name) names at first (sym is) in
     let within : at < length names = found.0 in
-    let whole : length (take at paths) + suc (length (drop at paths)) ≡ length names = sym (length-append (take at paths) (input_name ∷ drop at paths)) ∙ ap length same ∙ length-map names string_bytes in
+    let whole : length (take at paths) + suc (length (drop at paths)) ≡ length names =
+    sym (length-append (take at paths) (input_name ∷ drop at paths)) ∙ ap length same
+    ∙ length-map names string_bytes in
     let front = length-take at paths in
     let back = length-drop at paths in
     omega arith
@@ -75,7 +83,8 @@ one_more_input names i within is =
     let front = filter is_input (take (i + 1) names) in
     let back = filter is_input (drop (i + 1) names) in
     let all : length (filter is_input names) ≡ length front + length back =
-    ap (λ all. length (filter is_input all)) (sym (take-append-drop (i + 1) names)) ∙ ap length (filter-append is_input (take (i + 1) names) (drop (i + 1) names)) ∙ length-append front back in
+    ap (λ all. length (filter is_input all)) (sym (take-append-drop (i + 1) names))
+    ∙ ap length (filter-append is_input (take (i + 1) names) (drop (i + 1) names)) ∙ length-append front back in
     let more = length-filter_more is_input names i [] within in
     let one = rw is at more in
     omega (arith, all, one)
