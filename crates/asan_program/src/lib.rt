@@ -2,10 +2,10 @@
 #![tactic(auto)]
 
 mod closed_streams;
-mod run;
-mod start;
+mod entry;
+mod program;
 mod words;
 
 pub use closed_streams::ClosedStreams;
-pub use run::run;
-pub use start::start;
+pub use entry::start;
+pub use program::run;

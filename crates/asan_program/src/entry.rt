@@ -1,6 +1,6 @@
 //! The start of the program, on the words of its environment.
 
-use crate::run::{no_text, run};
+use crate::program::{no_text, run};
 use crate::words::{word_that_is_no_text, words_of};
 use asan_session::no_memory;
 use std::fs::File;

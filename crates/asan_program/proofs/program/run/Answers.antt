@@ -1,7 +1,7 @@
 use Rattle.std.proofs.Common.{rules, ◌≡◌, Ok, sym, ◌∙◌, inl, inr}
 use Rattle.asan_request.specs.declared.request.Request.TheVariants as request
-use Rattle.asan_program.proofs.run.run.Goals.{in-Input, in-Files, in-Serve+in-Ok-listen}
-use Rattle.asan_program.proofs.run.run.Goals as goal
+use Rattle.asan_program.proofs.program.run.Goals.{in-Input, in-Files, in-Serve+in-Ok-listen}
+use Rattle.asan_program.proofs.program.run.Goals as goal
 
 pub returns-in-Ok-reported-clause-no_words : goal.returns-in-Ok-reported-clause-no_words
 returns-in-Ok-reported-clause-no_words g c none =
