@@ -8,7 +8,7 @@ mod passing;
 mod refusals;
 mod streams;
 
-use asan_check::{Checker, Failed, Report};
+use asan_check::{Bound, Checker, Failed, Report};
 use std::alloc::Allocator;
 use std::process::Abort;
 use trace_record::{Access, Event, Flaw, Place, Region, Shade};
@@ -47,6 +47,24 @@ fn poison_of(kind: u8, at: u64, size: u64) -> Made {
 
 fn unpoison(at: u64, size: u64) -> Made {
     Ok(Event::Unpoison(Region::new(at, size)?))
+}
+
+// What a call of the product promises stays in view of all that follows it in a body. These helpers
+// say nothing of it, so that the tests are cheap to prove.
+
+/// A checker that has checked nothing.
+fn new_checker<A: Allocator + Copy>(alloc: A, bound: u64) -> Result<Checker<A>, Bound> {
+    Checker::new(alloc, bound)
+}
+
+/// How many events a checker has checked, and how many reports it has.
+fn tally<A: Allocator + Copy>(checker: &Checker<A>) -> (u64, usize) {
+    (checker.checked(), checker.reports().len())
+}
+
+/// The reports of a checker.
+fn reports_of<A: Allocator + Copy>(checker: &Checker<A>) -> &[Report] {
+    checker.reports()
 }
 
 /// Steps a checker of fewer events than it can count.

@@ -1,8 +1,13 @@
 //! A checker and the plain model, driven by the same events.
 
 use super::model::{Model, State, state_of};
-use super::{USUAL, free, load, malloc, poison_of, step, store, unpoison};
-use asan_check::{Checker, report_text};
+use super::streams::add_reports;
+use super::{
+    USUAL, free, load, malloc, new_checker, poison_of, reports_of, step, store, tally, unpoison,
+};
+use asan_check::{Checker, Report};
+use std::alloc::Global;
+use std::process::Abort;
 use std::test::Fail;
 use test_draws::Draws;
 use trace_record::{Event, Flaw};
@@ -57,6 +62,85 @@ fn drawn_event(draws: &mut Draws, base: u64) -> Result<Event, Flaw> {
     }
 }
 
+/// Steps a checker and the model through drawn events from an address on, and asserts that they
+/// agree. Gives the reports.
+fn agreed_reports(
+    rt: &impl Abort,
+    checker: &mut Checker,
+    model: &mut Model,
+    draws: &mut Draws,
+    base: u64,
+) -> Result<Vec<Report>, Fail> {
+    let mut reports = Vec::new(model.alloc);
+    for _ in 0..EVENTS {
+        if let Ok(event) = drawn_event(draws, base) {
+            let report = step(rt, checker, &event)?;
+            assert_eq!(rt; report, model.step(event)?, "{event:?}");
+            if let Some(report) = report {
+                reports.push(report)?;
+            }
+        }
+    }
+    let (checked, _) = tally(checker);
+    assert_eq!(rt; checked, model.events.len() as u64);
+    assert_eq!(rt; reports_of(checker), reports.as_slice());
+    Ok(reports)
+}
+
+/// What a checker says of a byte.
+fn is_poisoned(checker: &Checker, at: u64) -> Option<bool> {
+    checker.is_poisoned(at)
+}
+
+/// What a checker says of the window from an address on.
+fn first_of_window(rt: &impl Abort, checker: &Checker, base: u64) -> Option<Option<u64>> {
+    assert!(rt; base <= (1 << 47) - WINDOW);
+    checker.first_poisoned(base, WINDOW)
+}
+
+/// Asserts that a checker and the model agree on each byte of the window from an address on, and on
+/// the first poisoned one.
+fn expect_same_bytes(
+    rt: &impl Abort,
+    checker: &Checker,
+    model: &Model,
+    base: u64,
+) -> Result<(), Fail> {
+    let marks = model.marks()?;
+    let mut first = None;
+    for place in (0..WINDOW).rev() {
+        let at = base.saturating_add(place);
+        let poisoned = state_of(&marks, at) != State::Addressable;
+        assert_eq!(rt; is_poisoned(checker, at), Some(poisoned), "byte {at}");
+        if poisoned {
+            first = Some(at);
+        }
+    }
+    assert_eq!(rt; first_of_window(rt, checker, base), Some(first));
+    Ok(())
+}
+
+/// Drives a checker and the model by the same drawn events, and adds the lines of the reports to a
+/// text.
+fn add_history(
+    rt: &impl Abort,
+    alloc: Global,
+    draws: &mut Draws,
+    (bound, base): (u64, u64),
+    text: &mut String,
+) -> Result<(), Fail> {
+    let mut checker = new_checker(alloc, bound)?;
+    let events = Vec::new(alloc);
+    let mut model = Model {
+        alloc,
+        bound,
+        events,
+    };
+    let reports = agreed_reports(rt, &mut checker, &mut model, draws, base)?;
+    add_reports(&reports, text)?;
+    expect_same_bytes(rt, &checker, &model, base)
+}
+
 #[test]
 fn checker_agrees_with_the_model(rt: HostRuntime) -> Result<(), Fail> {
     let bounds = [0, 71, 72, 200, 400, USUAL];
@@ -66,35 +150,7 @@ fn checker_agrees_with_the_model(rt: HostRuntime) -> Result<(), Fail> {
     for history in 0..HISTORIES {
         let bound = bounds[(history / 3 % 6) as usize];
         let base = bases[(history % 3) as usize];
-        let mut checker = Checker::new(rt.alloc(), bound)?;
-        let mut model = Model {
-            alloc: rt.alloc(),
-            bound,
-            events: Vec::new(rt.alloc()),
-        };
-        let mut reports = Vec::new(rt.alloc());
-        for _ in 0..EVENTS {
-            if let Ok(event) = drawn_event(&mut draws, base) {
-                let report = step(&rt, &mut checker, &event)?;
-                assert_eq!(rt; report, model.step(event)?, "history {history}, {event:?}");
-                if let Some(report) = report {
-                    report_text(0, &report, &mut text)?;
-                    reports.push(report)?;
-                }
-            }
-        }
-        assert_eq!(rt; checker.checked(), model.events.len() as u64);
-        assert_eq!(rt; checker.reports(), reports.as_slice());
-        let marks = model.marks()?;
-        let mut first = None;
-        for at in (base..base + WINDOW).rev() {
-            let is_poisoned = state_of(&marks, at) != State::Addressable;
-            assert_eq!(rt; checker.is_poisoned(at), Some(is_poisoned), "byte {at}");
-            if is_poisoned {
-                first = Some(at);
-            }
-        }
-        assert_eq!(rt; checker.first_poisoned(base, WINDOW), Some(first));
+        add_history(&rt, rt.alloc(), &mut draws, (bound, base), &mut text)?;
     }
     for word in [
         "heap-buffer-overflow",

@@ -1,32 +1,46 @@
 //! Worked examples: events, and the lines of the reports on them.
-use super::streams::{spelled, text_of};
-use super::{Made, USUAL, free, load, malloc, poison, poison_of, step, store, unpoison};
-use asan_check::{Bound, Checker, report_text};
+use super::streams::{add_reports, spelled, text_of};
+use super::{
+    Made, USUAL, free, load, malloc, new_checker, poison, poison_of, step, store, tally, unpoison,
+};
+use asan_check::{Bound, Checker, Failed};
 use std::alloc::Global;
 use std::process::Abort;
 use std::test::Fail;
-use trace_record::Version;
+use trace_record::{Event, Version};
 
-/// The lines of the reports of a checker with this bound on its quarantine, after these events. A
-/// stream of them, in each version in which they spell, comes to the same lines, and is closed.
+/// The lines of the reports of a checker with this bound on its quarantine, after these events.
 fn lines(rt: &impl Abort, alloc: Global, bound: u64, events: &[Made]) -> Result<String, Fail> {
-    let mut checker = Checker::new(alloc, bound)?;
+    let mut checker = new_checker(alloc, bound)?;
     for event in events {
         step(rt, &mut checker, &(*event)?)?;
     }
-    assert_eq!(rt; checker.checked(), events.len() as u64);
+    let (checked, _) = tally(&checker);
+    assert_eq!(rt; checked, events.len() as u64);
     let mut text = String::new(alloc);
-    for report in &checker.into_reports() {
-        report_text(0, report, &mut text)?;
-    }
+    add_reports(&checker.into_reports(), &mut text)?;
+    Ok(text)
+}
+
+/// Asserts that a checker with this bound on its quarantine has reports of these lines after these
+/// events. A stream of them, in each version in which they spell, comes to the same lines, and is
+/// closed.
+fn expect_lines(
+    rt: &impl Abort,
+    alloc: Global,
+    bound: u64,
+    events: &[Made],
+    wanted: &str,
+) -> Result<(), Fail> {
+    assert_eq!(rt; lines(rt, alloc, bound, events)?.as_str(), wanted);
     for version in [Version::One, Version::Two] {
         if let Some(stream) = spelled(alloc, version, events)? {
             let whole = text_of(rt, alloc, bound, &stream)?;
-            let end = whole.as_str().strip_prefix(text.as_str()).unwrap_or("");
+            let end = whole.as_str().strip_prefix(wanted).unwrap_or("");
             assert!(rt; end.starts_with("p0 end closed events "), "{whole}");
         }
     }
-    Ok(text)
+    Ok(())
 }
 
 #[test]
@@ -35,14 +49,13 @@ fn one_byte_past_the_end(rt: HostRuntime) -> Result<(), Fail> {
     let wanted = "\
 p0 #2 store 4 at 000000001004 bad 000000001005 heap-buffer-overflow shadow 05
 ";
-    assert_eq!(rt; lines(&rt, rt.alloc(), USUAL, &events)?.as_str(), wanted);
-    Ok(())
+    expect_lines(&rt, rt.alloc(), USUAL, &events, wanted)
 }
 
 #[test]
 fn unaligned_access_is_missed(rt: HostRuntime) -> Result<(), Fail> {
     let events = [malloc(0x1000, 8), store(4, 0x1006)];
-    assert_eq!(rt; lines(&rt, rt.alloc(), USUAL, &events)?.as_str(), "");
+    expect_lines(&rt, rt.alloc(), USUAL, &events, "")?;
     Ok(())
 }
 
@@ -52,8 +65,7 @@ fn wide_load_past_the_end(rt: HostRuntime) -> Result<(), Fail> {
     let wanted = "\
 p0 #2 load 8 at 000000001004 bad 000000001005 heap-buffer-overflow shadow 05
 ";
-    assert_eq!(rt; lines(&rt, rt.alloc(), USUAL, &events)?.as_str(), wanted);
-    Ok(())
+    expect_lines(&rt, rt.alloc(), USUAL, &events, wanted)
 }
 
 #[test]
@@ -66,23 +78,18 @@ fn one_page_wide_poison(rt: HostRuntime) -> Result<(), Fail> {
     let wanted = "\
 p0 #2 load 1 at 00004fffffff bad 00004fffffff use-after-poison shadow f7
 ";
-    assert_eq!(rt; lines(&rt, rt.alloc(), USUAL, &events)?.as_str(), wanted);
-    Ok(())
+    expect_lines(&rt, rt.alloc(), USUAL, &events, wanted)
 }
 
 #[test]
 fn poison_in_the_middle_and_to_the_end(rt: HostRuntime) -> Result<(), Fail> {
     let middle = [malloc(0x1000, 8), poison(0x1002, 3), load(1, 0x1003)];
-    assert_eq!(rt; lines(&rt, rt.alloc(), USUAL, &middle)?.as_str(), "");
+    expect_lines(&rt, rt.alloc(), USUAL, &middle, "")?;
     let to_the_end = [malloc(0x1000, 8), poison(0x1002, 6), load(1, 0x1003)];
     let wanted = "\
 p0 #3 load 1 at 000000001003 bad 000000001003 heap-buffer-overflow shadow 02
 ";
-    assert_eq!(rt;
-        lines(&rt, rt.alloc(), USUAL, &to_the_end)?.as_str(),
-        wanted
-    );
-    Ok(())
+    expect_lines(&rt, rt.alloc(), USUAL, &to_the_end, wanted)
 }
 
 #[test]
@@ -99,8 +106,7 @@ fn poison_then_unpoison(rt: HostRuntime) -> Result<(), Fail> {
 p0 #3 load 1 at 000000002000 bad 000000002000 use-after-poison shadow f7
 p0 #6 load 1 at 000000002003 bad 000000002003 unknown-crash shadow 03
 ";
-    assert_eq!(rt; lines(&rt, rt.alloc(), USUAL, &events)?.as_str(), wanted);
-    Ok(())
+    expect_lines(&rt, rt.alloc(), USUAL, &events, wanted)
 }
 
 #[test]
@@ -117,8 +123,7 @@ fn quarantine_releases_the_oldest(rt: HostRuntime) -> Result<(), Fail> {
 p0 #5 load 1 at 000000001000 bad 000000001000 heap-buffer-overflow shadow fa
 p0 #6 load 1 at 000000002000 bad 000000002000 heap-use-after-free shadow fd
 ";
-    assert_eq!(rt; lines(&rt, rt.alloc(), 72, &events)?.as_str(), wanted);
-    Ok(())
+    expect_lines(&rt, rt.alloc(), 72, &events, wanted)
 }
 
 #[test]
@@ -127,9 +132,9 @@ fn malloc_meets_a_held_span(rt: HostRuntime) -> Result<(), Fail> {
     let wanted = "\
 p0 #3 malloc 8 at 000000001008 bad-malloc
 ";
-    assert_eq!(rt; lines(&rt, rt.alloc(), USUAL, &events)?.as_str(), wanted);
+    expect_lines(&rt, rt.alloc(), USUAL, &events, wanted)?;
     // The span of 72 bytes is not held.
-    assert_eq!(rt; lines(&rt, rt.alloc(), 71, &events)?.as_str(), "");
+    expect_lines(&rt, rt.alloc(), 71, &events, "")?;
     Ok(())
 }
 
@@ -139,21 +144,18 @@ fn double_and_bad_frees(rt: HostRuntime) -> Result<(), Fail> {
     let double = "\
 p0 #3 free at 000000001000 double-free
 ";
-    assert_eq!(rt; lines(&rt, rt.alloc(), USUAL, &twice)?.as_str(), double);
-    assert_eq!(rt; lines(&rt, rt.alloc(), 72, &twice)?.as_str(), double);
+    expect_lines(&rt, rt.alloc(), USUAL, &twice, double)?;
+    expect_lines(&rt, rt.alloc(), 72, &twice, double)?;
     // The span of 72 bytes is not held.
     let bad = "\
 p0 #3 free at 000000001000 bad-free
 ";
-    assert_eq!(rt; lines(&rt, rt.alloc(), 71, &twice)?.as_str(), bad);
+    expect_lines(&rt, rt.alloc(), 71, &twice, bad)?;
     let inside_and_null = [malloc(0x1000, 8), free(0x1004), free(0)];
     let bad = "\
 p0 #2 free at 000000001004 bad-free
 ";
-    assert_eq!(rt;
-        lines(&rt, rt.alloc(), USUAL, &inside_and_null)?.as_str(),
-        bad
-    );
+    expect_lines(&rt, rt.alloc(), USUAL, &inside_and_null, bad)?;
     Ok(())
 }
 
@@ -171,8 +173,7 @@ p0 #2 load 1 at 000000001000 bad 000000001000 heap-buffer-overflow shadow fa
 p0 #4 malloc 8 at 000000000018 bad-malloc
 p0 #5 malloc 8 at 000000003004 bad-malloc
 ";
-    assert_eq!(rt; lines(&rt, rt.alloc(), USUAL, &events)?.as_str(), wanted);
-    Ok(())
+    expect_lines(&rt, rt.alloc(), USUAL, &events, wanted)
 }
 
 #[test]
@@ -181,8 +182,7 @@ fn two_kinds_in_a_granule(rt: HostRuntime) -> Result<(), Fail> {
     let wanted = "\
 p0 #3 load 1 at 000000001006 bad 000000001006 use-after-poison shadow f7
 ";
-    assert_eq!(rt; lines(&rt, rt.alloc(), USUAL, &events)?.as_str(), wanted);
-    Ok(())
+    expect_lines(&rt, rt.alloc(), USUAL, &events, wanted)
 }
 
 #[test]
@@ -191,8 +191,7 @@ fn first_byte_decides_the_kind(rt: HostRuntime) -> Result<(), Fail> {
     let wanted = "\
 p0 #3 load 1 at 000000001006 bad 000000001006 stack-buffer-overflow shadow f2
 ";
-    assert_eq!(rt; lines(&rt, rt.alloc(), USUAL, &events)?.as_str(), wanted);
-    Ok(())
+    expect_lines(&rt, rt.alloc(), USUAL, &events, wanted)
 }
 
 /// Poison of a part of a granule that has no addressable byte leaves its code, whatever its kind.
@@ -211,8 +210,7 @@ fn part_of_a_redzone_keeps_its_kind(rt: HostRuntime) -> Result<(), Fail> {
 p0 #4 load 1 at 000000001003 bad 000000001003 stack-buffer-overflow shadow f2
 p0 #7 load 1 at 000000001003 bad 000000001003 global-buffer-overflow shadow f9
 ";
-    assert_eq!(rt; lines(&rt, rt.alloc(), USUAL, &events)?.as_str(), wanted);
-    Ok(())
+    expect_lines(&rt, rt.alloc(), USUAL, &events, wanted)
 }
 
 /// A malloc, a free and a release paint over poison of each kind.
@@ -240,8 +238,7 @@ p0 #8 load 1 at 000000001000 bad 000000001000 heap-use-after-free shadow fd
 p0 #10 load 1 at 000000001000 bad 000000001000 stack-buffer-overflow shadow f2
 p0 #13 load 1 at 000000001000 bad 000000001000 heap-buffer-overflow shadow fa
 ";
-    assert_eq!(rt; lines(&rt, rt.alloc(), 72, &events)?.as_str(), wanted);
-    Ok(())
+    expect_lines(&rt, rt.alloc(), 72, &events, wanted)
 }
 
 #[test]
@@ -250,8 +247,7 @@ fn last_granule(rt: HostRuntime) -> Result<(), Fail> {
     let wanted = "\
 p0 #2 load 1 at 7ffffffffffe bad 7ffffffffffe unknown-crash shadow 04
 ";
-    assert_eq!(rt; lines(&rt, rt.alloc(), USUAL, &events)?.as_str(), wanted);
-    Ok(())
+    expect_lines(&rt, rt.alloc(), USUAL, &events, wanted)
 }
 
 #[test]
@@ -267,8 +263,7 @@ fn spans_that_touch(rt: HostRuntime) -> Result<(), Fail> {
 p0 #2 malloc 8 at 000000001040 bad-malloc
 p0 #4 load 1 at 000000001028 bad 000000001028 heap-buffer-overflow shadow fa
 ";
-    assert_eq!(rt; lines(&rt, rt.alloc(), USUAL, &events)?.as_str(), wanted);
-    Ok(())
+    expect_lines(&rt, rt.alloc(), USUAL, &events, wanted)
 }
 
 #[test]
@@ -278,8 +273,7 @@ fn first_place_of_a_block(rt: HostRuntime) -> Result<(), Fail> {
 p0 #1 malloc 8 at 000000000018 bad-malloc
 p0 #4 load 1 at 000000000000 bad 000000000000 heap-buffer-overflow shadow fa
 ";
-    assert_eq!(rt; lines(&rt, rt.alloc(), USUAL, &events)?.as_str(), wanted);
-    Ok(())
+    expect_lines(&rt, rt.alloc(), USUAL, &events, wanted)
 }
 
 #[test]
@@ -290,11 +284,11 @@ fn rounded_size_counts(rt: HostRuntime) -> Result<(), Fail> {
     let held = "\
 p0 #3 load 1 at 000000001007 bad 000000001007 heap-use-after-free shadow fd
 ";
-    assert_eq!(rt; lines(&rt, rt.alloc(), 72, &events)?.as_str(), held);
+    expect_lines(&rt, rt.alloc(), 72, &events, held)?;
     let released = "\
 p0 #3 load 1 at 000000001007 bad 000000001007 heap-buffer-overflow shadow fa
 ";
-    assert_eq!(rt; lines(&rt, rt.alloc(), 71, &events)?.as_str(), released);
+    expect_lines(&rt, rt.alloc(), 71, &events, released)?;
     Ok(())
 }
 
@@ -317,8 +311,7 @@ p0 #5 load 1 at 000000001000 bad 000000001000 use-after-poison shadow f7
 p0 #9 load 1 at 000000001000 bad 000000001000 heap-buffer-overflow shadow fa
 p0 #10 load 1 at 000000001010 bad 000000001010 heap-buffer-overflow shadow fa
 ";
-    assert_eq!(rt; lines(&rt, rt.alloc(), 72, &events)?.as_str(), wanted);
-    Ok(())
+    expect_lines(&rt, rt.alloc(), 72, &events, wanted)
 }
 
 #[test]
@@ -342,7 +335,7 @@ p0 #8 load 1 at 000000001000 bad 000000001000 heap-buffer-overflow shadow fa
 p0 #9 load 1 at 000000002000 bad 000000002000 heap-buffer-overflow shadow fa
 p0 #10 load 1 at 000000003000 bad 000000003000 heap-use-after-free shadow fd
 ";
-    assert_eq!(rt; lines(&rt, rt.alloc(), 200, &events)?.as_str(), wanted);
+    expect_lines(&rt, rt.alloc(), 200, &events, wanted)?;
     // A span over the bound pushes out the others, and itself.
     let wanted = "\
 p0 #6 load 1 at 000000001000 bad 000000001000 heap-use-after-free shadow fd
@@ -350,8 +343,7 @@ p0 #8 load 1 at 000000001000 bad 000000001000 heap-buffer-overflow shadow fa
 p0 #9 load 1 at 000000002000 bad 000000002000 heap-buffer-overflow shadow fa
 p0 #10 load 1 at 000000003000 bad 000000003000 heap-buffer-overflow shadow fa
 ";
-    assert_eq!(rt; lines(&rt, rt.alloc(), 199, &events)?.as_str(), wanted);
-    Ok(())
+    expect_lines(&rt, rt.alloc(), 199, &events, wanted)
 }
 
 #[test]
@@ -371,23 +363,44 @@ fn address_used_anew(rt: HostRuntime) -> Result<(), Fail> {
 p0 #8 free at 000000001000 double-free
 p0 #9 load 1 at 000000002000 bad 000000002000 heap-buffer-overflow shadow fa
 ";
-    assert_eq!(rt; lines(&rt, rt.alloc(), 72, &events)?.as_str(), wanted);
-    Ok(())
+    expect_lines(&rt, rt.alloc(), 72, &events, wanted)
 }
 
 #[test]
 fn refused_bound(rt: HostRuntime) {
-    assert!(rt; Checker::new(rt.alloc(), 1 << 40).is_ok());
-    assert_eq!(rt; Checker::new(rt.alloc(), (1 << 40) + 1).err(), Some(Bound));
+    for (bound, refusal) in [(1 << 40, None), ((1 << 40) + 1, Some(Bound))] {
+        assert_eq!(rt; Checker::new(rt.alloc(), bound).err(), refusal);
+    }
+}
+
+/// What a checker says of a byte.
+fn is_poisoned(checker: &Checker, at: u64) -> Option<bool> {
+    checker.is_poisoned(at)
+}
+
+/// Asserts what a checker says of these bytes.
+fn expect_poisoned(rt: &impl Abort, checker: &Checker, bytes: &[(u64, bool)]) {
+    for (at, poisoned) in bytes {
+        assert_eq!(rt; is_poisoned(checker, *at), Some(*poisoned), "byte {at}");
+    }
+}
+
+/// Asserts which byte of each of these regions a checker says to be the first poisoned one.
+fn expect_first_poisoned(rt: &impl Abort, checker: &Checker, regions: &[(u64, u64, Option<u64>)]) {
+    for (at, size, first) in regions {
+        assert!(rt; *size <= 64 && *at <= (1 << 47) - *size);
+        let found = checker.first_poisoned(*at, *size);
+        assert_eq!(rt; found, Some(*first), "{size} bytes at {at}");
+    }
 }
 
 #[test]
 fn queries(rt: HostRuntime) -> Result<(), Fail> {
-    let mut checker = Checker::new(rt.alloc(), USUAL)?;
-    assert_eq!(rt; checker.is_poisoned(0x1005), Some(false));
-    assert_eq!(rt; checker.first_poisoned(0xfd0, 64), Some(None));
+    let mut checker = new_checker(rt.alloc(), USUAL)?;
+    expect_poisoned(&rt, &checker, &[(0x1005, false)]);
+    expect_first_poisoned(&rt, &checker, &[(0xfd0, 64, None)]);
     step(&rt, &mut checker, &malloc(0x1000, 5)?)?;
-    for (at, poisoned) in [
+    let bytes = [
         (0xfdf, false),
         (0xfe0, true),
         (0x1004, false),
@@ -396,13 +409,15 @@ fn queries(rt: HostRuntime) -> Result<(), Fail> {
         (0x1028, false),
         (1 << 47, false),
         (u64::MAX, false),
-    ] {
-        assert_eq!(rt; checker.is_poisoned(at), Some(poisoned), "byte {at}");
-    }
-    assert_eq!(rt; checker.first_poisoned(0x1000, 8), Some(Some(0x1005)));
-    assert_eq!(rt; checker.first_poisoned(0x1000, 5), Some(None));
-    assert_eq!(rt; checker.first_poisoned(0xfd0, 64), Some(Some(0xfe0)));
-    assert_eq!(rt; checker.first_poisoned(1 << 47, 0), Some(None));
+    ];
+    expect_poisoned(&rt, &checker, &bytes);
+    let regions = [
+        (0x1000, 8, Some(0x1005)),
+        (0x1000, 5, None),
+        (0xfd0, 64, Some(0xfe0)),
+        (1 << 47, 0, None),
+    ];
+    expect_first_poisoned(&rt, &checker, &regions);
     Ok(())
 }
 
@@ -430,11 +445,7 @@ p0 #6 load 1 at 000040000000 bad 000040000000 heap-use-after-free shadow fd
 p0 #7 load 1 at 00004fffffff bad 00004fffffff heap-use-after-free shadow fd
 p0 #8 free at 000040000000 double-free
 ";
-    assert_eq!(rt;
-        lines(&rt, rt.alloc(), 1 << 40, &largest_block())?.as_str(),
-        wanted
-    );
-    Ok(())
+    expect_lines(&rt, rt.alloc(), 1 << 40, &largest_block(), wanted)
 }
 
 #[test]
@@ -445,31 +456,43 @@ p0 #6 load 1 at 000040000000 bad 000040000000 heap-buffer-overflow shadow fa
 p0 #7 load 1 at 00004fffffff bad 00004fffffff heap-buffer-overflow shadow fa
 p0 #8 free at 000040000000 bad-free
 ";
-    assert_eq!(rt;
-        lines(&rt, rt.alloc(), 0, &largest_block())?.as_str(),
-        wanted
-    );
+    expect_lines(&rt, rt.alloc(), 0, &largest_block(), wanted)
+}
+
+/// Steps a checker, and answers the number of its report.
+fn number_of_report(
+    rt: &impl Abort,
+    checker: &mut Checker,
+    event: &Event,
+) -> Result<Option<u64>, Failed> {
+    Ok(step(rt, checker, event)?.map(|report| report.number))
+}
+
+/// Steps a checker through loads and stores, of which each 32nd is bad, up to this number.
+fn run_long(
+    rt: &impl Abort,
+    checker: &mut Checker,
+    [good, bad]: &[Event; 2],
+    last: u64,
+) -> Result<(), Failed> {
+    for number in 2..=last {
+        let (event, wanted) = if number % 32 == 0 {
+            (bad, Some(number))
+        } else {
+            (good, None)
+        };
+        assert_eq!(rt; number_of_report(rt, checker, event)?, wanted);
+    }
     Ok(())
 }
 
 /// A long run with a large block and many reports never runs out of memory.
 #[test]
 fn long_run(rt: HostRuntime) -> Result<(), Fail> {
-    let mut checker = Checker::new(rt.alloc(), USUAL)?;
+    let mut checker = new_checker(rt.alloc(), USUAL)?;
     step(&rt, &mut checker, &malloc(0x1000, 1 << 28)?)?;
-    let (good, bad) = (load(8, 0x1000)?, store(1, 0xfff)?);
-    for number in 2..=80_000u64 {
-        let is_bad = number % 32 == 0;
-        let event = if is_bad { &bad } else { &good };
-        let report = step(&rt, &mut checker, event)?;
-        assert_eq!(rt;
-            report.map(|report| report.number),
-            is_bad.then_some(number)
-        );
-    }
-    assert_eq!(rt;
-        (checker.checked(), checker.reports().len()),
-        (80_000, 2_500)
-    );
+    let events = [load(8, 0x1000)?, store(1, 0xfff)?];
+    run_long(&rt, &mut checker, &events, 80_000)?;
+    assert_eq!(rt; tally(&checker), (80_000, 2_500));
     Ok(())
 }

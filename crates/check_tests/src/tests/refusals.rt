@@ -1,5 +1,5 @@
 //! Each growth of a checker refused in turn.
-use super::{free, load, malloc, poison, step, unpoison};
+use super::{free, load, malloc, new_checker, poison, reports_of, step, tally, unpoison};
 use asan_check::{Checker, Failed, Report};
 use refusing_allocator::RefusingAllocator;
 use std::alloc::{Allocator, Global};
@@ -27,6 +27,14 @@ fn growing() -> Result<[Event; 9], Flaw> {
     ])
 }
 
+/// What a checker says of some bytes of the first block.
+fn said_of_bytes<A: Allocator + Copy>(checker: &Checker<A>) -> (Option<bool>, Option<Option<u64>>) {
+    (
+        checker.is_poisoned(0x1000),
+        checker.first_poisoned(0x1000, 8),
+    )
+}
+
 /// Steps a checker that may be refused memory, and answers whether it failed. Its answer has to be
 /// the verdict that ample memory gave. Where it failed, it counts as before and says nothing of
 /// bytes.
@@ -37,46 +45,70 @@ fn has_failed<A: Allocator + Copy>(
     verdict: Option<Report>,
     turn: u64,
 ) -> bool {
-    let before = (checker.checked(), checker.reports().len());
+    let before = tally(checker);
     match step(rt, checker, event) {
         Ok(report) => {
             assert_eq!(rt; report, verdict, "turn {turn}");
             false
         }
         Err(Failed) => {
-            let after = (checker.checked(), checker.reports().len());
-            assert_eq!(rt; after, before, "turn {turn}");
-            let bytes = (
-                checker.is_poisoned(0x1000),
-                checker.first_poisoned(0x1000, 8),
-            );
-            assert_eq!(rt; bytes, (None, None), "turn {turn}");
+            assert_eq!(rt; tally(checker), before, "turn {turn}");
+            assert_eq!(rt; said_of_bytes(checker), (None, None), "turn {turn}");
             true
         }
     }
 }
 
-/// Steps a checker through events, where one request for memory is refused, and answers whether it
-/// failed. Once it has, it stays so, and its reports are the first of those of ample memory.
+/// What ample memory comes to: the verdict on each event, and the reports.
+#[derive(Drop)]
+struct Ample {
+    verdicts: Vec<Option<Report>>,
+    reports: Vec<Report>,
+}
+
+/// What a checker of ample memory makes of some events.
+fn ample_of(rt: &impl Abort, alloc: Global, events: &[Event]) -> Result<Ample, Fail> {
+    let mut checker = new_checker(alloc, 72)?;
+    let mut verdicts = Vec::new(alloc);
+    for event in events {
+        verdicts.push(step(rt, &mut checker, event)?)?;
+    }
+    let reports = checker.into_reports();
+    Ok(Ample { verdicts, reports })
+}
+
+/// Steps a checker, whose memory may be refused once, through events, and answers whether it failed.
+/// Once it has, it stays so, and its reports are the first of those of ample memory.
+fn fails_once<A: Allocator + Copy>(
+    rt: &impl Abort,
+    checker: &mut Checker<A>,
+    turn: u64,
+    events: &[Event],
+    ample: &Ample,
+) -> bool {
+    let mut failed = false;
+    for (event, verdict) in events.iter().zip(&ample.verdicts) {
+        let fails = has_failed(rt, checker, event, *verdict, turn);
+        assert!(rt; fails || !failed, "turn {turn}");
+        failed = fails;
+    }
+    let kept = reports_of(checker);
+    assert!(rt; ample.reports.starts_with(kept), "turn {turn}");
+    assert!(rt; failed || kept.len() == ample.reports.len(), "turn {turn}");
+    failed
+}
+
+/// Steps a checker through events, where this request for memory is refused, and answers whether one
+/// was.
 fn fails_at(
     rt: &impl Abort,
     alloc: Global,
     turn: u64,
     events: &[Event],
-    verdicts: &[Option<Report>],
-    reports: &[Report],
+    ample: &Ample,
 ) -> Result<bool, Fail> {
     let heap = RefusingAllocator::at_turn(alloc, turn);
-    let mut checker = Checker::new(&heap, 72)?;
-    let mut failed = false;
-    for (event, verdict) in events.iter().zip(verdicts) {
-        let fails = has_failed(rt, &mut checker, event, *verdict, turn);
-        assert!(rt; fails || !failed, "turn {turn}");
-        failed = fails;
-    }
-    let kept = checker.reports();
-    assert!(rt; reports.starts_with(kept), "turn {turn}");
-    assert!(rt; failed || kept.len() == reports.len(), "turn {turn}");
+    let failed = fails_once(rt, &mut new_checker(&heap, 72)?, turn, events, ample);
     assert_eq!(rt; failed, heap.has_refused(), "turn {turn}");
     Ok(failed)
 }
@@ -84,13 +116,9 @@ fn fails_at(
 #[test]
 fn each_growth_refused_in_turn(rt: HostRuntime) -> Result<(), Fail> {
     let events = growing()?;
-    let mut ample = Checker::new(rt.alloc(), 72)?;
-    let mut verdicts = Vec::new(rt.alloc());
-    for event in &events {
-        verdicts.push(step(&rt, &mut ample, event)?)?;
-    }
+    let ample = ample_of(&rt, rt.alloc(), &events)?;
     for turn in 1..100u64 {
-        if !fails_at(&rt, rt.alloc(), turn, &events, &verdicts, ample.reports())? {
+        if !fails_at(&rt, rt.alloc(), turn, &events, &ample)? {
             assert!(rt; turn > 20, "only {turn} turns");
             return Ok(());
         }

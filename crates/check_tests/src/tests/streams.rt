@@ -1,15 +1,30 @@
 //! Streams of bytes, and all that is printed of them.
-use super::{Made, USUAL, free, load, malloc, poison, poison_of, step, store, unpoison};
-use asan_check::{Checker, Ending, end_text, report_text};
+
+ghost use Rattle.std.specs.Prelude.{◌≤◌, length};
+
+use super::{
+    Made, USUAL, free, load, malloc, new_checker, poison, poison_of, reports_of, step, store,
+    unpoison,
+};
+use asan_check::{Checker, Ending, NoMemory, Report, end_text, report_text};
 use std::alloc::Global;
 use std::process::Abort;
 use std::test::Fail;
 use trace_record::{
-    CLOSE, Decoder, HEADER, HEADER_2, LARGEST_LIMIT, Out, RECORD_ROOM, Version, encode,
+    CLOSE, Decoder, End, Event, HEADER, HEADER_2, LARGEST_LIMIT, Out, RECORD_ROOM, Step, Version,
+    encode,
 };
 
-/// What is wrong where a test's events have no stream.
-const NOT_SPELLED: &str = "an event does not spell in the version";
+/// Adds the record of an event in a version to a stream, and answers whether it spells in it.
+fn add_record(stream: &mut Vec<u8>, version: Version, event: &Event) -> Result<bool, NoMemory> {
+    if !event.spells_in(version) {
+        return Ok(false);
+    }
+    let mut room = [0; RECORD_ROOM];
+    let length = encode(version, event, &mut room);
+    stream.extend_from_slice(room.get(..length).unwrap_or_default())?;
+    Ok(true)
+}
 
 /// The stream of some events in a version, up to its close, or `None` where one of them does not
 /// spell in it.
@@ -20,41 +35,97 @@ pub fn spelled(alloc: Global, version: Version, events: &[Made]) -> Result<Optio
         Version::Two => &HEADER_2,
     })?;
     for made in events {
-        let event = (*made)?;
-        if !event.spells_in(version) {
+        if !add_record(&mut stream, version, &(*made)?)? {
             return Ok(None);
         }
-        let mut room = [0; RECORD_ROOM];
-        let length = encode(version, &event, &mut room);
-        stream.extend_from_slice(room.get(..length).unwrap_or_default())?;
     }
     stream.push(CLOSE)?;
     Ok(Some(stream))
 }
 
-/// What is printed of a stream, with this bound on the quarantine.
-pub fn text_of(rt: &impl Abort, alloc: Global, bound: u64, stream: &[u8]) -> Result<String, Fail> {
+/// What a decoder answers to a piece.
+fn next(decoder: &mut Decoder, piece: &[u8]) -> Step
+    ensures { result.used ≤ length piece.now }
+{
+    decoder.next(piece)
+}
+
+/// Steps a checker through the events of a stream, and answers how it ends.
+fn check_stream(rt: &impl Abort, checker: &mut Checker, stream: &[u8]) -> Result<End, Fail> {
     let mut decoder = Decoder::new(LARGEST_LIMIT).ok_or("no such limit")?;
-    let mut checker = Checker::new(alloc, bound)?;
     let mut rest = stream;
     for _ in 0..=stream.len() {
-        let answer = decoder.next(rest);
+        let answer = next(&mut decoder, rest);
         rest = &rest[answer.used..];
         let Out::Got(event) = answer.out else {
             break;
         };
-        step(rt, &mut checker, &event)?;
+        step(rt, checker, &event)?;
     }
+    Ok(decoder.at_end())
+}
+
+/// Adds the lines of some reports to a text.
+pub fn add_reports(reports: &[Report], text: &mut String) -> Result<(), NoMemory> {
+    for report in reports {
+        report_text(0, report, text)?;
+    }
+    Ok(())
+}
+
+/// What is printed of a stream, with this bound on the quarantine.
+pub fn text_of(rt: &impl Abort, alloc: Global, bound: u64, stream: &[u8]) -> Result<String, Fail> {
+    let mut checker = new_checker(alloc, bound)?;
+    let end = check_stream(rt, &mut checker, stream)?;
     let mut text = String::new(alloc);
-    for report in checker.reports() {
-        report_text(0, report, &mut text)?;
-    }
-    let ending = Ending::Ran {
-        end: decoder.at_end(),
-        reports: checker.reports().len() as u64,
-    };
-    end_text(0, &ending, &mut text)?;
+    let reports = reports_of(&checker);
+    add_reports(reports, &mut text)?;
+    let reports = reports.len() as u64;
+    end_text(0, &Ending::Ran { end, reports }, &mut text)?;
     Ok(text)
+}
+
+/// Asserts what is printed of a stream, with this bound on the quarantine.
+pub fn expect_text(
+    rt: &impl Abort,
+    alloc: Global,
+    bound: u64,
+    stream: &[u8],
+    wanted: &str,
+) -> Result<(), Fail> {
+    assert_eq!(rt;
+        text_of(rt, alloc, bound, stream)?.as_str(),
+        wanted,
+        "{stream:?}"
+    );
+    Ok(())
+}
+
+/// Asserts what is printed of the stream of some events in a version, with the usual bound.
+pub fn expect_printed(
+    rt: &impl Abort,
+    alloc: Global,
+    version: Version,
+    events: &[Made],
+    wanted: &str,
+) -> Result<(), Fail> {
+    let stream = spelled(alloc, version, events)?.ok_or("an event does not spell in the version")?;
+    expect_text(rt, alloc, USUAL, &stream, wanted)
+}
+
+/// Asserts that some events have this stream in version 2, and none in version 1.
+pub fn expect_only_in_version_2(
+    rt: &impl Abort,
+    alloc: Global,
+    events: &[Made],
+    stream: &[u8],
+) -> Result<(), Fail> {
+    assert_eq!(rt;
+        spelled(alloc, Version::Two, events)?.as_deref(),
+        Some(stream)
+    );
+    assert!(rt; spelled(alloc, Version::One, events)?.is_none());
+    Ok(())
 }
 
 /// Poison of kind 1 of 16 bytes at 0x2000 and of kind 2 of 16 bytes at 0x2010, a load of a byte at
@@ -87,26 +158,22 @@ fn redzones() -> [Made; 6] {
 
 #[test]
 fn stack_and_global_poison(rt: HostRuntime) -> Result<(), Fail> {
-    let stream = spelled(rt.alloc(), Version::Two, &redzones())?;
-    assert_eq!(rt; stream.as_deref(), Some(REDZONES.as_slice()));
-    assert!(rt; spelled(rt.alloc(), Version::One, &redzones())?.is_none());
-    let wanted = "\
+    expect_only_in_version_2(&rt, rt.alloc(), &redzones(), &REDZONES)?;
+    let redzones = "\
 p0 #3 load 1 at 000000002008 bad 000000002008 stack-buffer-overflow shadow f2
 p0 #4 store 4 at 000000002010 bad 000000002010 global-buffer-overflow shadow f9
 p0 end closed events 6 offset 92 reports 2
 ";
-    assert_eq!(rt;
-        text_of(&rt, rt.alloc(), USUAL, &REDZONES)?.as_str(),
-        wanted
-    );
-    let wanted = "\
+    let half_a_granule = "\
 p0 #2 load 8 at 000000001000 bad 000000001004 stack-buffer-overflow shadow 04
 p0 end closed events 2 offset 37 reports 1
 ";
-    assert_eq!(rt;
-        text_of(&rt, rt.alloc(), USUAL, &HALF_A_GRANULE)?.as_str(),
-        wanted
-    );
+    for (stream, wanted) in [
+        (REDZONES.as_slice(), redzones),
+        (HALF_A_GRANULE.as_slice(), half_a_granule),
+    ] {
+        expect_text(&rt, rt.alloc(), USUAL, stream, wanted)?;
+    }
     Ok(())
 }
 
@@ -127,9 +194,7 @@ p0 #5 store 2 at 000000001006 bad 000000001006 global-buffer-overflow shadow f9
 p0 #7 load 8 at 000000001000 bad 000000001000 use-after-poison shadow f7
 p0 end closed events 7 offset 110 reports 3
 ";
-    let stream = spelled(rt.alloc(), Version::Two, &events)?.ok_or(NOT_SPELLED)?;
-    assert_eq!(rt; text_of(&rt, rt.alloc(), USUAL, &stream)?.as_str(), wanted);
-    Ok(())
+    expect_printed(&rt, rt.alloc(), Version::Two, &events, wanted)
 }
 
 /// A stream of version 1 keeps its text, and without poison it has the same text in version 2.
@@ -141,8 +206,7 @@ p0 #2 store 4 at 000000001004 bad 000000001005 heap-buffer-overflow shadow 05
 p0 end closed events 3 offset 45 reports 1
 ";
     for version in [Version::One, Version::Two] {
-        let stream = spelled(rt.alloc(), version, &events)?.ok_or(NOT_SPELLED)?;
-        assert_eq!(rt; text_of(&rt, rt.alloc(), USUAL, &stream)?.as_str(), wanted);
+        expect_printed(&rt, rt.alloc(), version, &events, wanted)?;
     }
     let poisoned = [poison(0x1000, 8), load(1, 0x1000)];
     for (version, offset) in [(Version::One, 36), (Version::Two, 37)] {
@@ -152,11 +216,7 @@ p0 #2 load 1 at 000000001000 bad 000000001000 use-after-poison shadow f7
 p0 end closed events 2 offset {offset} reports 1
 "
         )?;
-        let stream = spelled(rt.alloc(), version, &poisoned)?.ok_or(NOT_SPELLED)?;
-        assert_eq!(rt;
-            text_of(&rt, rt.alloc(), USUAL, &stream)?.as_str(),
-            wanted.as_str()
-        );
+        expect_printed(&rt, rt.alloc(), version, &poisoned, wanted.as_str())?;
     }
     Ok(())
 }
@@ -165,26 +225,20 @@ p0 end closed events 2 offset {offset} reports 1
 /// The first byte of the version decides whether the header is one.
 #[test]
 fn version_2_flaws(rt: HostRuntime) -> Result<(), Fail> {
-    let kind = [
-        0x41, 0x53, 0x54, 0x52, 2, 0, 0, 0, 5, 3, 0, 0x10, 0, 0, 0, 0, 0, 0, 1, 0, 0, 0x10, 0, 0,
-        0, 0,
-    ];
-    let mut larger = kind;
-    larger[21..23].copy_from_slice(&[0, 1]);
-    for stream in [kind, larger] {
-        assert_eq!(rt;
-            text_of(&rt, rt.alloc(), USUAL, &stream)?.as_str(),
-            "p0 end malformed kind events 0 offset 8 reports 0\n"
-        );
+    let wanted = "p0 end malformed kind events 0 offset 8 reports 0\n";
+    for sizes in [[0x10, 0], [0, 1]] {
+        let [low, high] = sizes;
+        let stream = [
+            0x41, 0x53, 0x54, 0x52, 2, 0, 0, 0, 5, 3, 0, 0x10, 0, 0, 0, 0, 0, 0, 1, 0, 0, low,
+            high, 0, 0, 0,
+        ];
+        expect_text(&rt, rt.alloc(), USUAL, &stream, wanted)?;
     }
+    let wanted = "p0 end malformed header events 0 offset 0 reports 0\n";
     for number in [0, 3, 0xff] {
         let mut other = REDZONES;
         other[4] = number;
-        assert_eq!(rt;
-            text_of(&rt, rt.alloc(), USUAL, &other)?.as_str(),
-            "p0 end malformed header events 0 offset 0 reports 0\n",
-            "version {number}"
-        );
+        expect_text(&rt, rt.alloc(), USUAL, &other, wanted)?;
     }
     Ok(())
 }

@@ -1,12 +1,17 @@
 //! Tests of version 2: poison with a kind, larger regions, what a header says, and what both
 //! versions share.
 
-use super::{LOADS, STREAM, an_end, give, read};
+ghost use Rattle.std.specs.Prelude.{◌≤◌};
+
+use super::{
+    LOADS, Made, STREAM, an_end, at_end, at_fault, end_in, expect_cut_anywhere, expect_record,
+    load, malloc, new_decoder, next, poison, read, read_by_bytes, store, unpoison,
+};
 use std::alloc::Global;
+use std::process::Abort;
 use std::test::Fail;
 use trace_record::{
-    Access, Ahead, CLOSE, Decoder, End, Event, Fate, Flaw, HEADER, HEADER_2, Kind, Out,
-    RECORD_ROOM, Region, Shade, Version, encode,
+    Ahead, End, Event, Fate, Flaw, HEADER, HEADER_2, Kind, Out, RECORD_ROOM, Shade, Version, encode,
 };
 
 /// Poison of kind 1 of 16 bytes at 0x2000 and of kind 2 of 16 bytes at 0x2010, a load of a byte at
@@ -25,45 +30,41 @@ const HALF_A_GRANULE: [u8; 37] = [
     1, 8, 0, 0x10, 0, 0, 0, 0, 0, 0, 7,
 ];
 
-/// The end of a stream of one record and the close in a version.
-fn end_in(alloc: Global, header: &[u8; 8], record: &[u8]) -> Result<End, Fail> {
-    let mut text = Vec::new(alloc);
-    text.extend_from_slice(header)?;
-    text.extend_from_slice(record)?;
-    text.push(CLOSE)?;
-    Ok(read(alloc, 1 << 24, &text, 0)?.0.at_end())
+/// The header of a version.
+fn header_of(version: Version) -> [u8; 8] {
+    match version {
+        Version::One => HEADER,
+        Version::Two => HEADER_2,
+    }
+}
+
+/// What is read ahead of the records of a stream of version 2, where eight events have room, and
+/// the events.
+fn read_ahead(stream: &[u8; 92], filler: Event) -> Result<(Ahead, [Event; 8]), Fail> {
+    let mut ahead = [filler; 8];
+    let mut decoder = new_decoder(1 << 24)?;
+    let _ = next(&mut decoder, &stream[..8]);
+    let answer = decoder.next_events(&stream[8..], &mut ahead);
+    Ok((answer, ahead))
 }
 
 #[test]
 fn stack_and_global_poison(rt: HostRuntime) -> Result<(), Fail> {
     let events = [
-        Event::Poison(Shade::new(0x2000, 16, 1)?),
-        Event::Poison(Shade::new(0x2010, 16, 2)?),
-        Event::Load(Access::new(0x2008, 1)?),
-        Event::Store(Access::new(0x2010, 4)?),
-        Event::Unpoison(Region::new(0x2000, 32)?),
-        Event::Load(Access::new(0x2000, 8)?),
+        poison(1, 0x2000, 16)?,
+        poison(2, 0x2010, 16)?,
+        load(1, 0x2008)?,
+        store(4, 0x2010)?,
+        unpoison(0x2000, 32)?,
+        load(8, 0x2000)?,
     ];
     let closed = an_end(Fate::Closed, 6, 92);
-    for cut in 0..=REDZONES.len() {
-        let (decoder, got) = read(rt.alloc(), 1 << 24, &REDZONES, cut)?;
-        assert_eq!(rt; got.as_slice(), events.as_slice(), "cut at {cut}");
-        assert_eq!(rt; decoder.at_end(), closed, "cut at {cut}");
-    }
-    let mut decoder = Decoder::new(1 << 24).ok_or("no such limit")?;
-    let mut got = Vec::new(rt.alloc());
-    for byte in REDZONES.chunks(1) {
-        give(&mut decoder, byte, &mut got)?;
-    }
+    expect_cut_anywhere(&rt, rt.alloc(), &REDZONES, &events, closed)?;
+    let (decoder, got) = read_by_bytes(rt.alloc(), &REDZONES)?;
     assert_eq!(rt; got.as_slice(), events.as_slice());
-    assert_eq!(rt; decoder.at_fault(), closed);
-    let mut ahead = [events[5]; 8];
-    let mut decoder = Decoder::new(1 << 24).ok_or("no such limit")?;
-    let _ = decoder.next(&REDZONES[..8]);
-    assert_eq!(rt;
-        decoder.next_events(&REDZONES[8..], &mut ahead),
-        Ahead { count: 6, used: 83 }
-    );
+    assert_eq!(rt; at_fault(decoder), closed);
+    let (answer, ahead) = read_ahead(&REDZONES, events[5])?;
+    assert_eq!(rt; answer, Ahead { count: 6, used: 83 });
     assert!(rt; ahead.starts_with(&events));
     Ok(())
 }
@@ -81,23 +82,17 @@ fn each_prefix_of_a_poison(rt: HostRuntime) -> Result<(), Fail> {
             36 => (Fate::NoClose, 2, 36),
             _ => (Fate::Closed, 2, 37),
         };
-        let prefix = &HALF_A_GRANULE[..length];
-        let (decoder, _) = read(rt.alloc(), 1 << 24, prefix, 0)?;
-        assert_eq!(rt;
-            decoder.at_end(),
-            an_end(fate, events, offset),
-            "{length} bytes"
-        );
         let failed = match fate {
             Fate::Closed => Fate::Closed,
             _ => Fate::ReadFailed,
         };
+        let prefix = &HALF_A_GRANULE[..length];
         let (decoder, _) = read(rt.alloc(), 1 << 24, prefix, 0)?;
-        assert_eq!(rt;
-            decoder.at_fault(),
-            an_end(failed, events, offset),
-            "{length} bytes"
-        );
+        let end = an_end(fate, events, offset);
+        assert_eq!(rt; at_end(decoder), end, "{length} bytes");
+        let (decoder, _) = read(rt.alloc(), 1 << 24, prefix, 0)?;
+        let end = an_end(failed, events, offset);
+        assert_eq!(rt; at_fault(decoder), end, "{length} bytes");
     }
     Ok(())
 }
@@ -192,10 +187,7 @@ const LARGEST_REGIONS: [(Version, u64, u64, Fate); 5] = [
 #[test]
 fn largest_region_of_each_version(rt: HostRuntime) -> Result<(), Fail> {
     for (version, size, last, fate) in LARGEST_REGIONS {
-        let header = match version {
-            Version::One => HEADER,
-            Version::Two => HEADER_2,
-        };
+        let header = header_of(version);
         let past = match fate {
             Fate::Closed => Fate::Malformed(Flaw::Range),
             _ => fate,
@@ -218,45 +210,73 @@ fn largest_region_of_each_version(rt: HostRuntime) -> Result<(), Fail> {
     Ok(())
 }
 
-#[test]
-fn larger_regions_spell_in_version_2_alone(rt: HostRuntime) -> Result<(), Fail> {
-    for (size, in_version_1) in [(1 << 28, true), ((1 << 28) + 1, false), (1 << 32, false)] {
-        let region = Region::new(0x1000, size)?;
-        let poison = Event::Poison(Shade::new(0x1000, size, 0)?);
-        for event in [Event::Malloc(region), Event::Unpoison(region), poison] {
-            assert_eq!(rt; event.spells_in(Version::One), in_version_1, "{event:?}");
-            assert!(rt; event.spells_in(Version::Two), "{event:?}");
-        }
+/// Asserts of events and versions whether the one spells in the other.
+fn expect_spells(rt: &impl Abort, cases: &[(Made, Version, bool)]) -> Result<(), Fail> {
+    for (made, version, want) in cases {
+        let event = (*made)?;
+        assert_eq!(rt;
+            event.spells_in(*version),
+            *want,
+            "{event:?} in {version:?}"
+        );
     }
-    let malloc = Event::Malloc(Region::new(0x1000, 1 << 32)?);
-    let mut out = [0xee; RECORD_ROOM];
-    assert!(rt; malloc.spells_in(Version::Two));
-    assert_eq!(rt; encode(Version::Two, &malloc, &mut out), 17);
-    assert!(rt; out.starts_with(&[3, 0, 0x10, 0, 0, 0, 0, 0, 0, 0, 0, 0, 0, 1, 0, 0, 0]));
-    assert!(rt; out.ends_with(&[0xee; 7]));
     Ok(())
 }
 
 #[test]
+fn larger_regions_spell_in_version_2_alone(rt: HostRuntime) -> Result<(), Fail> {
+    for (size, in_version_1) in [(1 << 28, true), ((1 << 28) + 1, false), (1 << 32, false)] {
+        let events = [
+            (malloc(0x1000, size), Version::One, in_version_1),
+            (malloc(0x1000, size), Version::Two, true),
+            (unpoison(0x1000, size), Version::One, in_version_1),
+            (unpoison(0x1000, size), Version::Two, true),
+            (poison(0, 0x1000, size), Version::One, in_version_1),
+            (poison(0, 0x1000, size), Version::Two, true),
+        ];
+        expect_spells(&rt, &events)?;
+    }
+    let malloc = malloc(0x1000, 1 << 32)?;
+    let record = [3, 0, 0x10, 0, 0, 0, 0, 0, 0, 0, 0, 0, 0, 1, 0, 0, 0];
+    expect_record(&rt, Version::Two, &malloc, &record);
+    Ok(())
+}
+
+/// The kind of poison that each number stands for.
+fn kind_of(number: u8) -> Option<Kind> {
+    match number {
+        0 => Some(Kind::User),
+        1 => Some(Kind::Stack),
+        2 => Some(Kind::Global),
+        _ => None,
+    }
+}
+
+/// The address, the size and the kind of the poison of these numbers, or their first flaw.
+fn poison_parts(at: u64, size: u64, kind: u8) -> Result<(u64, u64, Kind), Flaw> {
+    let shade = Shade::new(at, size, kind)?;
+    Ok((shade.at(), shade.size(), shade.kind()))
+}
+
+#[test]
 fn each_kind(rt: HostRuntime) -> Result<(), Fail> {
-    for kind in 0..=255u8 {
+    for number in 0..=255u8 {
         let mut text = HALF_A_GRANULE;
-        text[9] = kind;
+        text[9] = number;
         let (decoder, events) = read(rt.alloc(), 1 << 24, &text, 20)?;
-        let event = match kind {
-            0 => Kind::User,
-            1 => Kind::Stack,
-            2 => Kind::Global,
-            _ => {
-                assert_eq!(rt; decoder.at_end(), an_end(Fate::Malformed(Flaw::Kind), 0, 8));
-                assert_eq!(rt; Shade::new(0x1004, 12, kind), Err(Flaw::Kind));
-                continue;
+        let end = at_end(decoder);
+        let parts = poison_parts(0x1004, 12, number);
+        match kind_of(number) {
+            Some(kind) => {
+                assert_eq!(rt; end, an_end(Fate::Closed, 2, 37));
+                assert_eq!(rt; parts, Ok((0x1004, 12, kind)));
+                assert_eq!(rt; events.first(), Some(&poison(number, 0x1004, 12)?));
             }
-        };
-        assert_eq!(rt; decoder.at_end(), an_end(Fate::Closed, 2, 37));
-        let shade = Shade::new(0x1004, 12, kind)?;
-        assert_eq!(rt; shade.kind(), event);
-        assert_eq!(rt; events.first(), Some(&Event::Poison(shade)));
+            None => {
+                assert_eq!(rt; end, an_end(Fate::Malformed(Flaw::Kind), 0, 8));
+                assert_eq!(rt; parts, Err(Flaw::Kind));
+            }
+        }
     }
     Ok(())
 }
@@ -272,7 +292,7 @@ fn each_version(rt: HostRuntime) -> Result<(), Fail> {
             _ => (0, an_end(Fate::Malformed(Flaw::Header), 0, 0)),
         };
         assert_eq!(rt; events.len(), count, "version {version}");
-        assert_eq!(rt; decoder.at_end(), want, "version {version}");
+        assert_eq!(rt; at_end(decoder), want, "version {version}");
     }
     for place in 5..8 {
         let mut text = LOADS;
@@ -280,7 +300,7 @@ fn each_version(rt: HostRuntime) -> Result<(), Fail> {
         text[place] = 1;
         let (decoder, _) = read(rt.alloc(), 1 << 24, &text, 4)?;
         assert_eq!(rt;
-            decoder.at_end(),
+            at_end(decoder),
             an_end(Fate::Malformed(Flaw::Header), 0, 0)
         );
     }
@@ -296,7 +316,7 @@ fn other_records_are_those_of_version_1(rt: HostRuntime) -> Result<(), Fail> {
         let (first, events) = read(rt.alloc(), 1 << 24, &STREAM, cut)?;
         let (second, others) = read(rt.alloc(), 1 << 24, &text, cut)?;
         assert!(rt; events == others, "cut at {cut}");
-        assert_eq!(rt; first.at_end(), second.at_end(), "cut at {cut}");
+        assert_eq!(rt; at_end(first), at_end(second), "cut at {cut}");
     }
     Ok(())
 }
@@ -309,58 +329,71 @@ fn version_1_behind_the_header_of_version_2(rt: HostRuntime) -> Result<(), Fail>
         3, 0, 0x10, 0, 0, 0, 0, 0, 0, 8, 0, 0, 0, 0, 0, 0, 0, 5, 2, 0x10, 0, 0, 0, 0, 0, 0, 6, 0,
         0, 0, 0, 0, 0, 0, 1, 1, 3, 0x10, 0, 0, 0, 0, 0, 0,
     ];
-    assert_eq!(rt;
-        end_in(rt.alloc(), &HEADER, &body)?,
-        an_end(Fate::Closed, 3, 53)
-    );
-    assert_eq!(rt;
-        end_in(rt.alloc(), &HEADER_2, &body)?,
-        an_end(Fate::Malformed(Flaw::Size), 1, 25)
-    );
+    for (header, end) in [
+        (&HEADER, an_end(Fate::Closed, 3, 53)),
+        (&HEADER_2, an_end(Fate::Malformed(Flaw::Size), 1, 25)),
+    ] {
+        assert_eq!(rt; end_in(rt.alloc(), header, &body)?, end);
+    }
     Ok(())
 }
 
 #[test]
 fn version_2_behind_the_header_of_version_1(rt: HostRuntime) -> Result<(), Fail> {
     let poison = [5, 1, 0, 0x20, 0, 0, 0, 0, 0, 0, 16, 0, 0, 0, 0, 0, 0, 0];
-    assert_eq!(rt;
-        end_in(rt.alloc(), &HEADER_2, &poison)?,
-        an_end(Fate::Closed, 1, 27)
-    );
-    assert_eq!(rt;
-        end_in(rt.alloc(), &HEADER, &poison)?,
-        an_end(Fate::Malformed(Flaw::Code), 1, 25)
-    );
+    for (header, end) in [
+        (&HEADER_2, an_end(Fate::Closed, 1, 27)),
+        (&HEADER, an_end(Fate::Malformed(Flaw::Code), 1, 25)),
+    ] {
+        assert_eq!(rt; end_in(rt.alloc(), header, &poison)?, end);
+    }
+    Ok(())
+}
+
+/// The record of an event in a version that it spells in, and how many bytes it has.
+fn encoded(rt: &impl Abort, version: Version, event: &Event) -> ([u8; RECORD_ROOM], usize)
+    ensures { result.1 ≤ 18 }
+{
+    assert!(rt; event.spells_in(version));
+    let mut out = [0; RECORD_ROOM];
+    let length = encode(version, event, &mut out);
+    (out, length)
+}
+
+/// Asserts that a decoder behind the header of a version needs more than the first of these pieces,
+/// and reads an event once it has so many bytes of the last.
+fn expect_in_two(
+    rt: &impl Abort,
+    version: Version,
+    event: Event,
+    [first, last]: [&[u8]; 2],
+    used: usize,
+) -> Result<(), Fail> {
+    let mut decoder = new_decoder(1)?;
+    let _ = next(&mut decoder, &header_of(version));
+    let cut = first.len();
+    assert_eq!(rt; next(&mut decoder, first).out, Out::Need, "cut at {cut}");
+    let step = next(&mut decoder, last);
+    assert_eq!(rt; step.out, Out::Got(event), "cut at {cut}");
+    assert_eq!(rt; step.used, used, "cut at {cut}");
     Ok(())
 }
 
 /// The record of a poison, cut at each of its bytes, is read in both versions.
 #[test]
 fn poison_cut_at_each_byte(rt: HostRuntime) -> Result<(), Fail> {
-    let shades = [
-        (Version::One, Shade::new(0x1_0203_0405, 0xa0b_0c0d, 0)?),
-        (Version::Two, Shade::new(0x1_0203_0405, 0xa0b_0c0d, 0)?),
-        (Version::Two, Shade::new(0x1_0203_0405, 0xa0b_0c0d, 1)?),
-        (Version::Two, Shade::new(0x1_0203_0405, 0xa0b_0c0d, 2)?),
-        (Version::Two, Shade::new(0x1_0203_0405, 1 << 32, 2)?),
-    ];
-    for (version, shade) in shades {
-        let event = Event::Poison(shade);
-        assert!(rt; event.spells_in(version));
-        let mut out = [0; RECORD_ROOM];
-        let length = encode(version, &event, &mut out);
-        let header = match version {
-            Version::One => HEADER,
-            Version::Two => HEADER_2,
-        };
+    for (version, made) in [
+        (Version::One, poison(0, 0x1_0203_0405, 0xa0b_0c0d)),
+        (Version::Two, poison(0, 0x1_0203_0405, 0xa0b_0c0d)),
+        (Version::Two, poison(1, 0x1_0203_0405, 0xa0b_0c0d)),
+        (Version::Two, poison(2, 0x1_0203_0405, 0xa0b_0c0d)),
+        (Version::Two, poison(2, 0x1_0203_0405, 1 << 32)),
+    ] {
+        let event = made?;
+        let (record, length) = encoded(&rt, version, &event);
         for cut in 0..length {
-            let mut decoder = Decoder::new(1).ok_or("no such limit")?;
-            let _ = decoder.next(&header);
-            let first = decoder.next(&out[..cut]);
-            assert_eq!(rt; first.out, Out::Need, "cut at {cut}");
-            let last = decoder.next(&out[cut..]);
-            assert_eq!(rt; last.out, Out::Got(event), "cut at {cut}");
-            assert_eq!(rt; last.used, length - cut, "cut at {cut}");
+            let pieces = [&record[..cut], &record[cut..]];
+            expect_in_two(&rt, version, event, pieces, length - cut)?;
         }
     }
     Ok(())
@@ -368,10 +401,10 @@ fn poison_cut_at_each_byte(rt: HostRuntime) -> Result<(), Fail> {
 
 #[test]
 fn poison_is_spelled_by_version(rt: HostRuntime) -> Result<(), Fail> {
-    let user = Event::Poison(Shade::new(0x2000, 10, 0)?);
-    let stack = Event::Poison(Shade::new(0x2000, 16, 1)?);
-    let global = Event::Poison(Shade::new(0x2000, 1 << 28, 2)?);
-    let unpoison = Event::Unpoison(Region::new(0x2000, 1 << 28)?);
+    let user = poison(0, 0x2000, 10);
+    let stack = poison(1, 0x2000, 16);
+    let global = poison(2, 0x2000, 1 << 28);
+    let unpoison = unpoison(0x2000, 1 << 28);
     let spells = [
         (user, Version::One, true),
         (user, Version::Two, true),
@@ -382,29 +415,23 @@ fn poison_is_spelled_by_version(rt: HostRuntime) -> Result<(), Fail> {
         (unpoison, Version::One, true),
         (unpoison, Version::Two, true),
     ];
-    for (event, version, want) in spells {
-        assert_eq!(rt; event.spells_in(version), want, "{event:?} in {version:?}");
-    }
-    let records: [(Event, &[u8]); 3] = [
+    expect_spells(&rt, &spells)?;
+    let records: [(Made, [u8; 18]); 3] = [
         (
             user,
-            &[5, 0, 0, 0x20, 0, 0, 0, 0, 0, 0, 10, 0, 0, 0, 0, 0, 0, 0],
+            [5, 0, 0, 0x20, 0, 0, 0, 0, 0, 0, 10, 0, 0, 0, 0, 0, 0, 0],
         ),
         (
             stack,
-            &[5, 1, 0, 0x20, 0, 0, 0, 0, 0, 0, 16, 0, 0, 0, 0, 0, 0, 0],
+            [5, 1, 0, 0x20, 0, 0, 0, 0, 0, 0, 16, 0, 0, 0, 0, 0, 0, 0],
         ),
         (
             global,
-            &[5, 2, 0, 0x20, 0, 0, 0, 0, 0, 0, 0, 0, 0, 0x10, 0, 0, 0, 0],
+            [5, 2, 0, 0x20, 0, 0, 0, 0, 0, 0, 0, 0, 0, 0x10, 0, 0, 0, 0],
         ),
     ];
     for (event, record) in records {
-        let mut out = [0xee; RECORD_ROOM];
-        assert!(rt; event.spells_in(Version::Two));
-        assert_eq!(rt; encode(Version::Two, &event, &mut out), 18);
-        assert!(rt; out.starts_with(record));
-        assert!(rt; out.ends_with(&[0xee; 6]));
+        expect_record(&rt, Version::Two, &event?, &record);
     }
     Ok(())
 }
@@ -420,15 +447,16 @@ fn size_and_kind_are_kept_apart(rt: HostRuntime) -> Result<(), Fail> {
             (9, 1 << 32),
             ((1 << 47) - (1 << 32), 1 << 32),
         ] {
-            let shade = Shade::new(at, size, number)?;
-            assert_eq!(rt; shade.at(), at);
-            assert_eq!(rt; shade.size(), size);
-            assert_eq!(rt; shade.kind(), kind);
+            assert_eq!(rt; poison_parts(at, size, number), Ok((at, size, kind)));
         }
     }
-    assert_eq!(rt; Shade::new(u64::MAX, u64::MAX, 3), Err(Flaw::Kind));
-    assert_eq!(rt; Shade::new(u64::MAX, u64::MAX, 2), Err(Flaw::Size));
-    assert_eq!(rt; Shade::new(u64::MAX, (1 << 32) + 1, 1), Err(Flaw::Size));
-    assert_eq!(rt; Shade::new(u64::MAX, 1 << 32, 0), Err(Flaw::Range));
+    for (size, number, flaw) in [
+        (u64::MAX, 3, Flaw::Kind),
+        (u64::MAX, 2, Flaw::Size),
+        ((1 << 32) + 1, 1, Flaw::Size),
+        (1 << 32, 0, Flaw::Range),
+    ] {
+        assert_eq!(rt; poison_parts(u64::MAX, size, number), Err(flaw));
+    }
     Ok(())
 }
