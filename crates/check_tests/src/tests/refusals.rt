@@ -77,8 +77,8 @@ fn ample_of(rt: &impl Abort, alloc: Global, events: &[Event]) -> Result<Ample, F
     Ok(Ample { verdicts, reports })
 }
 
-/// Steps a checker, whose memory may be refused once, through events, and answers whether it failed.
-/// Once it has, it stays so, and its reports are the first of those of ample memory.
+/// Steps a checker, whose memory may be refused once, through events, and answers whether it
+/// failed. Once it has, it stays so, and its reports are the first of those of ample memory.
 fn fails_once<A: Allocator + Copy>(
     rt: &impl Abort,
     checker: &mut Checker<A>,
@@ -98,8 +98,8 @@ fn fails_once<A: Allocator + Copy>(
     failed
 }
 
-/// Steps a checker through events, where this request for memory is refused, and answers whether one
-/// was.
+/// Steps a checker through events, where this request for memory is refused, and answers whether
+/// one was.
 fn fails_at(
     rt: &impl Abort,
     alloc: Global,
