@@ -1,5 +1,5 @@
 //! Calls of a map, and what its tests have in common.
-ghost use Rattle.std.specs.Prelude.{◌≡◌, ℕ, ◌/◌, ◌^◌, ◌<◌, true, None};
+ghost use Rattle.std.specs.Prelude.{◌≡◌, ℕ, ◌/◌, ◌<◌, true, None};
 ghost use Rattle.asan_units.specs.Units.{address_end};
 ghost use Rattle.line_map.specs.Maps.{slot_at};
 

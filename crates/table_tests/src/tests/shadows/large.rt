@@ -1,5 +1,5 @@
 //! The shadow beside the plain model, where marks have the most bytes that a record can speak of.
-ghost use Rattle.std.specs.Prelude.{◌+◌, ◌^◌, ◌<◌, ◌≤◌};
+ghost use Rattle.std.specs.Prelude.{◌+◌, ◌^◌, ◌≤◌};
 
 use super::model::Both;
 use shadow_map::NoMemory;
