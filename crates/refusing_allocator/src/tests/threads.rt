@@ -1,8 +1,10 @@
 //! Tests of an allocator that two threads share: its counts and its refusals are those of one list
 //! of requests, however the threads run.
 
+use super::{expect_held, expect_refused, expect_requests};
 use crate::RefusingAllocator;
-use std::alloc::Global;
+use std::alloc::{AllocError, Global};
+use std::process::Abort;
 use std::sync::Wait;
 use std::sync::atomic::{AtomicU64, Ordering};
 use std::test::Fail;
@@ -45,6 +47,21 @@ fn take_and_give_back(heap: &RefusingAllocator<Global>, taken: &AtomicU64) -> (u
     (granted, most)
 }
 
+/// Compares what two threads saw of an allocator with a bound of 100 bytes with what it counted.
+fn expect_bound_kept(
+    rt: &impl Abort,
+    heap: &RefusingAllocator<Global>,
+    one: (u64, u64),
+    other: (u64, u64),
+) {
+    let granted = one.0.saturating_add(other.0);
+    assert!(rt; granted > 0);
+    assert!(rt; one.1.max(other.1) <= 100, "{} and {}", one.1, other.1);
+    expect_held(rt, heap, 0);
+    expect_requests(rt, heap, 2 * REQUESTS, 2 * REQUESTS * 60);
+    expect_refused(rt, heap, granted < 2 * REQUESTS);
+}
+
 #[test]
 fn two_threads_hold_no_more_than_the_bound(rt: HostRuntime) {
     let heap = RefusingAllocator::with_bound(rt.alloc(), 100);
@@ -54,13 +71,7 @@ fn two_threads_hold_no_more_than_the_bound(rt: HostRuntime) {
         take_and_give_back(&heap, &taken)
     };
     let (one, other) = thread::join(&rt, &run, &run);
-    let granted = one.0.saturating_add(other.0);
-    assert!(rt; granted > 0);
-    assert!(rt; one.1.max(other.1) <= 100, "{} and {}", one.1, other.1);
-    assert_eq!(rt; heap.held(), 0);
-    assert_eq!(rt; heap.requests_made(), 2 * REQUESTS);
-    assert_eq!(rt; heap.bytes_asked(), 2 * REQUESTS * 60);
-    assert_eq!(rt; heap.has_refused(), granted < 2 * REQUESTS);
+    expect_bound_kept(&rt, &heap, one, other);
 }
 
 /// An allocator that refuses one request, and how many of its requests were refused.
@@ -82,24 +93,35 @@ fn ask_each(rt: &impl Wait, arrivals: &AtomicU64, each: &[Turned]) {
     }
 }
 
-#[test]
-fn one_request_of_two_threads_is_refused(rt: HostRuntime) -> Result<(), Fail> {
-    let mut each = Vec::with_capacity(rt.alloc(), ALLOCATORS)?;
+/// Allocators that refuse one request each, the same of each.
+fn allocators(alloc: Global) -> Result<Vec<Turned>, AllocError> {
+    let mut each = Vec::with_capacity(alloc, ALLOCATORS)?;
     for _ in 0..ALLOCATORS {
         each.push(Turned {
-            heap: RefusingAllocator::at_turn(rt.alloc(), REQUESTS_OF_ONE),
+            heap: RefusingAllocator::at_turn(alloc, REQUESTS_OF_ONE),
             refusals: AtomicU64::new(0),
         })?;
     }
+    Ok(each)
+}
+
+/// Compares what an allocator counted of two threads with the requests that they made.
+fn expect_one_refused(rt: &impl Abort, turned: &Turned) {
+    let Turned { heap, refusals } = turned;
+    assert_eq!(rt; refusals.load(Ordering::SeqCst), 1);
+    expect_refused(rt, heap, true);
+    expect_held(rt, heap, 0);
+    expect_requests(rt, heap, 2 * REQUESTS_OF_ONE, 2 * REQUESTS_OF_ONE * 8);
+}
+
+#[test]
+fn one_request_of_two_threads_is_refused(rt: HostRuntime) -> Result<(), Fail> {
+    let each = allocators(rt.alloc())?;
     let arrivals = AtomicU64::new(0);
     let run = || ask_each(&rt, &arrivals, &each);
     thread::join(&rt, &run, &run);
-    for Turned { heap, refusals } in &each {
-        assert_eq!(rt; refusals.load(Ordering::SeqCst), 1);
-        assert!(rt; heap.has_refused());
-        assert_eq!(rt; heap.held(), 0);
-        assert_eq!(rt; heap.requests_made(), 2 * REQUESTS_OF_ONE);
-        assert_eq!(rt; heap.bytes_asked(), 2 * REQUESTS_OF_ONE * 8);
+    for turned in &each {
+        expect_one_refused(&rt, turned);
     }
     Ok(())
 }

@@ -1,46 +1,44 @@
 //! Tests of an allocator that refuses one request: which one it is, and what is counted.
 
+use super::{
+    boxed, expect_held, expect_numbers, expect_refused, expect_requests, is_growth_refused,
+    is_refused, push_each, with_room,
+};
 use crate::RefusingAllocator;
-use std::test::Fail;
 
 #[test]
-fn second_growth_is_refused(rt: HostRuntime) -> Result<(), Fail> {
+fn second_growth_is_refused(rt: HostRuntime) {
     let heap = RefusingAllocator::at_turn(rt.alloc(), 2);
-    let mut numbers = Vec::with_capacity(&heap, 2)?;
-    numbers.push(10u64)?;
-    numbers.push(20)?;
-    assert!(rt; !heap.has_refused());
-    assert!(rt; numbers.push(30).is_err());
-    assert!(rt; heap.has_refused());
-    assert_eq!(rt; numbers.as_slice(), [10, 20].as_slice());
-    numbers.push(30)?;
-    assert_eq!(rt; numbers.as_slice(), [10, 20, 30].as_slice());
-    Ok(())
+    let mut numbers = with_room(&rt, &heap, 2);
+    push_each(&rt, &mut numbers, &[10, 20]);
+    expect_refused(&rt, &heap, false);
+    assert!(rt; is_growth_refused(&mut numbers, 30));
+    expect_refused(&rt, &heap, true);
+    expect_numbers(&rt, &numbers, &[10, 20]);
+    push_each(&rt, &mut numbers, &[30]);
+    expect_numbers(&rt, &numbers, &[10, 20, 30]);
 }
 
 #[test]
-fn none_is_refused_where_requests_are_counted(rt: HostRuntime) -> Result<(), Fail> {
+fn none_is_refused_where_requests_are_counted(rt: HostRuntime) {
     let heap = RefusingAllocator::counting(rt.alloc());
     let mut numbers = Vec::new(&heap);
     for number in 0..100u64 {
-        numbers.push(number)?;
+        push_each(&rt, &mut numbers, &[number]);
     }
-    assert!(rt; !heap.has_refused());
+    expect_refused(&rt, &heap, false);
     assert_eq!(rt; heap.bound(), None);
-    Ok(())
 }
 
 #[test]
-fn requests_and_bytes_are_counted(rt: HostRuntime) -> Result<(), Fail> {
+fn requests_and_bytes_are_counted(rt: HostRuntime) {
     let heap = RefusingAllocator::at_turn(rt.alloc(), 3);
-    let mut numbers = Vec::with_capacity(&heap, 2)?;
-    numbers.push(10u64)?;
-    let boxed = Box::new(&heap, [1u8; 100])?;
-    assert!(rt; Box::new(&heap, 7u32).is_err());
-    assert_eq!(rt; heap.held(), 16 + 100);
-    drop(boxed);
-    assert_eq!(rt; heap.held(), 16);
-    assert_eq!(rt; heap.requests_made(), 3);
-    assert_eq!(rt; heap.bytes_asked(), 16 + 100 + 4);
-    Ok(())
+    let mut numbers = with_room(&rt, &heap, 2);
+    push_each(&rt, &mut numbers, &[10]);
+    let block = boxed(&rt, &heap, [1u8; 100]);
+    assert!(rt; is_refused(&heap, 7u32));
+    expect_held(&rt, &heap, 16 + 100);
+    drop(block);
+    expect_held(&rt, &heap, 16);
+    expect_requests(&rt, &heap, 3, 16 + 100 + 4);
 }
