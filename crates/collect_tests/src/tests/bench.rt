@@ -59,8 +59,8 @@ fn heard_of_each<A: Allocator + Copy>(rt: &impl Abort, rig: &mut Rig<A>, items: 
     rig.gate.heard.load(Ordering::SeqCst)
 }
 
-/// How many events a gate hears of where this request for memory is refused, and whether one was, or
-/// `None` where there was no lane.
+/// How many events a gate hears of where this request for memory is refused, and whether one was,
+/// or `None` where there was no lane.
 fn heard_at(
     rt: &impl Abort,
     alloc: Global,
@@ -117,8 +117,8 @@ fn each_event_of_a_batch_is_announced_in_order(rt: HostRuntime) -> Result<(), Fa
     Ok(())
 }
 
-/// How many events a gate hears of where a checker is given these items at once and this request for
-/// memory is refused, and whether one was, or `None` where there was no lane or no list.
+/// How many events a gate hears of where a checker is given these items at once and this request
+/// for memory is refused, and whether one was, or `None` where there was no lane or no list.
 fn heard_in_a_batch<R: Wait + Clock + Abort>(
     rt: &R,
     alloc: Global,

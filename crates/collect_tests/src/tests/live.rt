@@ -79,8 +79,8 @@ where
     })
 }
 
-/// Collects from the three senders with a ring of this many events and this many workers, and prints
-/// each line as it comes.
+/// Collects from the three senders with a ring of this many events and this many workers, and
+/// prints each line as it comes.
 fn print_three<W: Write, R: Threads + Wait + Clock + Sync>(
     rt: &R,
     alloc: Global,
@@ -143,8 +143,8 @@ fn an_output_that_takes_no_more(rt: HostRuntime) -> Result<(), Fail> {
     Ok(())
 }
 
-/// Asserts that nothing is written after a write of this number failed, where so many bytes went out
-/// before.
+/// Asserts that nothing is written after a write of this number failed, where so many bytes went
+/// out before.
 fn expect_last_write<R: Threads + Wait + Clock + Sync + Abort>(
     rt: &R,
     alloc: Global,

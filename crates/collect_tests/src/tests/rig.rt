@@ -146,8 +146,8 @@ pub fn run_all<A: Allocator + Copy, G: Gate, R: Wait + Clock>(
     run_checker(rt, benches, gate)
 }
 
-/// Runs the checker of a rig up to its end, or answers `None` where there is no memory for a list of
-/// it.
+/// Runs the checker of a rig up to its end, or answers `None` where there is no memory for a list
+/// of it.
 pub fn run_rig<A: Allocator + Copy, R: Wait + Clock>(
     rt: &R,
     alloc: A,

@@ -1,6 +1,6 @@
 //! Tests of what is written of outcomes, and of the status.
 
-ghost use Rattle.std.specs.Prelude.{◌≡◌, ◌≤◌, IfOk, length};
+ghost use Rattle.std.specs.Prelude.{◌≤◌, IfOk, length};
 ghost use Rattle.asan_stream.specs.Ranges.{most_reports};
 ghost use Rattle.asan_stream.specs.Outcomes.{reports_of};
 

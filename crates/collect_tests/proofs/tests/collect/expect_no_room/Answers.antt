@@ -3,4 +3,5 @@ use Rattle.collect_tests.proofs.tests.collect.expect_no_room.Goals as goal
 
 -- an allocator that refuses one request gives its memory back to the allocator that it passes requests on to
 pub collect-outcomes-requires-frees-A-Allocator : goal.collect-outcomes-requires-frees-A-Allocator
-collect-outcomes-requires-frees-A-Allocator g c κs bounds = record { frees = λ heap τ p. of_global.frees heap.now.inner τ p }
+collect-outcomes-requires-frees-A-Allocator g c κs bounds =
+    record { frees = λ heap τ p. of_global.frees heap.now.inner τ p }
