@@ -4,7 +4,8 @@ ghost use Rattle.std.specs.Prelude.{◌^◌, ◌≤◌};
 use super::{WIDTHS, insert, live, remove};
 use line_map::LineMap;
 use refusing_allocator::RefusingAllocator;
-use std::alloc::{AllocError, Allocator};
+use std::alloc::{AllocError, Global};
+use std::process::Abort;
 use std::test::Fail;
 
 /// How many levels of branches a map has.
@@ -45,9 +46,9 @@ fn chain(levels: u64) -> u64
 }
 
 /// How many requests for memory it takes to put a slot at an address, and for how many bytes.
-fn asked<B: Allocator>(
-    heap: &RefusingAllocator<B>,
-    map: &mut LineMap<&RefusingAllocator<B>>,
+fn asked(
+    heap: &RefusingAllocator<Global>,
+    map: &mut LineMap<&RefusingAllocator<Global>>,
     at: u64,
 ) -> Result<(u64, u64), AllocError> {
     let (requests, bytes) = (heap.requests_made(), heap.bytes_asked());
@@ -58,13 +59,53 @@ fn asked<B: Allocator>(
     ))
 }
 
+/// What happens to a map.
+#[derive(Clone, Copy, Debug)]
+enum Step {
+    /// A slot is put at an address.
+    Inserted(u64),
+    /// The same, which makes that many requests for memory, of that many bytes.
+    Asks(u64, (u64, u64)),
+    /// The same, which is refused memory.
+    Refused(u64),
+    /// The slot at an address is taken out.
+    Removed(u64),
+}
+
+/// Takes steps in order with a map that has no slots, and compares what they ask for.
+fn expect(
+    rt: &impl Abort,
+    heap: &RefusingAllocator<Global>,
+    steps: &[Step],
+) -> Result<(), AllocError> {
+    let mut map = LineMap::new(heap);
+    for step in steps {
+        match *step {
+            Step::Inserted(at) => {
+                asked(heap, &mut map, at)?;
+            }
+            Step::Asks(at, wanted) => {
+                assert_eq!(rt; asked(heap, &mut map, at)?, wanted, "{step:?}");
+            }
+            Step::Refused(at) => assert!(rt; asked(heap, &mut map, at).is_err(), "{step:?}"),
+            Step::Removed(at) => remove(&mut map, at),
+        }
+    }
+    Ok(())
+}
+
+/// The same where no request is refused.
+fn expect_granted(rt: &impl Abort, alloc: Global, steps: &[Step]) -> Result<(), AllocError> {
+    let heap = RefusingAllocator::counting(alloc);
+    expect(rt, &heap, steps)
+}
+
 #[test]
 fn memory_of_a_lone_slot(rt: HostRuntime) -> Result<(), Fail> {
     for width in WIDTHS {
         for at in [width.saturating_sub(64), width.min(END)] {
-            let heap = RefusingAllocator::counting(rt.alloc());
-            let mut map = LineMap::new(&heap);
-            assert_eq!(rt; asked(&heap, &mut map, at)?, (LEVELS + 1, chain(LEVELS)));
+            let steps = [Step::Asks(at, (LEVELS + 1, chain(LEVELS)))];
+            expect_granted(&rt, rt.alloc(), &steps)?;
         }
     }
     assert_eq!(rt; chain(LEVELS), 240 + LEVELS * HANDLE);
@@ -79,35 +120,28 @@ fn memory_of_a_slot_past_an_end(rt: HostRuntime) -> Result<(), Fail> {
         // second node.
         let end = WIDTHS[(levels + 1) as usize];
         let node = if levels == 0 { LEAF } else { BRANCH };
-        let heap = RefusingAllocator::counting(rt.alloc());
-        let mut map = LineMap::new(&heap);
-        asked(&heap, &mut map, end.saturating_sub(64))?;
-        assert_eq!(rt;
-            asked(&heap, &mut map, end)?,
-            (levels + 2, 2 * node + chain(levels)),
-            "levels {levels}"
-        );
-        assert_eq!(rt; asked(&heap, &mut map, end.saturating_add(64))?, (0, 0));
+        let steps = [
+            Step::Inserted(end.saturating_sub(64)),
+            Step::Asks(end, (levels + 2, 2 * node + chain(levels))),
+            Step::Asks(end.saturating_add(64), (0, 0)),
+        ];
+        expect_granted(&rt, rt.alloc(), &steps)?;
     }
     Ok(())
 }
 
 #[test]
 fn memory_of_a_leaf(rt: HostRuntime) -> Result<(), Fail> {
-    let heap = RefusingAllocator::counting(rt.alloc());
-    let mut map = LineMap::new(&heap);
-    asked(&heap, &mut map, 0)?;
+    let mut steps = [Step::Inserted(0); 32];
     let mut room = 4;
-    for line in 1..32 {
+    for line in 1..32u64 {
         // Where there is no room for an entry more, the leaf makes room for twice as many.
         let more = if line == room { 2 * room } else { 0 };
         room = room.max(more);
-        assert_eq!(rt;
-            asked(&heap, &mut map, line * 64)?,
-            (u64::from(more > 0), more * ENTRY),
-            "line {line}"
-        );
+        let wanted = (u64::from(more > 0), more * ENTRY);
+        steps[line as usize] = Step::Asks(line * 64, wanted);
     }
+    expect_granted(&rt, rt.alloc(), &steps)?;
     Ok(())
 }
 
@@ -115,13 +149,9 @@ fn memory_of_a_leaf(rt: HostRuntime) -> Result<(), Fail> {
 fn memory_of_a_slot_that_makes_a_branch_grow(rt: HostRuntime) -> Result<(), Fail> {
     // One slot is in the first node of the branch over all the others, and one in its last.
     for (first, second) in [(0, END), (END, 0)] {
-        let heap = RefusingAllocator::counting(rt.alloc());
-        let mut map = LineMap::new(&heap);
-        asked(&heap, &mut map, first)?;
-        assert_eq!(rt;
-            asked(&heap, &mut map, second)?,
-            (LEVELS + 1, NODES * BRANCH + chain(LEVELS - 1))
-        );
+        let wanted = (LEVELS + 1, NODES * BRANCH + chain(LEVELS - 1));
+        let steps = [Step::Inserted(first), Step::Asks(second, wanted)];
+        expect_granted(&rt, rt.alloc(), &steps)?;
     }
     assert_eq!(rt;
         NODES * BRANCH + chain(LEVELS - 1),
@@ -132,19 +162,17 @@ fn memory_of_a_slot_that_makes_a_branch_grow(rt: HostRuntime) -> Result<(), Fail
 
 #[test]
 fn memory_of_what_has_no_slots_is_given_back(rt: HostRuntime) -> Result<(), Fail> {
-    let heap = RefusingAllocator::counting(rt.alloc());
-    let mut map = LineMap::new(&heap);
-    asked(&heap, &mut map, 0x1000)?;
-    asked(&heap, &mut map, 0x2000)?;
     // A leaf that had one slot is asked for again, and so is the way to the only one.
-    remove(&mut map, 0x2000);
-    assert_eq!(rt; asked(&heap, &mut map, 0x2000)?, (1, ENTRIES));
-    remove(&mut map, 0x1000);
-    remove(&mut map, 0x2000);
-    assert_eq!(rt;
-        asked(&heap, &mut map, 0x1000)?,
-        (LEVELS + 1, chain(LEVELS))
-    );
+    let steps = [
+        Step::Inserted(0x1000),
+        Step::Inserted(0x2000),
+        Step::Removed(0x2000),
+        Step::Asks(0x2000, (1, ENTRIES)),
+        Step::Removed(0x1000),
+        Step::Removed(0x2000),
+        Step::Asks(0x1000, (LEVELS + 1, chain(LEVELS))),
+    ];
+    expect_granted(&rt, rt.alloc(), &steps)?;
     Ok(())
 }
 
@@ -152,13 +180,11 @@ fn memory_of_what_has_no_slots_is_given_back(rt: HostRuntime) -> Result<(), Fail
 fn memory_of_a_refused_slot_is_given_back(rt: HostRuntime) -> Result<(), Fail> {
     for turn in 1..=LEVELS + 1 {
         let heap = RefusingAllocator::at_turn(rt.alloc(), turn);
-        let mut map = LineMap::new(&heap);
-        assert!(rt; asked(&heap, &mut map, 0x1000).is_err(), "turn {turn}");
-        assert_eq!(rt;
-            asked(&heap, &mut map, 0x1000)?,
-            (LEVELS + 1, chain(LEVELS)),
-            "turn {turn}"
-        );
+        let steps = [
+            Step::Refused(0x1000),
+            Step::Asks(0x1000, (LEVELS + 1, chain(LEVELS))),
+        ];
+        expect(&rt, &heap, &steps)?;
     }
     Ok(())
 }
@@ -167,49 +193,37 @@ fn memory_of_a_refused_slot_is_given_back(rt: HostRuntime) -> Result<(), Fail> {
 fn memory_is_given_back_in_any_order(rt: HostRuntime) -> Result<(), Fail> {
     // On both sides of the ends of nodes of each level, taken out from the first on or the last.
     for is_upward in [true, false] {
-        let heap = RefusingAllocator::counting(rt.alloc());
-        let mut map = LineMap::new(&heap);
+        let mut steps = Vec::new(rt.alloc());
         for width in WIDTHS {
-            insert(&mut map, width.saturating_sub(64), live(8))?;
-            insert(&mut map, width.min(END), live(8))?;
+            steps.push(Step::Inserted(width.saturating_sub(64)))?;
+            steps.push(Step::Inserted(width.min(END)))?;
         }
         for place in 0..WIDTHS.len() {
             let width = WIDTHS[if is_upward { place } else { 7 - place }];
-            remove(&mut map, width.saturating_sub(64));
-            remove(&mut map, width.min(END));
+            steps.push(Step::Removed(width.saturating_sub(64)))?;
+            steps.push(Step::Removed(width.min(END)))?;
         }
-        assert_eq!(rt;
-            asked(&heap, &mut map, 0x1000)?,
-            (LEVELS + 1, chain(LEVELS)),
-            "upward {is_upward}"
-        );
+        steps.push(Step::Asks(0x1000, (LEVELS + 1, chain(LEVELS))))?;
+        expect_granted(&rt, rt.alloc(), &steps)?;
     }
     Ok(())
 }
 
 #[test]
 fn room_is_kept_round_one_slot(rt: HostRuntime) -> Result<(), Fail> {
-    let heap = RefusingAllocator::counting(rt.alloc());
-    let mut map = LineMap::new(&heap);
-    asked(&heap, &mut map, 0)?;
+    let mut steps = Vec::new(rt.alloc());
+    steps.push(Step::Inserted(0))?;
     for levels in 1..=LEVELS {
         let last = WIDTHS[(levels + 1) as usize].saturating_sub(64);
         let node = if levels == 1 { LEAF } else { BRANCH };
-        assert_eq!(rt;
-            asked(&heap, &mut map, last)?,
-            (levels + 1, NODES * node + chain(levels - 1)),
-            "levels {levels}"
-        );
-        remove(&mut map, last);
+        steps.push(Step::Asks(last, (levels + 1, NODES * node + chain(levels - 1))))?;
+        steps.push(Step::Removed(last))?;
     }
     for levels in 1..=LEVELS {
         let last = WIDTHS[(levels + 1) as usize].saturating_sub(64);
-        assert_eq!(rt;
-            asked(&heap, &mut map, last)?,
-            (levels, chain(levels - 1)),
-            "levels {levels}"
-        );
-        remove(&mut map, last);
+        steps.push(Step::Asks(last, (levels, chain(levels - 1))))?;
+        steps.push(Step::Removed(last))?;
     }
+    expect_granted(&rt, rt.alloc(), &steps)?;
     Ok(())
 }

@@ -49,28 +49,44 @@ fn insert_both<A: Allocator + Copy>(
     })
 }
 
-/// Puts slots on both sides of the ends of nodes of each level, from the first ones on or from the
-/// last ones, and takes them out again, where one request is refused.
-fn calls_refused_at(alloc: Global, turn: u64, is_upward: bool) -> Result<Outcome, AllocError> {
-    let heap = RefusingAllocator::at_turn(alloc, turn);
-    let mut map = LineMap::new(&heap);
-    let mut ample = LineMap::new(alloc);
+/// Puts slots on both sides of the ends of nodes of each level into both maps, from the first ones
+/// on or from the last ones.
+fn insert_each<A: Allocator + Copy>(
+    map: &mut LineMap<A>,
+    ample: &mut LineMap,
+    is_upward: bool,
+) -> Result<Outcome, AllocError> {
     let (mut refused, mut right) = (false, true);
     for place in 0..WIDTHS.len() {
         let width = WIDTHS[if is_upward { place } else { 7 - place }];
         for at in [width - 8, width] {
-            let outcome = insert_both(&mut map, &mut ample, at)?;
+            let outcome = insert_both(map, ample, at)?;
             refused |= outcome.refused;
             right &= outcome.right;
         }
     }
+    Ok(Outcome { refused, right })
+}
+
+/// Takes those slots out again. Whether the map has none then.
+fn is_emptied<A: Allocator + Copy>(map: &mut LineMap<A>) -> bool {
     for width in WIDTHS {
-        remove(&mut map, width - 8);
-        remove(&mut map, width);
+        remove(map, width - 8);
+        remove(map, width);
     }
+    map.last_before(u64::MAX).is_none()
+}
+
+/// Puts slots into a map and takes them out again, where one request is refused.
+fn calls_refused_at(alloc: Global, turn: u64, is_upward: bool) -> Result<Outcome, AllocError> {
+    let heap = RefusingAllocator::at_turn(alloc, turn);
+    let mut map = LineMap::new(&heap);
+    let mut ample = LineMap::new(alloc);
+    let Outcome { refused, right } = insert_each(&mut map, &mut ample, is_upward)?;
+    let is_emptied = is_emptied(&mut map);
     Ok(Outcome {
         refused,
-        right: right && refused == heap.has_refused() && map.last_before(u64::MAX).is_none(),
+        right: right && is_emptied && refused == heap.has_refused(),
     })
 }
 
