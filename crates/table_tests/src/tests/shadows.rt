@@ -1,4 +1,5 @@
 //! The calls of a shadow, and the end of the memory.
+mod calls;
 mod granules;
 mod large;
 mod leaves;
@@ -6,14 +7,18 @@ mod memory;
 mod model;
 mod refusals;
 
-use shadow_map::{Cause, NoMemory, Shadow};
+use calls::{Mark, bad_byte, cause, expect, first_poisoned, mark_each, unpoisoned, value};
+use shadow_map::Shadow;
 use std::alloc::Allocator;
 use std::test::Fail;
 
 /// Codes as a checker gives them.
 const FREED: u8 = 0xfd;
+
 const USER_POISON: u8 = 0xf7;
+
 const STACK_REDZONE: u8 = 0xf2;
+
 const GLOBAL_REDZONE: u8 = 0xf9;
 
 /// The shadow bytes of `COUNT` granules from one on.
@@ -25,72 +30,52 @@ fn values<const COUNT: usize, A: Allocator + Copy>(shadow: &Shadow<A>, first: u6
     values
 }
 
-/// The shadow byte of a granule after each of three calls on it.
-fn values_in_turn<A: Allocator + Copy>(shadow: &mut Shadow<A>) -> Result<[u8; 3], NoMemory> {
-    shadow.unpoison(0x1006, 1)?;
-    let unpoisoned = shadow.value(0x200);
-    shadow.poison(0x1000, 8, USER_POISON)?;
-    let poisoned = shadow.value(0x200);
-    shadow.mark(0x1000, 0x1008, FREED)?;
-    Ok([unpoisoned, poisoned, shadow.value(0x200)])
-}
-
 #[test]
 fn shadow_calls(rt: HostRuntime) -> Result<(), Fail> {
     let mut shadow = Shadow::new(rt.alloc());
-    shadow.block(0x1000, 5)?;
+    mark_each(&rt, &mut shadow, &[Mark::Block(0x1000, 5)])?;
     assert_eq!(rt;
         values(&shadow, 0x1fb),
         [0, 0xfa, 0xfa, 0xfa, 0xfa, 0x05, 0xfa, 0xfa, 0xfa, 0xfa, 0]
     );
-    assert_eq!(rt;
-        [
-            shadow.first_poisoned(0x1000, 8),
-            shadow.first_poisoned(0x1000, 5),
-            shadow.first_poisoned(0xfd0, 64),
-            shadow.bad_byte(0x1006, 1),
-        ],
-        [Some(0x1005), None, Some(0xfe0), Some(0x1006)]
-    );
-    assert_eq!(rt;
-        [shadow.cause(0x1006), shadow.cause(0x1008)],
-        [
-            Cause {
-                own: 0x05,
-                deciding: 0xfa
-            },
-            Cause {
-                own: 0xfa,
-                deciding: 0xfa
-            }
-        ]
-    );
-    assert!(rt; !shadow.is_poisoned(0x1004));
-    assert_eq!(rt; values_in_turn(&mut shadow)?, [0x07, 0xf7, 0xfd]);
+    let cases = [
+        first_poisoned(0x1000, 8, Some(0x1005)),
+        first_poisoned(0x1000, 5, None),
+        first_poisoned(0xfd0, 64, Some(0xfe0)),
+        bad_byte(0x1006, 1, Some(0x1006)),
+        cause(0x1006, 0x05, 0xfa),
+        cause(0x1008, 0xfa, 0xfa),
+        unpoisoned(0x1004),
+    ];
+    expect(&rt, &shadow, &cases);
+    let marks = [
+        (Mark::Unpoison(0x1006, 1), 0x07),
+        (Mark::Poison(0x1000, 8, USER_POISON), 0xf7),
+        (Mark::Fill(0x1000, 0x1008, FREED), 0xfd),
+    ];
+    for (mark, after) in marks {
+        mark_each(&rt, &mut shadow, &[mark])?;
+        expect(&rt, &shadow, &[value(0x200, after)]);
+    }
     Ok(())
 }
 
 #[test]
 fn last_granule(rt: HostRuntime) -> Result<(), Fail> {
     let mut shadow = Shadow::new(rt.alloc());
-    shadow.poison(0x7fff_ffff_fffc, 4, USER_POISON)?;
-    assert_eq!(rt;
-        [
-            shadow.value(0xfff_ffff_ffff),
-            shadow.value(1 << 44),
-            shadow.value(u64::MAX)
-        ],
-        [0x04, 0, 0]
-    );
-    assert_eq!(rt;
-        [
-            shadow.bad_byte(0x7fff_ffff_fffe, 1),
-            shadow.first_poisoned(0x7fff_ffff_ff00, 0x100),
-            shadow.first_poisoned(1 << 47, 0),
-        ],
-        [Some(0x7fff_ffff_fffe), Some(0x7fff_ffff_fffc), None]
-    );
-    assert!(rt; !shadow.is_poisoned(1 << 47) && !shadow.is_poisoned(u64::MAX));
+    let poison = Mark::Poison(0x7fff_ffff_fffc, 4, USER_POISON);
+    mark_each(&rt, &mut shadow, &[poison])?;
+    let cases = [
+        value(0xfff_ffff_ffff, 0x04),
+        value(1 << 44, 0),
+        value(u64::MAX, 0),
+        bad_byte(0x7fff_ffff_fffe, 1, Some(0x7fff_ffff_fffe)),
+        first_poisoned(0x7fff_ffff_ff00, 0x100, Some(0x7fff_ffff_fffc)),
+        first_poisoned(1 << 47, 0, None),
+        unpoisoned(1 << 47),
+        unpoisoned(u64::MAX),
+    ];
+    expect(&rt, &shadow, &cases);
     Ok(())
 }
 
@@ -108,9 +93,12 @@ fn bad_in_turn<const COUNT: usize>(shadow: &Shadow, places: &[u64; COUNT]) -> [O
 fn a_reader_finds_bad_bytes(rt: HostRuntime) -> Result<(), Fail> {
     // A reader remembers 512 MiB. The second block starts where the second of these do.
     let mut shadow = Shadow::new(rt.alloc());
-    shadow.block(0x1000, 5)?;
-    shadow.block(1 << 29, 24)?;
-    shadow.poison(1 << 40, 16, USER_POISON)?;
+    let marks = [
+        Mark::Block(0x1000, 5),
+        Mark::Block(1 << 29, 24),
+        Mark::Poison(1 << 40, 16, USER_POISON),
+    ];
+    mark_each(&rt, &mut shadow, &marks)?;
     assert_eq!(rt;
         bad_in_turn(&shadow, &[0xfd8, 0xff8, 0x1000, 0x1008, 0x1028]),
         [None, Some(0xff8), Some(0x1005), Some(0x1008), None]

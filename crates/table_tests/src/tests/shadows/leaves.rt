@@ -1,7 +1,7 @@
 //! The shadow beside the plain model, at the ends of leaves and branches.
+use super::calls::{Mark, bad_byte, expect, first_poisoned, mark_each};
 use super::model::Both;
-use super::values;
-use super::{FREED, USER_POISON};
+use super::{FREED, USER_POISON, values};
 use shadow_map::{HEAP_REDZONE, NoMemory, Shadow};
 use std::alloc::Global;
 use std::test::Fail;
@@ -80,16 +80,15 @@ fn whole_leaves_and_branches(rt: HostRuntime) -> Result<(), Fail> {
 #[test]
 fn widest_poison(rt: HostRuntime) -> Result<(), Fail> {
     let mut shadow = Shadow::new(rt.alloc());
-    shadow.poison(0x4000_0000, 1 << 32, USER_POISON)?;
+    let poison = Mark::Poison(0x4000_0000, 1 << 32, USER_POISON);
+    mark_each(&rt, &mut shadow, &[poison])?;
     assert_eq!(rt; values(&shadow, 0x27ff_ffff), [0xf7, 0]);
-    assert_eq!(rt;
-        [
-            shadow.bad_byte(0x1_3fff_ffff, 1),
-            shadow.bad_byte(0x1_4000_0000, 1),
-            shadow.first_poisoned(0x3fff_ff00, 0x200),
-        ],
-        [Some(0x1_3fff_ffff), None, Some(0x4000_0000)]
-    );
+    let cases = [
+        bad_byte(0x1_3fff_ffff, 1, Some(0x1_3fff_ffff)),
+        bad_byte(0x1_4000_0000, 1, None),
+        first_poisoned(0x3fff_ff00, 0x200, Some(0x4000_0000)),
+    ];
+    expect(&rt, &shadow, &cases);
     Ok(())
 }
 
@@ -99,26 +98,20 @@ fn widest_poison(rt: HostRuntime) -> Result<(), Fail> {
 fn largest_block(rt: HostRuntime) -> Result<(), Fail> {
     let (at, end) = (0x4000_0000, 0x1_4000_0000);
     let mut shadow = Shadow::new(rt.alloc());
-    shadow.block(at, 1 << 32)?;
-    assert_eq!(rt;
-        [
-            shadow.bad_byte(at, 8),
-            shadow.bad_byte(end - 1, 1),
-            shadow.bad_byte(end, 1)
-        ],
-        [None, None, Some(end)]
-    );
-    assert_eq!(rt;
-        [
-            shadow.first_poisoned(at, 1 << 32),
-            shadow.first_poisoned(at, (1 << 32) + 1)
-        ],
-        [None, Some(end)]
-    );
-    shadow.mark(at, end, FREED)?;
+    mark_each(&rt, &mut shadow, &[Mark::Block(at, 1 << 32)])?;
+    let cases = [
+        bad_byte(at, 8, None),
+        bad_byte(end - 1, 1, None),
+        bad_byte(end, 1, Some(end)),
+        first_poisoned(at, 1 << 32, None),
+        first_poisoned(at, (1 << 32) + 1, Some(end)),
+    ];
+    expect(&rt, &shadow, &cases);
+    mark_each(&rt, &mut shadow, &[Mark::Fill(at, end, FREED)])?;
     assert_eq!(rt; values(&shadow, at / 8 - 1), [HEAP_REDZONE, FREED]);
     assert_eq!(rt; values(&shadow, end / 8 - 1), [FREED, HEAP_REDZONE]);
-    shadow.mark(at - 32, end + 32, HEAP_REDZONE)?;
+    let released = Mark::Fill(at - 32, end + 32, HEAP_REDZONE);
+    mark_each(&rt, &mut shadow, &[released])?;
     assert_eq!(rt; values(&shadow, at / 8 - 5), [0, HEAP_REDZONE]);
     assert_eq!(rt; values(&shadow, end / 8 + 3), [HEAP_REDZONE, 0]);
     Ok(())
@@ -128,12 +121,20 @@ fn largest_block(rt: HostRuntime) -> Result<(), Fail> {
 #[test]
 fn first_poisoned_of_all_memory(rt: HostRuntime) -> Result<(), Fail> {
     let mut shadow = Shadow::new(rt.alloc());
-    assert_eq!(rt; shadow.first_poisoned(0, 1 << 47), None);
-    shadow.poison(0x7fff_ffff_fffc, 4, USER_POISON)?;
-    assert_eq!(rt; shadow.first_poisoned(0, 1 << 47), Some(0x7fff_ffff_fffc));
-    assert_eq!(rt; shadow.first_poisoned(3, 0x7fff_ffff_fff9), None);
-    shadow.unpoison(0x1000_0000, 1 << 28)?;
-    shadow.poison(0x4000_1007, 1, USER_POISON)?;
-    assert_eq!(rt; shadow.first_poisoned(1, (1 << 47) - 1), Some(0x4000_1007));
+    expect(&rt, &shadow, &[first_poisoned(0, 1 << 47, None)]);
+    let poison = Mark::Poison(0x7fff_ffff_fffc, 4, USER_POISON);
+    mark_each(&rt, &mut shadow, &[poison])?;
+    let cases = [
+        first_poisoned(0, 1 << 47, Some(0x7fff_ffff_fffc)),
+        first_poisoned(3, 0x7fff_ffff_fff9, None),
+    ];
+    expect(&rt, &shadow, &cases);
+    let marks = [
+        Mark::Unpoison(0x1000_0000, 1 << 28),
+        Mark::Poison(0x4000_1007, 1, USER_POISON),
+    ];
+    mark_each(&rt, &mut shadow, &marks)?;
+    let all_but_one = first_poisoned(1, (1 << 47) - 1, Some(0x4000_1007));
+    expect(&rt, &shadow, &[all_but_one]);
     Ok(())
 }

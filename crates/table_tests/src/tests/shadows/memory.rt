@@ -1,10 +1,11 @@
 //! What one record asks memory for, in the states and at the places where it asks for the most.
-ghost use Rattle.std.specs.Prelude.{◌≤◌};
 
-use refusing_allocator::RefusingAllocator;
+use super::calls::{Mark, mark_each};
 use super::{FREED, USER_POISON};
+use refusing_allocator::RefusingAllocator;
 use shadow_map::{NoMemory, Shadow};
 use std::alloc::{Allocator, Global};
+use std::process::Abort;
 use std::test::Fail;
 
 /// How many bytes one record of version 1 can mark.
@@ -34,7 +35,7 @@ const LEAF: u64 = 4096;
 /// of a handle on the test's allocator. The handle on the program's has none.
 const HANDLES: u64 = 128 * 8;
 
-/// The states and the records that `prepare` and `mark_record` know, and what the records ask for.
+/// The states and the records that `prepare` and `mark_of` know, and what the records ask for.
 const RECORDS: [Asked; 19] = [
     // A load, a store.
     (0, 0, 0),
@@ -80,52 +81,71 @@ const RECORDS: [Asked; 19] = [
 ];
 
 /// Marks what stands before a record.
-fn prepare<A: Allocator + Copy>(shadow: &mut Shadow<A>, record: usize) -> Result<(), NoMemory> {
+fn prepare<A: Allocator + Copy>(
+    rt: &impl Abort,
+    shadow: &mut Shadow<A>,
+    record: usize,
+) -> Result<(), NoMemory> {
+    let block_1 = Mark::Block(0x4000_0808, 0xfff_0000);
+    let block_2 = Mark::Block(END - 0x7fff_f7f8, LARGEST_2);
+    let below_1 = Mark::Poison(END - LARGEST_1, LARGEST_1, USER_POISON);
+    let below_2 = Mark::Poison(END - LARGEST_2, LARGEST_2, USER_POISON);
+    let above_1 = Mark::Poison(END, LARGEST_1, USER_POISON);
+    let above_2 = Mark::Poison(END, LARGEST_2, USER_POISON);
+    let over_block_1 = Mark::Poison(0x4000_0000, LARGEST_1, USER_POISON);
     match record {
-        2 => shadow.block(0x4000_0808, 0xfff_0000),
-        3 => {
-            shadow.block(0x4000_0808, 0xfff_0000)?;
-            shadow.poison(0x4000_0000, LARGEST_1, USER_POISON)
-        }
-        6 => {
-            shadow.poison(END - LARGEST_1, LARGEST_1, USER_POISON)?;
-            shadow.poison(END, LARGEST_1, USER_POISON)
-        }
-        9 => shadow.poison(0x4000_8000, 0x8000, USER_POISON),
-        11 => shadow.block(END - 0x7fff_f7f8, LARGEST_2),
-        12 => {
-            shadow.block(END - 0x7fff_f7f8, LARGEST_2)?;
-            shadow.poison(END - LARGEST_2, LARGEST_2, USER_POISON)?;
-            shadow.poison(END, LARGEST_2, USER_POISON)
-        }
-        16 | 17 => {
-            shadow.poison(END - LARGEST_2, LARGEST_2, USER_POISON)?;
-            shadow.poison(END, LARGEST_2, USER_POISON)
-        }
-        18 => shadow.poison(END + 0x8_0000_0000, 8, USER_POISON),
+        2 => mark_each(rt, shadow, &[block_1]),
+        3 => mark_each(rt, shadow, &[block_1, over_block_1]),
+        6 => mark_each(rt, shadow, &[below_1, above_1]),
+        9 => mark_each(
+            rt,
+            shadow,
+            &[Mark::Poison(0x4000_8000, 0x8000, USER_POISON)],
+        ),
+        11 => mark_each(rt, shadow, &[block_2]),
+        12 => mark_each(rt, shadow, &[block_2, below_2, above_2]),
+        16 | 17 => mark_each(rt, shadow, &[below_2, above_2]),
+        18 => mark_each(
+            rt,
+            shadow,
+            &[Mark::Poison(END + 0x8_0000_0000, 8, USER_POISON)],
+        ),
         _ => Ok(()),
     }
 }
 
-/// Marks what a record marks.
-fn mark_record<A: Allocator + Copy>(shadow: &mut Shadow<A>, record: usize) -> Result<(), NoMemory> {
-    match record {
-        1 => shadow.block(END + 8, 0x7ff_fff0),
-        2 | 3 => shadow.mark(0x4000_0808, 0x4fff_0808, FREED),
-        4 => shadow.poison(END - 0x7ff_f7fd, LARGEST_1, USER_POISON),
-        5 => shadow.poison(END - 0x800_0000, LARGEST_1, USER_POISON),
-        6 | 7 => shadow.unpoison(END - 0x7ff_f7fd, LARGEST_1),
-        8 => shadow.poison(0x4000_8000, 0x8000, USER_POISON),
-        9 => shadow.poison(0x4000_8008, 8, USER_POISON),
-        10 => shadow.block(END + 8, LARGEST_2 - 16),
-        11 | 12 => shadow.mark(END - 0x7fff_f7f8, END + 0x8000_0808, FREED),
-        13 => shadow.poison(END - 0x7fff_f7fd, LARGEST_2, USER_POISON),
-        14 => shadow.poison(END - 0x7fc0_0000, LARGEST_2, USER_POISON),
-        15 => shadow.poison(END - 0x8000_0000, LARGEST_2, USER_POISON),
-        16 => shadow.unpoison(END - 0x7fff_f7fd, LARGEST_2),
-        17 => shadow.unpoison(END - 0x7fc0_0000, LARGEST_2),
-        18 => shadow.block(END + 0x2000_0008, 0x4000_0000 - 16),
-        _ => {
+/// What a record marks, if anything.
+fn mark_of(record: usize) -> Option<Mark> {
+    let mark = match record {
+        1 => Mark::Block(END + 8, 0x7ff_fff0),
+        2 | 3 => Mark::Fill(0x4000_0808, 0x4fff_0808, FREED),
+        4 => Mark::Poison(END - 0x7ff_f7fd, LARGEST_1, USER_POISON),
+        5 => Mark::Poison(END - 0x800_0000, LARGEST_1, USER_POISON),
+        6 | 7 => Mark::Unpoison(END - 0x7ff_f7fd, LARGEST_1),
+        8 => Mark::Poison(0x4000_8000, 0x8000, USER_POISON),
+        9 => Mark::Poison(0x4000_8008, 8, USER_POISON),
+        10 => Mark::Block(END + 8, LARGEST_2 - 16),
+        11 | 12 => Mark::Fill(END - 0x7fff_f7f8, END + 0x8000_0808, FREED),
+        13 => Mark::Poison(END - 0x7fff_f7fd, LARGEST_2, USER_POISON),
+        14 => Mark::Poison(END - 0x7fc0_0000, LARGEST_2, USER_POISON),
+        15 => Mark::Poison(END - 0x8000_0000, LARGEST_2, USER_POISON),
+        16 => Mark::Unpoison(END - 0x7fff_f7fd, LARGEST_2),
+        17 => Mark::Unpoison(END - 0x7fc0_0000, LARGEST_2),
+        18 => Mark::Block(END + 0x2000_0008, 0x4000_0000 - 16),
+        _ => return None,
+    };
+    Some(mark)
+}
+
+/// Makes the call of a record: a mark, or the look that a load or a store takes.
+fn make_record<A: Allocator + Copy>(
+    rt: &impl Abort,
+    shadow: &mut Shadow<A>,
+    record: usize,
+) -> Result<(), NoMemory> {
+    match mark_of(record) {
+        Some(mark) => mark.make(rt, shadow),
+        None => {
             let _ = (shadow.bad_byte(END, 8), shadow.value(0));
             Ok(())
         }
@@ -133,12 +153,12 @@ fn mark_record<A: Allocator + Copy>(shadow: &mut Shadow<A>, record: usize) -> Re
 }
 
 /// How many requests for memory a record makes, and for how many bytes.
-fn asked(alloc: Global, record: usize) -> Result<(u64, u64), NoMemory> {
+fn asked(rt: &impl Abort, alloc: Global, record: usize) -> Result<(u64, u64), NoMemory> {
     let heap = RefusingAllocator::counting(alloc);
     let mut shadow = Shadow::new(&heap);
-    prepare(&mut shadow, record)?;
+    prepare(rt, &mut shadow, record)?;
     let (requests, bytes) = (heap.requests_made(), heap.bytes_asked());
-    mark_record(&mut shadow, record)?;
+    make_record(rt, &mut shadow, record)?;
     Ok((
         heap.requests_made().wrapping_sub(requests),
         heap.bytes_asked().wrapping_sub(bytes),
@@ -151,7 +171,7 @@ fn memory_of_a_record(rt: HostRuntime) -> Result<(), Fail> {
         let (branches, lowest, leaves) = (*branches as u64, *lowest as u64, *leaves as u64);
         let bytes = branches * BRANCH + lowest * LOWEST_BRANCH + leaves * LEAF;
         assert_eq!(rt;
-            asked(rt.alloc(), record)?,
+            asked(&rt, rt.alloc(), record)?,
             (
                 branches + lowest + leaves,
                 bytes + (branches + lowest) * HANDLES
@@ -164,28 +184,28 @@ fn memory_of_a_record(rt: HostRuntime) -> Result<(), Fail> {
 }
 
 /// Whether a request of a poison of whole branches is refused, by its number.
-fn poison_is_refused_at(alloc: Global, turn: u64) -> bool {
+fn poison_is_refused_at(rt: &impl Abort, alloc: Global, turn: u64) -> bool {
     let heap = RefusingAllocator::at_turn(alloc, turn);
     let mut shadow = Shadow::new(&heap);
-    shadow.poison(0x4000_0000, LARGEST_1, USER_POISON).is_err()
+    let poison = Mark::Poison(0x4000_0000, LARGEST_1, USER_POISON);
+    poison.make(rt, &mut shadow).is_err()
 }
 
 #[test]
 fn no_poison_makes_many_requests(rt: HostRuntime) {
-    assert!(rt; poison_is_refused_at(rt.alloc(), 4));
-    assert!(rt; !poison_is_refused_at(rt.alloc(), 100_000));
+    assert!(rt; poison_is_refused_at(&rt, rt.alloc(), 4));
+    assert!(rt; !poison_is_refused_at(&rt, rt.alloc(), 100_000));
 }
 
 /// How many requests a poison of a part of a leaf makes after a larger region was filled whole.
-fn asked_after(alloc: Global, size: u64) -> Result<u64, NoMemory>
-    requires { size ≤ 0x2000_0000 }
-{
+fn asked_after(rt: &impl Abort, alloc: Global, size: u64) -> Result<u64, NoMemory> {
     let heap = RefusingAllocator::counting(alloc);
     let mut shadow = Shadow::new(&heap);
-    shadow.poison(0x4000_0008, 8, USER_POISON)?;
-    shadow.unpoison(0x4000_0000, size)?;
+    let poison = Mark::Poison(0x4000_0008, 8, USER_POISON);
+    let marks = [poison, Mark::Unpoison(0x4000_0000, size)];
+    mark_each(rt, &mut shadow, &marks)?;
     let before = heap.requests_made();
-    shadow.poison(0x4000_0008, 8, USER_POISON)?;
+    poison.make(rt, &mut shadow)?;
     Ok(heap.requests_made().wrapping_sub(before))
 }
 
@@ -193,14 +213,12 @@ fn asked_after(alloc: Global, size: u64) -> Result<u64, NoMemory>
 fn memory_of_what_was_filled_whole_is_given_back(rt: HostRuntime) -> Result<(), Fail> {
     // A part of a leaf stays in its bytes; a leaf gives them back; a branch gives back its nodes
     // too, and so does one of the second level.
-    assert_eq!(rt;
-        [
-            asked_after(rt.alloc(), 0x1000)?,
-            asked_after(rt.alloc(), 0x8000)?,
-            asked_after(rt.alloc(), 0x40_0000)?,
-            asked_after(rt.alloc(), 0x2000_0000)?,
-        ],
-        [0, 1, 2, 3]
-    );
+    for (size, requests) in [(0x1000, 0), (0x8000, 1), (0x40_0000, 2), (0x2000_0000, 3)] {
+        assert_eq!(rt;
+            asked_after(&rt, rt.alloc(), size)?,
+            requests,
+            "{size} bytes"
+        );
+    }
     Ok(())
 }

@@ -1,7 +1,7 @@
 //! A growth that is refused.
-use super::values;
+use super::calls::Mark;
+use super::{FREED, USER_POISON, values};
 use refusing_allocator::RefusingAllocator;
-use super::{FREED, USER_POISON};
 use shadow_map::{HEAP_REDZONE, NoMemory, Shadow};
 use std::alloc::{Allocator, Global};
 use std::process::Abort;
@@ -40,26 +40,22 @@ impl Calls {
         }
     }
 
-    /// Makes the call at a place.
-    fn make<A: Allocator + Copy>(
-        self,
-        shadow: &mut Shadow<A>,
-        place: usize,
-    ) -> Result<(), NoMemory> {
+    /// The call at a place.
+    fn mark(self, place: usize) -> Mark {
         let (at, end) = LARGE;
         match (self, place) {
-            (Calls::Small, 0) => shadow.block(END, 5),
-            (Calls::Small, 1) => shadow.unpoison(END + 6, 1),
-            (Calls::Small, 2) => shadow.poison(END, 8, USER_POISON),
-            (Calls::Small, 3) => shadow.mark(END, END + 8, FREED),
-            (Calls::Small, _) => shadow.poison(END - 0x7e, 0xfc, USER_POISON),
-            (Calls::Large, 0) => shadow.block(at, 1 << 32),
-            (Calls::Large, 1) => shadow.poison(END - (1 << 32), 1 << 32, USER_POISON),
-            (Calls::Large, 2) => shadow.poison(END, 1 << 32, USER_POISON),
-            (Calls::Large, 3) => shadow.mark(at, end, FREED),
-            (Calls::Large, 4) => shadow.unpoison(END - (1 << 32), 1 << 32),
-            (Calls::Large, 5) => shadow.unpoison(END, 1 << 32),
-            (Calls::Large, _) => shadow.mark(at - 32, end + 32, HEAP_REDZONE),
+            (Calls::Small, 0) => Mark::Block(END, 5),
+            (Calls::Small, 1) => Mark::Unpoison(END + 6, 1),
+            (Calls::Small, 2) => Mark::Poison(END, 8, USER_POISON),
+            (Calls::Small, 3) => Mark::Fill(END, END + 8, FREED),
+            (Calls::Small, _) => Mark::Poison(END - 0x7e, 0xfc, USER_POISON),
+            (Calls::Large, 0) => Mark::Block(at, 1 << 32),
+            (Calls::Large, 1) => Mark::Poison(END - (1 << 32), 1 << 32, USER_POISON),
+            (Calls::Large, 2) => Mark::Poison(END, 1 << 32, USER_POISON),
+            (Calls::Large, 3) => Mark::Fill(at, end, FREED),
+            (Calls::Large, 4) => Mark::Unpoison(END - (1 << 32), 1 << 32),
+            (Calls::Large, 5) => Mark::Unpoison(END, 1 << 32),
+            (Calls::Large, _) => Mark::Fill(at - 32, end + 32, HEAP_REDZONE),
         }
     }
 
@@ -102,18 +98,20 @@ struct Outcome {
 /// Makes a call in a shadow that may be refused memory, and in one that has ample. It is right
 /// where it is done whole, or in part and then whole when it is made again.
 fn call_both<A: Allocator + Copy>(
+    rt: &impl Abort,
     shadow: &mut Shadow<A>,
     ample: &mut Shadow,
     calls: Calls,
     place: usize,
 ) -> Result<Outcome, NoMemory> {
+    let mark = calls.mark(place);
     let before = calls.values(shadow);
-    calls.make(ample, place)?;
+    mark.make(rt, ample)?;
     let after = calls.values(ample);
-    let refused = calls.make(shadow, place).is_err();
+    let refused = mark.make(rt, shadow).is_err();
     let in_part = is_done_in_part(&calls.values(shadow), &before, &after);
     if refused {
-        calls.make(shadow, place)?;
+        mark.make(rt, shadow)?;
     }
     let whole = calls.values(shadow) == after;
     Ok(Outcome {
@@ -122,17 +120,33 @@ fn call_both<A: Allocator + Copy>(
     })
 }
 
-/// Makes all calls, one after another, where one request is refused.
-fn calls_refused_at(alloc: Global, calls: Calls, turn: u64) -> Result<Outcome, NoMemory> {
-    let heap = RefusingAllocator::at_turn(alloc, turn);
-    let mut shadow = Shadow::new(&heap);
-    let mut ample = Shadow::new(alloc);
+/// Makes all calls in both shadows, one after another.
+fn call_each<A: Allocator + Copy>(
+    rt: &impl Abort,
+    shadow: &mut Shadow<A>,
+    ample: &mut Shadow,
+    calls: Calls,
+) -> Result<Outcome, NoMemory> {
     let (mut refused, mut right) = (false, true);
     for place in 0..calls.count() {
-        let outcome = call_both(&mut shadow, &mut ample, calls, place)?;
+        let outcome = call_both(rt, shadow, ample, calls, place)?;
         refused |= outcome.refused;
         right &= outcome.right;
     }
+    Ok(Outcome { refused, right })
+}
+
+/// Makes all calls where one request is refused.
+fn calls_refused_at(
+    rt: &impl Abort,
+    alloc: Global,
+    calls: Calls,
+    turn: u64,
+) -> Result<Outcome, NoMemory> {
+    let heap = RefusingAllocator::at_turn(alloc, turn);
+    let mut shadow = Shadow::new(&heap);
+    let mut ample = Shadow::new(alloc);
+    let Outcome { refused, right } = call_each(rt, &mut shadow, &mut ample, calls)?;
     Ok(Outcome {
         refused,
         right: right && refused == heap.has_refused(),
@@ -142,7 +156,7 @@ fn calls_refused_at(alloc: Global, calls: Calls, turn: u64) -> Result<Outcome, N
 /// How many growths the calls have, each of which was refused in turn.
 fn growths(rt: &impl Abort, alloc: Global, calls: Calls) -> Result<u64, Fail> {
     for turn in 1..100u64 {
-        let outcome = calls_refused_at(alloc, calls, turn)?;
+        let outcome = calls_refused_at(rt, alloc, calls, turn)?;
         assert!(rt; outcome.right, "turn {turn}");
         if !outcome.refused {
             return Ok(turn - 1);
