@@ -4,6 +4,7 @@
 ghost use Rattle.std.specs.Prelude.{◌≡◌, ◌≤◌, All, IfOk, length};
 ghost use Rattle.asan_stream.specs.Outcomes.{reports_of};
 ghost use Rattle.asan_stream.specs.Ranges.{most_reports};
+ghost use Rattle.asan_collect.specs.Ranges.{most_senders};
 
 mod bench;
 mod checker_refusals;
@@ -19,10 +20,11 @@ mod own_memory;
 mod reading;
 mod refusals;
 mod reports;
+mod rig;
 mod versions;
 mod writing;
 
-use asan_collect::{Options, Outcome, check_feed};
+use asan_collect::{Options, Outcome, check_feed, exit_status, write_outcomes};
 use std::alloc::{AllocError, Allocator, Global};
 use std::sync::atomic::{AtomicU64, Ordering};
 use std::test::Fail;
@@ -94,6 +96,26 @@ fn feed_of(
     ensures { IfOk result (λ f. f.faults ≡ 0) }
 {
     Ok(MemFeed::new(bytes.to_vec(alloc)?, cuts.to_vec(alloc)?, fail_at))
+}
+
+// What a call of the product promises stays in view of all that follows it in a body. These helpers
+// say nothing of it, so that the tests are cheap to prove.
+
+/// What becomes of a feed.
+fn outcome_of_feed(alloc: Global, feed: MemFeed, options: Options) -> Outcome<MemFeed>
+    requires { feed.faults ≡ 0 }
+{
+    check_feed(alloc, feed, options)
+}
+
+/// What is printed of these outcomes, and the status.
+fn text_and_status<F>(alloc: Global, outcomes: &[Outcome<F>]) -> Result<(String, u8), Fail>
+    requires senders { length outcomes.now ≤ most_senders }
+    requires reports { All (λ o. length (reports_of o) ≤ most_reports) outcomes.now }
+{
+    let mut text = Vec::new(alloc);
+    write_outcomes(alloc, &mut text, outcomes)?;
+    Ok((String::from_utf8(text)?, exit_status(outcomes, true)))
 }
 
 /// What becomes of the stream with more bytes after it, of its first 30 bytes with a failing read

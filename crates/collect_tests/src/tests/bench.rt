@@ -5,143 +5,154 @@ ghost use Rattle.trace_lane.specs.Lanes.{end_lane, in_lane};
 ghost use Rattle.asan_stream.specs.Ranges.{most_reports};
 ghost use Rattle.asan_stream.specs.Outcomes.{reports_of};
 
-use super::{STREAM_AND_MORE, THREE_TEXTS, feed_of};
-use asan_check::Checker;
-use asan_collect::{
-    Bench, Gate, Item, Outcome, ReaderDone, Turn, exit_status, run_checker, run_reader, settle,
-    write_outcomes,
+use super::rig::{
+    CLOSED, Rig, Step, expect_step, expect_steps, good_load, good_malloc, plain_rig, run_rig,
 };
+use super::{STREAM_AND_MORE, THREE_TEXTS, feed_of, text_and_status};
+use asan_check::Checker;
+use asan_collect::{Bench, Item, Outcome, ReaderDone, Turn, run_reader, settle};
 use refusing_allocator::RefusingAllocator;
-use std::alloc::Global;
+use std::alloc::{Allocator, Global};
+use std::process::Abort;
 use std::snapshot::Snapshot;
 use std::sync::Wait;
-use std::sync::atomic::{AtomicU64, Ordering};
+use std::sync::atomic::Ordering;
 use std::test::Fail;
 use std::thread;
 use std::thread::{Promise, Threads};
 use std::time::Clock;
 use trace_feed::MemFeed;
 use trace_lane::{LaneIn, lane};
-use trace_record::{Access, End, Event, Fate, Region};
 
-/// A gate of process 7. It counts the events that it hears of, as long as they come in order.
-#[derive(Drop)]
-pub(super) struct Counter {
-    pub(super) heard: AtomicU64,
-}
-
-impl Gate for Counter {
-    fn checked(&self, process: u32, event: u64) {
-        let before = self.heard.load(Ordering::SeqCst);
-        if process == 7 && event == before.wrapping_add(1) {
-            self.heard.store(event, Ordering::SeqCst);
-        }
-    }
-}
-
-/// A gate that has heard of no event.
-pub(super) fn new_counter() -> Counter {
-    Counter {
-        heard: AtomicU64::new(0),
-    }
-}
-
-/// The end of a stream of two events that was closed.
-pub(super) const CLOSED: End = End {
-    fate: Fate::Closed,
-    events: 2,
-    offset: 29,
-};
+/// What is wrong where a test has no memory.
+const NO_MEMORY: &str = "memory is ample";
 
 #[test]
 fn a_turn_takes_one_item(rt: HostRuntime) -> Result<(), Fail> {
-    let (mut into, out) = lane(rt.alloc(), 4)?;
-    let gate = new_counter();
-    let mut bench = Bench::new(7, out, Checker::new(rt.alloc(), 0)?);
-    assert_eq!(rt; bench.turn(&gate), Turn::Empty);
-    let load = Item::Event(Event::Load(Access::new(0x1000, 1)?));
-    for item in [load, load, Item::End(CLOSED)] {
-        assert!(rt; into.put(item).is_ok());
-        assert_eq!(rt; bench.turn(&gate), Turn::Took);
-    }
-    assert_eq!(rt; gate.heard.load(Ordering::SeqCst), 2);
-    assert!(rt; into.put(load).is_ok());
-    assert_eq!(rt; bench.turn(&gate), Turn::Over);
-    assert_eq!(rt; bench.turn(&gate), Turn::Over);
-    assert_eq!(rt; gate.heard.load(Ordering::SeqCst), 2);
+    let load = good_load()?;
+    let steps = [
+        Step::Turn(Turn::Empty),
+        Step::Put(load),
+        Step::Turn(Turn::Took),
+        Step::Put(load),
+        Step::Turn(Turn::Took),
+        Step::Put(CLOSED),
+        Step::Turn(Turn::Took),
+        Step::Heard(2),
+        Step::Put(load),
+        Step::Turn(Turn::Over),
+        Step::Turn(Turn::Over),
+        Step::Heard(2),
+    ];
+    let mut rig = plain_rig(rt.alloc(), 4)?.ok_or(NO_MEMORY)?;
+    expect_steps(&rt, &mut rig, &steps);
     Ok(())
+}
+
+/// Puts these items into a rig one by one, each of which the bench takes, and then takes no more.
+/// Gives how many events the gate heard of.
+fn heard_of_each<A: Allocator + Copy>(rt: &impl Abort, rig: &mut Rig<A>, items: &[Item]) -> u64 {
+    for item in items {
+        expect_steps(rt, rig, &[Step::Put(*item), Step::Turn(Turn::Took)]);
+    }
+    expect_step(rt, rig, Step::Turn(Turn::Over));
+    rig.gate.heard.load(Ordering::SeqCst)
+}
+
+/// How many events a gate hears of where this request for memory is refused, and whether one was, or
+/// `None` where there was no lane.
+fn heard_at(
+    rt: &impl Abort,
+    alloc: Global,
+    turn: u64,
+    items: &[Item],
+) -> Result<Option<(u64, bool)>, Fail> {
+    let heap = RefusingAllocator::at_turn(alloc, turn);
+    let Some(mut rig) = plain_rig(&heap, 4)? else {
+        return Ok(None);
+    };
+    let heard = heard_of_each(rt, &mut rig, items);
+    Ok(Some((heard, heap.has_refused())))
 }
 
 #[test]
 fn a_failed_checker_takes_and_drops(rt: HostRuntime) -> Result<(), Fail> {
-    let load = Item::Event(Event::Load(Access::new(0x1000, 1)?));
-    let malloc = Item::Event(Event::Malloc(Region::new(0x1000, 8)?));
+    let load = good_load()?;
+    let items = [load, good_malloc()?, load, CLOSED];
     for turn in 1..100u64 {
-        let heap = RefusingAllocator::at_turn(rt.alloc(), turn);
-        let Ok((mut into, out)) = lane(&heap, 4) else {
-            continue;
-        };
-        let gate = new_counter();
-        let mut bench = Bench::new(7, out, Checker::new(&heap, 0)?);
-        for item in [load, malloc, load, Item::End(CLOSED)] {
-            assert!(rt; into.put(item).is_ok());
-            assert_eq!(rt; bench.turn(&gate), Turn::Took);
+        match heard_at(&rt, rt.alloc(), turn, &items)? {
+            None => {}
+            Some((heard, true)) => assert_eq!(rt; heard, 1, "turn {turn}"),
+            Some((heard, false)) => {
+                assert_eq!(rt; heard, 3);
+                return Ok(());
+            }
         }
-        assert_eq!(rt; bench.turn(&gate), Turn::Over);
-        let heard = gate.heard.load(Ordering::SeqCst);
-        if !heap.has_refused() {
-            assert_eq!(rt; heard, 3);
-            return Ok(());
-        }
-        assert_eq!(rt; heard, 1, "turn {turn}");
     }
     panic!(rt; "always refused")
 }
 
-#[test]
-fn each_event_of_a_batch_is_announced_in_order(rt: HostRuntime) -> Result<(), Fail> {
-    let load = Item::Event(Event::Load(Access::new(0x1000, 1)?));
-    for count in [0, 1, 63, 64, 65, 200u64] {
-        let (mut into, out) = lane(rt.alloc(), 256)?;
-        for _ in 0..count {
-            assert!(rt; into.put(load).is_ok());
-        }
-        assert!(rt; into.put(Item::End(CLOSED)).is_ok());
-        let gate = new_counter();
-        let mut benches = Vec::new(rt.alloc());
-        benches.push(Bench::new(7, out, Checker::new(rt.alloc(), 0)?))?;
-        let mut benches = run_checker(&rt, benches, &gate);
-        assert_eq!(rt; gate.heard.load(Ordering::SeqCst), count);
-        assert_eq!(rt; benches[0].turn(&gate), Turn::Over);
+/// Puts so many loads and the end into a rig, and runs its checker: the gate hears of each load.
+fn expect_each_announced<R: Wait + Clock + Abort>(
+    rt: &R,
+    alloc: Global,
+    count: u64,
+) -> Result<(), Fail> {
+    let load = good_load()?;
+    let mut rig = plain_rig(alloc, 256)?.ok_or(NO_MEMORY)?;
+    for _ in 0..count {
+        expect_step(rt, &mut rig, Step::Put(load));
     }
+    expect_step(rt, &mut rig, Step::Put(CLOSED));
+    let mut rig = run_rig(rt, alloc, rig)?.ok_or(NO_MEMORY)?;
+    expect_steps(rt, &mut rig, &[Step::Heard(count), Step::Turn(Turn::Over)]);
     Ok(())
 }
 
 #[test]
+fn each_event_of_a_batch_is_announced_in_order(rt: HostRuntime) -> Result<(), Fail> {
+    for count in [0, 1, 63, 64, 65, 200u64] {
+        expect_each_announced(&rt, rt.alloc(), count)?;
+    }
+    Ok(())
+}
+
+/// How many events a gate hears of where a checker is given these items at once and this request for
+/// memory is refused, and whether one was, or `None` where there was no lane or no list.
+fn heard_in_a_batch<R: Wait + Clock + Abort>(
+    rt: &R,
+    alloc: Global,
+    turn: u64,
+    items: &[Item],
+) -> Result<Option<(u64, bool)>, Fail> {
+    let heap = RefusingAllocator::at_turn(alloc, turn);
+    let Some(mut rig) = plain_rig(&heap, 8)? else {
+        return Ok(None);
+    };
+    for item in items {
+        expect_step(rt, &mut rig, Step::Put(*item));
+    }
+    let Some(mut rig) = run_rig(rt, &heap, rig)? else {
+        return Ok(None);
+    };
+    expect_step(rt, &mut rig, Step::Turn(Turn::Over));
+    let heard = rig.gate.heard.load(Ordering::SeqCst);
+    Ok(Some((heard, heap.has_refused())))
+}
+
+#[test]
 fn a_checker_that_fails_within_a_batch_announces_no_more(rt: HostRuntime) -> Result<(), Fail> {
-    let load = Item::Event(Event::Load(Access::new(0x1000, 1)?));
-    let malloc = Item::Event(Event::Malloc(Region::new(0x1000, 8)?));
+    let load = good_load()?;
+    let items = [load, load, good_malloc()?, load, CLOSED];
     for turn in 1..100u64 {
-        let heap = RefusingAllocator::at_turn(rt.alloc(), turn);
-        let Ok((mut into, out)) = lane(&heap, 8) else {
-            continue;
-        };
-        let Ok(mut benches) = Vec::with_capacity(&heap, 1) else {
-            continue;
-        };
-        for item in [load, load, malloc, load, Item::End(CLOSED)] {
-            assert!(rt; into.put(item).is_ok());
+        match heard_in_a_batch(&rt, rt.alloc(), turn, &items)? {
+            None => {}
+            Some((heard, true)) => assert_eq!(rt; heard, 2, "turn {turn}"),
+            Some((heard, false)) => {
+                assert_eq!(rt; heard, 4);
+                return Ok(());
+            }
         }
-        let gate = new_counter();
-        benches.push(Bench::new(7, out, Checker::new(&heap, 0)?))?;
-        let mut benches = run_checker(&rt, benches, &gate);
-        assert_eq!(rt; benches[0].turn(&gate), Turn::Over);
-        let heard = gate.heard.load(Ordering::SeqCst);
-        if !heap.has_refused() {
-            assert_eq!(rt; heard, 4);
-            return Ok(());
-        }
-        assert_eq!(rt; heard, 2, "turn {turn}");
     }
     panic!(rt; "always refused")
 }
@@ -189,10 +200,9 @@ fn three_senders_without_collect(rt: HostRuntime) -> Result<(), Fail> {
         )?,
         outcome_of(rt, alloc, 2, feed_of(alloc, &[], &[], None)?)?,
     ];
-    let mut text = Vec::new(alloc);
-    write_outcomes(alloc, &mut text, &outcomes)?;
-    assert_eq!(rt; String::from_utf8(text)?.as_str(), THREE_TEXTS);
-    assert_eq!(rt; exit_status(&outcomes, true), 3);
+    let (text, status) = text_and_status(alloc, &outcomes)?;
+    assert_eq!(rt; text.as_str(), THREE_TEXTS);
+    assert_eq!(rt; status, 3);
     Ok(())
 }
 

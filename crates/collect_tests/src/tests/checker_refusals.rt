@@ -1,9 +1,13 @@
 //! Tests that refuse each growth in turn.
 
-use super::{THREE_TEXTS, feed_of, three_outcomes};
-use asan_collect::{Options, Outcome, Why, check_feed, write_outcomes};
+use super::{THREE_TEXTS, feed_of, outcome_of_feed, three_outcomes};
+use asan_check::Report;
+use asan_collect::{Options, Outcome, Why, WriteFault, check_feed, write_outcomes};
 use refusing_allocator::RefusingAllocator;
+use std::alloc::{AllocError, Allocator, Global};
+use std::process::Abort;
 use std::test::Fail;
+use trace_feed::MemFeed;
 use trace_record::Fate;
 
 /// Mallocs of 8 bytes at 0x1000 and at 0x2000, frees of both, a load of a byte of each, and the
@@ -14,76 +18,134 @@ const FREES: [u8; 81] = [
     0, 0, 0, 0, 1, 1, 0, 0x10, 0, 0, 0, 0, 0, 0, 1, 1, 0, 0x20, 0, 0, 0, 0, 0, 0, 7,
 ];
 
+/// Those of some reports that are on the first events, so many of them.
+fn first_of(alloc: Global, reports: &[Report], checked: u64) -> Result<Vec<Report>, AllocError> {
+    let mut first = Vec::new(alloc);
+    for report in reports {
+        if report.number <= checked {
+            first.push(*report)?;
+        }
+    }
+    Ok(first)
+}
+
+/// How many events were checked before memory ran out, or `None` where it did not. The end is that
+/// of the stream, and the reports are those of ample memory on the events that were checked.
+fn checked_of<A: Allocator + Copy>(
+    rt: &impl Abort,
+    alloc: Global,
+    outcome: &Outcome<MemFeed, A>,
+    ample: &[Report],
+) -> Result<Option<u64>, Fail> {
+    match outcome {
+        Outcome::Settled { end, reports, .. } => {
+            assert_eq!(rt; (end.events, end.offset), (6, 81));
+            assert!(rt; reports.as_slice() == ample);
+            Ok(None)
+        }
+        Outcome::NoMemory {
+            end,
+            checked,
+            reports,
+            ..
+        } => {
+            assert_eq!(rt; (end.fate, end.events, end.offset), (Fate::Closed, 6, 81));
+            assert!(rt; *checked < 6);
+            let first = first_of(alloc, ample, *checked)?;
+            assert!(rt; reports.as_slice() == first.as_slice());
+            Ok(Some(*checked))
+        }
+        _ => panic!(rt; "it was read"),
+    }
+}
+
+/// How many events were checked where this request for memory is refused, or `None` where none was.
+fn checked_at(
+    rt: &impl Abort,
+    alloc: Global,
+    turn: u64,
+    options: Options,
+    ample: &[Report],
+) -> Result<Option<u64>, Fail> {
+    let heap = RefusingAllocator::at_turn(alloc, turn);
+    let outcome = check_feed(&heap, feed_of(alloc, &FREES, &[], None)?, options);
+    let checked = checked_of(rt, alloc, &outcome, ample)?;
+    assert_eq!(rt; heap.has_refused(), checked.is_some(), "turn {turn}");
+    Ok(checked)
+}
+
 #[test]
 fn each_growth_of_the_checker_refused_in_turn(rt: HostRuntime) -> Result<(), Fail> {
     let options = Options::new(72, 1024, 2, 1 << 24)?;
-    let ample = check_feed(rt.alloc(), feed_of(rt.alloc(), &FREES, &[], None)?, options);
-    assert_eq!(rt; ample.reports().len(), 2);
+    let feed = feed_of(rt.alloc(), &FREES, &[], None)?;
+    let ample = outcome_of_feed(rt.alloc(), feed, options);
+    let ample = ample.reports();
+    assert_eq!(rt; ample.len(), 2);
     let mut last = 0;
     for turn in 1..100u64 {
-        let heap = RefusingAllocator::at_turn(rt.alloc(), turn);
-        let feed = feed_of(rt.alloc(), &FREES, &[], None)?;
-        match check_feed(&heap, feed, options) {
-            Outcome::Settled { end, reports, .. } => {
-                assert!(rt; !heap.has_refused());
-                assert!(rt; turn > 4, "only {turn} turns");
-                // The last growth is that of the reports, at the fifth event.
-                assert_eq!(rt; last, 4);
-                assert_eq!(rt; (end.events, end.offset), (6, 81));
-                assert!(rt; reports.as_slice() == ample.reports());
-                return Ok(());
-            }
-            Outcome::NoMemory {
-                end,
-                checked,
-                reports,
-                ..
-            } => {
-                assert!(rt; heap.has_refused());
-                assert_eq!(rt; (end.fate, end.events, end.offset), (Fate::Closed, 6, 81));
-                assert!(rt; last <= checked && checked < 6, "turn {turn}");
-                last = checked;
-                let mut first = Vec::new(rt.alloc());
-                for report in ample.reports() {
-                    if report.number <= checked {
-                        first.push(*report)?;
-                    }
-                }
-                assert!(rt; reports.as_slice() == first.as_slice(), "turn {turn}");
-            }
-            _ => panic!(rt; "it was read"),
-        }
+        let Some(checked) = checked_at(&rt, rt.alloc(), turn, options, ample)? else {
+            assert!(rt; turn > 4, "only {turn} turns");
+            // The last growth is that of the reports, at the fifth event.
+            assert_eq!(rt; last, 4);
+            return Ok(());
+        };
+        assert!(rt; last <= checked, "turn {turn}");
+        last = checked;
     }
     panic!(rt; "always refused")
+}
+
+/// What was written of the three outcomes where a request for memory may be refused.
+#[derive(Drop)]
+struct Written {
+    text: Vec<u8>,
+    result: Result<(), WriteFault>,
+    refused: bool,
+}
+
+/// What is written of the three outcomes where this request for memory is refused.
+fn written_at(alloc: Global, turn: u64) -> Result<Written, Fail> {
+    let calm = RefusingAllocator::counting(alloc);
+    let heap = RefusingAllocator::at_turn(alloc, turn);
+    let outcomes = three_outcomes(alloc, &calm)?;
+    let mut text = Vec::new(alloc);
+    let result = write_outcomes(&heap, &mut text, &outcomes);
+    let refused = heap.has_refused();
+    Ok(Written {
+        text,
+        result,
+        refused,
+    })
+}
+
+/// Asserts that a fault is a refusal: what was held back went out first, whole lines of the text.
+fn expect_whole_lines(rt: &impl Abort, fault: WriteFault, text: &[u8]) {
+    assert_eq!(rt; fault.why, Why::NoMemory);
+    assert_eq!(rt; fault.written, text.len() as u64);
+    assert!(rt; THREE_TEXTS.as_bytes().starts_with(text));
+    assert!(rt; matches!(text.last(), None | Some(b'\n')));
 }
 
 #[test]
 fn each_growth_of_the_text_refused_in_turn(rt: HostRuntime) -> Result<(), Fail> {
     let mut before = 0;
     for turn in 1..100u64 {
-        let calm = RefusingAllocator::counting(rt.alloc());
-        let heap = RefusingAllocator::at_turn(rt.alloc(), turn);
-        let outcomes = three_outcomes(rt.alloc(), &calm)?;
-        let mut text = Vec::new(rt.alloc());
-        match write_outcomes(&heap, &mut text, &outcomes) {
-            Ok(()) => {
-                assert!(rt; !heap.has_refused());
-                assert!(rt; turn > 2, "only {turn} turns");
-                assert!(rt; before > 0);
-                assert!(rt; text.as_slice() == THREE_TEXTS.as_bytes());
-                return Ok(());
-            }
-            Err(fault) => {
-                assert!(rt; heap.has_refused());
-                assert_eq!(rt; fault.why, Why::NoMemory);
-                assert_eq!(rt; fault.written, text.len() as u64);
-                assert!(rt; THREE_TEXTS.as_bytes().starts_with(&text));
-                // What was held back went out first: whole lines, and no fewer than a turn before.
-                assert!(rt; matches!(text.last(), None | Some(b'\n')), "turn {turn}");
-                assert!(rt; before <= text.len(), "turn {turn}");
-                before = text.len();
-            }
-        }
+        let Written {
+            text,
+            result,
+            refused,
+        } = written_at(rt.alloc(), turn)?;
+        assert_eq!(rt; refused, result.is_err(), "turn {turn}");
+        let Err(fault) = result else {
+            assert!(rt; turn > 2, "only {turn} turns");
+            assert!(rt; before > 0);
+            assert!(rt; text.as_slice() == THREE_TEXTS.as_bytes());
+            return Ok(());
+        };
+        expect_whole_lines(&rt, fault, &text);
+        // No fewer lines than a turn before.
+        assert!(rt; before <= text.len(), "turn {turn}");
+        before = text.len();
     }
     panic!(rt; "always refused")
 }

@@ -1,21 +1,43 @@
 //! Tests of `collect`: doors of all kinds, each ring and each number of checkers.
 
-ghost use Rattle.std.specs.Prelude.{◌≡◌, ◌≤◌, ◌^◌, IfOk};
+ghost use Rattle.std.specs.Prelude.{◌≡◌, ◌≤◌, ◌^◌, All, IfOk, length};
+ghost use Rattle.asan_collect.specs.Ranges.{most_senders};
+ghost use Rattle.asan_stream.specs.Outcomes.{reports_of};
+ghost use Rattle.asan_stream.specs.Ranges.{most_reports};
 
-use super::{LENGTH, LOADS, MISS, STREAM_AND_MORE, THREE_TEXTS, feed_of, three_arrivals};
-use asan_collect::{
-    Gate, MOST_SENDERS, OpenGate, Options, Outcome, check_feed, collect, exit_status,
-    write_outcomes,
+use super::{
+    LENGTH, LOADS, MISS, STREAM_AND_MORE, THREE_TEXTS, feed_of, outcome_of_feed, text_and_status,
+    three_arrivals,
 };
+use asan_collect::{Gate, MOST_SENDERS, OpenGate, Options, Outcome, collect};
 use refusing_allocator::RefusingAllocator;
-use std::alloc::{AllocError, Global};
+use std::alloc::{AllocError, Allocator, Global};
 use std::io::Write;
+use std::process::Abort;
 use std::sync::Wait;
 use std::test::Fail;
 use std::thread::Threads;
 use std::time::Clock;
 use trace_feed::{Arrival, Door, Feed, ListDoor, MemFeed};
 use trace_record::Fate;
+
+/// What becomes of the senders of a door. No more is said of it than writing it out needs.
+pub(super) fn outcomes_of<D: Door, G: Gate + Sync, R: Threads + Wait + Clock + Sync>(
+    rt: &R,
+    alloc: Global,
+    door: &mut D,
+    gate: &G,
+    options: Options,
+) -> Result<Vec<Outcome<D::Feed>>, Fail>
+where
+    D::Feed: Send + Drop,
+    requires { (D.seen door.old).refusals ≤ 2 ^ 32 }
+    ensures senders { IfOk result (λ outcomes. length outcomes.items ≤ most_senders) }
+    ensures reports { IfOk result (λ outcomes.
+        All (λ o. length (reports_of o) ≤ most_reports) outcomes.items) }
+{
+    Ok(collect(rt, alloc, door, gate, options)?)
+}
 
 /// What is printed of the senders of a door, and the status.
 pub(super) fn printed_of<D: Door, G: Gate + Sync, R: Threads + Wait + Clock + Sync>(
@@ -29,10 +51,17 @@ where
     D::Feed: Send + Drop,
     requires { (D.seen door.old).refusals ≤ 2 ^ 32 }
 {
-    let outcomes = collect(rt, alloc, door, gate, options)?;
-    let mut text = Vec::new(alloc);
-    write_outcomes(alloc, &mut text, &outcomes)?;
-    Ok((String::from_utf8(text)?, exit_status(&outcomes, true)))
+    text_and_status(alloc, &outcomes_of(rt, alloc, door, gate, options)?)
+}
+
+/// Asserts that two outcomes are printed alike.
+pub(super) fn expect_same<A: Allocator + Copy>(
+    rt: &impl Abort,
+    outcome: &Outcome<MemFeed>,
+    other: &Outcome<MemFeed, A>,
+) {
+    assert_eq!(rt; outcome.ending(), other.ending());
+    assert!(rt; outcome.reports() == other.reports());
 }
 
 #[test]
@@ -130,75 +159,45 @@ fn crowd_of(alloc: Global, last: usize) -> Crowd
     }
 }
 
+/// Asserts that each outcome of a crowd is that of its sender alone.
+fn expect_each_alone(
+    rt: &impl Abort,
+    alloc: Global,
+    options: Options,
+    outcomes: &[Outcome<MemFeed>],
+) -> Result<(), Fail> {
+    for (number, outcome) in outcomes.iter().enumerate() {
+        let alone = outcome_of_feed(alloc, feed_of_sender(alloc, number)?, options);
+        expect_same(rt, outcome, &alone);
+    }
+    Ok(())
+}
+
 #[test]
 fn each_of_a_crowd_has_its_own_outcome(rt: HostRuntime) -> Result<(), Fail> {
     let alloc = rt.alloc();
     for (senders, ring, workers) in [(12, 1, 5), (12, 1024, 5), (40, 2, 3), (256, 64, 64)] {
         let options = Options::new(1 << 28, ring, workers, 1 << 24)?;
-        let mut door = crowd_of(alloc, senders);
-        let outcomes = collect(&rt, alloc, &mut door, &OpenGate, options)?;
-        assert_eq!(rt; outcomes.len(), senders);
-        for (number, outcome) in outcomes.iter().enumerate() {
-            let alone = check_feed(alloc, feed_of_sender(alloc, number)?, options);
-            assert_eq!(rt;
-                outcome.ending(),
-                alone.ending(),
-                "sender {number}, ring {ring}"
-            );
-            assert!(rt;
-                outcome.reports() == alone.reports(),
-                "sender {number}, ring {ring}"
-            );
-        }
+        let outcomes = outcomes_of(
+            &rt,
+            alloc,
+            &mut crowd_of(alloc, senders),
+            &OpenGate,
+            options,
+        )?;
+        assert_eq!(rt; outcomes.len(), senders, "ring {ring}");
+        expect_each_alone(&rt, alloc, options, &outcomes)?;
     }
     Ok(())
 }
 
-#[test]
-fn twelve_senders_of_five_checkers(rt: HostRuntime) -> Result<(), Fail> {
-    let alloc = rt.alloc();
-    for ring in [1, 1024] {
-        let mut door = Repeated {
-            alloc,
-            left: 12,
-            refusals: 0,
-        };
-        let options = Options::new(1 << 28, ring, 5, 1 << 24)?;
-        let (text, status) = printed_of(&rt, alloc, &mut door, &OpenGate, options)?;
-        let mut wanted = String::new(alloc);
-        for process in 0..12u8 {
-            write!(
-                wanted,
-                "p{process} end closed events 2 offset 36 reports 0\n"
-            )?;
-        }
-        assert_eq!(rt; text.as_str(), wanted.as_str(), "ring {ring}");
-        assert_eq!(rt; status, 0);
+/// What is printed of this many senders of a missed store.
+fn text_of_misses(alloc: Global, senders: u8) -> Result<String, Fail> {
+    let mut text = String::new(alloc);
+    for process in 0..senders {
+        write!(text, "p{process} end closed events 2 offset 36 reports 0\n")?;
     }
-    Ok(())
-}
-
-#[test]
-fn the_257th_sender_stays_at_the_door(rt: HostRuntime) -> Result<(), Fail> {
-    let alloc = rt.alloc();
-    for workers in [1, 3, 64] {
-        let mut door = Repeated {
-            alloc,
-            left: 257,
-            refusals: 0,
-        };
-        let options = Options::new(1 << 28, 2, workers, 1 << 24)?;
-        let outcomes = collect(&rt, alloc, &mut door, &OpenGate, options)?;
-        assert_eq!(rt; outcomes.len(), MOST_SENDERS);
-        for outcome in &outcomes {
-            let Outcome::Settled { end, .. } = outcome else {
-                panic!(rt; "workers {workers}");
-            };
-            assert_eq!(rt; (end.fate, end.events, end.offset), (Fate::Closed, 2, 36));
-        }
-        assert_eq!(rt; door.left, 1);
-    }
-    Ok(())
+    Ok(text)
 }
 
 /// A door of senders that all send a missed store.
@@ -240,23 +239,78 @@ impl Door for Repeated {
     }
 }
 
+/// A door of this many senders of a missed store.
+pub(super) fn misses(alloc: Global, senders: u32) -> Repeated
+    ensures { result.refusals ≡ 0 }
+{
+    Repeated {
+        alloc,
+        left: senders,
+        refusals: 0,
+    }
+}
+
+#[test]
+fn twelve_senders_of_five_checkers(rt: HostRuntime) -> Result<(), Fail> {
+    let alloc = rt.alloc();
+    let wanted = text_of_misses(alloc, 12)?;
+    for ring in [1, 1024] {
+        let options = Options::new(1 << 28, ring, 5, 1 << 24)?;
+        let (text, status) = printed_of(&rt, alloc, &mut misses(alloc, 12), &OpenGate, options)?;
+        assert_eq!(rt; text.as_str(), wanted.as_str(), "ring {ring}");
+        assert_eq!(rt; status, 0);
+    }
+    Ok(())
+}
+
+/// Asserts that a missed store was read and checked whole.
+fn expect_miss(rt: &impl Abort, outcome: &Outcome<MemFeed>) {
+    let Outcome::Settled { end, .. } = outcome else {
+        panic!(rt; "it was not settled");
+    };
+    assert_eq!(rt; (end.fate, end.events, end.offset), (Fate::Closed, 2, 36));
+}
+
+#[test]
+fn the_257th_sender_stays_at_the_door(rt: HostRuntime) -> Result<(), Fail> {
+    let alloc = rt.alloc();
+    for workers in [1, 3, 64] {
+        let mut door = misses(alloc, 257);
+        let options = Options::new(1 << 28, 2, workers, 1 << 24)?;
+        let outcomes = outcomes_of(&rt, alloc, &mut door, &OpenGate, options)?;
+        assert_eq!(rt; outcomes.len(), MOST_SENDERS, "workers {workers}");
+        for outcome in &outcomes {
+            expect_miss(&rt, outcome);
+        }
+        assert_eq!(rt; door.left, 1);
+    }
+    Ok(())
+}
+
+/// Asserts that the senders stay at the door where this request for memory is refused.
+fn expect_no_room<R: Threads + Wait + Clock + Sync + Abort>(
+    rt: &R,
+    alloc: Global,
+    turn: u64,
+    options: Options,
+) -> Result<(), Fail> {
+    let heap: &'static RefusingAllocator<Global> = Box::leak(Box::new(
+        alloc,
+        RefusingAllocator::at_turn(alloc, turn),
+    )?);
+    let mut door = misses(alloc, 3);
+    let outcomes = collect(rt, heap, &mut door, &OpenGate, options);
+    assert!(rt; outcomes.is_err(), "turn {turn}");
+    assert!(rt; heap.has_refused());
+    assert_eq!(rt; door.left, 3);
+    Ok(())
+}
+
 #[test]
 fn no_room_leaves_the_door_as_it_was(rt: HostRuntime) -> Result<(), Fail> {
     let options = Options::new(1 << 28, 1, 3, 1 << 24)?;
     for turn in 1..8u64 {
-        let heap: &'static RefusingAllocator<Global> = Box::leak(Box::new(
-            rt.alloc(),
-            RefusingAllocator::at_turn(rt.alloc(), turn),
-        )?);
-        let mut door = Repeated {
-            alloc: rt.alloc(),
-            left: 3,
-            refusals: 0,
-        };
-        let outcomes = collect(&rt, heap, &mut door, &OpenGate, options);
-        assert!(rt; outcomes.is_err(), "turn {turn}");
-        assert!(rt; heap.has_refused());
-        assert_eq!(rt; door.left, 3);
+        expect_no_room(&rt, rt.alloc(), turn, options)?;
     }
     Ok(())
 }

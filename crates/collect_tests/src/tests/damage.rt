@@ -1,10 +1,11 @@
 //! Tests of damaged streams: each has one outcome, in whatever pieces it comes and on however many
 //! threads, and ends as a slow reading of the whole stream says.
 
+use super::collect::{expect_same, outcomes_of};
 use super::reading::end_of;
-use super::{POISON, STREAM, Senders, feed_of};
+use super::{POISON, STREAM, Senders, feed_of, outcome_of_feed};
 use asan_check::Ending;
-use asan_collect::{OpenGate, Options, Outcome, check_feed, collect};
+use asan_collect::{OpenGate, Options, Outcome};
 use std::alloc::{AllocError, Global};
 use std::process::Abort;
 use std::sync::Wait;
@@ -32,22 +33,34 @@ fn expect_alone<R: Abort>(
     options: Options,
     outcome: &Outcome<MemFeed>,
 ) -> Result<(), AllocError> {
-    let alone = check_feed(alloc, feed_of(alloc, stream, cuts, None)?, options);
-    assert_eq!(rt;
-        alone.ending(),
-        outcome.ending(),
-        "{stream:?} cut at {cuts:?}"
-    );
-    assert!(rt;
-        alone.reports() == outcome.reports(),
-        "{stream:?} cut at {cuts:?}"
-    );
+    let alone = outcome_of_feed(alloc, feed_of(alloc, stream, cuts, None)?, options);
+    expect_same(rt, outcome, &alone);
+    Ok(())
+}
+
+/// Asserts that a stream has this outcome by `check_feed` too, whole, byte by byte and cut at these
+/// places, and that its end is that of the slow reading.
+fn expect_outcome<R: Abort>(
+    rt: &R,
+    alloc: Global,
+    stream: &[u8],
+    cuts: &[u64],
+    options: Options,
+    outcome: &Outcome<MemFeed>,
+) -> Result<(), AllocError> {
+    let wanted = Ending::Ran {
+        end: end_of(rt, stream, u64::from(options.limit)),
+        reports: outcome.reports().len() as u64,
+    };
+    assert_eq!(rt; outcome.ending(), wanted, "{stream:?}");
+    for cuts in [&[], &each_place()[..], cuts] {
+        expect_alone(rt, alloc, stream, cuts, options, outcome)?;
+    }
     Ok(())
 }
 
 /// Asserts that each of these streams has one outcome: by `collect`, where all of them are sent at
-/// once and each ring holds one event, and by `check_feed`, whole, byte by byte and cut at drawn
-/// places. Its end is that of the slow reading.
+/// once and each ring holds one event, and by `check_feed`. Some are cut at drawn places.
 fn expect_one_outcome<R: Threads + Wait + Clock + Sync + Abort>(
     rt: &R,
     alloc: Global,
@@ -58,17 +71,10 @@ fn expect_one_outcome<R: Threads + Wait + Clock + Sync + Abort>(
         let options = Options::new(1 << 28, 1, 2, limit)?;
         let cuts = [draws.below(36), draws.below(36), draws.below(36)];
         let mut door = Senders::new(alloc, streams, &cuts);
-        let outcomes = collect(rt, alloc, &mut door, &OpenGate, options)?;
+        let outcomes = outcomes_of(rt, alloc, &mut door, &OpenGate, options)?;
         assert_eq!(rt; outcomes.len(), streams.len());
         for (stream, outcome) in streams.iter().zip(&outcomes) {
-            let wanted = Ending::Ran {
-                end: end_of(rt, stream, u64::from(limit)),
-                reports: outcome.reports().len() as u64,
-            };
-            assert_eq!(rt; outcome.ending(), wanted, "{stream:?}");
-            expect_alone(rt, alloc, stream, &[], options, outcome)?;
-            expect_alone(rt, alloc, stream, &each_place(), options, outcome)?;
-            expect_alone(rt, alloc, stream, &cuts, options, outcome)?;
+            expect_outcome(rt, alloc, stream, &cuts, options, outcome)?;
         }
     }
     Ok(())

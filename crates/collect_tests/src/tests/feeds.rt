@@ -1,10 +1,11 @@
 //! Tests of `check_feed` over feeds that are cut, that fail and that end early.
 
-ghost use Rattle.std.specs.Prelude.{◌≡◌};
+ghost use Rattle.std.specs.Prelude.{◌≡◌, ◌≤◌};
 
-use super::{LENGTH, LOADS, STREAM_AND_MORE, TEXT, feed_of};
-use asan_collect::{BadOption, Options, Outcome, check_feed, exit_status, write_outcomes};
+use super::{LENGTH, LOADS, STREAM_AND_MORE, TEXT, feed_of, outcome_of_feed, text_and_status};
+use asan_collect::{BadOption, Options, Outcome, check_feed};
 use std::alloc::Global;
+use std::process::Abort;
 use std::test::Fail;
 use trace_feed::{Feed, FeedFault, MemFeed};
 use trace_record::{End, Fate};
@@ -13,10 +14,7 @@ use trace_record::{End, Fate};
 fn printed(alloc: Global, feed: MemFeed, options: Options) -> Result<(String, u8), Fail>
     requires { feed.faults ≡ 0 }
 {
-    let outcomes = [check_feed(alloc, feed, options)];
-    let mut text = Vec::new(alloc);
-    write_outcomes(alloc, &mut text, &outcomes)?;
-    Ok((String::from_utf8(text)?, exit_status(&outcomes, true)))
+    text_and_status(alloc, &[check_feed(alloc, feed, options)])
 }
 
 #[test]
@@ -113,29 +111,40 @@ fn end_of_first(length: usize) -> (End, usize) {
     (end, reports)
 }
 
+/// How the first bytes of the stream end, where the read after them fails or no more come, and how
+/// many reports and failed reads they have.
+fn found_of_first(
+    rt: &impl Abort,
+    alloc: Global,
+    length: usize,
+    fails: bool,
+) -> Result<(End, usize, u64), Fail>
+    requires { length ≤ 36 }
+{
+    let feed = if fails {
+        feed_of(alloc, &STREAM_AND_MORE, &[], Some(length as u64))?
+    } else {
+        feed_of(alloc, &STREAM_AND_MORE[..length], &[], None)?
+    };
+    match outcome_of_feed(alloc, feed, Options::usual()) {
+        Outcome::Settled { feed, end, reports } => Ok((end, reports.len(), feed.faults())),
+        _ => panic!(rt; "memory is ample"),
+    }
+}
+
 #[test]
 fn every_truncation(rt: HostRuntime) -> Result<(), Fail> {
-    let alloc = rt.alloc();
     for length in 0..=LENGTH {
         let (mut wanted, count) = end_of_first(length);
-        for fails in [false, true] {
-            let feed = if fails {
-                feed_of(alloc, &STREAM_AND_MORE, &[], Some(length as u64))?
-            } else {
-                feed_of(alloc, &STREAM_AND_MORE[..length], &[], None)?
-            };
-            if fails && length < LENGTH {
-                wanted.fate = Fate::ReadFailed;
-            }
-            match check_feed(alloc, feed, Options::usual()) {
-                Outcome::Settled { feed, end, reports } => {
-                    assert_eq!(rt; end, wanted, "{length} bytes");
-                    assert_eq!(rt; reports.len(), count, "{length} bytes");
-                    assert_eq!(rt; feed.faults(), u64::from(end.fate == Fate::ReadFailed));
-                }
-                _ => panic!(rt; "memory is ample"),
-            }
+        let found = found_of_first(&rt, rt.alloc(), length, false)?;
+        assert_eq!(rt; found, (wanted, count, 0), "{length} bytes");
+        let mut faults = 0;
+        if length < LENGTH {
+            wanted.fate = Fate::ReadFailed;
+            faults = 1;
         }
+        let found = found_of_first(&rt, rt.alloc(), length, true)?;
+        assert_eq!(rt; found, (wanted, count, faults), "{length} bytes");
     }
     Ok(())
 }

@@ -1,7 +1,8 @@
 //! A block of 2^32 bytes, which only version 2 has.
 
-use super::{Senders, feed_of};
-use asan_collect::{OpenGate, Options, check_feed, collect, exit_status, write_outcomes};
+use super::collect::printed_of;
+use super::{Senders, feed_of, text_and_status};
+use asan_collect::{OpenGate, Options, check_feed};
 use std::alloc::Global;
 use std::test::Fail;
 
@@ -34,9 +35,7 @@ const TOO_LARGE: &str = "p0 end malformed size events 0 offset 8 reports 0\n";
 fn printed(alloc: Global, stream: &[u8], bound: u64) -> Result<(String, u8), Fail> {
     let options = Options::new(bound, 1024, 2, 1 << 24)?;
     let outcomes = [check_feed(alloc, feed_of(alloc, stream, &[], None)?, options)];
-    let mut text = Vec::new(alloc);
-    write_outcomes(alloc, &mut text, &outcomes)?;
-    Ok((String::from_utf8(text)?, exit_status(&outcomes, true)))
+    text_and_status(alloc, &outcomes)
 }
 
 #[test]
@@ -69,18 +68,14 @@ fn four_gigabyte_block_beside_version_1(rt: HostRuntime) -> Result<(), Fail> {
     let mut sent = Vec::new(alloc);
     sent.push(FOUR_GIGABYTES.to_vec(alloc)?)?;
     sent.push(first.to_vec(alloc)?)?;
+    let wanted = format!(in alloc; "{HELD}p1 end malformed size events 0 offset 8 reports 0\n")?;
     for cut in [12, 20] {
         let options = Options::new(1 << 40, 1, 2, 1 << 24)?;
         let cuts = [cut];
         let mut door = Senders::new(alloc, &sent, &cuts);
-        let outcomes = collect(&rt, alloc, &mut door, &OpenGate, options)?;
-        let mut text = Vec::new(alloc);
-        write_outcomes(alloc, &mut text, &outcomes)?;
-        let wanted = format!(in alloc;
-            "{HELD}p1 end malformed size events 0 offset 8 reports 0\n"
-        )?;
-        assert_eq!(rt; String::from_utf8(text)?.as_str(), wanted.as_str());
-        assert_eq!(rt; exit_status(&outcomes, true), 3);
+        let (text, status) = printed_of(&rt, alloc, &mut door, &OpenGate, options)?;
+        assert_eq!(rt; text.as_str(), wanted.as_str(), "cut at {cut}");
+        assert_eq!(rt; status, 3);
     }
     Ok(())
 }

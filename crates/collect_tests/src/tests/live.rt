@@ -1,19 +1,22 @@
 //! Tests of reports that are printed as they come.
 
-ghost use Rattle.std.specs.Prelude.{◌≡◌};
+ghost use Rattle.std.specs.Prelude.{◌≡◌, ◌≤◌, ◌^◌, IfOk};
 ghost use Rattle.trace_feed.specs.Doors.{IfCame};
 
 use super::fails_once::FailsOnce;
-use super::{STREAM, feed_of, three_arrivals, wait_for};
-use asan_collect::{Gate, Live, OpenGate, Options, Why, WriteFault, collect_live, write_outcomes};
+use super::{STREAM, feed_of, text_and_status, three_arrivals, wait_for};
+use asan_collect::{Gate, Live, OpenGate, Options, Why, WriteFault, collect_live};
 use std::alloc::Global;
 use std::io;
 use std::io::Write;
 use std::process::Abort;
+use std::sync::Wait;
 use std::sync::atomic::{AtomicU64, Ordering};
 use std::test::Fail;
+use std::thread::Threads;
+use std::time::Clock;
 use test_writers::{Ending, ShortWriter};
-use trace_feed::{Arrival, Feed, FeedFault, ListDoor};
+use trace_feed::{Arrival, Door, Feed, FeedFault, ListDoor, MemFeed};
 
 /// What is printed of each of the three senders.
 const THREE_TEXTS: [&str; 3] = [
@@ -36,22 +39,85 @@ fn expect_lines(rt: &impl Abort, text: &str, prefix: &str, wanted: &str) {
     assert!(rt; wanted.next().is_none());
 }
 
+/// Asserts that the lines of each of the three senders are these, in order.
+fn expect_three(rt: &impl Abort, text: &str) {
+    for (prefix, wanted) in ["p0 ", "p1 ", "p2 "].iter().zip(&THREE_TEXTS) {
+        expect_lines(rt, text, prefix, wanted);
+    }
+}
+
+/// What came of senders whose lines were printed as they came.
+#[derive(Drop)]
+struct Printed {
+    /// How the writing ended.
+    wrote: Result<(), WriteFault>,
+    /// How many outcomes there are.
+    senders: usize,
+    /// What `write_outcomes` writes of them.
+    text: String,
+}
+
+/// Collects from a door, and prints each line as it comes.
+fn print_live<D: Door, G: Gate + Sync, W: Write, R: Threads + Wait + Clock + Sync>(
+    rt: &R,
+    alloc: Global,
+    door: &mut D,
+    gate: &G,
+    options: Options,
+    output: &mut W,
+) -> Result<Printed, Fail>
+where
+    D::Feed: Send + Drop,
+    requires { (D.seen door.old).refusals ≤ 2 ^ 32 }
+{
+    let Live { outcomes, wrote } = collect_live(rt, alloc, door, gate, options, output)?;
+    let (text, _) = text_and_status(alloc, &outcomes)?;
+    Ok(Printed {
+        wrote,
+        senders: outcomes.len(),
+        text,
+    })
+}
+
+/// Collects from the three senders with a ring of this many events and this many workers, and prints
+/// each line as it comes.
+fn print_three<W: Write, R: Threads + Wait + Clock + Sync>(
+    rt: &R,
+    alloc: Global,
+    ring: u32,
+    workers: u32,
+    output: &mut W,
+) -> Result<Printed, Fail> {
+    let options = Options::new(1 << 28, ring, workers, 1 << 24)?;
+    print_live(
+        rt,
+        alloc,
+        &mut three_arrivals(alloc)?,
+        &OpenGate,
+        options,
+        output,
+    )
+}
+
+/// A fault of a writer that took so many bytes.
+fn fault_after(written: u64) -> Result<(), WriteFault> {
+    Err(WriteFault {
+        written,
+        why: Why::Write,
+    })
+}
+
 #[test]
 fn live_lines_of_each_process(rt: HostRuntime) -> Result<(), Fail> {
-    let alloc = rt.alloc();
     for ring in [1, 1024] {
         for workers in [1, 3] {
-            let options = Options::new(1 << 28, ring, workers, 1 << 24)?;
-            let mut door = three_arrivals(alloc)?;
-            let mut text = Vec::new(alloc);
-            let live = collect_live(&rt, alloc, &mut door, &OpenGate, options, &mut text)?;
-            assert_eq!(rt; live.wrote, Ok(()));
-            assert_eq!(rt; live.outcomes.len(), 3);
+            let mut text = Vec::new(rt.alloc());
+            let printed = print_three(&rt, rt.alloc(), ring, workers, &mut text)?;
+            assert_eq!(rt; printed.wrote, Ok(()));
+            assert_eq!(rt; printed.senders, 3);
             let text = String::from_utf8(text)?;
             assert_eq!(rt; text.lines().count(), 4);
-            for (prefix, wanted) in ["p0 ", "p1 ", "p2 "].iter().zip(&THREE_TEXTS) {
-                expect_lines(&rt, text.as_str(), prefix, wanted);
-            }
+            expect_three(&rt, text.as_str());
         }
     }
     Ok(())
@@ -59,64 +125,53 @@ fn live_lines_of_each_process(rt: HostRuntime) -> Result<(), Fail> {
 
 #[test]
 fn an_output_that_takes_no_more(rt: HostRuntime) -> Result<(), Fail> {
-    let alloc = rt.alloc();
     for ring in [1, 1024] {
         for workers in [1, 3] {
-            let options = Options::new(1 << 28, ring, workers, 1 << 24)?;
-            let mut door = three_arrivals(alloc)?;
             let mut output = ShortWriter {
-                held: Vec::new(alloc),
+                held: Vec::new(rt.alloc()),
                 room: 10,
                 step: 10,
                 ending: Ending::Fails,
                 flushes: true,
             };
-            let live = collect_live(&rt, alloc, &mut door, &OpenGate, options, &mut output)?;
-            let Live { outcomes, wrote } = live;
-            let fault = WriteFault {
-                written: 10,
-                why: Why::Write,
-            };
-            assert_eq!(rt; wrote, Err(fault));
+            let printed = print_three(&rt, rt.alloc(), ring, workers, &mut output)?;
+            assert_eq!(rt; printed.wrote, fault_after(10));
             assert!(rt; output.held.as_slice() == &THREE_TEXTS[0].as_bytes()[..10]);
-            let mut text = Vec::new(alloc);
-            write_outcomes(alloc, &mut text, &outcomes)?;
-            let text = String::from_utf8(text)?;
-            for (prefix, wanted) in ["p0 ", "p1 ", "p2 "].iter().zip(&THREE_TEXTS) {
-                expect_lines(&rt, text.as_str(), prefix, wanted);
-            }
+            expect_three(&rt, printed.text.as_str());
         }
     }
     Ok(())
 }
 
+/// Asserts that nothing is written after a write of this number failed, where so many bytes went out
+/// before.
+fn expect_last_write<R: Threads + Wait + Clock + Sync + Abort>(
+    rt: &R,
+    alloc: Global,
+    workers: u32,
+    failing: u64,
+    written: u64,
+) -> Result<(), Fail> {
+    let mut output = FailsOnce {
+        held: Vec::new(alloc),
+        writes: 0,
+        failing,
+    };
+    let printed = print_three(rt, alloc, 1, workers, &mut output)?;
+    assert_eq!(rt; printed.wrote, fault_after(written));
+    assert_eq!(rt; output.writes, failing);
+    assert_eq!(rt; output.held.len() as u64, written);
+    assert!(rt; super::THREE_TEXTS.as_bytes().starts_with(&output.held));
+    assert_eq!(rt; printed.text.as_str(), super::THREE_TEXTS);
+    Ok(())
+}
+
 #[test]
 fn a_failed_write_is_the_last(rt: HostRuntime) -> Result<(), Fail> {
-    let alloc = rt.alloc();
-    let whole = super::THREE_TEXTS;
     for workers in [1, 3] {
         // The line of the report goes out by itself, and the end lines after it.
         for (failing, written) in [(1, 0), (2, 78)] {
-            let options = Options::new(1 << 28, 1, workers, 1 << 24)?;
-            let mut door = three_arrivals(alloc)?;
-            let mut output = FailsOnce {
-                held: Vec::new(alloc),
-                writes: 0,
-                failing,
-            };
-            let live = collect_live(&rt, alloc, &mut door, &OpenGate, options, &mut output)?;
-            let Live { outcomes, wrote } = live;
-            let fault = WriteFault {
-                written,
-                why: Why::Write,
-            };
-            assert_eq!(rt; wrote, Err(fault));
-            assert_eq!(rt; output.writes, failing);
-            assert_eq!(rt; output.held.len() as u64, written);
-            assert!(rt; whole.as_bytes().starts_with(&output.held));
-            let mut text = Vec::new(alloc);
-            write_outcomes(alloc, &mut text, &outcomes)?;
-            assert_eq!(rt; String::from_utf8(text)?.as_str(), whole);
+            expect_last_write(&rt, rt.alloc(), workers, failing, written)?;
         }
     }
     Ok(())
@@ -190,24 +245,34 @@ fn sender_of(first: usize, printed: &AtomicU64) -> Arrival<Patient<'_>>
     })
 }
 
+/// What is printed of three senders, the middle one of which gives its first event at once, by so
+/// many checkers.
+fn noticed_of<R: Threads + Wait + Clock + Sync + Abort>(
+    rt: &R,
+    alloc: Global,
+    first: usize,
+    workers: u32,
+) -> Result<String, Fail> {
+    let printed = AtomicU64::new(0);
+    let mut arrivals = Vec::new(alloc);
+    arrivals.push(sender_of(first, &printed))?;
+    arrivals.push(sender_of(35, &printed))?;
+    arrivals.push(sender_of(first, &printed))?;
+    let mut door = ListDoor::new(arrivals);
+    let mut output = Noticing {
+        text: Vec::new(alloc),
+        printed: &printed,
+    };
+    let options = Options::new(1 << 28, 1024, workers, 1 << 24)?;
+    let live = print_live(rt, alloc, &mut door, &OpenGate, options, &mut output)?;
+    assert_eq!(rt; live.wrote, Ok(()));
+    Ok(String::from_utf8(output.text)?)
+}
+
 #[test]
 fn printed_before_the_end(rt: HostRuntime) -> Result<(), Fail> {
-    let alloc = rt.alloc();
     for (first, workers) in [(35, 1), (35, 2), (0, 1), (0, 2)] {
-        let printed = AtomicU64::new(0);
-        let mut arrivals = Vec::new(alloc);
-        arrivals.push(sender_of(first, &printed))?;
-        arrivals.push(sender_of(35, &printed))?;
-        arrivals.push(sender_of(first, &printed))?;
-        let mut door = ListDoor::new(arrivals);
-        let mut output = Noticing {
-            text: Vec::new(alloc),
-            printed: &printed,
-        };
-        let options = Options::new(1 << 28, 1024, workers, 1 << 24)?;
-        let live = collect_live(&rt, alloc, &mut door, &OpenGate, options, &mut output)?;
-        assert_eq!(rt; live.wrote, Ok(()));
-        let text = String::from_utf8(output.text)?;
+        let text = noticed_of(&rt, rt.alloc(), first, workers)?;
         expect_lines(&rt, text.as_str(), "p0 ", THREE_TEXTS[0]);
         for prefix in ["p1 end closed ", "p2 end closed "] {
             assert!(rt; text.lines().any(|line| line.starts_with(prefix)));
@@ -244,36 +309,45 @@ impl Gate for Counters {
     }
 }
 
+/// A door of three senders of this stream.
+fn three_of(alloc: Global, bytes: &[u8]) -> Result<ListDoor<MemFeed>, Fail>
+    ensures { IfOk result (λ d. d.refusals ≡ 0) }
+{
+    let mut arrivals = Vec::new(alloc);
+    arrivals.push(Arrival::Came(feed_of(alloc, bytes, &[], None)?))?;
+    arrivals.push(Arrival::Came(feed_of(alloc, bytes, &[], None)?))?;
+    arrivals.push(Arrival::Came(feed_of(alloc, bytes, &[], None)?))?;
+    Ok(ListDoor::new(arrivals))
+}
+
+/// Asserts that two texts have the same lines that begin so, in the same order.
+fn expect_same_lines(rt: &impl Abort, text: &str, wanted: &str, prefix: &str) {
+    let mut lines = text.lines().filter(|line| line.starts_with(prefix));
+    for line in wanted.lines().filter(|line| line.starts_with(prefix)) {
+        assert_eq!(rt; lines.next(), Some(line));
+    }
+    assert!(rt; lines.next().is_none());
+}
+
 #[test]
 fn many_reports_through_small_lanes(rt: HostRuntime) -> Result<(), Fail> {
     let alloc = rt.alloc();
-    let bytes = frees(alloc, 1000)?;
-    let mut arrivals = Vec::new(alloc);
-    arrivals.push(Arrival::Came(feed_of(alloc, &bytes, &[], None)?))?;
-    arrivals.push(Arrival::Came(feed_of(alloc, &bytes, &[], None)?))?;
-    arrivals.push(Arrival::Came(feed_of(alloc, &bytes, &[], None)?))?;
-    let mut door = ListDoor::new(arrivals);
+    let mut door = three_of(alloc, &frees(alloc, 1000)?)?;
     let options = Options::new(1 << 28, 1, 2, 1 << 24)?;
     let mut text = Vec::new(alloc);
     let gate = Counters {
         heard: [AtomicU64::new(0), AtomicU64::new(0), AtomicU64::new(0)],
     };
-    let live = collect_live(&rt, alloc, &mut door, &gate, options, &mut text)?;
-    assert_eq!(rt; live.wrote, Ok(()));
+    let printed = print_live(&rt, alloc, &mut door, &gate, options, &mut text)?;
+    assert_eq!(rt; printed.wrote, Ok(()));
     // The last reports waited for room after the end was taken, and the gate's calls with them.
     for heard in &gate.heard {
         assert_eq!(rt; heard.load(Ordering::SeqCst), 1000);
     }
-    let mut wanted = Vec::new(alloc);
-    write_outcomes(alloc, &mut wanted, &live.outcomes)?;
-    let (text, wanted) = (String::from_utf8(text)?, String::from_utf8(wanted)?);
+    let text = String::from_utf8(text)?;
     assert_eq!(rt; text.lines().count(), 3003);
     for prefix in ["p0 ", "p1 ", "p2 "] {
-        let mut lines = text.lines().filter(|line| line.starts_with(prefix));
-        for line in wanted.lines().filter(|line| line.starts_with(prefix)) {
-            assert_eq!(rt; lines.next(), Some(line));
-        }
-        assert!(rt; lines.next().is_none());
+        expect_same_lines(&rt, text.as_str(), printed.text.as_str(), prefix);
     }
     Ok(())
 }

@@ -1,14 +1,18 @@
 //! Tests of `collect_within`: each checker has the memory of its own allocator.
 
-ghost use Rattle.std.specs.Prelude.{◌≡◌, IfOk};
+ghost use Rattle.std.specs.Prelude.{◌≡◌, ◌≤◌, ◌^◌, IfOk};
 
-use super::collect::Repeated;
+use super::collect::misses;
 use super::{STREAM_AND_MORE, feed_of};
 use asan_collect::{BadOption, MOST_SENDERS, OpenGate, Options, Outcome, collect_within};
 use refusing_allocator::RefusingAllocator;
-use std::alloc::Global;
+use std::alloc::{Allocator, Global};
+use std::process::Abort;
+use std::sync::Wait;
 use std::test::Fail;
-use trace_feed::{Arrival, ListDoor, MemFeed};
+use std::thread::Threads;
+use std::time::Clock;
+use trace_feed::{Arrival, Door, ListDoor, MemFeed};
 use trace_record::Fate;
 
 /// A door of three senders of the same stream.
@@ -22,39 +26,74 @@ fn three_of_a_kind(alloc: Global) -> Result<ListDoor<MemFeed>, Fail>
     Ok(ListDoor::new(arrivals))
 }
 
+/// What becomes of the senders of a door, where each of the first has an allocator of its own.
+fn outcomes_within<'a, D: Door, R: Threads + Wait + Clock + Sync>(
+    rt: &R,
+    shared: &'a RefusingAllocator<Global>,
+    own: &[&'a RefusingAllocator<Global>],
+    door: &mut D,
+) -> Result<
+    Vec<Outcome<D::Feed, &'a RefusingAllocator<Global>>, &'a RefusingAllocator<Global>>,
+    Fail,
+>
+where
+    D::Feed: Send + Drop,
+    requires { (D.seen door.old).refusals ≤ 2 ^ 32 }
+{
+    Ok(collect_within(rt, shared, own, door, &OpenGate, Options::usual())?)
+}
+
+/// Asserts that a sender ran out of memory if it was short of it, and was settled else.
+fn expect_short<A: Allocator + Copy>(
+    rt: &impl Abort,
+    outcome: &Outcome<MemFeed, A>,
+    is_short: bool,
+) {
+    match outcome {
+        Outcome::NoMemory {
+            end,
+            checked,
+            reports,
+            ..
+        } => {
+            assert!(rt; is_short);
+            assert_eq!(rt; (end.fate, end.events, *checked), (Fate::Closed, 2, 0));
+            assert!(rt; reports.is_empty());
+        }
+        Outcome::Settled { end, reports, .. } => {
+            assert!(rt; !is_short);
+            assert_eq!(rt; (end.fate, end.events), (Fate::Closed, 2));
+            assert_eq!(rt; reports.len(), 1);
+        }
+        _ => panic!(rt; "the sender was not read"),
+    }
+}
+
+/// Asserts that of three outcomes the one of this number alone ran out of memory.
+fn expect_one_short<A: Allocator + Copy>(
+    rt: &impl Abort,
+    outcomes: &[Outcome<MemFeed, A>],
+    short: usize,
+) {
+    assert_eq!(rt; outcomes.len(), 3);
+    for (sender, outcome) in outcomes.iter().enumerate() {
+        expect_short(rt, outcome, sender == short);
+    }
+}
+
 #[test]
 fn memory_runs_out_for_one_sender(rt: HostRuntime) -> Result<(), Fail> {
     for short in 0..3 {
         let ample = RefusingAllocator::counting(rt.alloc());
         let little = RefusingAllocator::with_bound(rt.alloc(), 100);
+        let shared = RefusingAllocator::counting(rt.alloc());
         let mut own = Vec::new(rt.alloc());
         for sender in 0..3 {
             own.push(if sender == short { &little } else { &ample })?;
         }
         let mut door = three_of_a_kind(rt.alloc())?;
-        let shared = RefusingAllocator::counting(rt.alloc());
-        let outcomes = collect_within(&rt, &shared, &own, &mut door, &OpenGate, Options::usual())?;
-        assert_eq!(rt; outcomes.len(), 3);
-        for (sender, outcome) in outcomes.iter().enumerate() {
-            match outcome {
-                Outcome::NoMemory {
-                    end,
-                    checked,
-                    reports,
-                    ..
-                } => {
-                    assert_eq!(rt; sender, short);
-                    assert_eq!(rt; (end.fate, end.events, *checked), (Fate::Closed, 2, 0));
-                    assert!(rt; reports.is_empty());
-                }
-                Outcome::Settled { end, reports, .. } => {
-                    assert!(rt; sender != short);
-                    assert_eq!(rt; (end.fate, end.events), (Fate::Closed, 2));
-                    assert_eq!(rt; reports.len(), 1);
-                }
-                _ => panic!(rt; "sender {sender} was not read"),
-            }
-        }
+        let outcomes = outcomes_within(&rt, &shared, &own, &mut door)?;
+        expect_one_short(&rt, &outcomes, short);
         // The reports are held until the outcomes are let go.
         assert!(rt; ample.held() > 0);
         drop(outcomes);
@@ -63,26 +102,33 @@ fn memory_runs_out_for_one_sender(rt: HostRuntime) -> Result<(), Fail> {
     Ok(())
 }
 
+/// Asserts that each outcome has one report.
+fn expect_a_report_each<A: Allocator + Copy>(rt: &impl Abort, outcomes: &[Outcome<MemFeed, A>]) {
+    for outcome in outcomes {
+        assert_eq!(rt; outcome.reports().len(), 1);
+    }
+}
+
 #[test]
 fn senders_past_the_list_share_the_memory(rt: HostRuntime) -> Result<(), Fail> {
     let own = RefusingAllocator::counting(rt.alloc());
     let shared = RefusingAllocator::counting(rt.alloc());
     let mut door = three_of_a_kind(rt.alloc())?;
-    let outcomes = collect_within(
-        &rt,
-        &shared,
-        &[&own],
-        &mut door,
-        &OpenGate,
-        Options::usual(),
-    )?;
-    for outcome in &outcomes {
-        assert_eq!(rt; outcome.reports().len(), 1);
-    }
+    let outcomes = outcomes_within(&rt, &shared, &[&own], &mut door)?;
+    expect_a_report_each(&rt, &outcomes);
     let of_one = own.held();
     assert!(rt; of_one > 0);
     assert!(rt; shared.held() > of_one);
     Ok(())
+}
+
+/// Asserts that each of these was asked for memory as often as each other.
+fn expect_same_requests(rt: &impl Abort, heaps: &[RefusingAllocator<Global>]) {
+    let requests = heaps.first().map_or(0, |heap| heap.requests_made());
+    assert!(rt; requests > 0);
+    for (sender, heap) in heaps.iter().enumerate() {
+        assert_eq!(rt; heap.requests_made(), requests, "sender {sender}");
+    }
 }
 
 #[test]
@@ -93,20 +139,17 @@ fn each_sender_has_its_own_memory(rt: HostRuntime) -> Result<(), Fail> {
     }
     let own = heaps.iter().collect::<Vec<_>>(rt.alloc())?;
     let shared = RefusingAllocator::counting(rt.alloc());
-    let mut door = Repeated {
-        alloc: rt.alloc(),
-        left: MOST_SENDERS as u32,
-        refusals: 0,
-    };
-    let outcomes = collect_within(&rt, &shared, &own, &mut door, &OpenGate, Options::usual())?;
+    let mut door = misses(rt.alloc(), MOST_SENDERS as u32);
+    let outcomes = outcomes_within(&rt, &shared, &own, &mut door)?;
     assert_eq!(rt; outcomes.len(), MOST_SENDERS);
     // All senders send the same, so that their checkers ask for the same.
-    let requests = heaps.first().map_or(0, |heap| heap.requests_made());
-    assert!(rt; requests > 0);
-    for (sender, heap) in heaps.iter().enumerate() {
-        assert_eq!(rt; heap.requests_made(), requests, "sender {sender}");
-    }
+    expect_same_requests(&rt, &heaps);
     Ok(())
+}
+
+/// Options with this bound on memory, and unusual others.
+fn bounded(bytes: u64) -> Result<Options, BadOption> {
+    Options::new(0, 1, 3, 7)?.with_memory(bytes)
 }
 
 #[test]
@@ -117,7 +160,7 @@ fn bounds_of_memory(rt: HostRuntime) -> Result<(), Fail> {
         assert_eq!(rt; usual.with_memory(bytes).err(), Some(BadOption::Memory));
     }
     for bytes in [1 << 20, 1 << 26, 1 << 40] {
-        let options = Options::new(0, 1, 3, 7)?.with_memory(bytes)?;
+        let options = bounded(bytes)?;
         assert_eq!(rt; (options.quarantine, options.ring), (0, 1));
         assert_eq!(rt; (options.workers, options.limit), (3, 7));
         assert_eq!(rt; options.memory, Some(bytes));

@@ -95,42 +95,63 @@ fn flaw_of(version: u8, code: u8, record: &[u8]) -> Option<Flaw> {
     }
 }
 
-/// How the stream ends where no more bytes follow, under an event limit.
-pub(super) fn end_of(rt: &impl Abort, text: &[u8], limit: u64) -> End {
-    let end = |fate: Fate, events: u64, offset: u64| End {
+/// What stands next in a stream.
+#[derive(Clone, Copy)]
+enum Next {
+    /// A sound record of so many bytes.
+    Record(usize),
+    /// The end, for this reason.
+    End(Fate),
+}
+
+/// What stands at the front of the rest of a stream.
+fn next_of(version: u8, rest: &[u8]) -> Next {
+    let Some(&code) = rest.first() else {
+        return Next::End(Fate::NoClose);
+    };
+    if code == 0x07 {
+        return Next::End(Fate::Closed);
+    }
+    let Some(length) = length_of(version, code) else {
+        return Next::End(Fate::Malformed(Flaw::Code));
+    };
+    let Some(record) = rest.get(..length) else {
+        return Next::End(Fate::Truncated);
+    };
+    match flaw_of(version, code, record) {
+        Some(flaw) => Next::End(Fate::Malformed(flaw)),
+        None => Next::Record(length),
+    }
+}
+
+/// The end for this reason, after so many events and bytes.
+fn an_end(fate: Fate, events: u64, offset: usize) -> End {
+    End {
         fate,
         events,
-        offset,
-    };
+        offset: offset as u64,
+    }
+}
+
+/// How the stream ends where no more bytes follow, under an event limit.
+pub(super) fn end_of(rt: &impl Abort, text: &[u8], limit: u64) -> End {
     if text.len() < 8 {
-        return end(Fate::Truncated, 0, 0);
+        return an_end(Fate::Truncated, 0, 0);
     }
     let Some(version) = version_of(text) else {
-        return end(Fate::Malformed(Flaw::Header), 0, 0);
+        return an_end(Fate::Malformed(Flaw::Header), 0, 0);
     };
     let mut offset = 8usize;
     for events in 0..=limit {
-        let here = offset as u64;
-        let rest = text.get(offset..).unwrap_or(&[]);
-        let Some(&code) = rest.first() else {
-            return end(Fate::NoClose, events, here);
-        };
-        if code == 0x07 {
-            return end(Fate::Closed, events, here.wrapping_add(1));
+        match next_of(version, text.get(offset..).unwrap_or(&[])) {
+            Next::End(Fate::NoClose) => return an_end(Fate::NoClose, events, offset),
+            Next::End(Fate::Closed) => {
+                return an_end(Fate::Closed, events, offset.wrapping_add(1));
+            }
+            _ if events == limit => return an_end(Fate::TooMany, events, offset),
+            Next::End(fate) => return an_end(fate, events, offset),
+            Next::Record(length) => offset = offset.wrapping_add(length),
         }
-        if events == limit {
-            return end(Fate::TooMany, events, here);
-        }
-        let Some(length) = length_of(version, code) else {
-            return end(Fate::Malformed(Flaw::Code), events, here);
-        };
-        let Some(record) = rest.get(..length) else {
-            return end(Fate::Truncated, events, here);
-        };
-        if let Some(flaw) = flaw_of(version, code, record) {
-            return end(Fate::Malformed(flaw), events, here);
-        }
-        offset = offset.wrapping_add(length);
     }
     panic!(rt; "the limit was reached")
 }

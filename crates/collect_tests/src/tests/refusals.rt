@@ -2,12 +2,16 @@
 
 ghost use Rattle.std.specs.Prelude.{◌≡◌};
 
+use super::collect::outcomes_of;
 use super::three_arrivals;
-use asan_collect::{Live, OpenGate, Options, Outcome, Why, collect, collect_live};
+use asan_collect::{Live, OpenGate, Options, Outcome, Why, WriteFault, collect, collect_live};
 use refusing_allocator::RefusingAllocator;
 use std::alloc::{Allocator, Global};
 use std::process::Abort;
+use std::sync::Wait;
 use std::test::Fail;
+use std::thread::Threads;
+use std::time::Clock;
 use trace_feed::{Arrival, Door, ListDoor, MemFeed};
 
 /// How many times each turn is made. Which thread asks first is not the same each time.
@@ -79,29 +83,105 @@ fn count_hit<A: Allocator + Copy>(
     hit
 }
 
-#[test]
-fn each_growth_refused_in_turn(rt: HostRuntime) -> Result<(), Fail> {
-    let options = Options::new(1 << 28, 1, 3, 1 << 24)?;
-    let mut door = three_arrivals(rt.alloc())?;
-    let ample = collect(&rt, rt.alloc(), &mut door, &OpenGate, options)?;
-    for turn in 1..200u64 {
-        let mut refused = false;
-        for _ in 0..REPEATS {
-            let heap = RefusingAllocator::at_turn(rt.alloc(), turn);
-            let mut door = three_arrivals(rt.alloc())?;
-            match collect(&rt, &heap, &mut door, &OpenGate, options) {
-                Err(_) => {
-                    assert!(rt; heap.has_refused());
-                    expect_all_to_come(&rt, &mut door);
-                }
-                Ok(outcomes) => {
-                    let hit = count_hit(&rt, &ample, &outcomes);
-                    assert_eq!(rt; hit, u32::from(heap.has_refused()), "turn {turn}");
-                }
-            }
-            refused = refused || heap.has_refused();
+/// What is called where memory is refused.
+#[derive(Clone, Copy)]
+enum Way {
+    Collect,
+    CollectLive,
+}
+
+/// Calls `collect` where this request for memory is refused, and answers whether one was. So many
+/// outcomes are hit as requests were refused. Where there is none, no sender was asked for.
+fn refused_in_collect<R: Threads + Wait + Clock + Sync + Abort>(
+    rt: &R,
+    alloc: Global,
+    turn: u64,
+    options: Options,
+    ample: &[Outcome<MemFeed>],
+) -> Result<bool, Fail> {
+    let heap = RefusingAllocator::at_turn(alloc, turn);
+    let mut door = three_arrivals(alloc)?;
+    match collect(rt, &heap, &mut door, &OpenGate, options) {
+        Err(_) => {
+            assert!(rt; heap.has_refused());
+            expect_all_to_come(rt, &mut door);
         }
-        if !refused {
+        Ok(outcomes) => {
+            let hit = count_hit(rt, ample, &outcomes);
+            assert_eq!(rt; hit, u32::from(heap.has_refused()), "turn {turn}");
+        }
+    }
+    Ok(heap.has_refused())
+}
+
+/// How many lines are hit: one where a refusal ended the writing. So many bytes went out then.
+fn count_unwritten(rt: &impl Abort, wrote: Result<(), WriteFault>, text: &[u8]) -> u32 {
+    match wrote {
+        Ok(()) => 0,
+        Err(fault) => {
+            assert_eq!(rt; fault.why, Why::NoMemory);
+            assert_eq!(rt; fault.written, text.len() as u64);
+            1
+        }
+    }
+}
+
+/// Does what [`refused_in_collect`] does with `collect_live`, where a line may be hit too.
+fn refused_in_live<R: Threads + Wait + Clock + Sync + Abort>(
+    rt: &R,
+    alloc: Global,
+    turn: u64,
+    options: Options,
+    ample: &[Outcome<MemFeed>],
+) -> Result<bool, Fail> {
+    let heap = RefusingAllocator::at_turn(alloc, turn);
+    let mut door = three_arrivals(alloc)?;
+    let mut text = Vec::new(alloc);
+    match collect_live(rt, &heap, &mut door, &OpenGate, options, &mut text) {
+        Err(_) => {
+            assert!(rt; heap.has_refused());
+            assert!(rt; text.is_empty());
+            expect_all_to_come(rt, &mut door);
+        }
+        Ok(Live { outcomes, wrote }) => {
+            let hit = count_hit(rt, ample, &outcomes);
+            let hit = hit.saturating_add(count_unwritten(rt, wrote, &text));
+            assert_eq!(rt; hit, u32::from(heap.has_refused()), "turn {turn}");
+        }
+    }
+    Ok(heap.has_refused())
+}
+
+/// Makes a turn so many times as turns are repeated, and answers whether a request was refused.
+fn refused_at<R: Threads + Wait + Clock + Sync + Abort>(
+    rt: &R,
+    alloc: Global,
+    way: Way,
+    turn: u64,
+    options: Options,
+    ample: &[Outcome<MemFeed>],
+) -> Result<bool, Fail> {
+    let mut refused = false;
+    for _ in 0..REPEATS {
+        let now = match way {
+            Way::Collect => refused_in_collect(rt, alloc, turn, options, ample)?,
+            Way::CollectLive => refused_in_live(rt, alloc, turn, options, ample)?,
+        };
+        refused = refused || now;
+    }
+    Ok(refused)
+}
+
+/// Refuses each request for memory in turn.
+fn refuse_each<R: Threads + Wait + Clock + Sync + Abort>(
+    rt: &R,
+    alloc: Global,
+    way: Way,
+) -> Result<(), Fail> {
+    let options = Options::new(1 << 28, 1, 3, 1 << 24)?;
+    let ample = outcomes_of(rt, alloc, &mut three_arrivals(alloc)?, &OpenGate, options)?;
+    for turn in 1..200u64 {
+        if !refused_at(rt, alloc, way, turn, options, &ample)? {
             assert!(rt; turn > 20, "only {turn} turns");
             return Ok(());
         }
@@ -110,38 +190,11 @@ fn each_growth_refused_in_turn(rt: HostRuntime) -> Result<(), Fail> {
 }
 
 #[test]
+fn each_growth_refused_in_turn(rt: HostRuntime) -> Result<(), Fail> {
+    refuse_each(&rt, rt.alloc(), Way::Collect)
+}
+
+#[test]
 fn each_growth_refused_in_turn_while_printing(rt: HostRuntime) -> Result<(), Fail> {
-    let options = Options::new(1 << 28, 1, 3, 1 << 24)?;
-    let mut door = three_arrivals(rt.alloc())?;
-    let ample = collect(&rt, rt.alloc(), &mut door, &OpenGate, options)?;
-    for turn in 1..200u64 {
-        let mut refused = false;
-        for _ in 0..REPEATS {
-            let heap = RefusingAllocator::at_turn(rt.alloc(), turn);
-            let mut door = three_arrivals(rt.alloc())?;
-            let mut text = Vec::new(rt.alloc());
-            match collect_live(&rt, &heap, &mut door, &OpenGate, options, &mut text) {
-                Err(_) => {
-                    assert!(rt; heap.has_refused());
-                    assert!(rt; text.is_empty());
-                    expect_all_to_come(&rt, &mut door);
-                }
-                Ok(Live { outcomes, wrote }) => {
-                    let mut hit = count_hit(&rt, &ample, &outcomes);
-                    if let Err(fault) = wrote {
-                        assert_eq!(rt; fault.why, Why::NoMemory);
-                        assert_eq!(rt; fault.written, text.len() as u64);
-                        hit = hit.saturating_add(1);
-                    }
-                    assert_eq!(rt; hit, u32::from(heap.has_refused()), "turn {turn}");
-                }
-            }
-            refused = refused || heap.has_refused();
-        }
-        if !refused {
-            assert!(rt; turn > 20, "only {turn} turns");
-            return Ok(());
-        }
-    }
-    panic!(rt; "always refused")
+    refuse_each(&rt, rt.alloc(), Way::CollectLive)
 }

@@ -1,7 +1,8 @@
 //! Tests of senders of both versions of the format in one collection.
 
+use super::collect::printed_of;
 use super::{MISS, POISON, STREAM, Senders};
-use asan_collect::{OpenGate, Options, collect, exit_status, write_outcomes};
+use asan_collect::{OpenGate, Options};
 use std::test::Fail;
 
 /// A poison of 8 bytes at 0x1000, which is a user's, a load of a byte there, and the close.
@@ -39,11 +40,9 @@ fn senders_of_both_versions(rt: HostRuntime) -> Result<(), Fail> {
         for ring in [1, 1024] {
             let options = Options::new(1 << 28, ring, workers, 1 << 24)?;
             let mut door = Senders::new(alloc, &sent, &[11, 20]);
-            let outcomes = collect(&rt, alloc, &mut door, &OpenGate, options)?;
-            let mut text = Vec::new(alloc);
-            write_outcomes(alloc, &mut text, &outcomes)?;
-            assert_eq!(rt; String::from_utf8(text)?.as_str(), TEXT);
-            assert_eq!(rt; exit_status(&outcomes, true), 3);
+            let (text, status) = printed_of(&rt, alloc, &mut door, &OpenGate, options)?;
+            assert_eq!(rt; text.as_str(), TEXT, "ring {ring}, workers {workers}");
+            assert_eq!(rt; status, 3);
         }
     }
     Ok(())

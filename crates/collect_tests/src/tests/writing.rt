@@ -5,53 +5,76 @@ ghost use Rattle.asan_stream.specs.Ranges.{most_reports};
 ghost use Rattle.asan_stream.specs.Outcomes.{reports_of};
 
 use super::fails_once::FailsOnce;
-use super::{LOADS, STREAM_AND_MORE, TEXT, THREE_TEXTS, feed_of, three_outcomes};
+use super::{
+    LOADS, STREAM_AND_MORE, TEXT, THREE_TEXTS, feed_of, outcome_of_feed, text_and_status,
+    three_outcomes,
+};
 use asan_check::{Fault, Report};
 use asan_collect::{Options, Outcome, Why, WriteFault, check_feed, exit_status, write_outcomes};
 use std::alloc::{AllocError, Global};
+use std::io::Write;
+use std::process::Abort;
 use std::test::Fail;
 use test_writers::{Ending, ShortWriter};
 use trace_record::{End, Fate, Flaw};
 
 #[test]
 fn three_outcomes_are_written(rt: HostRuntime) -> Result<(), Fail> {
-    let outcomes = three_outcomes(rt.alloc(), rt.alloc())?;
-    let mut text = Vec::new(rt.alloc());
-    write_outcomes(rt.alloc(), &mut text, &outcomes)?;
-    assert_eq!(rt; String::from_utf8(text)?.as_str(), THREE_TEXTS);
-    assert_eq!(rt; exit_status(&outcomes, true), 3);
+    let (text, status) = text_and_status(rt.alloc(), &three_outcomes(rt.alloc(), rt.alloc())?)?;
+    assert_eq!(rt; text.as_str(), THREE_TEXTS);
+    assert_eq!(rt; status, 3);
+    Ok(())
+}
+
+/// Writes what becomes of a stream, and answers how the writing ended.
+fn write_stream<W: Write>(
+    alloc: Global,
+    stream: &[u8],
+    output: &mut W,
+) -> Result<Result<(), WriteFault>, Fail> {
+    let feed = feed_of(alloc, stream, &[], None)?;
+    let outcomes = [check_feed(alloc, feed, Options::usual())];
+    Ok(write_outcomes(alloc, output, &outcomes))
+}
+
+/// Asserts that a writer that takes so many bytes, this many at a time, and then ends so, is given
+/// the front of the stream's text.
+fn expect_front(
+    rt: &impl Abort,
+    alloc: Global,
+    room: usize,
+    step: usize,
+    ending: Ending,
+) -> Result<(), Fail> {
+    let mut writer = ShortWriter {
+        held: Vec::new(alloc),
+        room,
+        step,
+        ending,
+        flushes: true,
+    };
+    let wanted = if room == 121 {
+        Ok(())
+    } else {
+        Err(WriteFault {
+            written: room as u64,
+            why: Why::Write,
+        })
+    };
+    assert_eq!(rt; write_stream(alloc, &STREAM_AND_MORE, &mut writer)?, wanted);
+    assert!(rt;
+        TEXT.as_bytes().get(..room) == Some(writer.held.as_slice()),
+        "{room} bytes"
+    );
     Ok(())
 }
 
 #[test]
 fn writer_fails_after_k_bytes(rt: HostRuntime) -> Result<(), Fail> {
-    let alloc = rt.alloc();
-    let feed = feed_of(alloc, &STREAM_AND_MORE, &[], None)?;
-    let outcomes = [check_feed(alloc, feed, Options::usual())];
     for step in [1, TEXT.len()] {
         for ending in [Ending::Fails, Ending::TakesNone] {
             for room in 0..=TEXT.len() {
-                let mut writer = ShortWriter {
-                    held: Vec::new(alloc),
-                    room,
-                    step,
-                    ending,
-                    flushes: true,
-                };
-                let result = write_outcomes(alloc, &mut writer, &outcomes);
-                let wanted = if room == 121 {
-                    Ok(())
-                } else {
-                    Err(WriteFault {
-                        written: room as u64,
-                        why: Why::Write,
-                    })
-                };
-                assert_eq!(rt; result, wanted);
-                assert!(rt;
-                    writer.held.as_slice() == &TEXT.as_bytes()[..room],
-                    "{room} bytes"
-                );
+                expect_front(&rt, rt.alloc(), room, step, ending)?;
             }
         }
     }
@@ -73,40 +96,57 @@ fn thousand_loads(alloc: Global) -> Result<Vec<u8>, AllocError> {
 fn many_lines_go_out_at_one_write(rt: HostRuntime) -> Result<(), Fail> {
     let alloc = rt.alloc();
     let feed = feed_of(alloc, &thousand_loads(alloc)?, &[], None)?;
-    let outcomes = [check_feed(alloc, feed, Options::usual())];
-    assert_eq!(rt; outcomes[0].reports().len(), 1000);
-    let mut writer = FailsOnce {
+    assert_eq!(rt;
+        outcome_of_feed(alloc, feed, Options::usual())
+            .reports()
+            .len(),
+        1000
+    );
+    let mut writer = writer_failing_at(alloc, 0);
+    write_stream(alloc, &thousand_loads(alloc)?, &mut writer)??;
+    assert_eq!(rt; writer.writes, 3);
+    Ok(())
+}
+
+/// A writer whose write of this number fails, or none where it is 0.
+fn writer_failing_at(alloc: Global, failing: u64) -> FailsOnce {
+    FailsOnce {
         held: Vec::new(alloc),
         writes: 0,
-        failing: 0,
+        failing,
+    }
+}
+
+/// Asserts that nothing is written of a stream after a write of this number failed, where so many
+/// bytes of its text went out before.
+fn expect_last_write(
+    rt: &impl Abort,
+    alloc: Global,
+    text: &[u8],
+    failing: u64,
+    written: u64,
+) -> Result<(), Fail> {
+    let mut writer = writer_failing_at(alloc, failing);
+    let result = write_stream(alloc, &thousand_loads(alloc)?, &mut writer)?;
+    let fault = WriteFault {
+        written,
+        why: Why::Write,
     };
-    write_outcomes(alloc, &mut writer, &outcomes)?;
-    assert_eq!(rt; writer.writes, 3);
+    assert_eq!(rt; result, Err(fault));
+    assert_eq!(rt; writer.writes, failing);
+    assert_eq!(rt; writer.held.len() as u64, written);
+    assert!(rt; text.starts_with(&writer.held));
     Ok(())
 }
 
 #[test]
 fn a_failed_write_is_the_last(rt: HostRuntime) -> Result<(), Fail> {
     let alloc = rt.alloc();
-    let feed = feed_of(alloc, &thousand_loads(alloc)?, &[], None)?;
-    let outcomes = [check_feed(alloc, feed, Options::usual())];
     let mut text = Vec::new(alloc);
-    write_outcomes(alloc, &mut text, &outcomes)?;
+    write_stream(alloc, &thousand_loads(alloc)?, &mut text)??;
     // Each write but the last has the first lines that come to 32 KiB.
     for (failing, written) in [(1, 0), (2, 32_837), (3, 65_622)] {
-        let mut writer = FailsOnce {
-            held: Vec::new(alloc),
-            writes: 0,
-            failing,
-        };
-        let fault = WriteFault {
-            written,
-            why: Why::Write,
-        };
-        assert_eq!(rt; write_outcomes(alloc, &mut writer, &outcomes), Err(fault));
-        assert_eq!(rt; writer.writes, failing);
-        assert_eq!(rt; writer.held.len() as u64, written);
-        assert!(rt; text.starts_with(&writer.held));
+        expect_last_write(&rt, alloc, &text, failing, written)?;
     }
     Ok(())
 }
@@ -193,8 +233,6 @@ fn outcomes_without_a_whole_stream(rt: HostRuntime) -> Result<(), Fail> {
         refused(rt.alloc())?,
         Outcome::Unsettled,
     ];
-    let mut text = Vec::new(rt.alloc());
-    write_outcomes(rt.alloc(), &mut text, &outcomes)?;
     let wanted = "\
 p0 end not-opened
 p1 end not-started
@@ -202,6 +240,7 @@ p2 #2 free at 000000001004 bad-free
 p2 end no-memory checked 7 reports 1
 p3 end unsettled
 ";
-    assert_eq!(rt; String::from_utf8(text)?.as_str(), wanted);
+    let (text, _) = text_and_status(rt.alloc(), &outcomes)?;
+    assert_eq!(rt; text.as_str(), wanted);
     Ok(())
 }

@@ -1,6 +1,6 @@
 use Rattle.std.proofs.Crossing.{frees as of_global}
-use Rattle.collect_tests.proofs.tests.collect.no_room_leaves_the_door_as_it_was.Goals as goal
+use Rattle.collect_tests.proofs.tests.collect.expect_no_room.Goals as goal
 
 -- an allocator that refuses one request gives its memory back to the allocator that it passes requests on to
 pub collect-outcomes-requires-frees-A-Allocator : goal.collect-outcomes-requires-frees-A-Allocator
-collect-outcomes-requires-frees-A-Allocator g c κs = record { frees = λ heap τ p. of_global.frees heap.now.inner τ p }
+collect-outcomes-requires-frees-A-Allocator g c κs bounds = record { frees = λ heap τ p. of_global.frees heap.now.inner τ p }

@@ -1,6 +1,6 @@
 use Rattle.std.proofs.Crossing.{frees as of_global}
-use Rattle.collect_tests.proofs.tests.refusals.each_growth_refused_in_turn_while_printing.Goals as goal
+use Rattle.collect_tests.proofs.tests.refusals.refused_in_live.Goals as goal
 
 -- an allocator that refuses one request gives its memory back to the allocator that it passes requests on to
 pub collect_live-requires-frees-A-Allocator : goal.collect_live-requires-frees-A-Allocator
-collect_live-requires-frees-A-Allocator g c κs = record { frees = λ heap τ p. of_global.frees heap.now.inner τ p }
+collect_live-requires-frees-A-Allocator g c κs bounds = record { frees = λ heap τ p. of_global.frees heap.now.inner τ p }

@@ -1,0 +1,176 @@
+//! A bench with the ends of its lanes and its gate, and tables of what is done with it.
+
+use asan_check::{Checker, Report};
+use asan_collect::{Bench, Gate, Item, Turn, run_checker};
+use std::alloc::{AllocError, Allocator, Global};
+use std::process::Abort;
+use std::sync::Wait;
+use std::sync::atomic::{AtomicU64, Ordering};
+use std::test::Fail;
+use std::time::Clock;
+use trace_lane::{LaneIn, LaneOut, lane};
+use trace_record::{Access, End, Event, Fate, Flaw, Place, Region};
+
+/// A gate of process 7. It counts the events that it hears of, as long as they come in order.
+#[derive(Drop)]
+pub struct Counter {
+    pub heard: AtomicU64,
+}
+
+impl Gate for Counter {
+    fn checked(&self, process: u32, event: u64) {
+        let before = self.heard.load(Ordering::SeqCst);
+        if process == 7 && event == before.wrapping_add(1) {
+            self.heard.store(event, Ordering::SeqCst);
+        }
+    }
+}
+
+/// A gate that has heard of no event.
+pub fn new_counter() -> Counter {
+    Counter {
+        heard: AtomicU64::new(0),
+    }
+}
+
+/// The end of a stream of two events that was closed.
+pub const CLOSED: Item = Item::End(End {
+    fate: Fate::Closed,
+    events: 2,
+    offset: 29,
+});
+
+/// A load of a byte, which is good.
+pub fn good_load() -> Result<Item, Flaw> {
+    Ok(Item::Event(Event::Load(Access::new(0x1000, 1)?)))
+}
+
+/// A malloc of 8 bytes, which is good and takes memory.
+pub fn good_malloc() -> Result<Item, Flaw> {
+    Ok(Item::Event(Event::Malloc(Region::new(0x1000, 8)?)))
+}
+
+/// A free where no block starts, which is reported.
+pub fn bad_free() -> Result<Item, Flaw> {
+    Ok(Item::Event(Event::Free(Place::new(0x2000)?)))
+}
+
+/// A bench of process 7, the end of its lane that items are put into, and its gate. Where it has a
+/// report lane, the end that reports are taken from too.
+#[derive(Drop)]
+pub struct Rig<A: Allocator + Copy = Global> {
+    pub into: LaneIn<Item, A>,
+    pub bench: Bench<A>,
+    pub reports: Option<LaneOut<Report, A>>,
+    pub gate: Counter,
+}
+
+/// What is done with a rig, and what has to come of it.
+#[derive(Clone, Copy, Debug)]
+pub enum Step {
+    /// An item is put into its lane, which has room.
+    Put(Item),
+    /// The bench takes a turn, which answers this.
+    Turn(Turn),
+    /// The gate has heard of so many events.
+    Heard(u64),
+    /// The report lane gives a report on the event of this number, or none.
+    Report(Option<u64>),
+    /// The end that reports are taken from is dropped.
+    Leave,
+    /// The reports are finished, and an end of their lane comes of it or none.
+    Finish(bool),
+}
+
+/// A rig whose lane has room for so many items, without a report lane, or `None` where there is no
+/// memory for the lane.
+pub fn plain_rig<A: Allocator + Copy>(alloc: A, room: usize) -> Result<Option<Rig<A>>, Fail> {
+    let Ok((into, out)) = lane(alloc, room) else {
+        return Ok(None);
+    };
+    let bench = Bench::new(7, out, Checker::new(alloc, 0)?);
+    Ok(Some(Rig {
+        into,
+        bench,
+        reports: None,
+        gate: new_counter(),
+    }))
+}
+
+/// A rig whose lane has room for eight items, and whose report lane has room for this many reports.
+pub fn reporting_rig(alloc: Global, reports: usize) -> Result<Rig, Fail> {
+    let (into, out) = lane(alloc, 8)?;
+    let (reports_in, reports_out) = lane(alloc, reports)?;
+    let bench = Bench::with_reports(7, out, Checker::new(alloc, 0)?, reports_in);
+    Ok(Rig {
+        into,
+        bench,
+        reports: Some(reports_out),
+        gate: new_counter(),
+    })
+}
+
+/// The number of the event that the next report of a rig is on.
+fn next_report<A: Allocator + Copy>(rig: &mut Rig<A>) -> Option<u64> {
+    match &mut rig.reports {
+        Some(lane) => Some(lane.take()?.number),
+        None => None,
+    }
+}
+
+/// Takes a step, and asserts what comes of it.
+pub fn expect_step<A: Allocator + Copy>(rt: &impl Abort, rig: &mut Rig<A>, step: Step) {
+    match step {
+        Step::Put(item) => assert!(rt; rig.into.put(item).is_ok()),
+        Step::Turn(turn) => assert_eq!(rt; rig.bench.turn(&rig.gate), turn),
+        Step::Heard(count) => assert_eq!(rt; rig.gate.heard.load(Ordering::SeqCst), count),
+        Step::Report(number) => assert_eq!(rt; next_report(rig), number),
+        Step::Leave => rig.reports = None,
+        Step::Finish(ends) => assert_eq!(rt; rig.bench.finish_reports().is_some(), ends),
+    }
+}
+
+/// Takes these steps in order.
+pub fn expect_steps<A: Allocator + Copy>(rt: &impl Abort, rig: &mut Rig<A>, steps: &[Step]) {
+    for step in steps {
+        expect_step(rt, rig, *step);
+    }
+}
+
+/// Runs the checkers of some benches up to their ends.
+pub fn run_all<A: Allocator + Copy, G: Gate, R: Wait + Clock>(
+    rt: &R,
+    benches: Vec<Bench<A>, A>,
+    gate: &G,
+) -> Vec<Bench<A>, A> {
+    run_checker(rt, benches, gate)
+}
+
+/// Runs the checker of a rig up to its end, or answers `None` where there is no memory for a list of
+/// it.
+pub fn run_rig<A: Allocator + Copy, R: Wait + Clock>(
+    rt: &R,
+    alloc: A,
+    rig: Rig<A>,
+) -> Result<Option<Rig<A>>, AllocError> {
+    let Rig {
+        into,
+        bench,
+        reports,
+        gate,
+    } = rig;
+    let Ok(mut benches) = Vec::with_capacity(alloc, 1) else {
+        return Ok(None);
+    };
+    benches.push(bench)?;
+    let mut benches = run_all(rt, benches, &gate);
+    let Some(bench) = benches.pop() else {
+        return Ok(None);
+    };
+    Ok(Some(Rig {
+        into,
+        bench,
+        reports,
+        gate,
+    }))
+}
