@@ -259,19 +259,32 @@ fn ask_again<A: Allocator + Copy>(
     }
 }
 
-/// Refuses one growth of a book. A call that is refused is made again, and it and all later ones
-/// answer as if there had been memory. Gives whether one was refused.
+/// Makes calls of two books, of which one has ample memory. A call that the other is refused is
+/// made again, and it and all later ones answer as if there had been memory. Gives whether one was
+/// refused.
+fn ask_both<A: Allocator + Copy>(
+    rt: &impl Abort,
+    book: &mut Book<A>,
+    ample: &mut Book,
+    turn: u64,
+    calls: &[Call],
+) -> Result<bool, NoMemory> {
+    let mut refused = false;
+    for call in calls {
+        let wanted = ask(rt, ample, *call)?;
+        let (given, is_refused) = ask_again(rt, book, *call)?;
+        refused |= is_refused;
+        assert_eq!(rt; given, wanted, "turn {turn}, {call:?}");
+    }
+    Ok(refused)
+}
+
+/// Refuses one growth of a book, if it has so many. Gives whether it was refused.
 fn refuse_one(rt: &impl Abort, alloc: Global, turn: u64, calls: &[Call]) -> Result<bool, Fail> {
     let heap = RefusingAllocator::at_turn(alloc, turn);
     let mut book = Book::new(&heap, 72)?;
     let mut ample = Book::new(alloc, 72)?;
-    let mut refused = false;
-    for call in calls {
-        let wanted = ask(rt, &mut ample, *call)?;
-        let (given, is_refused) = ask_again(rt, &mut book, *call)?;
-        refused |= is_refused;
-        assert_eq!(rt; given, wanted, "turn {turn}, {call:?}");
-    }
+    let refused = ask_both(rt, &mut book, &mut ample, turn, calls)?;
     assert_eq!(rt; refused, heap.has_refused(), "turn {turn}");
     Ok(refused)
 }
