@@ -40,7 +40,7 @@ NAME_GONE = re.compile(r"has no field|is not in scope|has no `|was not admitted"
 
 # What the prover says of a text that it cannot read, which tries no clause.
 UNREAD = re.compile(
-    r"error: (?:(?!`)|.*(?:is not in scope|has no field|is no name|operand is missing"
+    r"error(?:\[|: (?!`)|.*(?:is not in scope|has no field|is no name|operand is missing"
     r"|expected the end|cannot continue))"
 )
 
@@ -115,6 +115,23 @@ class Plan:
 
     def all(self) -> List[Copy]:
         return [*self.controls.values(), *self.copies.values()]
+
+    def drop(self, checked: "Checked") -> bool:
+        """Takes out the copies that a check could not read. Returns whether there were any."""
+        before = len(self.copies)
+        unread = {it.name: checked.first(it) for it in self.all() if any(checked.said_of(it))}
+        for edit, copy in list(self.copies.items()):
+            if copy.control in unread:
+                why = f"a copy of the right body cannot be read: {unread[copy.control]}"
+                self.answers[edit] = Answer(NOTHING, why)
+            elif copy.name in unread:
+                self.answers[edit] = Answer(BAD, f"it cannot be read: {unread[copy.name]}")
+            else:
+                continue
+            del self.copies[edit]
+        used = {it.control for it in self.copies.values()}
+        self.controls = {key: it for key, it in self.controls.items() if it.name in used}
+        return len(self.copies) < before
 
 
 def copy_of(name: str, path: str, was: Function, body: Function, control: str = "") -> Copy:
@@ -203,6 +220,7 @@ class Checked:
         # A message goes on in the lines below it that begin with blanks.
         self.printed = re.sub(r"\n +", " ", ran.stdout).split("\n")
         self.lines = lines_of(copies, folder)
+        self.status = ran.returncode
         self.verdicts: Dict[str, str] = {}
         for line in self.printed:
             found = VERDICT.match(line)
@@ -214,7 +232,7 @@ class Checked:
         path, lines = self.lines[copy.name]
         for line in self.printed:
             place = PLACE.match(line)
-            if not place or not (line.startswith("note: ") or "error: " in place[3]):
+            if not place or not (line.startswith("note: ") or place[3].startswith("error")):
                 continue
             here = place[1] == path and int(place[2]) in lines
             if here or place[1].startswith(f"{copy.proofs}/"):
@@ -240,22 +258,29 @@ class Checked:
         return Answer(REFUSED if verdict else NOTHING, self.first(copy))
 
 
-def tried(crate: str, plan: Plan, jobs: Optional[int]) -> bool:
-    """Makes the one check and notes its answers in the plan. Returns whether it came to proofs."""
-    copies = plan.all()
+def checked_with(crate: str, copies: List[Copy], jobs: Optional[int]) -> Checked:
+    """Checks a copy of a crate with one more function for each of these."""
     with tempfile.TemporaryDirectory(prefix="asancol-wrong-") as room:
         copy_crates(crate, room)
         folder = f"{room}/crates/{crate}"
         write_copies(copies, folder)
-        checked = Checked(copies, folder, jobs)
-    if not any(it.name in checked.verdicts for it in copies):
-        print("\n".join([f"{crate}: the check came to no function:", *checked.printed[:10]]))
-        blamed = [edit for edit, it in plan.copies.items() if list(checked.said_of(it))]
-        print(f"{crate}: nothing was tried; see {', '.join(blamed) or 'rt check'}", flush=True)
-        return False
-    controls = {it.name: it for it in plan.controls.values()}
-    for edit, copy in plan.copies.items():
-        plan.answers[edit] = checked.answer(copy, controls[copy.control])
+        return Checked(copies, folder, jobs)
+
+
+def tried(crate: str, plan: Plan, jobs: Optional[int]) -> bool:
+    """Makes the one check and notes its answers in the plan. Where it cannot read some of the
+    bodies it proves nothing, and is made again without them. Returns whether it came to proofs."""
+    while plan.copies:
+        checked = checked_with(crate, plan.all(), jobs)
+        if any(it.name in checked.verdicts for it in plan.all()):
+            controls = {it.name: it for it in plan.controls.values()}
+            for edit, copy in plan.copies.items():
+                plan.answers[edit] = checked.answer(copy, controls[copy.control])
+            return True
+        if not plan.drop(checked):
+            print("\n".join(checked.printed[-10:]))
+            print(f"{crate}: nothing was tried: rt check ended with status {checked.status}")
+            return False
     return True
 
 
