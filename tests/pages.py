@@ -3,7 +3,8 @@
 A page names a thing in backticks. A path has to be that of a file, from the top, from the page's
 folder, from the folder `crates`, or the end of one. A name with `_` or `::` or a capital inside has
 to occur in the sources. In a table with a column `function, clause` each word of that column has to
-be a function, a clause, a definition or a field; one that begins with a capital has to occur. A
+be a function, a clause, a definition or a field; one that begins with a capital has to occur. What
+follows a function there, up to a `;` and not in brackets, has to be a clause of it, or a function. A
 link that is no address has to lead to a file and, after `#`, to a heading of it. Each target of
 `make` has to be in the Makefile.
 """
@@ -29,6 +30,8 @@ RECORD = re.compile(r"\b(?:data|record)\s+(?:pub\s+)?([\w'-]+)")
 DEFINED = re.compile(
     r"^\s*(?:(?:pub|abbrev|data|record|unfoldable)\s+)*([\w'-]+)\b[^:\n]*:(?:\s|$)", re.M
 )
+FUNCTION = re.compile(r"\bfn (\w+)")
+CLAUSE = re.compile(r"\b(?:ensures|requires)\*? (\w+)")
 MAKE = re.compile(r"(?:^|[\s`(])make((?: +(?:-\w+ +\w+|[A-Z]+=\S+|[a-z][a-z-]*))+)")
 
 
@@ -42,6 +45,8 @@ class Tree:
         self.folders |= {os.path.dirname(it) for it in self.folders}
         self.words: Set[str] = set()
         self.declared: Set[str] = set()
+        # The clauses of the functions of each name.
+        self.clauses: Dict[str, Set[str]] = {}
         for path in files:
             if path.endswith((".rt", ".antt", ".py", ".c", ".h", ".txt", "Makefile")):
                 self.read(path)
@@ -60,6 +65,10 @@ class Tree:
             self.declared.update(RECORD.findall(text))
             self.declared.update(DEFINED.findall(text))
             self.declared.update(re.findall(r"^\s*(\w+)(?:\(|,| \{)", text, re.M))
+        if path.endswith(".rt"):
+            parts = FUNCTION.split(text)
+            for name, rest in zip(parts[1::2], parts[2::2]):
+                self.clauses.setdefault(name, set()).update(CLAUSE.findall(rest))
 
     def has_path(self, path: str, page: str) -> bool:
         """Whether a path that a page names is that of a file, or the end of one. A `*` stands for
@@ -121,6 +130,17 @@ def cells_of(line: str) -> List[str]:
     return [it.strip() for it in re.split(r"(?<!\\)\|", line)[1:-1]]
 
 
+def strangers(cell: str, tree: Tree) -> Iterator[str]:
+    """Goes over the words of a cell that stand behind a function and are no clause of it."""
+    for group in re.sub(r"\([^)]*\)", "", cell).split(";"):
+        clauses: Set[str] = set()
+        for span in SPAN.findall(group):
+            name = span.rpartition("::")[2]
+            if clauses and name not in clauses and name not in tree.clauses:
+                yield span
+            clauses |= tree.clauses.get(name, set())
+
+
 def bad_cells(page: str, text: str, tree: Tree) -> Iterator[Finding]:
     """Goes over the words of the columns `function, clause` that no source declares."""
     column = None
@@ -137,6 +157,8 @@ def bad_cells(page: str, text: str, tree: Tree) -> Iterator[Finding]:
                 known = tree.words if last[0].isupper() else tree.declared
                 if NAME.fullmatch(span) and last not in known:
                     yield page, number, f"no function, clause or definition: {span}"
+            for span in strangers(cells[column], tree):
+                yield page, number, f"no clause of the function before it: {span}"
 
 
 def bad_targets(page: str, text: str, targets: Dict[str, Set[str]]) -> Iterator[Finding]:
