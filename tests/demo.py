@@ -4,9 +4,9 @@
 usage: tests/demo.py PROGRAM TRACE..     by this program
        tests/demo.py - TRACE..           by one that is built for this, and not proved
 
-The second way takes a minute or two where nothing was built before: `rt try` compiles the program once,
-with checks in the place of its proof, and runs it on each trace. Where the recorder noted where
-things are, in TRACE.where, the lines go through `asancol-where`.
+The second way takes two to three minutes if nothing was built before. `rt try` compiles the
+program once, with checks in the place of its proof, and runs it on each trace. If the recorder
+noted where things are, in TRACE.where, the lines go through `asancol-where`.
 """
 
 import os

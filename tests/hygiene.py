@@ -59,20 +59,22 @@ def long_lines(files: List[str]) -> Iterator[Finding]:
 
 
 def bad_layouts(files: List[str]) -> Iterator[Finding]:
-    """Goes over the files that `rt fmt` would change. The toolchain's `rattle`, which lies beside
-    `rt`, finds them; where it is not there, nothing is looked at."""
+    """Goes over the files that `rt fmt` would change, or cannot read. The toolchain's `rattle`,
+    which lies beside `rt`, finds them."""
     rt = shutil.which("rt")
     rattle = os.path.join(os.path.dirname(os.path.realpath(rt)), "rattle") if rt else ""
     sources = [it for it in files if width_of(it)]
-    if not os.path.isfile(rattle) or not sources:
+    if not os.path.isfile(rattle):
+        yield "crates", 1, "no rattle beside rt: the layout was not looked at"
         return
     words = [rattle, "fmt", "--check", *sources]
     both = {"stdout": subprocess.PIPE, "stderr": subprocess.STDOUT}
     ran = subprocess.run(words, cwd=TOP, text=True, **both)
-    for path in re.findall(r"^(\S+) is not in the layout", ran.stdout, re.M):
-        yield path, 1, "rt fmt would change it"
-    if ran.returncode not in (0, 1):
-        yield "crates", 1, f"rattle fmt --check ended with status {ran.returncode}"
+    found = re.findall(r"^(\S+?):? (?:is not in the layout|it does not parse)", ran.stdout, re.M)
+    for path in found:
+        yield path, 1, "rt fmt would change it, or cannot read it"
+    if ran.returncode and not found:
+        yield "crates", 1, f"rattle fmt --check: status {ran.returncode}: {ran.stdout[:200]}"
 
 
 def sources_of(files: List[str]) -> List[names.Source]:

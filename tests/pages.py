@@ -4,14 +4,15 @@ A page names a thing in backticks. A path has to be that of a file, from the top
 folder, from the folder `crates`, or the end of one. A name with `_` or `::` or a capital inside has
 to occur in the sources. In a table with a column `function, clause` each word of that column has to
 be a function, a clause, a definition or a field; one that begins with a capital has to occur. What
-follows a function there, up to a `;` and not in brackets, has to be a clause of it, or a function. A
-link that is no address has to lead to a file and, after `#`, to a heading of it. Each target of
-`make` has to be in the Makefile.
+follows a function there, up to a `;` and not in brackets, has to be a clause of a function of that
+name, or a public function or a test; functions of one name count as one. A link that is no address
+has to lead to a file and, after `#`, to a heading of it. Each target of `make` has to be in the
+Makefile.
 """
 
 import os
 import re
-from typing import Dict, Iterator, List, Set, Tuple
+from typing import Dict, Iterator, List, Optional, Set, Tuple
 
 Finding = Tuple[str, int, str]
 
@@ -31,6 +32,7 @@ DEFINED = re.compile(
     r"^\s*(?:(?:pub|abbrev|data|record|unfoldable)\s+)*([\w'-]+)\b[^:\n]*:(?:\s|$)", re.M
 )
 FUNCTION = re.compile(r"\bfn (\w+)")
+PUBLIC = re.compile(r"(?:\bpub (?:const )?|#\[test\]\s*)fn (\w+)")
 CLAUSE = re.compile(r"\b(?:ensures|requires)\*? (\w+)")
 MAKE = re.compile(r"(?:^|[\s`(])make((?: +(?:-\w+ +\w+|[A-Z]+=\S+|[a-z][a-z-]*))+)")
 
@@ -47,6 +49,8 @@ class Tree:
         self.declared: Set[str] = set()
         # The clauses of the functions of each name.
         self.clauses: Dict[str, Set[str]] = {}
+        # The functions that a page may name after another one: those that are public, and tests.
+        self.named: Set[str] = set()
         for path in files:
             if path.endswith((".rt", ".antt", ".py", ".c", ".h", ".txt", "Makefile")):
                 self.read(path)
@@ -66,6 +70,7 @@ class Tree:
             self.declared.update(DEFINED.findall(text))
             self.declared.update(re.findall(r"^\s*(\w+)(?:\(|,| \{)", text, re.M))
         if path.endswith(".rt"):
+            self.named.update(PUBLIC.findall(text))
             parts = FUNCTION.split(text)
             for name, rest in zip(parts[1::2], parts[2::2]):
                 self.clauses.setdefault(name, set()).update(CLAUSE.findall(rest))
@@ -131,14 +136,15 @@ def cells_of(line: str) -> List[str]:
 
 
 def strangers(cell: str, tree: Tree) -> Iterator[str]:
-    """Goes over the words of a cell that stand behind a function and are no clause of it."""
+    """Goes over the words of a cell that stand after a function and are no clause of it."""
     for group in re.sub(r"\([^)]*\)", "", cell).split(";"):
-        clauses: Set[str] = set()
+        clauses: Optional[Set[str]] = None
         for span in SPAN.findall(group):
             name = span.rpartition("::")[2]
-            if clauses and name not in clauses and name not in tree.clauses:
+            if clauses is not None and name not in clauses | tree.named:
                 yield span
-            clauses |= tree.clauses.get(name, set())
+            if name in tree.clauses:
+                clauses = tree.clauses[name] | (clauses or set())
 
 
 def bad_cells(page: str, text: str, tree: Tree) -> Iterator[Finding]:

@@ -383,14 +383,15 @@ fault_of_the_store = refl
 fault_that_is_lost : faults_of usual (thinned (λ number. true) bad_store) ≡ []
 fault_that_is_lost = refl
 
--- no test leaves out a free, and so the second one is still reported
+-- only loads and stores are left out, so the second free is still reported
 frees_stay :
     faults_of usual (thinned (λ number. true) ((free 0x1000 refl) ∷ (load 0x1000 1 refl) ∷ (free 0x1000 refl)
     ∷ (malloc 0x1000 8 refl) ∷ []))
     ≡ fault.DoubleFree 0x1000 ∷ []
 frees_stay = refl
 
--- the store is event 3 of the whole, and event 2 where the good load before it is left out
+-- an event that is the second of what is left, where the load before it is left out, is the third of the whole; the
+-- fault plays no part
 number_after_a_load :
     renumbered (λ number. number == 2) ((store 0x1004 4 refl) ∷ (load 0x1000 1 refl)
     ∷ (malloc 0x1000 5 refl) ∷ []) (record { number = 2; fault = fault.BadFree 0 })

@@ -137,8 +137,8 @@ pub fn accesses_leave_no_trace()
         LeaveTheSame bound (thinned numbers past) past }
 {}
 
-/// After two histories that leave the same marks, live blocks and held blocks, an event is good or
-/// bad alike, and they leave the same again after it.
+/// After two histories that leave the same marks, live blocks and held blocks, the same is wrong
+/// with an event, or nothing is, and they leave the same again after it.
 pub fn the_same_is_left_again()
     ensures verdict { (bound : ℕ) (one other : List Event) (event : Event) →
         LeaveTheSame bound one other → fault_of bound one event ≡ fault_of bound other event }

@@ -96,7 +96,7 @@ fn finish<F: Feed + Drop, A: Allocator + Copy, R: Threads>(
     }
 }
 
-/// Waits for the reader, where one was started.
+/// Waits for the reader of a sender, if it has one, and leaves what it did in its place.
 fn finish_at<F: Feed + Drop, A: Allocator + Copy, R: Threads>(rt: &R, sender: &mut Sender<F, A>)
     ensures { Ends F.seen sender.old sender.new }
 {

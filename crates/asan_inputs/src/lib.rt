@@ -1,4 +1,4 @@
-//! Where traces come from: what the names of files, and of a socket, become feeds and doors.
+//! Where traces come from: names of files, and the path of a socket, become feeds and doors.
 #![tactic(auto)]
 
 mod input_door;

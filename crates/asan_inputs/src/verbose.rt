@@ -1,9 +1,9 @@
-//! Whether what became of each file is said.
+//! Whether to say what became of each file.
 
 ghost use Rattle.std.specs.Prelude.{◌≡◌, IsTrue, false};
 ghost use Rattle.asan_inputs.specs.Verbose.{is_verbose as is_verbose_of};
 
-/// Whether it is asked for: `--verbose` is one of the words, and was found to be a flag.
+/// Whether `--verbose` is one of the words, and was found to be a flag.
 ///
 /// A flag that was found is always one of the words, but not each such word is a flag: after `--`
 /// it is the name of a file.

@@ -274,7 +274,7 @@ fn whole_records_are_read_ahead(rt: HostRuntime) -> Result<(), Fail> {
 enum Call<'a> {
     /// `next`.
     Next(&'a [u8]),
-    /// `next_events` where so many events have room, at most four.
+    /// `next_events` where this many events have room, at most four.
     Ahead(usize, &'a [u8]),
 }
 

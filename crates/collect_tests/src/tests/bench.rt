@@ -92,7 +92,7 @@ fn a_failed_checker_takes_and_drops(rt: HostRuntime) -> Result<(), Fail> {
     panic!(rt; "always refused")
 }
 
-/// Puts so many loads and the end into a rig, and runs its checker: the gate hears of each load.
+/// Puts this many loads and the end into a rig, and runs its checker: the gate hears of each load.
 fn expect_each_announced<R: Wait + Clock + Abort>(
     rt: &R,
     alloc: Global,

@@ -18,7 +18,7 @@ const FREES: [u8; 81] = [
     0, 0, 0, 0, 1, 1, 0, 0x10, 0, 0, 0, 0, 0, 0, 1, 1, 0, 0x20, 0, 0, 0, 0, 0, 0, 7,
 ];
 
-/// Those of some reports that are on the first events, so many of them.
+/// Those of some reports that are on the first events, this many of them.
 fn first_of(alloc: Global, reports: &[Report], checked: u64) -> Result<Vec<Report>, AllocError> {
     let mut first = Vec::new(alloc);
     for report in reports {

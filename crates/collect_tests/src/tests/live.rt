@@ -99,7 +99,7 @@ fn print_three<W: Write, R: Threads + Wait + Clock + Sync>(
     )
 }
 
-/// A fault of a writer that took so many bytes.
+/// A fault of a writer that took this many bytes.
 fn fault_after(written: u64) -> Result<(), WriteFault> {
     Err(WriteFault {
         written,
@@ -143,7 +143,7 @@ fn an_output_that_takes_no_more(rt: HostRuntime) -> Result<(), Fail> {
     Ok(())
 }
 
-/// Asserts that nothing is written after a write of this number failed, where so many bytes went
+/// Asserts that nothing is written after a write of this number failed, where this many bytes went
 /// out before.
 fn expect_last_write<R: Threads + Wait + Clock + Sync + Abort>(
     rt: &R,

@@ -98,7 +98,7 @@ fn flaw_of(version: u8, code: u8, record: &[u8]) -> Option<Flaw> {
 /// What stands next in a stream.
 #[derive(Clone, Copy)]
 enum Next {
-    /// A sound record of so many bytes.
+    /// A sound record of this many bytes.
     Record(usize),
     /// The end, for this reason.
     End(Fate),
@@ -124,7 +124,7 @@ fn next_of(version: u8, rest: &[u8]) -> Next {
     }
 }
 
-/// The end for this reason, after so many events and bytes.
+/// The end for this reason, after these numbers of events and bytes.
 fn an_end(fate: Fate, events: u64, offset: usize) -> End {
     End {
         fate,

@@ -152,7 +152,7 @@ fn refused_in_live<R: Threads + Wait + Clock + Sync + Abort>(
     Ok(heap.has_refused())
 }
 
-/// Makes a turn so many times as turns are repeated, and answers whether a request was refused.
+/// Repeats a turn, and answers whether a request was refused.
 fn refused_at<R: Threads + Wait + Clock + Sync + Abort>(
     rt: &R,
     alloc: Global,

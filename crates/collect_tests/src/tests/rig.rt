@@ -72,7 +72,7 @@ pub enum Step {
     Put(Item),
     /// The bench takes a turn, which answers this.
     Turn(Turn),
-    /// The gate has heard of so many events.
+    /// The gate has heard of this many events.
     Heard(u64),
     /// The report lane gives a report on the event of this number, or none.
     Report(Option<u64>),
@@ -82,8 +82,8 @@ pub enum Step {
     Finish(bool),
 }
 
-/// A rig whose lane has room for so many items, without a report lane, or `None` where there is no
-/// memory for the lane.
+/// A rig whose lane has room for this many items, without a report lane, or `None` where there is
+/// no memory for the lane.
 pub fn plain_rig<A: Allocator + Copy>(alloc: A, room: usize) -> Result<Option<Rig<A>>, Fail> {
     let Ok((into, out)) = lane(alloc, room) else {
         return Ok(None);

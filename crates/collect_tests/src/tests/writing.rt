@@ -37,8 +37,8 @@ fn write_stream<W: Write>(
     Ok(write_outcomes(alloc, output, &outcomes))
 }
 
-/// Asserts that a writer that takes so many bytes, this many at a time, and then ends so, is given
-/// the front of the stream's text.
+/// Asserts that a writer that takes a number of bytes, a few at a time, and then ends so, is
+/// given the front of the stream's text.
 fn expect_front(
     rt: &impl Abort,
     alloc: Global,
@@ -117,7 +117,7 @@ fn writer_failing_at(alloc: Global, failing: u64) -> FailsOnce {
     }
 }
 
-/// Asserts that nothing is written of a stream after a write of this number failed, where so many
+/// Asserts that nothing is written of a stream after a write of this number failed, where this many
 /// bytes of its text went out before.
 fn expect_last_write(
     rt: &impl Abort,

@@ -361,7 +361,7 @@ fn encoded(rt: &impl Abort, version: Version, event: &Event) -> ([u8; RECORD_ROO
 }
 
 /// Asserts that a decoder behind the header of a version needs more than the first of these pieces,
-/// and reads an event once it has so many bytes of the last.
+/// and reads an event once it has this many bytes of the last.
 fn expect_in_two(
     rt: &impl Abort,
     version: Version,

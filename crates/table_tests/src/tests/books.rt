@@ -279,7 +279,7 @@ fn ask_both<A: Allocator + Copy>(
     Ok(refused)
 }
 
-/// Refuses one growth of a book, if it has so many. Gives whether it was refused.
+/// Refuses the growth of a book that has this turn, if there is one. Gives whether it was refused.
 fn refuse_one(rt: &impl Abort, alloc: Global, turn: u64, calls: &[Call]) -> Result<bool, Fail> {
     let heap = RefusingAllocator::at_turn(alloc, turn);
     let mut book = Book::new(&heap, 72)?;

@@ -12,17 +12,17 @@ use std::process::Abort;
 /// A call that marks memory.
 #[derive(Clone, Copy, Debug)]
 pub enum Mark {
-    /// A block of so many bytes at an address.
+    /// A block of this many bytes at an address.
     Block(u64, u64),
     /// A code for the granules from one address up to another.
     Fill(u64, u64, u8),
-    /// Poison of so many bytes from an address on, with a code.
+    /// Poison of this many bytes from an address on, with a code.
     Poison(u64, u64, u8),
-    /// The end of poison, of so many bytes from an address on.
+    /// An unpoison of this many bytes from an address on.
     Unpoison(u64, u64),
 }
 
-/// Whether so many bytes from an address on are in the memory.
+/// Whether this many bytes from an address on are in the memory.
 fn is_in_memory(at: u64, size: u64) -> bool
     ensures { result ≡ true → at + size ≤ address_end }
 {
@@ -99,12 +99,12 @@ pub fn value(granule: u64, value: u8) -> Case {
     (Question::Value(granule), Answer::Value(value))
 }
 
-/// This is the bad byte of an access of so many bytes.
+/// This is the bad byte of an access of this many bytes.
 pub fn bad_byte(at: u64, width: u8, bad: Option<u64>) -> Case {
     (Question::BadByte(at, width), Answer::Byte(bad))
 }
 
-/// This is the first poisoned one of so many bytes.
+/// This is the first poisoned one of this many bytes.
 pub fn first_poisoned(at: u64, size: u64, first: Option<u64>) -> Case {
     (Question::FirstPoisoned(at, size), Answer::Byte(first))
 }
