@@ -53,6 +53,6 @@ pub refused_if_printed : {E F : Type 0} (A : Type 0) (r : Result ℕ E) (seen : 
     → IfOk r (λ status. old.refusals < new.refusals → (status ≡ unchecked) ⊎ (status ≡ unwritten))
 refused_if_printed A (Err e) seen options is_live old new before after printed = tt
 refused_if_printed A (Ok status) seen options is_live old new before after (outcomes, all) = λ more.
-    let rise = all.refused in
+    let rise = all.collected.refused in
     let some : 0 < not_opened_among outcomes = omega arith in
     status_of_refused outcomes status some (status_printed is_live before after outcomes status all.printed)

@@ -1,6 +1,6 @@
 -- What the program prints, and the status that it ends with.
-use Rattle.std.specs.Prelude.{◌≡◌, ◌≢◌, ℕ, ◌+◌, ◌≤◌, ◌⊎◌, Bool, true, false, Option, None, Some}
-use Rattle.std.specs.Prelude.{List, [], ◌∷◌, length, take}
+use Rattle.std.specs.Prelude.{◌≡◌, ◌≢◌, ℕ, ◌⊎◌, Bool, true, false, Option, None, Some}
+use Rattle.std.specs.Prelude.{List, [], ◌∷◌, take}
 use Rattle.std.specs.Borrow.{Bor}
 use Rattle.std.specs.Io.KnownBytes.{Appends}
 use Rattle.std.specs.declared.alloc.Global.{Global}
@@ -10,10 +10,8 @@ use Rattle.trace_feed.specs.Doors.{DoorState}
 use Rattle.trace_feed.specs.Feeds.{FeedState}
 use Rattle.asan_stream.specs.declared.options.Options.{Options}
 use Rattle.asan_stream.specs.declared.outcome.Outcome.{Outcome}
-use Rattle.asan_collect.specs.Arrivals.{AreAnswers, IsAllThatCame}
-use Rattle.asan_collect.specs.Counts.{not_opened_among}
+use Rattle.asan_collect.specs.Collected.{AreCollected}
 use Rattle.asan_collect.specs.Live.{AreLinesOf}
-use Rattle.asan_collect.specs.Ranges.{most_senders}
 use Rattle.asan_stream.specs.Outcomes.{IsOutcomeOf}
 use Rattle.asan_collect.specs.Statuses.{status_of, unwritten}
 use Rattle.asan_collect.specs.Texts.{texts_from}
@@ -76,14 +74,7 @@ module _ {F : Type 0} (seen : F → FeedState) (A : Type 0) where
   pub record AreOutcomesPrinted
       (options : Options) (is_live : Bool) (old new : DoorState F) (before after : Option (List ℕ))
       (outcomes : List (Outcome F A)) (status : ℕ) : Type 0 where
-    -- The senders that arrived have an outcome each, in order. They are all that came until the
-    -- door was shut, or as many as one call takes.
-    pub answers : AreAnswers seen options old new outcomes
-    -- of a known number of arrivals that were left all came, or as many as one call takes
-    pub count : IsAllThatCame old.left (length outcomes)
-    pub few : length outcomes ≤ most_senders
-    -- the door counts one refusal more for each outcome of a sender that was not opened
-    pub refused : new.refusals ≡ not_opened_among outcomes + old.refusals
+    pub collected : AreCollected seen options old new outcomes
     pub printed : IsPrintedAs is_live before after outcomes status
 
   -- the senders that came through a door have such outcomes

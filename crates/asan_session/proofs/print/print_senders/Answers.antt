@@ -8,21 +8,12 @@ returns-then-is_live-clause-ok g c =
     let gone = gone_live live.wrote _ _ _ live.outcomes.items c.flush-status.result all.printed
     (rw c.deref.ensures.value at c.flush-status.ensures.ok)
     (rw c.deref.ensures.value at c.flush-status.ensures.fault) in
-    record {
-      answers = all.collected.answers;
-      count = all.collected.count;
-      few = all.collected.few;
-      refused = all.collected.refused;
-      printed = rw c.if-is_live.true gone;
-    }
+    record { collected = all.collected; printed = rw c.if-is_live.true gone }
 
 pub returns-clause-ok : goal.returns-clause-ok
 returns-clause-ok g c =
     let all = c.in_ok-outcomes.ensures in
     record {
-      answers = all.collected.answers;
-      count = all.collected.count;
-      few = all.collected.few;
-      refused = all.collected.refused;
+      collected = all.collected;
       printed = rw c.if-is_live.false (rw c.deref-2.ensures.value at c.print-status.ensures);
     }
