@@ -1,51 +1,20 @@
 //! The end of a collection with live printing: each sender is settled, and its last lines are
 //! printed.
 
-ghost use Rattle.std.specs.Prelude.{◌≡◌, ◌≤◌, ℕ, [], List, Option, IfSome, Some, length};
-ghost use Rattle.std.specs.Prelude.{vec_capacity};
-ghost use Rattle.asan_print.specs.Logs.{Line, Printed, lines_of, report_lines};
-ghost use Rattle.asan_print.specs.Ports.{Follows, port_lane, taken_at};
-ghost use Rattle.asan_collect.specs.Arrivals.{Pairwise};
-ghost use Rattle.asan_collect.specs.Closings.{Closes};
-ghost use Rattle.asan_collect.specs.Live.{ArePrinted};
-ghost use Rattle.asan_collect.specs.Ranges.{most_senders};
-ghost use Rattle.asan_collect.specs.ReportLanes.{AllFit, Fits, lanes_of};
-ghost use Rattle.asan_collect.specs.Senders.{AllJoined, Gets, IsJoined};
+ghost use Rattle.std.specs.Prelude.{◌≡◌, ◌≤◌, ℕ, [], List, Option, length, vec_capacity};
+ghost use Rattle.asan_print.specs.Ports.{Follows};
+ghost use Rattle.asan_senders.specs.Arrivals.{Pairwise};
+ghost use Rattle.asan_senders.specs.Live.{ArePrinted};
+ghost use Rattle.asan_senders.specs.Ranges.{most_senders};
+ghost use Rattle.asan_senders.specs.ReportLanes.{AllFit, lanes_of};
+ghost use Rattle.asan_senders.specs.Senders.{AllJoined, Gets};
 
-use crate::live::Live;
-use crate::printers::Printers;
-use crate::returns::{Answer, settle_sender};
-use crate::sender::Sender;
-use asan_print::{LivePrinter, Port};
+use asan_senders::{Live, Printers, Sender, close};
 use asan_stream::Outcome;
 use std::alloc::Allocator;
 use std::io::Write;
 use std::mem;
 use trace_feed::Feed;
-
-/// What became of a sender, whose last lines are printed.
-fn close<F: Feed + Drop, W: Write, A: Allocator + Copy>(
-    printer: &mut LivePrinter<A>,
-    w: &mut W,
-    process: u32,
-    sender: Sender<F, A>,
-    port: Option<Port<A>>,
-) -> Outcome<F, A>
-    requires joined { IsJoined sender }
-    requires port { IfSome port (λ p. Fits (Some (port_lane p)) sender) }
-    ensures outcome { Gets F.seen sender result }
-    ensures lines { (start : Option (List ℕ)) (log : List Line) →
-        Printed start (W.contents w.old) printer.old log →
-        lines_of process log ≡ report_lines process (taken_at port) →
-        Closes start (W.contents w.new) printer.new process result log }
-{
-    let Answer { outcome, printed } = settle_sender(sender, port);
-    let reports = outcome.reports();
-    // An unsettled sender has none of the reports that were printed.
-    let printed = (printed as usize).min(reports.len());
-    printer.close(w, process, &reports[printed..], &outcome.ending());
-    outcome
-}
 
 /// What became of each sender, in order, whose last lines are printed. There is room for all
 /// outcomes.

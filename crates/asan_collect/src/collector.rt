@@ -1,13 +1,11 @@
 //! Collecting: all senders of a door are read and checked, each on its own lane.
 
 ghost use Rattle.std.specs.Prelude.{◌≡◌, ◌≤◌, ◌^◌, IfOk, OnErr};
-ghost use Rattle.asan_collect.specs.Collected.{AreCollected};
+ghost use Rattle.asan_senders.specs.Collected.{AreCollected};
 
 use crate::NoMemory;
-use crate::arrivals::{MOST_SENDERS, ask};
-use crate::lanes::{Seats, open_all};
-use crate::returns::{place_all, settle_all};
 use crate::threads::{Returned, run_all};
+use asan_senders::{MOST_SENDERS, Seats, ask, open_all, place_all, settle_all};
 use asan_stream::{Gate, Options, Outcome};
 use std::alloc::Allocator;
 use std::sync::Wait;

@@ -1,33 +1,21 @@
 //! Collecting with live printing: each report is printed while its process still runs.
 
 ghost use Rattle.std.specs.Prelude.{◌≡◌, ◌≤◌, ◌^◌, IfOk, OnErr};
-ghost use Rattle.asan_collect.specs.Collected.{AreCollected};
-ghost use Rattle.asan_collect.specs.Live.{ArePrinted};
+ghost use Rattle.asan_senders.specs.Collected.{AreCollected};
+ghost use Rattle.asan_senders.specs.Live.{ArePrinted};
 
 use crate::NoMemory;
-use crate::arrivals::{MOST_SENDERS, ask};
 use crate::closing::close_all;
-use crate::lanes::{Seats, open_all};
-use crate::printers::Printers;
-use crate::returns::place_all;
 use crate::threads::{Returned, run_printing};
-use asan_print::{LivePrinter, WriteFault};
-use asan_stream::{Gate, Options, Outcome};
-use std::alloc::{Allocator, Global};
+use asan_print::LivePrinter;
+use asan_senders::{Live, MOST_SENDERS, Printers, Seats, ask, open_all, place_all};
+use asan_stream::{Gate, Options};
+use std::alloc::Allocator;
 use std::io::Write;
 use std::sync::Wait;
 use std::thread::Threads;
 use std::time::Clock;
 use trace_feed::Door;
-
-/// What became of all senders, and whether all lines went out.
-#[derive(Drop)]
-pub struct Live<F, A: Allocator + Copy = Global> {
-    /// In the order of the answers of the door, as those of [`collect`](crate::collect).
-    pub outcomes: Vec<Outcome<F, A>, A>,
-    /// `Ok` where all lines went out. In a fault exactly the first `written` bytes of them did.
-    pub wrote: Result<(), WriteFault>,
-}
 
 /// Does what [`collect`](crate::collect) does, and prints each report while its process still runs.
 /// All checkers work on threads of their own, and the calling thread prints. A report reaches it

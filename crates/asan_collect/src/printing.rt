@@ -1,9 +1,9 @@
 //! The calling thread of a collection with live printing: it prints what the checkers report.
 
-ghost use Rattle.asan_collect.specs.Closings.{HasPrinted};
+ghost use Rattle.asan_senders.specs.Closings.{HasPrinted};
 
 use crate::at_work::AtWork;
-use crate::printers::Printers;
+use asan_senders::Printers;
 use asan_stream::Pause;
 use std::alloc::Allocator;
 use std::io::Write;

@@ -1,13 +1,12 @@
-//! Readers on threads of their own: all are started, and later all are joined.
+//! Readers on threads of their own: all are started.
 
 ghost use Rattle.std.specs.Prelude.{◌≡◌, ◌<◌, ◌≤◌};
 ghost use Rattle.asan_stream.specs.Ranges.{most_events};
 ghost use Rattle.asan_stream.specs.Readers.{IsReaderOf};
-ghost use Rattle.asan_collect.specs.Senders.{AllFresh, Each, Ends, IsFresh, WillBe};
+ghost use Rattle.asan_senders.specs.Senders.{AllFresh, Each, IsFresh, WillBe};
 
 use crate::crew::Crew;
-use crate::reading::Reading;
-use crate::sender::Sender;
+use asan_senders::{Reading, Sender};
 use asan_stream::{Gate, ReaderDone, run_reader};
 use std::alloc::Allocator;
 use std::mem;
@@ -80,38 +79,5 @@ pub(crate) fn start_readers<
 {
     for i in 0..senders.len() {
         start_at(crew, &mut senders[i]);
-    }
-}
-
-/// Waits for the reader, where one was started.
-fn finish<F: Feed + Drop, A: Allocator + Copy, R: Threads>(
-    rt: &R,
-    sender: Sender<F, A>,
-) -> Sender<F, A>
-    ensures { Ends F.seen sender result }
-{
-    match sender {
-        Sender::Running(handle) => Sender::Read(handle.join(rt)),
-        other => other,
-    }
-}
-
-/// Waits for the reader of a sender, if it has one, and leaves what it did in its place.
-fn finish_at<F: Feed + Drop, A: Allocator + Copy, R: Threads>(rt: &R, sender: &mut Sender<F, A>)
-    ensures { Ends F.seen sender.old sender.new }
-{
-    let was = mem::replace(sender, Sender::NotStarted);
-    let _ = mem::replace(sender, finish(rt, was));
-}
-
-/// Waits for all readers.
-pub(crate) fn join_readers<F: Feed + Drop, A: Allocator + Copy, R: Threads>(
-    rt: &R,
-    senders: &mut Vec<Sender<F, A>, A>,
-)
-    ensures { Each (Ends F.seen) senders.old.items senders.new.items }
-{
-    for i in 0..senders.len() {
-        finish_at(rt, &mut senders[i]);
     }
 }

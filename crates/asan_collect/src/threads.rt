@@ -1,18 +1,17 @@
 //! All threads of one collection: the checkers, the readers, and the calling thread.
 
 ghost use Rattle.std.specs.Prelude.{◌≡◌, ◌<◌, ◌≤◌, [], vec_capacity, vec_len};
-ghost use Rattle.asan_collect.specs.Arrivals.{Pairwise};
-ghost use Rattle.asan_collect.specs.Closings.{HasPrinted};
-ghost use Rattle.asan_collect.specs.Senders.{AllFresh, Becomes, Each, Ends, WillBe};
-ghost use Rattle.asan_collect.specs.Shares.{ComesBack, Returns, WillComeBack};
+ghost use Rattle.asan_senders.specs.Arrivals.{Pairwise};
+ghost use Rattle.asan_senders.specs.Closings.{HasPrinted};
+ghost use Rattle.asan_senders.specs.Senders.{AllFresh, Becomes, Each, WillBe};
+ghost use Rattle.asan_senders.specs.Shares.{ComesBack, WillComeBack};
 
 use crate::at_work::AtWork;
-use crate::checker_threads::{CheckerThread, give_up_senders, join_checkers, start_checkers};
+use crate::checker_threads::start_checkers;
 use crate::crew::Crew;
-use crate::printers::Printers;
 use crate::printing::print_to_the_end;
-use crate::reader_threads::{join_readers, start_readers};
-use crate::sender::Sender;
+use crate::reader_threads::start_readers;
+use asan_senders::{CheckerThread, Printers, Sender, give_up_senders, join_all};
 use asan_stream::{Bench, Gate, Options, run_checker};
 use std::alloc::Allocator;
 use std::io::Write;
@@ -56,22 +55,6 @@ fn start_all<
     give_up_senders(senders, &checkers);
     start_readers(crew, senders);
     checkers
-}
-
-/// Waits for the readers, and then for the checkers.
-fn join_all<F: Feed + Drop, A: Allocator + Copy, R: Threads>(
-    rt: &R,
-    alloc: A,
-    senders: &mut Vec<Sender<F, A>, A>,
-    shares: &mut Vec<Vec<Bench<A>, A>, A>,
-    checkers: Vec<CheckerThread<A>, A>,
-)
-    requires { vec_len checkers ≡ vec_len shares.old }
-    ensures senders { Each (Ends F.seen) senders.old.items senders.new.items }
-    ensures shares { Pairwise Returns checkers.items shares.new.items }
-{
-    join_readers(rt, senders);
-    join_checkers(rt, alloc, checkers, shares);
 }
 
 /// Runs the readers and all checkers but the first on threads of their own, and the first checker

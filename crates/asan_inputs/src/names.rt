@@ -1,12 +1,12 @@
 //! The names of the files to check, one of which may be that of standard input.
 
 ghost use Rattle.std.specs.Prelude.{◌≡◌, ◌<◌, ◌≤◌, ◌↔◌, Err, IfOk, length, map, string_bytes};
-ghost use Rattle.asan_collect.specs.Ranges.{most_senders};
+ghost use Rattle.asan_senders.specs.Ranges.{most_senders};
 ghost use Rattle.asan_inputs.specs.declared.names.BadNames.TheVariants.{NoMemory};
 ghost use Rattle.asan_inputs.specs.Sources.{inputs_among};
 
 use crate::input_door::INPUT;
-use asan_collect::MOST_SENDERS;
+use asan_senders::MOST_SENDERS;
 use std::alloc::{AllocError, AllocFailed, Global};
 
 /// Why the files of some names are not checked.

@@ -1,9 +1,10 @@
 //! The socket that senders connect to.
 
 ghost use Rattle.std.specs.Prelude.{◌≡◌, ◌<◌, ◌≤◌, ◌↔◌, [], IfOk, IsErr, IsTrue, string_bytes};
-ghost use Rattle.asan_collect.specs.Ranges.{most_senders};
+ghost use Rattle.asan_senders.specs.Ranges.{most_senders};
 
-use asan_collect::{MOST_SENDERS, Options};
+use asan_senders::MOST_SENDERS;
+use asan_stream::Options;
 use std::net::Net;
 use std::os::unix::net::UnixListener;
 use std::rt::Files;

@@ -1,14 +1,14 @@
 //! The program, over the words of its command line, a reader and two writers.
 
 ghost use Rattle.std.specs.Prelude.{◌≡◌, ◌≢◌, ◌≤◌, ◌⊎◌, [], false};
-ghost use Rattle.asan_collect.specs.Statuses.{unchecked, unwritten};
+ghost use Rattle.asan_senders.specs.Statuses.{unchecked, unwritten};
 ghost use Rattle.asan_inputs.specs.Verbose.{is_verbose};
 ghost use Rattle.asan_session.specs.Printed.{IsInputPrinted};
 ghost use Rattle.asan_request.specs.Refusals.{IsStatusFor, refused};
 
-use asan_collect::{UNCHECKED, UNWRITTEN};
 use asan_inputs::{Serving, door_of, listen};
 use asan_request::{Refusal, Request, read_words};
+use asan_senders::{UNCHECKED, UNWRITTEN};
 use asan_session::{no_memory, report_each, report_feed, say};
 use clap::error::ErrorKind;
 use std::alloc::AllocError;

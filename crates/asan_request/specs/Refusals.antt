@@ -3,7 +3,7 @@ use Rattle.std.specs.Prelude.{◌≡◌, ℕ, ◌⊎◌}
 use Rattle.clap.specs.declared.error.Error.{Error}
 use Rattle.clap.specs.declared.error.kind.ErrorKind.{ErrorKind}
 use Rattle.clap.specs.declared.error.kind.ErrorKind.TheVariants as kind
-use Rattle.asan_collect.specs.Statuses.{unchecked, unwritten}
+use Rattle.asan_senders.specs.Statuses.{unchecked, unwritten}
 use Rattle.asan_inputs.specs.declared.names.BadNames.{BadNames}
 use Rattle.asan_inputs.specs.declared.names.BadNames.TheVariants as names
 use Rattle.asan_request.specs.declared.refusal.Refusal.{Refusal}

@@ -1,6 +1,6 @@
 -- What the words of the command line ask for.
 use Rattle.std.specs.Prelude.{◌≡◌, ◌≤◌, false, length}
-use Rattle.asan_collect.specs.Ranges.{most_senders}
+use Rattle.asan_senders.specs.Ranges.{most_senders}
 use Rattle.asan_request.specs.declared.request.Request.{Request}
 use Rattle.asan_request.specs.declared.request.Request.TheVariants as request
 

@@ -1,8 +1,7 @@
 //! The commands that the command line may have, and their arguments.
 
-use asan_collect::{
-    LEAST_MEMORY, MOST_EVENTS, MOST_MEMORY, MOST_RING, MOST_SENDERS, MOST_WORKERS, Options,
-};
+use asan_senders::MOST_SENDERS;
+use asan_stream::{LEAST_MEMORY, MOST_EVENTS, MOST_MEMORY, MOST_RING, MOST_WORKERS, Options};
 use asan_units::LARGEST_QUARANTINE;
 use clap::{Arg, ArgAction, Command, value_parser};
 use std::alloc::{AllocError, Global};

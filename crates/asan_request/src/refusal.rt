@@ -6,8 +6,8 @@ ghost use Rattle.asan_request.specs.Refusals.{refusal_of, refusal_of_names};
 ghost use Rattle.asan_request.specs.declared.refusal.Refusal.TheVariants.{NoMemory};
 ghost use Rattle.asan_request.specs.declared.refusal.Refusal.TheVariants.{OptionOutOfRange};
 
-use asan_collect::BadOption;
 use asan_inputs::BadNames;
+use asan_stream::BadOption;
 use clap::Error;
 use clap::error::ErrorKind;
 use std::alloc::AllocError;

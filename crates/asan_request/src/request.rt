@@ -1,7 +1,7 @@
 //! What the words of the command line ask for.
 
-use asan_collect::Options;
 use asan_inputs::Serving;
+use asan_stream::Options;
 
 /// What to do.
 #[derive(Drop)]

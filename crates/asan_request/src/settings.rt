@@ -6,7 +6,7 @@ ghost use Rattle.asan_request.specs.Settings.{AreOptionsOf, AreSizesOf, IsBadOpt
 ghost use Rattle.asan_request.specs.Settings.{IsSetIfGiven};
 
 use crate::arguments::{LIMIT, MEMORY, QUARANTINE, RING, WORKERS};
-use asan_collect::{BadOption, Options};
+use asan_stream::{BadOption, Options};
 use clap::ArgMatches;
 
 /// The options that were found, and the usual ones in place of those that were not.

@@ -6,10 +6,10 @@ use Rattle.std.specs.Io.KnownBytes.{Appends, Keeps}
 use Rattle.std.proofs.KnownBytes.{Appends-kept}
 use Rattle.std.proofs.lemmas.List.{take_all}
 use Rattle.asan_stream.specs.declared.outcome.Outcome.{Outcome}
-use Rattle.asan_collect.specs.Statuses.{status_of, unwritten}
+use Rattle.asan_senders.specs.Statuses.{status_of, unwritten}
 use Rattle.asan_print.specs.declared.fault.WriteFault.{WriteFault}
 use Rattle.asan_print.specs.Logs.{joined}
-use Rattle.asan_collect.specs.Live.{ArePrinted}
+use Rattle.asan_senders.specs.Live.{ArePrinted}
 use Rattle.asan_session.specs.Printed.{HasGoneOut, IsPrintedLive}
 
 whole_front : (text : List ℕ) → take (length text) text ≡ text

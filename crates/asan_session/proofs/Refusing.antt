@@ -8,8 +8,8 @@ use Rattle.asan_stream.specs.declared.outcome.Outcome.TheVariants as outcome
 use Rattle.trace_feed.specs.Doors.{DoorState}
 use Rattle.trace_feed.specs.Feeds.{FeedState}
 use Rattle.asan_stream.specs.declared.options.Options.{Options}
-use Rattle.asan_collect.specs.Counts.{not_opened, not_opened_among}
-use Rattle.asan_collect.specs.Statuses.{is_closed, status_of, unchecked, unwritten}
+use Rattle.asan_senders.specs.Counts.{not_opened, not_opened_among}
+use Rattle.asan_senders.specs.Statuses.{is_closed, status_of, unchecked, unwritten}
 use Rattle.asan_session.specs.Printed.{AreSendersPrinted, IsPrintedAs}
 
 module _ {F A : Type 0} where

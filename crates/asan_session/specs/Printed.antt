@@ -10,11 +10,11 @@ use Rattle.trace_feed.specs.Doors.{DoorState}
 use Rattle.trace_feed.specs.Feeds.{FeedState}
 use Rattle.asan_stream.specs.declared.options.Options.{Options}
 use Rattle.asan_stream.specs.declared.outcome.Outcome.{Outcome}
-use Rattle.asan_collect.specs.Collected.{AreCollected}
-use Rattle.asan_collect.specs.Live.{AreLinesOf}
+use Rattle.asan_senders.specs.Collected.{AreCollected}
+use Rattle.asan_senders.specs.Live.{AreLinesOf}
 use Rattle.asan_stream.specs.Outcomes.{IsOutcomeOf}
-use Rattle.asan_collect.specs.Statuses.{status_of, unwritten}
-use Rattle.asan_collect.specs.Texts.{texts_from}
+use Rattle.asan_senders.specs.Statuses.{status_of, unwritten}
+use Rattle.asan_senders.specs.Texts.{texts_from}
 use Rattle.asan_session.specs.Usual.{AreUsual}
 
 -- a `&` to an allocator that refuses: one that may have a bound

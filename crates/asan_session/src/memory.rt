@@ -1,7 +1,7 @@
 //! The memory of the checkers, where it is bounded.
 
 ghost use Rattle.std.specs.Prelude.{◌≡◌, All, IfOk, Some, length};
-ghost use Rattle.asan_collect.specs.Ranges.{most_senders};
+ghost use Rattle.asan_senders.specs.Ranges.{most_senders};
 ghost use Rattle.refusing_allocator.specs.Rules.{bound_of};
 
 use asan_collect::MOST_SENDERS;

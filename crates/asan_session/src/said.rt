@@ -1,7 +1,7 @@
 //! What is said where no trace is checked, and the status that goes with it.
 
 ghost use Rattle.std.specs.Prelude.{◌≡◌};
-ghost use Rattle.asan_collect.specs.Statuses.{unchecked};
+ghost use Rattle.asan_senders.specs.Statuses.{unchecked};
 
 use asan_collect::UNCHECKED;
 use std::fmt::Display;

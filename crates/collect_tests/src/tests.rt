@@ -4,7 +4,7 @@
 ghost use Rattle.std.specs.Prelude.{◌≡◌, ◌≤◌, All, IfOk, length};
 ghost use Rattle.asan_stream.specs.Outcomes.{reports_of};
 ghost use Rattle.asan_stream.specs.Ranges.{most_reports};
-ghost use Rattle.asan_collect.specs.Ranges.{most_senders};
+ghost use Rattle.asan_senders.specs.Ranges.{most_senders};
 
 mod bench;
 mod checker_refusals;

@@ -1,7 +1,7 @@
 //! Tests of `collect`: doors of all kinds, each ring and each number of checkers.
 
 ghost use Rattle.std.specs.Prelude.{◌≡◌, ◌≤◌, ◌^◌, All, IfOk, length};
-ghost use Rattle.asan_collect.specs.Ranges.{most_senders};
+ghost use Rattle.asan_senders.specs.Ranges.{most_senders};
 ghost use Rattle.asan_stream.specs.Outcomes.{reports_of};
 ghost use Rattle.asan_stream.specs.Ranges.{most_reports};
 

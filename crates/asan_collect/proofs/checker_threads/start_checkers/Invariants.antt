@@ -1,6 +1,6 @@
 use Rattle.std.proofs.Common.{◌≡◌, vec_len, vec_capacity, slice_index_or}
-use Rattle.asan_collect.specs.Shares.{WillComeBack}
-use Rattle.asan_collect.proofs.Going.{Going}
+use Rattle.asan_senders.specs.Shares.{WillComeBack}
+use Rattle.asan_senders.proofs.Going.{Going}
 use Rattle.asan_collect.proofs.checker_threads.start_checkers.Given as goal
 
 abbrev pub invariant-loop-k : goal.invariant-loop-k

@@ -4,9 +4,9 @@ use Rattle.std.proofs.lemmas.Bool.{cases_eq}
 use Rattle.std.proofs.lemmas.List.{get_or_default, get_or-set_other}
 use Rattle.asan_print.specs.Logs.{lines_of, report_lines}
 use Rattle.asan_print.specs.Ports.{lane_at, taken_at}
-use Rattle.asan_collect.specs.ReportLanes.{Fits, lanes_of}
-use Rattle.asan_collect.specs.Senders.{IsJoined}
-use Rattle.asan_collect.proofs.LastLines.{all_closed, fits_at_port, none_closed, one_closed}
+use Rattle.asan_senders.specs.ReportLanes.{Fits, lanes_of}
+use Rattle.asan_senders.specs.Senders.{IsJoined}
+use Rattle.asan_senders.proofs.LastLines.{all_closed, fits_at_port, none_closed, one_closed}
 use Rattle.asan_collect.proofs.closing.close_all.Goals as goal
 
 pub loop-i-init : goal.loop-i-init

@@ -1,9 +1,9 @@
 use Rattle.std.proofs.Common.{◌≡◌, ◌≤◌, ℕ, List, Option, vec_len, vec_capacity, slice_index_or}
 use Rattle.asan_print.specs.declared.port.Port.{Port}
 use Rattle.asan_print.specs.Ports.{Follows}
-use Rattle.asan_collect.specs.Closings.{HasClosed}
-use Rattle.asan_collect.specs.Senders.{Gets}
-use Rattle.asan_collect.proofs.Going.{Going}
+use Rattle.asan_senders.specs.Closings.{HasClosed}
+use Rattle.asan_senders.specs.Senders.{Gets}
+use Rattle.asan_senders.proofs.Going.{Going}
 use Rattle.asan_collect.proofs.closing.close_all.Given as goal
 
 abbrev pub invariant-loop-i : goal.invariant-loop-i

@@ -1,9 +1,9 @@
 use Rattle.std.proofs.Common.{rules}
-use Rattle.asan_collect.specs.Senders.{Becomes}
-use Rattle.asan_collect.proofs.Rights.{pairs_joined}
-use Rattle.asan_collect.proofs.Dealing.{shares_back, shares_kept}
-use Rattle.asan_collect.proofs.Senders.{becomes_keeps, pairs_back}
-use Rattle.asan_collect.proofs.Collected.{collected}
+use Rattle.asan_senders.specs.Senders.{Becomes}
+use Rattle.asan_senders.proofs.Rights.{pairs_joined}
+use Rattle.asan_senders.proofs.Dealing.{shares_back, shares_kept}
+use Rattle.asan_senders.proofs.Senders.{becomes_keeps, pairs_back}
+use Rattle.asan_senders.proofs.Collected.{collected}
 use Rattle.asan_collect.proofs.collector.collect_within.Goals as goal
 
 pub returns-clause-collected : goal.returns-clause-collected

@@ -1,12 +1,12 @@
 use Rattle.std.proofs.Common.{arith, rules}
-use Rattle.asan_collect.specs.Senders.{Becomes}
-use Rattle.asan_collect.proofs.Rights.{pairs_joined}
-use Rattle.asan_collect.proofs.Dealing.{shares_back, shares_kept}
-use Rattle.asan_collect.specs.ReportLanes.{lanes_of}
-use Rattle.asan_collect.proofs.LastLines.{follows_start}
-use Rattle.asan_collect.proofs.ReportLanes.{fit_read, fit_same, have_back}
-use Rattle.asan_collect.proofs.Senders.{becomes_keeps, pairs_back}
-use Rattle.asan_collect.proofs.Collected.{collected}
+use Rattle.asan_senders.specs.Senders.{Becomes}
+use Rattle.asan_senders.proofs.Rights.{pairs_joined}
+use Rattle.asan_senders.proofs.Dealing.{shares_back, shares_kept}
+use Rattle.asan_senders.specs.ReportLanes.{lanes_of}
+use Rattle.asan_senders.proofs.LastLines.{follows_start}
+use Rattle.asan_senders.proofs.ReportLanes.{fit_read, fit_same, have_back}
+use Rattle.asan_senders.proofs.Senders.{becomes_keeps, pairs_back}
+use Rattle.asan_senders.proofs.Collected.{collected}
 use Rattle.asan_collect.proofs.live.collect_live_within.Goals as goal
 
 pub returns-clause-collected : goal.returns-clause-collected

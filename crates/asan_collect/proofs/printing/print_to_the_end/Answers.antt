@@ -1,5 +1,5 @@
 use Rattle.asan_print.specs.Ports.{SameLanes}
-use Rattle.asan_collect.proofs.ReportLanes.{same_lanes, same_lanes_on, written_back}
+use Rattle.asan_senders.proofs.ReportLanes.{same_lanes, same_lanes_on, written_back}
 use Rattle.asan_collect.proofs.printing.print_to_the_end.Goals as goal
 
 pub loop-init : goal.loop-init

@@ -1,4 +1,4 @@
-use Rattle.asan_collect.specs.Closings.{HasPrinted}
+use Rattle.asan_senders.specs.Closings.{HasPrinted}
 use Rattle.asan_collect.proofs.printing.print_to_the_end.Given as goal
 
 abbrev pub invariant-loop : goal.invariant-loop

@@ -1,7 +1,7 @@
 use Rattle.std.proofs.Common.{◌≡◌, ◌<◌, ◌≤◌, ◌∙◌, sym, subst, length, arith, rules, slice_index_or}
 use Rattle.std.proofs.lemmas.List.{get_or_default}
-use Rattle.asan_collect.specs.Senders.{IsFresh, WillBe}
-use Rattle.asan_collect.proofs.Senders.{upto_all, upto_none, upto_set}
+use Rattle.asan_senders.specs.Senders.{IsFresh, WillBe}
+use Rattle.asan_senders.proofs.Senders.{upto_all, upto_none, upto_set}
 use Rattle.asan_collect.proofs.reader_threads.start_readers.Goals as goal
 
 pub loop-i-init : goal.loop-i-init

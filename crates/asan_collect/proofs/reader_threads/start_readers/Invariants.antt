@@ -1,5 +1,5 @@
-use Rattle.asan_collect.specs.Senders.{WillBe}
-use Rattle.asan_collect.proofs.Senders.{Upto}
+use Rattle.asan_senders.specs.Senders.{WillBe}
+use Rattle.asan_senders.proofs.Senders.{Upto}
 use Rattle.asan_collect.proofs.reader_threads.start_readers.Given as goal
 
 abbrev pub invariant-loop-i : goal.invariant-loop-i

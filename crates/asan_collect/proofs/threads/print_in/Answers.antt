@@ -1,4 +1,4 @@
-use Rattle.asan_collect.proofs.Dealing.{checked_all, read_all}
+use Rattle.asan_senders.proofs.Dealing.{checked_all, read_all}
 use Rattle.asan_collect.proofs.threads.print_in.Goals as goal
 
 pub returns-clause-senders : goal.returns-clause-senders

@@ -1,8 +1,8 @@
 use Rattle.std.proofs.Common.{◌≡◌, rules, arith, ◌∙◌, inl, ◌<◌, length, slice_index_or}
 use Rattle.std.proofs.lemmas.List.{get_or_default, length-set}
-use Rattle.asan_collect.specs.Shares.{ComesBack}
-use Rattle.asan_collect.proofs.Dealing.{checked_all, read_all}
-use Rattle.asan_collect.proofs.Senders.{each_put}
+use Rattle.asan_senders.specs.Shares.{ComesBack}
+use Rattle.asan_senders.proofs.Dealing.{checked_all, read_all}
+use Rattle.asan_senders.proofs.Senders.{each_put}
 use Rattle.asan_collect.proofs.threads.run_in.Goals as goal
 
 pub returns-clause-senders : goal.returns-clause-senders

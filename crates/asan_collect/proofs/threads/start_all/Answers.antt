@@ -1,7 +1,7 @@
-use Rattle.asan_collect.specs.Senders.{WillBe}
-use Rattle.asan_collect.specs.Shares.{GivesUp}
-use Rattle.asan_collect.proofs.Dealing.{fresh_left, will_after}
-use Rattle.asan_collect.proofs.Senders.{each_after}
+use Rattle.asan_senders.specs.Senders.{WillBe}
+use Rattle.asan_senders.specs.Shares.{GivesUp}
+use Rattle.asan_senders.proofs.Dealing.{fresh_left, will_after}
+use Rattle.asan_senders.proofs.Senders.{each_after}
 use Rattle.asan_collect.proofs.threads.start_all.Goals as goal
 
 pub start_readers-requires-clause-fresh : goal.start_readers-requires-clause-fresh

@@ -1,5 +1,0 @@
-use Rattle.asan_collect.proofs.Answering.{outcome_of_bytes}
-use Rattle.asan_collect.proofs.laws.answers_are_outcomes.Goals as goal
-
-pub returns : goal.returns
-returns g c = outcome_of_bytes

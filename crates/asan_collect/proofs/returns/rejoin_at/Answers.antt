@@ -1,5 +1,0 @@
-use Rattle.asan_collect.proofs.returns.rejoin_at.Goals as goal
-
-pub returns-clause-fits : goal.returns-clause-fits
-returns-clause-fits g c = λ lane fits keeps.
-    rw c.replace.ensures.after (c.rejoin.ensures.fits lane (rw c.replace-was.ensures.value fits) keeps)

@@ -1,0 +1,12 @@
+pub mod Senders
+pub mod Dealing
+pub mod ReportLanes
+pub mod LastLines
+pub mod Going
+mod Arriving
+mod Counting
+pub mod Collected
+pub mod Rights
+mod Prints
+mod Answering
+pub mod Refuted

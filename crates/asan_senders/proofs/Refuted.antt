@@ -1,0 +1,89 @@
+-- Outcomes, texts and statuses that the contracts refuse.
+-- Each lemma is named for what would have gone wrong.
+use Rattle.std.proofs.Common.{◌≡◌, ◌⊎◌, inl, inr, ℕ, true, false, List, [], ◌∷◌, Some, refl, sym, ap, ◌∙◌, arith}
+use Rattle.std.specs.Prelude.{◌≢◌, IsTrue, Vec}
+use Rattle.std.specs.Io.KnownBytes.{Appends}
+use Rattle.trace_record.specs.declared.end.End.{End}
+use Rattle.trace_record.specs.declared.end.Fate.TheVariants as fate
+use Rattle.trace_feed.specs.Feeds.{FeedState}
+use Rattle.trace_feed.specs.declared.door.Arrival.TheVariants as arrival
+use Rattle.asan_check.specs.declared.report.Report.{Report}
+use Rattle.asan_check.specs.Lines.{end_line, report_line}
+use Rattle.asan_stream.specs.declared.options.Options.{Options}
+use Rattle.asan_stream.specs.declared.outcome.Outcome.TheVariants as outcome
+use Rattle.asan_senders.specs.Arrivals.{IsAnswerTo}
+use Rattle.asan_senders.specs.Live.{ArePrintedOf}
+use Rattle.asan_stream.specs.Outcomes.{faults_of, ending_of}
+use Rattle.asan_stream.proofs.Refuted.{end_as}
+use Rattle.asan_senders.specs.Ranges.{most_senders}
+use Rattle.asan_senders.specs.Statuses.{clean, reported, status_of}
+
+-- ---- answers
+
+module _ {F A : Type 0} (seen : F → FeedState) (options : Options) where
+  -- another sender's failed read ends this one, of whose feed no read failed
+  one_fault_ends_the_others :
+      (feed after : F) (n offset : ℕ) (reports : Vec Report A) → (seen after).faults ≡ 0 →
+      ¬ IsAnswerTo seen options (arrival.Came feed)
+      (outcome.Settled after (end_as fate.ReadFailed n offset) reports)
+  one_fault_ends_the_others feed after n offset reports none answer =
+      let none_is_one : ◌≡◌ {A = ℕ} 0 1 =
+      sym none ∙ ap (λ f. (seen f).faults) answer.4.0 ∙ answer.3.faults_are
+      ∙ ap (λ e. faults_of e.fate) (sym answer.4.1)
+      in absurd (omega arith)
+
+-- the outcome of a feed that came is that of one that was refused
+not_opened_for_a_feed_that_came :
+    (F A : Type 0) (seen : F → FeedState) (options : Options) (feed : F) →
+    ¬ IsAnswerTo {F = F} {A = A} seen options (arrival.Came feed) outcome.NotOpened
+not_opened_for_a_feed_that_came F A seen options feed answer = answer
+
+-- ---- arrivals
+
+-- no more are asked for after 255, and the door is not over
+stops_asking_at_255 : ¬ (IsTrue false ⊎ ◌≡◌ {A = ℕ} 255 most_senders)
+stops_asking_at_255 (inl over) = absurd cc
+stops_asking_at_255 (inr all) = absurd (omega arith)
+
+-- ---- lines
+
+abbrev first_line : List (List ℕ) → List ℕ
+first_line [] = []
+first_line (line ∷ lines) = line
+
+-- the end line of a process, which is no line of a report, stands before that of its last report
+end_line_before_last_report :
+    (F A : Type 0) (feed : F) (end : End) (process : ℕ) (last : Report) (reports : Vec Report A) →
+    reports.items ≡ last ∷ [] →
+    end_line process (ending_of (outcome.Settled feed end reports)) ≢ report_line process last →
+    ¬ ArePrintedOf process (outcome.Settled feed end reports)
+    (end_line process (ending_of (outcome.Settled feed end reports))
+    ∷ report_line process last ∷ [])
+end_line_before_last_report F A feed end process last reports one apart printed =
+    let own : printed.reports ≡ last ∷ [] = printed.own refl ∙ one in
+    apart (ap first_line (rw own at printed.lines_are))
+
+-- ---- texts
+
+-- what was held back does not go out
+held_back_text_is_dropped : ¬ Appends (Some []) (Some []) (97 ∷ [])
+held_back_text_is_dropped appended = absurd cc
+
+-- ---- statuses
+
+module _ {F A : Type 0} (feed : F) (n offset : ℕ) (reports : Vec Report A) where
+  -- a stream without its close counts as checked to its close
+  no_close_counts_as_closed :
+      status_of {F = F} {A = A}
+      (outcome.Settled feed (end_as fate.NoClose n offset) reports ∷ []) true ≢ clean
+  no_close_counts_as_closed same = absurd (omega arith)
+
+  -- a sender that came to nothing counts as checked
+  not_started_counts_as_closed : status_of {F = F} {A = A} (outcome.NotStarted ∷ []) true ≢ clean
+  not_started_counts_as_closed same = absurd (omega arith)
+
+  -- a report hides that not everything was written
+  report_hides_a_failed_write :
+      status_of {F = F} {A = A}
+      (outcome.Settled feed (end_as fate.Closed n offset) reports ∷ []) false ≢ reported
+  report_hides_a_failed_write same = absurd (omega arith)

@@ -1,0 +1,131 @@
+-- How far a sender may come.
+use Rattle.std.specs.Prelude.{◌≡◌, ℕ, ◌<◌, List, [], length, slice_index_or, IfSome}
+use Rattle.trace_feed.specs.declared.door.Arrival.{Arrival}
+use Rattle.trace_feed.specs.declared.door.Arrival.TheVariants as arrival
+use Rattle.trace_feed.specs.Feeds.{FeedState}
+use Rattle.trace_lane.specs.Lanes.{Lane, in_lane, end_lane, put_list, end_list}
+use Rattle.asan_stream.specs.declared.options.Options.{Options}
+use Rattle.asan_stream.specs.declared.outcome.Outcome.{Outcome}
+use Rattle.asan_stream.specs.declared.bench.Bench.{Bench}
+use Rattle.asan_senders.specs.declared.sender.Sender.{Sender}
+use Rattle.asan_senders.specs.declared.sender.Sender.TheVariants as sender
+use Rattle.asan_stream.specs.declared.reader.ReaderDone.{ReaderDone}
+use Rattle.asan_stream.specs.Benches.{lane_of, process_of, bench_bound}
+use Rattle.asan_senders.specs.Arrivals.{IsAnswerTo}
+use Rattle.asan_stream.specs.Readers.{IsPut, IsReaderOf}
+
+-- each element has become that of the other list
+pub record Each {X : Type 0} (Becomes : X → X → Type 0) (xs ys : List X) : Type 0 where
+  pub same_length : length ys ≡ length xs
+  pub each :
+      (i : ℕ) (d : X) → i < length xs → Becomes (slice_index_or xs i d) (slice_index_or ys i d)
+
+module _ {F A : Type 0} (seen : F → FeedState) where
+  -- how far the sender that arrived so may have come
+  abbrev pub Came : Options → Arrival F → Sender F A → Type 0
+  Came options arrival.Refused s = s ≡ sender.NotOpened
+  Came options arrival.Over s = ⊥
+  Came options (arrival.Came feed) sender.NotOpened = ⊥
+  Came options (arrival.Came feed) sender.NotStarted = Unit {0}
+  Came options (arrival.Came feed) (sender.Ready f lane) = (f ≡ feed) × (put_list lane ≡ [])
+  Came options (arrival.Came feed) (sender.Running h) = ⊥
+  Came options (arrival.Came feed) (sender.Read d) =
+      IfSome d.lane_end (λ e. IsPut seen options.limit feed d.feed d.end [] (end_list e))
+  Came options (arrival.Came feed) (sender.Joined d b) =
+      (bench_bound b ≡ options.quarantine) × IfSome d.lane_end (λ e. end_lane e ≡ lane_of b)
+      × IfSome d.lane_end (λ e. IsPut seen options.limit feed d.feed d.end [] (end_list e))
+
+  -- no read of a feed that waits for its reader has failed
+  abbrev pub IsFresh : Sender F A → Type 0
+  IsFresh (sender.Ready f lane) = (seen f).faults ≡ 0
+  IsFresh sender.NotOpened = Unit {0}
+  IsFresh sender.NotStarted = Unit {0}
+  IsFresh (sender.Running h) = ⊥
+  IsFresh (sender.Read d) = Unit {0}
+  IsFresh (sender.Joined d b) = Unit {0}
+
+  pub record AllFresh (senders : List (Sender F A)) : Type 0 where
+    pub each : (i : ℕ) (d : Sender F A) → i < length senders → IsFresh (slice_index_or senders i d)
+
+  -- what a reader may make of a sender
+  abbrev pub Becomes : ℕ → Sender F A → Sender F A → Type 0
+  Becomes limit (sender.Ready feed lane) (sender.Read d) =
+      IsReaderOf seen limit feed lane d
+  Becomes limit (sender.Ready feed lane) sender.NotStarted = Unit {0}
+  Becomes limit (sender.Ready feed lane) sender.NotOpened = ⊥
+  Becomes limit (sender.Ready feed lane) (sender.Ready f l) = ⊥
+  Becomes limit (sender.Ready feed lane) (sender.Running h) = ⊥
+  Becomes limit (sender.Ready feed lane) (sender.Joined d b) = ⊥
+  Becomes limit sender.NotOpened s = s ≡ sender.NotOpened
+  Becomes limit sender.NotStarted s = s ≡ sender.NotStarted
+  Becomes limit (sender.Running h) s = ⊥
+  Becomes limit (sender.Read d) s = s ≡ sender.Read d
+  Becomes limit (sender.Joined d b) s = s ≡ sender.Joined d b
+
+  -- what a sender is while the readers run: what its reader promised is what may become of it
+  abbrev pub WillBe : ℕ → Sender F A → Sender F A → Type 0
+  WillBe limit s (sender.Running h) =
+      (d : ReaderDone F A) →
+      IsReaderOf seen h.promise.limit h.promise.feed.value h.promise.lane.value d
+      → Becomes limit s (sender.Read d)
+  WillBe limit s sender.NotOpened = Becomes limit s sender.NotOpened
+  WillBe limit s sender.NotStarted = Becomes limit s sender.NotStarted
+  WillBe limit s (sender.Ready feed lane) = Becomes limit s (sender.Ready feed lane)
+  WillBe limit s (sender.Read d) = Becomes limit s (sender.Read d)
+  WillBe limit s (sender.Joined d b) = Becomes limit s (sender.Joined d b)
+
+  -- the reader of a sender has ended, if it had one, and its promise was kept
+  abbrev pub Ends : Sender F A → Sender F A → Type 0
+  Ends s t = (limit : ℕ) (was : Sender F A) → WillBe limit was s → Becomes limit was t
+
+-- Whose lane a bench has.
+module _ {F A : Type 0} where
+  -- the lane of a sender, where it still has one
+  abbrev pub HasLane : Sender F A → Lane A → Type 0
+  HasLane sender.NotOpened x = Unit {0}
+  HasLane sender.NotStarted x = Unit {0}
+  HasLane (sender.Ready feed lane) x = in_lane lane ≡ x
+  HasLane (sender.Running h) x = Unit {0}
+  HasLane (sender.Read d) x = IfSome d.lane_end (λ e. end_lane e ≡ x)
+  HasLane (sender.Joined d b) x = Unit {0}
+
+  abbrev pub Keeps : Sender F A → Sender F A → Type 0
+  Keeps s t = (x : Lane A) → HasLane s x → HasLane t x
+
+  -- the bench has the lane of its sender, and this bound
+  pub record IsAt (bound : ℕ) (senders : List (Sender F A)) (b : Bench A) : Type 0 where
+    pub low : process_of b < length senders
+    pub bound_is : bench_bound b ≡ bound
+    pub lane : (d : Sender F A) → HasLane (slice_index_or senders (process_of b) d) (lane_of b)
+
+  pub record AreAt
+      (bound : ℕ) (senders : List (Sender F A)) (benches : List (Bench A)) : Type 0 where
+    pub each :
+        (i : ℕ) (d : Bench A) → i < length benches → IsAt bound senders (slice_index_or benches i d)
+
+module _ {F A : Type 0} where
+  -- a bench that is back has the lane that its reader ended
+  abbrev pub IsJoined : Sender F A → Type 0
+  IsJoined sender.NotOpened = Unit {0}
+  IsJoined sender.NotStarted = Unit {0}
+  IsJoined (sender.Ready feed lane) = Unit {0}
+  IsJoined (sender.Running h) = ⊥
+  IsJoined (sender.Read d) = Unit {0}
+  IsJoined (sender.Joined d b) = IfSome d.lane_end (λ e. end_lane e ≡ lane_of b)
+
+  pub record AllJoined (senders : List (Sender F A)) : Type 0 where
+    pub each : (i : ℕ) (d : Sender F A) → i < length senders → IsJoined (slice_index_or senders i d)
+
+module _ {F A : Type 0} (seen : F → FeedState) where
+  -- a bench of this bound may have come to the sender, which keeps what was right of it, and its
+  -- lane
+  pub record Rejoins (bound : ℕ) (s t : Sender F A) : Type 0 where
+    pub came :
+        (options : Options) (a : Arrival F) → bound ≡ options.quarantine →
+        Came seen options a s → Came seen options a t
+    pub lane : Keeps s t
+
+  -- the outcome is right where the sender was
+  abbrev pub Gets : Sender F A → Outcome F A → Type 0
+  Gets s result =
+      (options : Options) (a : Arrival F) → Came seen options a s → IsAnswerTo seen options a result

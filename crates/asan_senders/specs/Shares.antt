@@ -1,0 +1,75 @@
+-- The benches of each checker.
+use Rattle.std.specs.Prelude.{◌≡◌, ℕ, ◌<◌, ◌≤◌, ◌+◌, ◌*◌, ◌⊎◌, ◌++◌, ◌∷◌, List, [], Vec, length}
+use Rattle.std.specs.Prelude.{slice_index_or, slice_set, vec_capacity}
+use Rattle.asan_stream.specs.declared.bench.Bench.{Bench}
+use Rattle.asan_senders.specs.declared.checker_thread.CheckerThread.{CheckerThread}
+use Rattle.asan_senders.specs.declared.checker_thread.CheckerThread.TheVariants as running
+use Rattle.asan_senders.specs.declared.sender.Sender.{Sender}
+use Rattle.asan_senders.specs.declared.sender.Sender.TheVariants as sender
+use Rattle.asan_senders.specs.Ranges.{most_senders}
+use Rattle.asan_stream.specs.Benches.{EachLater}
+use Rattle.asan_senders.specs.Senders.{AreAt}
+
+-- the benches of one checker
+abbrev pub Share : Type 0 → Type 0
+Share A = Vec (Bench A) A
+
+module _ {A : Type 0} where
+  -- the benches came back, or were lost
+  abbrev pub ComesBack : Share A → Share A → Type 0
+  ComesBack before after = EachLater before.items after.items ⊎ (after.items ≡ [])
+
+  -- what became of the benches that a checker was to be started with
+  abbrev pub WillComeBack : Share A → CheckerThread A → Type 0
+  WillComeBack share (running.Idle benches) = ComesBack share benches
+  WillComeBack share (running.Running h) =
+      (benches : Share A) → EachLater h.promise.benches.value.items benches.items →
+      ComesBack share benches
+  WillComeBack share running.Lost = Unit {0}
+
+  -- a checker has ended, if one was started, and its promise was kept
+  abbrev pub Returns : CheckerThread A → Share A → Type 0
+  Returns checker after = (before : Share A) → WillComeBack before checker → ComesBack before after
+
+  -- each checker has no bench yet, and together they have room for one for each sender
+  pub record AreEmpty (workers : ℕ) (shares : List (Share A)) : Type 0 where
+    pub none : (k : ℕ) (d : Share A) → k < length shares → (slice_index_or shares k d).items ≡ []
+    pub room :
+        (k : ℕ) (d : Share A) → k < length shares →
+        most_senders ≤ workers * vec_capacity (slice_index_or shares k d)
+
+  -- the benches of the first `dealt` senders were dealt out in turn, and each checker has room for
+  -- the rest of its own
+  pub record HasRoom (workers dealt : ℕ) (shares : List (Share A)) : Type 0 where
+    pub some : 0 < workers
+    pub all : length shares ≡ workers
+    pub few :
+        (k : ℕ) (d : Share A) → k < length shares →
+        workers * length (slice_index_or shares k d).items + k < dealt + workers
+    pub room :
+        (k : ℕ) (d : Share A) → k < length shares →
+        most_senders ≤ workers * vec_capacity (slice_index_or shares k d)
+
+  -- the checker at this place got one bench more
+  pub record Deals (at : ℕ) (b : Bench A) (before after : List (Share A)) : Type 0 where
+    pub share : Share A
+    pub set : after ≡ slice_set before at share
+    pub items : share.items ≡ (slice_index_or before at share).items ++ b ∷ []
+    pub capacity : vec_capacity (slice_index_or before at share) ≤ vec_capacity share
+
+module _ {F A : Type 0} where
+  -- the sender stays as it is, or gets no reader
+  abbrev pub GivesUp : Sender F A → Sender F A → Type 0
+  GivesUp sender.NotOpened s = s ≡ sender.NotOpened
+  GivesUp sender.NotStarted s = s ≡ sender.NotStarted
+  GivesUp (sender.Ready feed lane) s = (s ≡ sender.Ready feed lane) ⊎ (s ≡ sender.NotStarted)
+  GivesUp (sender.Running h) s = s ≡ sender.Running h
+  GivesUp (sender.Read d) s = s ≡ sender.Read d
+  GivesUp (sender.Joined d b) s = s ≡ sender.Joined d b
+
+  -- each bench of each checker has the lane of its sender, and this bound
+  pub record SharesAt
+      (bound : ℕ) (senders : List (Sender F A)) (shares : List (Share A)) : Type 0 where
+    pub each :
+        (k : ℕ) (d : Share A) → k < length shares →
+        AreAt bound senders (slice_index_or shares k d).items

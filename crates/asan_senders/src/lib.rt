@@ -1,0 +1,32 @@
+//! The senders of a collection, from their arrival to their outcomes: all that needs no thread of
+//! its own. Then the text of all outcomes, and the status.
+#![tactic(auto)]
+
+mod arrivals;
+mod checker_thread;
+mod closing;
+mod joining;
+mod lanes;
+mod laws;
+mod live;
+mod printers;
+mod reading;
+mod returns;
+mod sender;
+mod status;
+mod write;
+
+pub use arrivals::{MOST_SENDERS, ask};
+pub use checker_thread::{CheckerThread, Checking, give_up_senders};
+pub use closing::close;
+pub use joining::join_all;
+pub use lanes::{Seats, open_all};
+pub use laws::answers_are_outcomes;
+pub use live::Live;
+pub use printers::Printers;
+pub use reading::Reading;
+pub use returns::{place_all, settle_all};
+pub use sender::Sender;
+pub use status::{UNCHECKED, UNWRITTEN, exit_status};
+pub use std::alloc::AllocError as NoMemory;
+pub use write::write_outcomes;

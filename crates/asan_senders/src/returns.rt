@@ -1,0 +1,166 @@
+//! The benches come back to their senders, and each sender is settled.
+
+ghost use Rattle.std.specs.Prelude.{◌≡◌, ◌≤◌, [], ℕ, IfSome, Option, Some, vec_len, vec_capacity};
+ghost use Rattle.trace_lane.specs.Lanes.{Lane};
+ghost use Rattle.asan_print.specs.Ports.{port_lane, taken_at};
+ghost use Rattle.asan_senders.specs.Arrivals.{Pairwise};
+ghost use Rattle.asan_stream.specs.Benches.{lane_of, bench_bound, report_lane_of};
+ghost use Rattle.asan_senders.specs.Closings.{WerePrinted};
+ghost use Rattle.asan_stream.specs.Outboxes.{KeepsLane};
+ghost use Rattle.asan_senders.specs.ReportLanes.{AllFit, AllHave, Fits, SharesHave};
+ghost use Rattle.asan_senders.specs.Senders.{AllJoined, AreAt, Each, Gets, HasLane, IsJoined};
+ghost use Rattle.asan_senders.specs.Senders.{Rejoins};
+ghost use Rattle.asan_senders.specs.Shares.{SharesAt};
+
+use crate::sender::Sender;
+use asan_print::Port;
+use asan_stream::{Bench, Outcome, ReaderDone, settle};
+use std::alloc::Allocator;
+use std::mem;
+use trace_feed::Feed;
+
+/// A bench comes back to its sender. It is dropped where the sender had no reader.
+fn rejoin<F: Feed + Drop, A: Allocator + Copy>(
+    sender: Sender<F, A>,
+    bench: Bench<A>,
+) -> Sender<F, A>
+    requires { HasLane sender (lane_of bench) }
+    ensures rejoins { Rejoins F.seen (bench_bound bench) sender result }
+    ensures fits { (lane : Option (Lane A)) → Fits lane sender →
+        KeepsLane lane (report_lane_of bench) → Fits lane result }
+{
+    match sender {
+        Sender::Read(done) => Sender::Joined(done, bench),
+        other => other,
+    }
+}
+
+/// A bench comes back to the sender at this place.
+fn rejoin_at<F: Feed + Drop, A: Allocator + Copy>(sender: &mut Sender<F, A>, bench: Bench<A>)
+    requires { HasLane sender.old (lane_of bench) }
+    ensures rejoins { Rejoins F.seen (bench_bound bench) sender.old sender.new }
+    ensures fits { (lane : Option (Lane A)) → Fits lane sender.old →
+        KeepsLane lane (report_lane_of bench) → Fits lane sender.new }
+{
+    let was = mem::replace(sender, Sender::NotStarted);
+    let _ = mem::replace(sender, rejoin(was, bench));
+}
+
+/// These benches come back to their senders.
+pub(crate) fn place<F: Feed + Drop, A: Allocator + Copy>(
+    senders: &mut Vec<Sender<F, A>, A>,
+    benches: Vec<Bench<A>, A>,
+    bound: u64,
+)
+    requires { AreAt bound senders.old.items benches.items }
+    ensures rejoins { Each (Rejoins F.seen bound) senders.old.items senders.new.items }
+    ensures fit { (lanes : ℕ → Option (Lane A)) → AllFit lanes senders.old.items →
+        AllHave lanes benches.items → AllFit lanes senders.new.items }
+{
+    let mut benches = benches;
+    while let Some(bench) = benches.pop() {
+        let at = bench.process() as usize;
+        rejoin_at(&mut senders[at], bench);
+    }
+}
+
+/// The benches of all checkers come back to their senders.
+pub fn place_all<F: Feed + Drop, A: Allocator + Copy>(
+    senders: &mut Vec<Sender<F, A>, A>,
+    shares: Vec<Vec<Bench<A>, A>, A>,
+    bound: u64,
+)
+    requires { SharesAt bound senders.old.items shares.items }
+    ensures rejoins { Each (Rejoins F.seen bound) senders.old.items senders.new.items }
+    ensures fit { (lanes : ℕ → Option (Lane A)) → AllFit lanes senders.old.items →
+        SharesHave lanes shares.items → AllFit lanes senders.new.items }
+{
+    let mut shares = shares;
+    while let Some(share) = shares.pop() {
+        place(senders, share, bound);
+    }
+}
+
+/// What became of a sender, and how many of its reports were printed before.
+#[derive(Drop)]
+pub(crate) struct Answer<F, A: Allocator + Copy> {
+    pub outcome: Outcome<F, A>,
+    pub printed: u64,
+}
+
+impl<F, A: Allocator + Copy> Answer<F, A> {
+    /// What became of a sender whose reports are not in its outcome.
+    fn without_reports(outcome: Outcome<F, A>) -> Answer<F, A>
+        ensures outcome { result.outcome ≡ outcome }
+        ensures printed { result.printed ≡ 0 }
+    {
+        Answer {
+            outcome,
+            printed: 0,
+        }
+    }
+}
+
+/// What became of a sender whose bench is back, and whose reports were printed from this port. It
+/// is `Unsettled` where the report lane has no end.
+fn settle_joined<F: Feed + Drop, A: Allocator + Copy>(
+    done: ReaderDone<F, A>,
+    bench: Bench<A>,
+    port: Option<Port<A>>,
+) -> Answer<F, A>
+    requires joined { IsJoined (Sender.Joined done bench) }
+    requires port { IfSome port (λ p. KeepsLane (Some (port_lane p)) (report_lane_of bench)) }
+    ensures outcome { Gets F.seen (Sender.Joined done bench) result.outcome }
+    ensures printed { WerePrinted (taken_at port) result.printed result.outcome }
+{
+    let mut bench = bench;
+    let printed = match (port, bench.finish_reports()) {
+        (None, _) => 0,
+        (Some(port), Some(end)) => port.settle(end),
+        (Some(_), None) => return Answer::without_reports(Outcome::Unsettled),
+    };
+    Answer {
+        outcome: settle(bench, done),
+        printed,
+    }
+}
+
+/// What became of a sender, once the benches are back, whose reports were printed from this port,
+/// if they were.
+pub(crate) fn settle_sender<F: Feed + Drop, A: Allocator + Copy>(
+    sender: Sender<F, A>,
+    port: Option<Port<A>>,
+) -> Answer<F, A>
+    requires joined { IsJoined sender }
+    requires port { IfSome port (λ p. Fits (Some (port_lane p)) sender) }
+    ensures outcome { Gets F.seen sender result.outcome }
+    ensures printed { WerePrinted (taken_at port) result.printed result.outcome }
+{
+    match sender {
+        Sender::NotOpened => Answer::without_reports(Outcome::NotOpened),
+        Sender::NotStarted | Sender::Ready(_, _) => Answer::without_reports(Outcome::NotStarted),
+        Sender::Running(_) => unreachable!(),
+        Sender::Read(_) => Answer::without_reports(Outcome::Unsettled),
+        Sender::Joined(done, bench) => settle_joined(done, bench, port),
+    }
+}
+
+/// What became of each sender, in order. There is room for all outcomes.
+pub fn settle_all<F: Feed + Drop, A: Allocator + Copy>(
+    senders: Vec<Sender<F, A>, A>,
+    room: Vec<Outcome<F, A>, A>,
+) -> Vec<Outcome<F, A>, A>
+    requires empty { room.items ≡ [] }
+    requires room { vec_len senders ≤ vec_capacity room }
+    requires joined { AllJoined senders.items }
+    ensures { Pairwise (Gets F.seen) senders.items result.items }
+{
+    let (mut senders, mut outcomes) = (senders, room);
+    for i in 0..senders.len() {
+        let sender = mem::replace(&mut senders[i], Sender::NotStarted);
+        let Ok(()) = outcomes.push(settle_sender(sender, None).outcome) else {
+            unreachable!()
+        };
+    }
+    outcomes
+}
