@@ -10,6 +10,13 @@ use std::io::Write;
 use std::sync::Wait;
 use std::time::Clock;
 
+/// Prints what is found at the ports, and gives whether there was any.
+fn print_round<W: Write, A: Allocator + Copy>(w: &mut W, printers: &mut Printers<A>) -> bool
+    ensures { HasPrinted (W.contents w.old) (W.contents w.new) printers.old printers.new }
+{
+    printers.printer.round(w, &mut printers.ports)
+}
+
 /// Prints the reports that come through the ports, until no checker is at work and none is left.
 pub(crate) fn print_to_the_end<W: Write, A: Allocator + Copy, R: Wait + Clock>(
     rt: &R,
@@ -23,7 +30,7 @@ pub(crate) fn print_to_the_end<W: Write, A: Allocator + Copy, R: Wait + Clock>(
     for _ in rt.forever() {
         // What was reported before the last checker ended is found after this look.
         let is_last = at_work.is_over();
-        if printers.printer.round(w, &mut printers.ports) {
+        if print_round(w, printers) {
             pause.reset();
         } else if is_last {
             return;
