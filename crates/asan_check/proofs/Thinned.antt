@@ -91,7 +91,7 @@ same_later bound one other (e ∷ later) same =
     same_step bound (later ++ one) (later ++ other) (same_later bound one other later same) e
 
 -- a load or a store leaves no trace
-one_access : (bound : ℕ) (one other : List Event) (e : Event) → is_access e ≡ true → LeaveTheSame bound one other
+pub one_access : (bound : ℕ) (one other : List Event) (e : Event) → is_access e ≡ true → LeaveTheSame bound one other
     → LeaveTheSame bound one (e ∷ other)
 one_access bound one other (event.Load a) is same =
     record { same_marks = same.same_marks; same_live = same.same_live; same_held = same.same_held }
