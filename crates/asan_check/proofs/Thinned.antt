@@ -239,8 +239,8 @@ newest_number numbers e past (Some f) =
     past_it : (n : ℕ) → leb (n + 1) n ≡ false
     past_it n = grind (arith, nat_tests)
 
-older_good : (bound : ℕ) (numbers : ℕ → Bool) (e : Event) (past : List Event) → LeavesOutGood bound numbers (e ∷ past)
-    → LeavesOutGood bound numbers past
+pub older_good : (bound : ℕ) (numbers : ℕ → Bool) (e : Event) (past : List Event)
+    → LeavesOutGood bound numbers (e ∷ past) → LeavesOutGood bound numbers past
 older_good bound numbers e past good later f before split out = good (e ∷ later) f before (ap (λ es. e ∷ es) split) out
 
 -- where only good loads and stores are left out, the verdicts are those of the thinned history, renumbered

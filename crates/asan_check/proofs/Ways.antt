@@ -1,9 +1,9 @@
 -- Each way to leave out loads and stores is a test of their numbers; and events that stand in their order.
 use Rattle.std.proofs.Common.{◌≡◌, ℕ, ◌+◌, ◌≤◌, Bool, true, false, leb, List, [], ◌∷◌, ◌++◌, length, map, Some, None}
-use Rattle.std.proofs.Common.{Option, refl, sym, ap, subst, ◌∙◌, arith, inl, inr}
+use Rattle.std.proofs.Common.{Option, refl, sym, ap, subst, ◌∙◌, arith, inl, inr, length-append}
 use Rattle.std.specs.Prelude.{if◌then◌else◌, ◌&&◌, IsTrue, reverse}
 use Rattle.std.specs.Option.{option_map}
-use Rattle.std.proofs.lemmas.Bool.{cases_Bool, and_parts}
+use Rattle.std.proofs.lemmas.Bool.{cases_Bool, and_parts, false≢true}
 use Rattle.std.proofs.lemmas.Bool.Decides.{nat_tests}
 use Rattle.std.proofs.lemmas.List.{append-nil, reverse-append, reverse-reverse}
 use Rattle.trace_record.specs.declared.event.Event.{Event}
@@ -12,9 +12,9 @@ use Rattle.asan_check.specs.declared.report.Report.{Report}
 use Rattle.asan_check.specs.Verdicts.{fault_of, verdict, verdicts, verdicts_of}
 use Rattle.asan_check.specs.Thinning.{is_access, is_left_out, thinned, LeavesOut, ends, keeps, leaves_out}
 use Rattle.asan_check.specs.Thinning.{LeavesOutGood, EventsLeftOutAreGood, faults_of, faults_on, thinned_events}
-use Rattle.asan_check.specs.Thinning.{renumbered, IsSublist}
+use Rattle.asan_check.specs.Thinning.{renumbered, IsSublist, LeavesOutGoodOnes, ends_good, keeps_any, leaves_out_good}
 use Rattle.asan_check.proofs.Order.{around}
-use Rattle.asan_check.proofs.Thinned.{invents_nothing, same_faults, loses_nothing}
+use Rattle.asan_check.proofs.Thinned.{invents_nothing, same_faults, loses_nothing, older_good}
 
 -- ---- from a test to a way
 
@@ -42,6 +42,9 @@ same_below one other (e ∷ past) same =
     let rest : thinned one past ≡ thinned other past = same_below one other past (λ n le. same n (omega arith)) in
     rw (here, rest) refl
 
+within : (m n : ℕ) → m ≤ n → leb m n ≡ true
+within m n le = grind (arith, nat_tests)
+
 module _ (numbers : ℕ → Bool) (answer : Bool) (past : List Event) where
   answer_past : up_to (length past) numbers answer (length past + 1) ≡ answer
   answer_past = rw (past_it (length past)) refl
@@ -51,30 +54,103 @@ module _ (numbers : ℕ → Bool) (answer : Bool) (past : List Event) where
 
   as_before : thinned (up_to (length past) numbers answer) past ≡ thinned numbers past
   as_before = same_below (up_to (length past) numbers answer) numbers past (λ n le. rw (within n (length past) le) refl)
-    where
-      within : (m n : ℕ) → m ≤ n → leb m n ≡ true
-      within m n le = grind (arith, nat_tests)
 
 and_no : (b : Bool) → (b && false) ≡ false
 and_no true = refl
 and_no false = refl
 
+-- where the next one is kept
+kept_next : (numbers : ℕ → Bool) (e : Event) (past : List Event) → let more = up_to (length past) numbers false in
+    (is_left_out more past e ≡ false) × (thinned more (e ∷ past) ≡ e ∷ thinned numbers past)
+kept_next numbers e past =
+    let more = up_to (length past) numbers false in
+    let kept : is_left_out more past e ≡ false =
+    ap (λ b. is_access e && b) (answer_past numbers false past) ∙ and_no (is_access e) in
+    let here : thinned more (e ∷ past) ≡ e ∷ thinned more past = rw kept refl in
+    (kept, here ∙ ap (λ es. e ∷ es) (as_before numbers false past))
+
+-- where it is left out
+left_next : (numbers : ℕ → Bool) (e : Event) (past : List Event) → is_access e ≡ true
+    → thinned (up_to (length past) numbers true) (e ∷ past) ≡ thinned numbers past
+left_next numbers e past is =
+    let more = up_to (length past) numbers true in
+    let out : is_left_out more past e ≡ true =
+    ap (λ b. is_access e && b) (answer_past numbers true past) ∙ ap (λ b. b && true) is in
+    let here : thinned more (e ∷ past) ≡ thinned more past = rw out refl in
+    here ∙ as_before numbers true past
+
 pub test_of : (thin full : List Event) → LeavesOut thin full → (numbers : ℕ → Bool) × (thinned numbers full ≡ thin)
 test_of thin full ends = (λ number. false, refl)
 test_of thin full (keeps e rest past way) =
     let found = test_of rest past way in
-    let numbers = up_to (length past) found.0 false in
-    let kept : is_left_out numbers past e ≡ false =
-    ap (λ b. is_access e && b) (answer_past found.0 false past) ∙ and_no (is_access e) in
-    let here : thinned numbers (e ∷ past) ≡ e ∷ thinned numbers past = rw kept refl in
-    (numbers, here ∙ ap (λ es. e ∷ es) (as_before found.0 false past ∙ found.1))
+    (up_to (length past) found.0 false, (kept_next found.0 e past).1 ∙ ap (λ es. e ∷ es) found.1)
 test_of thin full (leaves_out e rest past is way) =
     let found = test_of rest past way in
-    let numbers = up_to (length past) found.0 true in
-    let out : is_left_out numbers past e ≡ true =
-    ap (λ b. is_access e && b) (answer_past found.0 true past) ∙ ap (λ b. b && true) is in
-    let here : thinned numbers (e ∷ past) ≡ thinned numbers past = rw out refl in
-    (numbers, here ∙ as_before found.0 true past ∙ found.1)
+    (up_to (length past) found.0 true, left_next found.0 e past is ∙ found.1)
+
+-- ---- ways that leave out good ones alone
+
+abbrev newest : Event → List Event → Event
+newest other [] = other
+newest other (e ∷ past) = e
+
+abbrev older : List Event → List Event
+older [] = []
+older (e ∷ past) = past
+
+module _ (bound : ℕ) (numbers : ℕ → Bool) (answer : Bool) (e : Event) (past : List Event) where
+  abbrev more : ℕ → Bool
+  more = up_to (length past) numbers answer
+
+  still_good : LeavesOutGood bound numbers past → (is_left_out more past e ≡ true → fault_of bound past e ≡ None)
+      → LeavesOutGood bound more (e ∷ past)
+  still_good good here [] f before split out =
+      let same_event : e ≡ f = ap (newest e) split in
+      let same_past : past ≡ before = ap older split in
+      let out' : is_left_out more past e ≡ true =
+      subst (λ es. is_left_out more es e ≡ true) (sym same_past)
+      (subst (λ x. is_left_out more before x ≡ true) (sym same_event) out) in
+      subst (λ es. fault_of bound es f ≡ None) same_past
+      (subst (λ x. fault_of bound past x ≡ None) same_event (here out'))
+  still_good good here (g ∷ later) f before split out =
+      let parts : past ≡ later ++ f ∷ before = ap older split in
+      let long : length past ≡ length later + (length before + 1) =
+      ap length parts ∙ length-append later (f ∷ before) ∙ omega arith in
+      let same : more (length before + 1) ≡ numbers (length before + 1) =
+      rw (within (length before + 1) (length past) (omega arith)) refl in
+      good later f before parts (ap (λ b. is_access f && b) (sym same) ∙ out)
+
+pub test_of_good : (bound : ℕ) (thin full : List Event) → LeavesOutGoodOnes bound thin full
+    → (numbers : ℕ → Bool) × (thinned numbers full ≡ thin) × LeavesOutGood bound numbers full
+test_of_good bound thin full ends_good = (
+  λ number. false,
+  refl,
+  λ later e past split out. absurd (false≢true (and_parts (is_access e) _ out).1),
+)
+test_of_good bound thin full (keeps_any e rest past way) =
+    let found = test_of_good bound rest past way in
+    let kept = kept_next found.0 e past in (
+      up_to (length past) found.0 false,
+      kept.1 ∙ ap (λ es. e ∷ es) found.1,
+      still_good bound found.0 false e past found.2 (λ out. absurd (false≢true (sym kept.0 ∙ out))),
+    )
+test_of_good bound thin full (leaves_out_good e rest past is good way) =
+    let found = test_of_good bound rest past way in (
+      up_to (length past) found.0 true,
+      left_next found.0 e past is ∙ found.1,
+      still_good bound found.0 true e past found.2 (λ out. good),
+    )
+
+pub way_of_good : (bound : ℕ) (numbers : ℕ → Bool) (full : List Event) → LeavesOutGood bound numbers full
+    → LeavesOutGoodOnes bound (thinned numbers full) full
+way_of_good bound numbers [] good = ends_good
+way_of_good bound numbers (e ∷ full) good =
+    let rest = way_of_good bound numbers full (older_good bound numbers e full good) in
+    elim (cases_Bool (is_left_out numbers full e)) [
+      | inl out ↦ rw out (leaves_out_good e (thinned numbers full) full (and_parts (is_access e) _ out).0
+          (good [] e full refl out) rest)
+      | inr kept ↦ rw kept (keeps_any e (thinned numbers full) full rest)
+    ]
 
 -- ---- events in their order
 
@@ -153,3 +229,10 @@ pub same_faults_on : (bound : ℕ) (numbers : ℕ → Bool) (events : List Event
 same_faults_on bound numbers events good =
     ap (faults_of bound) (reverse-reverse (thinned numbers (reverse events)))
     ∙ same_faults bound numbers (reverse events) (good_in_history bound numbers events good)
+
+-- where the events stand in their order
+pub no_good_way_loses : (bound : ℕ) (thin full : List Event)
+    → LeavesOutGoodOnes bound (reverse thin) (reverse full) → faults_on bound thin ≡ faults_on bound full
+no_good_way_loses bound thin full way =
+    let found = test_of_good bound (reverse thin) (reverse full) way in
+    ap (faults_of bound) (sym found.1) ∙ same_faults bound found.0 (reverse full) found.2

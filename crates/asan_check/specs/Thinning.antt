@@ -63,7 +63,7 @@ LeavesOutGood bound numbers full =
     (later : List Event) (e : Event) (past : List Event) → full ≡ later ++ e ∷ past →
     IsTrue (is_left_out numbers past e) → fault_of bound past e ≡ None
 
--- some loads and stores are left out of a list of events, here the second, and no other event is;
+-- the first list of events is the second with some loads and stores left out, and nothing else;
 -- what is left stands in its order
 pub data LeavesOut : List Event → List Event → Type 0 where
   ends : LeavesOut [] []
@@ -71,6 +71,16 @@ pub data LeavesOut : List Event → List Event → Type 0 where
       → LeavesOut (e ∷ thin) (e ∷ full)
   leaves_out : (e : Event) (thin full : List Event) → IsTrue (is_access e)
       → LeavesOut thin full → LeavesOut thin (e ∷ full)
+
+-- the same of histories, where each load and each store that is left out is good after the events
+-- that stand before it in the second
+pub data LeavesOutGoodOnes (bound : ℕ) : List Event → List Event → Type 0 where
+  ends_good : LeavesOutGoodOnes bound [] []
+  keeps_any : (e : Event) (thin full : List Event) → LeavesOutGoodOnes bound thin full
+      → LeavesOutGoodOnes bound (e ∷ thin) (e ∷ full)
+  leaves_out_good : (e : Event) (thin full : List Event) → IsTrue (is_access e)
+      → fault_of bound full e ≡ None → LeavesOutGoodOnes bound thin full
+      → LeavesOutGoodOnes bound thin (e ∷ full)
 
 -- ---- events that stand in their order, oldest first
 

@@ -18,7 +18,8 @@ ghost use Rattle.asan_check.specs.History.{live, held, marks};
 ghost use Rattle.asan_check.specs.Verdicts.{fault_of, verdict, verdicts, verdicts_of};
 ghost use Rattle.asan_check.specs.Thinning.{LeaveTheSame, LeavesOutGood, IsSublist, faults_of};
 ghost use Rattle.asan_check.specs.Thinning.{renumbered, thinned, is_access, one_later, LeavesOut};
-ghost use Rattle.asan_check.specs.Thinning.{EventsLeftOutAreGood, faults_on, thinned_events};
+ghost use Rattle.asan_check.specs.Thinning.{LeavesOutGoodOnes, EventsLeftOutAreGood, faults_on};
+ghost use Rattle.asan_check.specs.Thinning.{thinned_events};
 ghost use Rattle.asan_check.specs.declared.report.Fault.{Fault};
 ghost use Rattle.asan_check.specs.Laws.{SharesByte, IsReportedAmong};
 ghost use Rattle.asan_check.specs.Laws.{since_malloc, since_free, IsLiveSince, IsHeldSince};
@@ -201,8 +202,8 @@ pub fn an_access_twice_gives_its_fault_twice()
 {}
 
 /// Each way to leave out loads and stores of a list of events is a test of their numbers, whether
-/// the newest event stands first or the oldest, and each test is such a way. So the laws on tests
-/// speak of every way.
+/// the newest event stands first or the oldest, and each test is such a way. The same is so of the
+/// ways that leave out, of a history, good ones alone. So the laws on tests speak of every way.
 pub fn each_way_to_leave_out_is_a_test_of_numbers()
     ensures of_a_history { (thin full : List Event) → LeavesOut thin full →
         (numbers : ℕ → Bool) × (thinned numbers full ≡ thin) }
@@ -212,6 +213,11 @@ pub fn each_way_to_leave_out_is_a_test_of_numbers()
         LeavesOut (thinned numbers past) past }
     ensures thinned_events_is_a_way { (numbers : ℕ → Bool) (events : List Event) →
         LeavesOut (thinned_events numbers events) events }
+    ensures of_good_ones { (bound : ℕ) (thin full : List Event) →
+        LeavesOutGoodOnes bound thin full → (numbers : ℕ → Bool)
+        × (thinned numbers full ≡ thin) × LeavesOutGood bound numbers full }
+    ensures good_is_a_way { (bound : ℕ) (numbers : ℕ → Bool) (full : List Event) →
+        LeavesOutGood bound numbers full → LeavesOutGoodOnes bound (thinned numbers full) full }
 {}
 
 /// Leaving out loads and stores invents nothing: whichever are left out of some events, and in
@@ -235,4 +241,7 @@ pub fn thinned_events_lose_nothing_bad()
         verdicts bound events
         ≡ map (renumbered numbers (reverse events))
         (verdicts bound (thinned_events numbers events)) }
+    ensures each_way { (bound : ℕ) (thin full : List Event) →
+        LeavesOutGoodOnes bound (reverse thin) (reverse full) →
+        faults_on bound thin ≡ faults_on bound full }
 {}
