@@ -21,7 +21,7 @@ use Rattle.asan_check.specs.declared.report.Fault.TheVariants as fault
 use Rattle.asan_check.specs.declared.report.Report.{Report}
 use Rattle.asan_check.specs.Verdicts.{verdicts}
 use Rattle.asan_check.specs.Laws.{since_malloc, since_free, IsPoisonedSince}
-use Rattle.asan_check.specs.Thinning.{faults_of, renumbered, thinned}
+use Rattle.asan_check.specs.Thinning.{faults_of, renumbered, thinned, thinned_events}
 
 -- ---- events, whose ranges compute at written-out numbers
 
@@ -397,3 +397,33 @@ number_after_a_load :
     ∷ (malloc 0x1000 5 refl) ∷ []) (record { number = 2; fault = fault.BadFree 0 })
     ≡ record { number = 3; fault = fault.BadFree 0 }
 number_after_a_load = refl
+
+-- of events in their order the numbers are counted from the oldest: the first load is left out
+first_load_is_left_out :
+    thinned_events (λ number. number == 2) ((malloc 0x1000 5 refl) ∷ (load 0x1000 1 refl) ∷ (load 0x1001 1 refl) ∷ [])
+    ≡ (malloc 0x1000 5 refl) ∷ (load 0x1001 1 refl) ∷ []
+first_load_is_left_out = refl
+
+-- ---- an access that is recorded twice
+
+-- a bad store that is recorded once, and then a free of no block
+bad_store_once :
+    verdicts usual ((malloc 0x1000 5 refl) ∷ (store 0x1004 4 refl) ∷ (free 0x2000 refl) ∷ [])
+    ≡ (report 2 (fault.Access true 4 0x1004 0x1005 class.HeapBufferOverflow 5))
+    ∷ (report 3 (fault.BadFree 0x2000)) ∷ []
+bad_store_once = refl
+
+-- and twice: its fault stands twice, and the free's number is one more
+bad_store_twice :
+    verdicts usual ((malloc 0x1000 5 refl) ∷ (store 0x1004 4 refl) ∷ (store 0x1004 4 refl) ∷ (free 0x2000 refl)
+    ∷ [])
+    ≡ (report 2 (fault.Access true 4 0x1004 0x1005 class.HeapBufferOverflow 5))
+    ∷ (report 3 (fault.Access true 4 0x1004 0x1005 class.HeapBufferOverflow 5))
+    ∷ (report 4 (fault.BadFree 0x2000)) ∷ []
+bad_store_twice = refl
+
+-- a good one brings nothing the second time either
+good_load_twice :
+    verdicts usual ((malloc 0x1000 5 refl) ∷ (load 0x1000 4 refl) ∷ (load 0x1000 4 refl) ∷ [])
+    ≡ []
+good_load_twice = refl

@@ -14,5 +14,7 @@ pub mod Accesses
 pub mod Poisons
 pub mod Order
 pub mod Thinned
+pub mod Repeated
+pub mod Ways
 mod Digits
 mod Pieces

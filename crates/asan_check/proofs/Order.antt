@@ -33,17 +33,21 @@ verdicts_begin bound (e ∷ newer) past =
     let last = option_to_list (verdict bound (newer ++ past) e) in
     (before.0 ++ last, ap (λ rs. rs ++ last) before.1 ∙ append_assoc (verdicts_of bound past) before.0 last)
 
+-- the history of an event and of the events before and after it
+pub around : (before after : List Event) (e : Event)
+    → reverse (before ++ e ∷ after) ≡ reverse after ++ e ∷ reverse before
+around before after e =
+    reverse-append before (e ∷ after)
+    ∙ (ap (λ l. l ++ reverse before) (reverse-append (e ∷ []) after)
+    ∙ append_assoc (reverse after) (e ∷ []) (reverse before))
+
 -- the verdict on an event stands between those on the events before it and those on the events after it
 pub each_in_place : (bound : ℕ) (before after : List Event) (event : Event) → (later : List Report)
     × (verdicts bound (before ++ event ∷ after)
     ≡ (verdicts bound before ++ option_to_list (verdict bound (reverse before) event)) ++ later)
 each_in_place bound before after event =
-    let past = event ∷ reverse before in
-    let parts : reverse (before ++ event ∷ after) ≡ reverse after ++ past =
-    reverse-append before (event ∷ after) ∙ (ap (λ l. l ++ reverse before) (reverse-append (event ∷ []) after)
-    ∙ append_assoc (reverse after) (event ∷ []) (reverse before)) in
-    let rest = verdicts_begin bound (reverse after) past in
-    (rest.0, ap (verdicts_of bound) parts ∙ rest.1)
+    let rest = verdicts_begin bound (reverse after) (event ∷ reverse before) in
+    (rest.0, ap (verdicts_of bound) (around before after event) ∙ rest.1)
 
 -- a report on a history is the verdict on one of its events
 module _ (bound : ℕ) where

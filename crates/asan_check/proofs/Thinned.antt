@@ -91,7 +91,7 @@ same_later bound one other (e ∷ later) same =
     same_step bound (later ++ one) (later ++ other) (same_later bound one other later same) e
 
 -- a load or a store leaves no trace
-one_access : (bound : ℕ) (one other : List Event) (e : Event) → is_access e ≡ true → LeaveTheSame bound one other
+pub one_access : (bound : ℕ) (one other : List Event) (e : Event) → is_access e ≡ true → LeaveTheSame bound one other
     → LeaveTheSame bound one (e ∷ other)
 one_access bound one other (event.Load a) is same =
     record { same_marks = same.same_marks; same_live = same.same_live; same_held = same.same_held }
@@ -239,8 +239,8 @@ newest_number numbers e past (Some f) =
     past_it : (n : ℕ) → leb (n + 1) n ≡ false
     past_it n = grind (arith, nat_tests)
 
-older_good : (bound : ℕ) (numbers : ℕ → Bool) (e : Event) (past : List Event) → LeavesOutGood bound numbers (e ∷ past)
-    → LeavesOutGood bound numbers past
+pub older_good : (bound : ℕ) (numbers : ℕ → Bool) (e : Event) (past : List Event)
+    → LeavesOutGood bound numbers (e ∷ past) → LeavesOutGood bound numbers past
 older_good bound numbers e past good later f before split out = good (e ∷ later) f before (ap (λ es. e ∷ es) split) out
 
 -- where only good loads and stores are left out, the verdicts are those of the thinned history, renumbered

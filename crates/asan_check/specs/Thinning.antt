@@ -1,13 +1,14 @@
--- Histories that leave the same behind them, and histories from which loads and stores were left
--- out.
+-- Histories that leave the same behind them, histories from which loads and stores were left out,
+-- and reports that an access recorded twice moves on.
 use Rattle.std.specs.Prelude.{ℕ, ◌≡◌, ◌+◌, Bool, true, false, ◌&&◌, nat_le}
 use Rattle.std.specs.Prelude.{if◌then◌else◌, ◌⊎◌, IsTrue, List, [], ◌∷◌, ◌++◌, length, map, None}
+use Rattle.std.specs.Prelude.{reverse}
 use Rattle.trace_record.specs.declared.event.Event.{Event}
 use Rattle.trace_record.specs.declared.event.Event.TheVariants as event
 use Rattle.asan_check.specs.declared.report.Fault.{Fault}
 use Rattle.asan_check.specs.declared.report.Report.{Report}
 use Rattle.asan_check.specs.History.{live, held, marks}
-use Rattle.asan_check.specs.Verdicts.{fault_of, verdicts_of}
+use Rattle.asan_check.specs.Verdicts.{fault_of, verdict, verdicts, verdicts_of}
 
 -- what is wrong in a history, oldest first: the verdicts on it without their numbers
 abbrev pub faults_of : ℕ → List Event → List Fault
@@ -61,6 +62,47 @@ abbrev pub LeavesOutGood : ℕ → (ℕ → Bool) → List Event → Type 0
 LeavesOutGood bound numbers full =
     (later : List Event) (e : Event) (past : List Event) → full ≡ later ++ e ∷ past →
     IsTrue (is_left_out numbers past e) → fault_of bound past e ≡ None
+
+-- the first list of events is the second with some loads and stores left out, and nothing else;
+-- what is left stands in its order
+pub data LeavesOut : List Event → List Event → Type 0 where
+  ends : LeavesOut [] []
+  keeps : (e : Event) (thin full : List Event) → LeavesOut thin full
+      → LeavesOut (e ∷ thin) (e ∷ full)
+  leaves_out : (e : Event) (thin full : List Event) → IsTrue (is_access e)
+      → LeavesOut thin full → LeavesOut thin (e ∷ full)
+
+-- the same of histories, where each load and each store that is left out is good after the events
+-- that stand before it in the second
+pub data LeavesOutGoodOnes (bound : ℕ) : List Event → List Event → Type 0 where
+  ends_good : LeavesOutGoodOnes bound [] []
+  keeps_any : (e : Event) (thin full : List Event) → LeavesOutGoodOnes bound thin full
+      → LeavesOutGoodOnes bound (e ∷ thin) (e ∷ full)
+  leaves_out_good : (e : Event) (thin full : List Event) → IsTrue (is_access e)
+      → fault_of bound full e ≡ None → LeavesOutGoodOnes bound thin full
+      → LeavesOutGoodOnes bound thin (e ∷ full)
+
+-- ---- events that stand in their order, oldest first
+
+-- what is wrong with them: their verdicts without the numbers
+abbrev pub faults_on : ℕ → List Event → List Fault
+faults_on bound events = map (λ r. r.fault) (verdicts bound events)
+
+-- the events without the loads and stores of these numbers
+abbrev pub thinned_events : (ℕ → Bool) → List Event → List Event
+thinned_events numbers events = reverse (thinned numbers (reverse events))
+
+-- each load and each store that is left out of the events is good where it stands
+abbrev pub EventsLeftOutAreGood : ℕ → (ℕ → Bool) → List Event → Type 0
+EventsLeftOutAreGood bound numbers events =
+    (before : List Event) (e : Event) (after : List Event) → events ≡ before ++ e ∷ after →
+    IsTrue (is_left_out numbers (reverse before) e) → verdict bound (reverse before) e ≡ None
+
+-- ---- one more event
+
+-- a report, where one more event stands before its own
+abbrev pub one_later : Report → Report
+one_later r = record { number = r.number + 1; fault = r.fault }
 
 -- ---- lists
 

@@ -17,7 +17,9 @@ ghost use Rattle.asan_check.specs.Codes.{Freed, class_of_code, code_of_kind};
 ghost use Rattle.asan_check.specs.History.{live, held, marks};
 ghost use Rattle.asan_check.specs.Verdicts.{fault_of, verdict, verdicts, verdicts_of};
 ghost use Rattle.asan_check.specs.Thinning.{LeaveTheSame, LeavesOutGood, IsSublist, faults_of};
-ghost use Rattle.asan_check.specs.Thinning.{renumbered, thinned};
+ghost use Rattle.asan_check.specs.Thinning.{renumbered, thinned, is_access, one_later, LeavesOut};
+ghost use Rattle.asan_check.specs.Thinning.{LeavesOutGoodOnes, EventsLeftOutAreGood, faults_on};
+ghost use Rattle.asan_check.specs.Thinning.{thinned_events};
 ghost use Rattle.asan_check.specs.declared.report.Fault.{Fault};
 ghost use Rattle.asan_check.specs.Laws.{SharesByte, IsReportedAmong};
 ghost use Rattle.asan_check.specs.Laws.{since_malloc, since_free, IsLiveSince, IsHeldSince};
@@ -172,4 +174,74 @@ pub fn thinning_loses_nothing_bad()
         LeavesOutGood bound numbers full →
         verdicts_of bound full
         ≡ map (renumbered numbers full) (verdicts_of bound (thinned numbers full)) }
+{}
+
+/// A load or a store that is recorded a second time, right after the first, has its fault again,
+/// or none again, and leaves no trace. So with whatever events later, its fault stands twice in
+/// place of once, and all others stay; and the reports are the same, with the one on it a second
+/// time, and with numbers that are one more from there on.
+pub fn an_access_twice_gives_its_fault_twice()
+    ensures fault { (bound : ℕ) (past : List Event) (access : Event) →
+        IsTrue (is_access access) →
+        fault_of bound (access ∷ past) access ≡ fault_of bound past access }
+    ensures trace { (bound : ℕ) (past : List Event) (access : Event) →
+        IsTrue (is_access access) →
+        LeaveTheSame bound (access ∷ past) (access ∷ access ∷ past) }
+    ensures faults { (bound : ℕ) (past : List Event) (access : Event) →
+        IsTrue (is_access access) → (later : List Event) →
+        let said = option_to_list (fault_of bound past access) in (added : List Fault)
+        × (faults_of bound (later ++ access ∷ past) ≡ (faults_of bound past ++ said) ++ added)
+        × (faults_of bound (later ++ access ∷ access ∷ past)
+        ≡ ((faults_of bound past ++ said) ++ said) ++ added) }
+    ensures reports { (bound : ℕ) (before after : List Event) (access : Event) →
+        IsTrue (is_access access) →
+        let said = option_to_list (verdict bound (reverse before) access) in (added : List Report)
+        × (verdicts bound (before ++ access ∷ after) ≡ (verdicts bound before ++ said) ++ added)
+        × (verdicts bound (before ++ access ∷ access ∷ after)
+        ≡ ((verdicts bound before ++ said) ++ map one_later said) ++ map one_later added) }
+{}
+
+/// Each way to leave out loads and stores of a list of events is a test of their numbers, whether
+/// the newest event stands first or the oldest, and each test is such a way. The same is so of the
+/// ways that leave out, of a history, good ones alone. So the laws on tests speak of every way.
+pub fn each_way_to_leave_out_is_a_test_of_numbers()
+    ensures of_a_history { (thin full : List Event) → LeavesOut thin full →
+        (numbers : ℕ → Bool) × (thinned numbers full ≡ thin) }
+    ensures of_events { (thin full : List Event) → LeavesOut thin full →
+        (numbers : ℕ → Bool) × (thinned_events numbers full ≡ thin) }
+    ensures thinned_is_a_way { (numbers : ℕ → Bool) (past : List Event) →
+        LeavesOut (thinned numbers past) past }
+    ensures thinned_events_is_a_way { (numbers : ℕ → Bool) (events : List Event) →
+        LeavesOut (thinned_events numbers events) events }
+    ensures of_good_ones { (bound : ℕ) (thin full : List Event) →
+        LeavesOutGoodOnes bound thin full → (numbers : ℕ → Bool)
+        × (thinned numbers full ≡ thin) × LeavesOutGood bound numbers full }
+    ensures good_is_a_way { (bound : ℕ) (numbers : ℕ → Bool) (full : List Event) →
+        LeavesOutGood bound numbers full → LeavesOutGoodOnes bound (thinned numbers full) full }
+{}
+
+/// Leaving out loads and stores invents nothing: whichever are left out of some events, and in
+/// whichever way, the faults of what is left are, in their order, some of those of the events.
+pub fn thinned_events_invent_nothing()
+    ensures thinned { (bound : ℕ) (numbers : ℕ → Bool) (events : List Event) →
+        IsSublist (faults_on bound (thinned_events numbers events)) (faults_on bound events) }
+    ensures each_way { (bound : ℕ) (thin full : List Event) → LeavesOut thin full →
+        IsSublist (faults_on bound thin) (faults_on bound full) }
+{}
+
+/// Leaving out loads and stores of some events that are good where they stand loses nothing: the
+/// faults are the same, in their order, and the reports are the same but for their numbers, to each
+/// of which the count of what was left out before it is added.
+pub fn thinned_events_lose_nothing_bad()
+    ensures faults { (bound : ℕ) (numbers : ℕ → Bool) (events : List Event) →
+        EventsLeftOutAreGood bound numbers events →
+        faults_on bound (thinned_events numbers events) ≡ faults_on bound events }
+    ensures numbered { (bound : ℕ) (numbers : ℕ → Bool) (events : List Event) →
+        EventsLeftOutAreGood bound numbers events →
+        verdicts bound events
+        ≡ map (renumbered numbers (reverse events))
+        (verdicts bound (thinned_events numbers events)) }
+    ensures each_way { (bound : ℕ) (thin full : List Event) →
+        LeavesOutGoodOnes bound (reverse thin) (reverse full) →
+        faults_on bound thin ≡ faults_on bound full }
 {}
