@@ -9,8 +9,6 @@ mod mem_feed;
 mod path_door;
 mod put;
 mod read_feed;
-#[cfg(test)]
-mod tests;
 mod unix_door;
 
 pub use door::{Arrival, Door};

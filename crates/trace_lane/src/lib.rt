@@ -24,8 +24,6 @@ mod lane_end;
 mod lane_in;
 mod lane_out;
 mod make;
-#[cfg(test)]
-mod tests;
 
 pub use lane_end::LaneEnd;
 pub use lane_in::LaneIn;
