@@ -22,7 +22,7 @@ asancol: $(SOURCES)
 # A store that runs past its block: from C to the report with its line where a C compiler is there, and else from a
 # stored trace. Then a stored trace of a load in a redzone on the stack, and of a store in a global's. The program
 # reports them and ends with status 1. It is ./asancol if that is up to date. Else one is built for this alone, without
-# its proof, in two to three minutes, and is not kept.
+# its proof, in a minute or two, and is not kept.
 ifneq ($(HAS_CC),)
 demo: recorder
 	@rm -f bug.trace bug.trace.where

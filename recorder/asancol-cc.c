@@ -1,7 +1,8 @@
 /* Runs a compiler with what a recorded program needs: the calls before each load and store, and the recorder in each
    link. Built twice, as asancol-cc and as asancol-c++.
 
-   It changes no argument of its caller's. It looks at them, in response files too, to see what the compiler will do. */
+   It changes no argument of its caller's. It looks at them, in response files too, to see what the compiler will do. Of
+   what will not be recorded it warns. */
 #define _GNU_SOURCE
 #include <errno.h>
 #include <limits.h>
@@ -13,23 +14,32 @@
 #include <sys/stat.h>
 #include <unistd.h>
 
+#include "linked.h"
+
 #ifdef FOR_CXX
+#define NAME "asancol-c++"
 #define VARIABLE "ASANCOL_CXX"
 #define USUAL "c++"
 #else
+#define NAME "asancol-cc"
 #define VARIABLE "ASANCOL_CC"
 #define USUAL "cc"
 #endif
 
+/* The compiler notes its switches in the object, where the link finds what was compiled so (linked.c). */
+#define NOTE_SWITCHES "-frecord-gcc-switches"
+
 static const char *const gcc_flags[] = {
-    "-fsanitize=kernel-address",
+    COMPILED_SO,
+    NOTE_SWITCHES,
     "--param", "asan-instrumentation-with-call-threshold=0",
     "--param", "asan-stack=0",
     "--param", "asan-globals=0",
 };
 
 static const char *const clang_flags[] = {
-    "-fsanitize=kernel-address",
+    COMPILED_SO,
+    NOTE_SWITCHES,
     "-mllvm", "-asan-instrumentation-with-call-threshold=0",
     "-mllvm", "-asan-stack=0",
     "-mllvm", "-asan-globals=0",
@@ -47,7 +57,6 @@ static const char *const wraps[] = {
 static const char *const program_flags[] = {
     "-Wl,--undefined=asancol_start",
     "-Wl,--undefined=asancol_hooks",
-    "-Wl,--undefined=__asan_load8_noabort",
     "-Wl,--export-dynamic-symbol=asancol_hooks",
     "-Wl,--export-dynamic-symbol=__asan_*",
 };
@@ -57,7 +66,8 @@ static const char *const program_flags[] = {
 /* What the arguments say. */
 struct wish {
     bool has_input;
-    bool has_source;    /* an input that is compiled */
+    bool has_source;    /* an input that is compiled or assembled */
+    bool has_compiled;  /* one that is compiled */
     bool has_linked;    /* an input that comes to be linked: a header does not */
     bool names_language;
     bool stops_early;   /* before the link */
@@ -65,13 +75,15 @@ struct wish {
     bool is_partial;    /* a link of objects to an object */
     bool is_bare;       /* without the C library */
     bool is_static;     /* with the C library inside, whose own calls would be wrapped too */
-    bool is_foreign;    /* another sanitizer, which brings its own runtime, or another machine */
+    char *foreign;      /* a word for another sanitizer, which brings its own runtime, or another machine; or null */
+    char *refusal;      /* a word by which the compiler puts no calls before accesses, or null */
+    struct linked linked; /* the files that are linked */
     const char *option; /* whose value is the next word, or null */
 };
 
 static _Noreturn void fail(const char *what, const char *of)
 {
-    fprintf(stderr, USUAL " for asancol: %s: %s\n", of, what);
+    fprintf(stderr, NAME ": error: %s: %s\n", of, what);
     exit(1);
 }
 
@@ -112,9 +124,13 @@ static bool is_linked(const char *word)
 static void take_input(struct wish *wish, const char *word)
 {
     bool is_header = ends(word, ".h") || ends(word, ".hh") || ends(word, ".hpp") || ends(word, ".hxx");
+    bool is_source = wish->names_language || !is_linked(word);
     wish->has_input = true;
-    wish->has_source |= wish->names_language || !is_linked(word);
+    wish->has_source |= is_source;
+    wish->has_compiled |= is_source && !ends(word, ".S") && !ends(word, ".sx");
     wish->has_linked |= wish->names_language || !is_header;
+    if (!is_source)
+        linked_look_at(&wish->linked, word);
 }
 
 static void look_at(struct wish *wish, const char *word);
@@ -189,8 +205,9 @@ static const struct {
     SAYS(is_bare, "-nostdlib"), SAYS(is_bare, "-nodefaultlibs"), SAYS(is_bare, "-nolibc"),
     SAYS(is_bare, "-ffreestanding"),
     SAYS(is_shared, "-shared"), SAYS(is_shared, "--shared"),
-    SAYS(is_foreign, "-m32"), SAYS(is_foreign, "-mx32"), SAYS(is_foreign, "-m16"),
 };
+
+static const char *const other_machines[] = {"-m32", "-mx32", "-m16"};
 
 /* Whether the word is one of the plain ones. */
 static bool take_plain(struct wish *wish, const char *word)
@@ -219,8 +236,32 @@ static void take_response_file(struct wish *wish, const char *word)
         take_input(wish, word);
 }
 
+/* Whether one of the sanitizers that an option lists has one of these words in its name. */
+static bool lists(const char *list, const char *const *names, size_t count)
+{
+    for (size_t i = 0; i < count; i++)
+        if (strstr(list, names[i]) != NULL)
+            return true;
+    return false;
+}
+
+static void take_sanitizers(struct wish *wish, const char *word, const char *list)
+{
+    static const char *const others[] = {"address", "thread", "memory", "leak"};
+    if (lists(list, others, COUNT(others)))
+        wish->foreign = must(strdup(word));
+}
+
+static void take_refused_sanitizers(struct wish *wish, const char *word, const char *list)
+{
+    static const char *const ours[] = {"all", "address"};
+    if (lists(list, ours, COUNT(ours)))
+        wish->refusal = must(strdup(word));
+}
+
 static void look_at(struct wish *wish, const char *word)
 {
+    static const char sanitize[] = "-fsanitize=", no_sanitize[] = "-fno-sanitize=";
     const char *option = wish->option;
     wish->option = NULL;
     if (option != NULL) {
@@ -239,9 +280,12 @@ static void look_at(struct wish *wish, const char *word)
         take_language(wish, word + 2);
     } else if (begins(word, "-print-") || begins(word, "--print-") || begins(word, "--help=")) {
         wish->stops_early = true;
-    } else if (begins(word, "-fsanitize=")) {
-        wish->is_foreign |= strstr(word, "address") || strstr(word, "thread") || strstr(word, "memory")
-                            || strstr(word, "leak");
+    } else if (begins(word, sanitize)) {
+        take_sanitizers(wish, word, word + strlen(sanitize));
+    } else if (begins(word, no_sanitize)) {
+        take_refused_sanitizers(wish, word, word + strlen(no_sanitize));
+    } else if (find(word, other_machines, COUNT(other_machines)) != NULL) {
+        wish->foreign = must(strdup(word));
     }
 }
 
@@ -340,8 +384,9 @@ static bool is_clang(const struct command *command)
     return says_clang(command);
 }
 
-/* Where the archives are: beside this program, or in ../lib/asancol where it is installed. */
-static char *archive(const char *self, const char *name)
+/* A file of the recorder's, as the linker is given it: beside this program, or in ../lib/asancol where it is
+   installed. */
+static char *own_file(const char *self, const char *name)
 {
     static const char *const places[] = {"", "../lib/asancol/"};
     for (size_t i = 0; i < COUNT(places); i++) {
@@ -377,19 +422,52 @@ static void add_all(struct line *line, const char *const *words, size_t count)
 
 static void add_link(struct line *line, const struct wish *wish, const char *self)
 {
+    /* What was compiled here, or so before, has checks, also if it has no access. */
+    if (wish->linked.has_marked || (wish->has_compiled && wish->refusal == NULL))
+        add(line, "-Wl,--undefined=asancol_checks");
     if (wish->is_static && !wish->is_shared) {
         add_all(line, program_flags, COUNT(program_flags));
-        add(line, archive(self, "libasancol_static.a"));
+        add(line, own_file(self, "libasancol_static.a"));
+        add(line, own_file(self, "no-second-allocator.ld"));
         return;
     }
     add_all(line, wraps, COUNT(wraps));
     if (wish->is_shared) {
-        add(line, archive(self, "libasancol_shared.a"));
+        add(line, own_file(self, "libasancol_shared.a"));
         return;
     }
     if (!wish->is_bare)
         add_all(line, program_flags, COUNT(program_flags));
-    add(line, archive(self, "libasancol_record.a"));
+    add(line, own_file(self, "libasancol_record.a"));
+}
+
+/* Says what will not be recorded. */
+static void warn(const struct wish *wish, bool links)
+{
+    if (wish->foreign != NULL)
+        fprintf(stderr, NAME ": warning: %s: with this nothing is recorded\n", wish->foreign);
+    else if (wish->refusal != NULL && (wish->has_compiled || (links && wish->linked.has_lto)))
+        fprintf(stderr, NAME ": warning: %s: what is compiled with this is not recorded\n", wish->refusal);
+    if (wish->foreign == NULL && links)
+        linked_warn(&wish->linked, NAME);
+}
+
+/* The calls before accesses: when compiling, and for GCC when linking too, since it compiles then what was made with
+   -flto. It would do so with the settings of an object that was made without these flags. */
+static void add_checks(struct line *line, const struct wish *wish, const struct command *command)
+{
+    if (wish->refusal != NULL)
+        return;
+    if (is_clang(command)) {
+        if (wish->has_source)
+            add_all(line, clang_flags, COUNT(clang_flags));
+        return;
+    }
+    if (!wish->has_source && !wish->linked.has_marked)
+        return;
+    if (!wish->stops_early && wish->linked.unmarked_lto != NULL)
+        fail("it was made with -flto, but not by " NAME ": compile it again", wish->linked.unmarked_lto);
+    add_all(line, gcc_flags, COUNT(gcc_flags));
 }
 
 int main(int count, char **words)
@@ -406,13 +484,14 @@ int main(int count, char **words)
         fail("there is no such compiler", command.words[0]);
     command.words[0] = found;
     add_all(&line, (const char *const *)command.words, command.count);
-    bool takes_part = wish.has_input && !wish.is_foreign;
-    if (takes_part && wish.has_source && is_clang(&command))
-        add_all(&line, clang_flags, COUNT(clang_flags));
-    else if (takes_part && wish.has_source)
-        add_all(&line, gcc_flags, COUNT(gcc_flags));
+    bool takes_part = wish.has_input && wish.foreign == NULL;
+    bool links = wish.has_linked && !wish.stops_early && !wish.is_partial;
+    if (wish.has_input)
+        warn(&wish, links);
+    if (takes_part)
+        add_checks(&line, &wish, &command);
     add_all(&line, (const char *const *)words + 1, (size_t)count - 1);
-    if (takes_part && wish.has_linked && !wish.stops_early && !wish.is_partial)
+    if (takes_part && links)
         add_link(&line, &wish, self);
     execv(found, (char *const *)line.words);
     fail(strerror(errno), found);

@@ -1,5 +1,6 @@
 /* Reads reports on standard input, and writes each with function, file and line after it. Its arguments are the traces,
-   in the order in which they were checked. Beside each lies its side file, TRACE.where. */
+   in the order in which they were checked. Beside each lies its side file, TRACE.where. It ends with the status that
+   asancol gives such lines, so that a pipe into it has it too. */
 #define _GNU_SOURCE
 #include <elf.h>
 #include <fcntl.h>
@@ -60,6 +61,7 @@ struct block {
 struct trace {
     struct view stream;
     struct view where;
+    struct timespec written; /* when the stream was last written to */
     size_t offset;      /* up to here the records were gone over */
     struct record last; /* of these */
     void *blocks;       /* a tree of what stands in the heap after it */
@@ -143,6 +145,15 @@ static const char *symbolizer(void)
     return named != NULL && *named != 0 ? named : "addr2line";
 }
 
+/* Says once what is wrong with the symbolizer. */
+static void say_no_symbolizer(const char *program)
+{
+    static bool is_said;
+    if (!is_said)
+        fprintf(stderr, "asancol-where: no lines: %s can't be run (ASANCOL_SYMBOLIZER names another)\n", program);
+    is_said = true;
+}
+
 /* Runs the symbolizer on one address and gives its answer: lines of functions and places, inner ones first. */
 static void ask(const char *path, uint64_t address, char *answer, size_t room)
 {
@@ -174,8 +185,9 @@ static void ask(const char *path, uint64_t address, char *answer, size_t room)
             break;
     answer[length] = 0;
     close(ends[0]);
-    if (child > 0)
-        waitpid(child, NULL, 0);
+    int status = 0;
+    if (child < 0 || (waitpid(child, &status, 0) == child && WIFEXITED(status) && WEXITSTATUS(status) == 127))
+        say_no_symbolizer(program);
 }
 
 /* Answers that were given already: a loop has few places and many events. */
@@ -214,6 +226,16 @@ static char *in_words(const char *answer)
     return text;
 }
 
+static int by_name(const void *one, const void *other)
+{
+    return strcmp(one, other);
+}
+
+static bool is_later(struct timespec one, struct timespec other)
+{
+    return one.tv_sec > other.tv_sec || (one.tv_sec == other.tv_sec && one.tv_nsec > other.tv_nsec);
+}
+
 static const char *place_text(const char *path, uint64_t address)
 {
     struct known **bucket = &known_places[(address ^ (uintptr_t)path[strlen(path) / 2]) % 4096];
@@ -226,6 +248,18 @@ static const char *place_text(const char *path, uint64_t address)
     *known = (struct known){must(strdup(path)), address, in_words(answer), *bucket};
     *bucket = known;
     return known->text;
+}
+
+/* Says once of each file that it was changed after the trace was written, as by a new build. */
+static void look_at_age(const struct trace *trace, const char *path)
+{
+    static void *looked_at; /* a tree of paths */
+    struct stat seen;
+    if (tfind(path, &looked_at, by_name) != NULL)
+        return;
+    must(tsearch(must(strdup(path)), &looked_at, by_name));
+    if (stat(path, &seen) == 0 && is_later(seen.st_mtim, trace->written))
+        fprintf(stderr, "asancol-where: %s was changed after the trace was recorded: its lines may be wrong\n", path);
 }
 
 /* Writes where an event was, after some words. */
@@ -242,6 +276,7 @@ static void write_place(const struct trace *trace, const char *words, uint64_t e
         printf("%s %" PRIx64, words, after_call - 1);
         return;
     }
+    look_at_age(trace, path);
     const char *text = place_text(path, linked_address(path, offset));
     if (*text == 0 || strncmp(text, "?? ??", 5) == 0)
         printf("%s %s+%" PRIx64, words, path, offset);
@@ -346,21 +381,55 @@ static bool read_report(const char *line, struct report *report)
     return digits != NULL && sscanf(digits, "%" SCNx64, &report->address) == 1;
 }
 
-static void write_report(struct trace *traces, size_t count, const char *line)
+/* What the lines say together. */
+struct summary {
+    size_t ends;
+    bool has_report, has_unfinished;
+};
+
+/* Takes in a line that says how a process's trace ended: "pI end WORD ..". */
+static bool read_end(const char *line, struct summary *summary)
+{
+    uint64_t process;
+    int used = 0;
+    if (sscanf(line, "p%" SCNu64 " end %n", &process, &used) != 1 || used == 0)
+        return false;
+    summary->ends++;
+    summary->has_unfinished |= strncmp(line + used, "closed ", 7) != 0;
+    return true;
+}
+
+static void write_line(struct trace *traces, size_t count, const char *line, struct summary *summary)
 {
     struct report report;
     fputs(line, stdout);
-    if (read_report(line, &report) && report.process < count) {
-        struct trace *trace = &traces[report.process];
-        write_place(trace, " at", report.event);
-        write_block(trace, report.address, report.event);
+    if (!read_end(line, summary) && read_report(line, &report)) {
+        summary->has_report = true;
+        if (report.process < count) {
+            struct trace *trace = &traces[report.process];
+            write_place(trace, " at", report.event);
+            write_block(trace, report.address, report.event);
+        }
     }
     putchar('\n');
+}
+
+/* The status of these lines, by asancol's rule. Where a process has no end line, not all was read. */
+static int status_of(const struct summary *summary, size_t count)
+{
+    if (fflush(stdout) != 0 || ferror(stdout))
+        return 4;
+    if (summary->has_unfinished || summary->ends < count)
+        return 3;
+    return summary->has_report ? 1 : 0;
 }
 
 static struct trace open_trace(const char *path)
 {
     struct trace trace = {.stream = map_file(path), .offset = HEADER_LENGTH};
+    struct stat seen;
+    if (stat(path, &seen) == 0)
+        trace.written = seen.st_mtim;
     size_t length = strlen(path);
     char *side = must(malloc(length + 8));
     sprintf(side, "%s.where", path);
@@ -378,6 +447,7 @@ int main(int count, char **words)
     char *line = NULL;
     size_t room = 0;
     ssize_t length;
+    struct summary summary = {0};
     if (count < 2 || words[1][0] == '-') {
         bool asks = count == 2 && strcmp(words[1], "--help") == 0;
         fputs("usage: asancol-where TRACE... < REPORTS\n", asks ? stdout : stderr);
@@ -389,7 +459,7 @@ int main(int count, char **words)
     while ((length = getline(&line, &room, stdin)) > 0) {
         if (line[length - 1] == '\n')
             line[length - 1] = 0;
-        write_report(traces, (size_t)count - 1, line);
+        write_line(traces, (size_t)count - 1, line, &summary);
     }
-    return fflush(stdout) == 0 && !ferror(stdout) ? 0 : 4;
+    return status_of(&summary, (size_t)count - 1);
 }

@@ -26,8 +26,8 @@ enum { HEADER_LENGTH = 8, ACCESS_LENGTH = 10, REGION_LENGTH = 17, PLACE_LENGTH =
 #define LARGEST_REGION ((uint64_t)1 << 28)
 #define ADDRESS_END ((uint64_t)1 << 47)
 
-/* No stream is longer: each event a region, and the close. */
-#define LARGEST_STREAM (HEADER_LENGTH + EVENT_LIMIT * REGION_LENGTH + CLOSE_LENGTH)
+/* No stream is longer: each event a region, and then the close, or a free that is one event too many. */
+#define LARGEST_STREAM (HEADER_LENGTH + EVENT_LIMIT * REGION_LENGTH + PLACE_LENGTH)
 
 /* What the checker demands round each block, and how many bytes of freed spans it holds. */
 #define REDZONE 32

@@ -442,6 +442,24 @@ static void *move(void *old, size_t size, uintptr_t caller)
     return moved;
 }
 
+/* Every slot and every run that was ever used. */
+static void for_each_slot(void (*visit)(const struct block *block, void *with), void *with)
+{
+    for (uint32_t unit = 1; unit < arena.top; unit++) {
+        const struct unit *at = &arena.units[unit];
+        uint32_t count = at->kind == UNIT_SLAB ? at->used : at->kind == UNIT_RUN ? 1 : 0;
+        for (uint32_t slot = 0; slot < count; slot++)
+            visit(arena.blocks + (size_t)unit * SLOTS + slot, with);
+    }
+}
+
+static void record_if_live(const struct block *block, void *unused)
+{
+    (void)unused;
+    if (block->state == BLOCK_LIVE)
+        record_region(CODE_MALLOC, (uintptr_t)block_start(block), block->size, 0);
+}
+
 void heap_record_all(void)
 {
     const struct block *first = heap.oldest;
@@ -451,15 +469,27 @@ void heap_record_all(void)
         record_region(CODE_MALLOC, (uintptr_t)block_start(block), block->size, 0);
     for (const struct block *block = first; block != NULL; block = block->next)
         record_free((uintptr_t)block_start(block), 0);
-    for (uint32_t unit = 1; unit < arena.top; unit++) {
-        const struct unit *at = &arena.units[unit];
-        uint32_t count = at->kind == UNIT_SLAB ? at->used : at->kind == UNIT_RUN ? 1 : 0;
-        for (uint32_t slot = 0; slot < count; slot++) {
-            const struct block *block = arena.blocks + (size_t)unit * SLOTS + slot;
-            if (block->state == BLOCK_LIVE)
-                record_region(CODE_MALLOC, (uintptr_t)block_start(block), block->size, 0);
-        }
+    for_each_slot(record_if_live, NULL);
+}
+
+static void add_if_used(const struct block *block, void *numbers)
+{
+    struct heap_numbers *sums = numbers;
+    if (block->state == BLOCK_LIVE || block->state == BLOCK_UNRECORDED) {
+        sums->live_bytes += size_of(block);
+        sums->live_count++;
     }
+}
+
+struct heap_numbers heap_count(void)
+{
+    struct heap_numbers numbers = {0};
+    bool alone = enter();
+    numbers.system_bytes = (uint64_t)arena.committed * UNIT;
+    for_each_slot(add_if_used, &numbers);
+    if (alone)
+        leave();
+    return numbers;
 }
 
 /* What the process calls. They are weak: a program with an allocator of its own keeps it. */
@@ -476,14 +506,19 @@ REPLACES void free(void *pointer)
     give_back(pointer, CALLER());
 }
 
-REPLACES void *calloc(size_t count, size_t size)
+static void *allocate_array(size_t count, size_t size, uintptr_t caller)
 {
     size_t bytes;
     if (__builtin_mul_overflow(count, size, &bytes)) {
         errno = ENOMEM;
         return NULL;
     }
-    return allocate(bytes, ALIGNMENT, true, CALLER());
+    return allocate(bytes, ALIGNMENT, true, caller);
+}
+
+REPLACES void *calloc(size_t count, size_t size)
+{
+    return allocate_array(count, size, CALLER());
 }
 
 REPLACES void *realloc(void *old, size_t size)
@@ -491,14 +526,19 @@ REPLACES void *realloc(void *old, size_t size)
     return move(old, size, CALLER());
 }
 
-REPLACES void *reallocarray(void *old, size_t count, size_t size)
+static void *move_array(void *old, size_t count, size_t size, uintptr_t caller)
 {
     size_t bytes;
     if (__builtin_mul_overflow(count, size, &bytes)) {
         errno = ENOMEM;
         return NULL;
     }
-    return move(old, bytes, CALLER());
+    return move(old, bytes, caller);
+}
+
+REPLACES void *reallocarray(void *old, size_t count, size_t size)
+{
+    return move_array(old, count, size, CALLER());
 }
 
 static size_t power_of_two(size_t least)
@@ -537,7 +577,7 @@ REPLACES void *valloc(size_t size)
     return allocate(size, PAGE, false, CALLER());
 }
 
-REPLACES void *pvalloc(size_t size)
+static void *allocate_pages(size_t size, uintptr_t caller)
 {
     size_t pages = size / PAGE + (size % PAGE != 0);
     size_t bytes;
@@ -545,11 +585,58 @@ REPLACES void *pvalloc(size_t size)
         errno = ENOMEM;
         return NULL;
     }
-    return allocate(bytes, PAGE, false, CALLER());
+    return allocate(bytes, PAGE, false, caller);
+}
+
+REPLACES void *pvalloc(size_t size)
+{
+    return allocate_pages(size, CALLER());
 }
 
 REPLACES size_t malloc_usable_size(void *pointer)
 {
     size_t size = pointer == NULL ? 0 : live_size(pointer);
     return size == SIZE_MAX ? 0 : size;
+}
+
+/* The names by which a program calls the C library's own allocator, under one of its own. */
+
+REPLACES void *__libc_malloc(size_t size)
+{
+    return allocate(size, ALIGNMENT, false, CALLER());
+}
+
+REPLACES void __libc_free(void *pointer)
+{
+    give_back(pointer, CALLER());
+}
+
+REPLACES void *__libc_calloc(size_t count, size_t size)
+{
+    return allocate_array(count, size, CALLER());
+}
+
+REPLACES void *__libc_realloc(void *old, size_t size)
+{
+    return move(old, size, CALLER());
+}
+
+REPLACES void *__libc_reallocarray(void *old, size_t count, size_t size)
+{
+    return move_array(old, count, size, CALLER());
+}
+
+REPLACES void *__libc_memalign(size_t alignment, size_t size)
+{
+    return allocate(size, power_of_two(alignment), false, CALLER());
+}
+
+REPLACES void *__libc_valloc(size_t size)
+{
+    return allocate(size, PAGE, false, CALLER());
+}
+
+REPLACES void *__libc_pvalloc(size_t size)
+{
+    return allocate_pages(size, CALLER());
 }

@@ -1,154 +1,50 @@
 #define _GNU_SOURCE
 #include <errno.h>
 #include <limits.h>
-#include <poll.h>
 #include <pthread.h>
 #include <stdlib.h>
-#include <string.h>
-#include <sys/stat.h>
 #include <unistd.h>
 
 #include "signals.h"
 #include "stream.h"
 
-/* What the environment says, and who we are. Written at the start and in a child after a fork. */
+/* Who we are, and what the environment says. Written at the start and in a child after a fork. */
 static struct {
     pid_t process;
-    dev_t error_device; /* standard error as it was at the start */
-    ino_t error_node;
-    bool has_error;
     bool forked_inside; /* by a handler that had interrupted the allocator */
     struct settings settings;
-    char pattern[PATH_MAX]; /* of the trace's name, from the root */
+    const char *pattern;  /* of the trace's name, or null */
     char name[PATH_MAX];
+    _Atomic bool found_checks;
 } process;
 
-static void append(char *line, size_t *length, size_t room, const char *text)
+/* Defined by the member of the archive that comes in where something compiled by asancol-cc is linked. */
+extern const char asancol_checks __attribute__((weak));
+
+void recorder_found_checks(void)
 {
-    while (*text != 0 && *length < room)
-        line[(*length)++] = *text++;
+    atomic_store(&process.found_checks, true);
 }
 
-/* Whether standard error is what it was at the start, and takes a line at once. */
-static bool can_say(void)
+bool recorder_has_checks(void)
 {
-    struct stat seen;
-    struct pollfd error = {STDERR_FILENO, POLLOUT, 0};
-    return process.has_error && fstat(STDERR_FILENO, &seen) == 0 && seen.st_dev == process.error_device
-           && seen.st_ino == process.error_node && poll(&error, 1, 0) == 1 && error.revents == POLLOUT;
-}
-
-void recorder_say(const char *what, const char *of, const char *why)
-{
-    char line[PIPE_BUF]; /* no longer than what a pipe takes at once */
-    size_t length = 0;
-    struct disturbance before;
-    undisturbed_begin(&before);
-    if (can_say()) {
-        append(line, &length, sizeof line - 1, "asancol: ");
-        append(line, &length, sizeof line - 1, what);
-        append(line, &length, sizeof line - 1, of);
-        append(line, &length, sizeof line - 1, ": ");
-        append(line, &length, sizeof line - 1, why);
-        line[length++] = '\n';
-        if (write(STDERR_FILENO, line, length) < 0)
-            signal_take_away(errno == EPIPE ? SIGPIPE : SIGXFSZ);
-    }
-    undisturbed_end(&before);
-}
-
-/* A number of the environment, if it is one and in range. */
-static uint64_t number_of(const char *name, uint64_t least, uint64_t most, uint64_t otherwise)
-{
-    const char *text = secure_getenv(name);
-    uint64_t value = 0;
-    if (text == NULL || *text == 0)
-        return otherwise;
-    for (const char *digit = text; *digit != 0; digit++) {
-        if (*digit < '0' || *digit > '9' || value > most) {
-            value = UINT64_MAX;
-            break;
-        }
-        value = value * 10 + (uint64_t)(*digit - '0');
-    }
-    if (value >= least && value <= most)
-        return value;
-    recorder_say("this is no number in its range, and the default holds: ", name, text);
-    return otherwise;
-}
-
-/* The name of the trace: %p is the number of the process, %% is a percent sign. */
-static bool name_trace(void)
-{
-    char digits[12];
-    size_t first = sizeof digits, length = 0;
-    digits[--first] = 0;
-    for (unsigned rest = (unsigned)process.process; rest != 0; rest /= 10)
-        digits[--first] = (char)('0' + rest % 10);
-    for (const char *from = process.pattern; *from != 0; from++) {
-        char one[2] = {*from, 0};
-        const char *piece = one;
-        if (*from == '%' && from[1] == 'p')
-            piece = digits + first;
-        if (*from == '%' && (from[1] == 'p' || from[1] == '%'))
-            from++;
-        append(process.name, &length, sizeof process.name, piece);
-    }
-    if (length == sizeof process.name)
-        return false;
-    process.name[length] = 0;
-    return true;
-}
-
-static bool set_pattern(const char *trace)
-{
-    size_t length = 0;
-    if (trace[0] != '/') {
-        if (getcwd(process.pattern, sizeof process.pattern - 1) == NULL)
-            return false;
-        length = strlen(process.pattern);
-        process.pattern[length++] = '/';
-    }
-    if (length + strlen(trace) >= sizeof process.pattern)
-        return false;
-    strcpy(process.pattern + length, trace);
-    return true;
-}
-
-static void read_settings(void)
-{
-    struct settings *settings = &process.settings;
-    const char *trace = secure_getenv("ASANCOL_TRACE");
-    const char *socket = secure_getenv("ASANCOL_SOCKET");
-    const char *where = secure_getenv("ASANCOL_WHERE");
-    settings->trace = trace != NULL && *trace != 0 ? trace : NULL;
-    settings->socket = settings->trace == NULL && socket != NULL && *socket != 0 ? socket : NULL;
-    settings->limit = number_of("ASANCOL_LIMIT", 1, EVENT_LIMIT, EVENT_LIMIT);
-    settings->quarantine = number_of("ASANCOL_QUARANTINE", 0, (uint64_t)1 << 40, QUARANTINE_BOUND);
-    settings->patience_ms = (int)number_of("ASANCOL_PATIENCE", 0, 86400, 60) * 1000;
-    settings->with_places = where != NULL && strcmp(where, "1") == 0;
+    return &asancol_checks != NULL || atomic_load(&process.found_checks);
 }
 
 static bool begin(void)
 {
-    if (process.settings.trace != NULL) {
-        if (!name_trace())
-            return false;
+    if (process.pattern != NULL) {
         process.settings.trace = process.name;
+        if (!name_of_pattern(process.pattern, process.name, sizeof process.name)) {
+            recorder_say("nothing is recorded: ", process.pattern, "the name is too long");
+            return false;
+        }
     }
     if (!stream_begin(&process.settings))
         return false;
     heap_set_bound(process.settings.quarantine);
     heap_record_all();
     return true;
-}
-
-static void remember_errors(void)
-{
-    struct stat seen;
-    process.has_error = fstat(STDERR_FILENO, &seen) == 0;
-    process.error_device = seen.st_dev;
-    process.error_node = seen.st_ino;
 }
 
 void recorder_start(void)
@@ -159,13 +55,9 @@ void recorder_start(void)
         return;
     undisturbed_begin(&before);
     process.process = getpid();
-    remember_errors();
-    read_settings();
-    bool wanted = process.settings.trace != NULL || process.settings.socket != NULL;
-    if (wanted && process.settings.trace != NULL && !set_pattern(process.settings.trace)) {
-        recorder_say("nothing is recorded: ", process.settings.trace, "the name is too long");
-        wanted = false;
-    }
+    settings_read(&process.settings);
+    process.pattern = process.settings.trace;
+    bool wanted = process.pattern != NULL || process.settings.socket != NULL;
     heap_lock();
     if (!wanted || !begin())
         atomic_store(&recorder_state, STATE_OFF);

@@ -10,6 +10,7 @@ static void access_from_object(enum code code, unsigned width, uint64_t address,
 }
 
 VISIBLE const struct asancol_hooks asancol_hooks = {
+    .size = sizeof(struct asancol_hooks),
     .access = access_from_object,
     .range = record_range,
     .regions = record_regions,
@@ -19,4 +20,5 @@ VISIBLE const struct asancol_hooks asancol_hooks = {
     .exec_failed = recorder_exec_failed,
     .modules_changed = stream_write_modules,
     .set_action = signals_set_action,
+    .found_checks = recorder_found_checks,
 };

@@ -17,6 +17,9 @@
 /* Symbols that the program, or a shared object of it, finds in the recorder. All others are hidden. */
 #define VISIBLE __attribute__((visibility("default")))
 
+/* For what several members of an archive use: a program may have the name itself. */
+#define OWN_NAME(name) __asm__("asancol_" #name)
+
 /* stream.c: the stream and how a record gets into it.
 
    A record is written in two steps. First its place is taken: one addition to the cursor, which holds the number of
@@ -41,7 +44,7 @@ struct stream {
 extern union stream_page {
     struct stream stream;
     unsigned char page[4096];
-} stream_page;
+} stream_page OWN_NAME(stream_page);
 
 /* Adds to the cursor, and says what it was. */
 static inline uint64_t stream_take(_Atomic uint64_t *cursor, uint64_t step)
@@ -78,7 +81,8 @@ static inline void put_code(unsigned char *at, enum code code)
 }
 
 /* What remains to be done for an access where something is unusual. `place` is 0 where none was taken. */
-void record_access_slowly(uint64_t place, unsigned code_and_width, uint64_t address, uintptr_t caller);
+void record_access_slowly(uint64_t place, unsigned code_and_width, uint64_t address, uintptr_t caller)
+    OWN_NAME(record_access_slowly);
 
 static inline void put_access(unsigned char *at, unsigned code_and_width, uint64_t address)
 {
@@ -107,7 +111,7 @@ static inline void record_access(enum code code, unsigned width, uint64_t addres
 }
 
 /* An access of any width, in pieces of 1, 2, 4 and 8 bytes at multiples of them. */
-void record_range(enum code code, uint64_t address, uint64_t size, uintptr_t caller);
+void record_range(enum code code, uint64_t address, uint64_t size, uintptr_t caller) OWN_NAME(record_range);
 /* A malloc, a poison or an unpoison. A region that can't be spelled is left out. */
 void record_region(enum code code, uint64_t address, uint64_t size, uintptr_t caller);
 /* A poison or an unpoison of any size, in pieces. */
@@ -119,7 +123,8 @@ void stream_stop(const char *why);
 
 /* process.c: what becomes of the stream when the process starts, forks, and ends. */
 
-enum finish { FINISH_CLOSED, FINISH_OPEN };
+/* With a close; without one; without one, and with an event more than the limit, since more events came. */
+enum finish { FINISH_CLOSED, FINISH_OPEN, FINISH_AT_LIMIT };
 
 void recorder_start(void);
 void recorder_finish(enum finish finish);
@@ -128,8 +133,19 @@ void recorder_finish_in_handler(void);
 /* Before an exec. False: there is nothing to take back. */
 bool recorder_before_exec(void);
 void recorder_exec_failed(void);
-/* Says one line on standard error, if that is still what it was at the start. */
+/* A shared object, or what calls an exported callback, has the calls of a compiler before its accesses. */
+void recorder_found_checks(void);
+/* Whether the program or a shared object has them. If not, the trace gets no close: what the process did was not seen. */
+bool recorder_has_checks(void);
+
+/* say.c: what the recorder has to say. */
+
+/* Where it is said: a file's name, in which %p stands for the number of the process, or null for standard error. */
+void say_to(const char *log);
+/* Says one line, if that is possible without waiting. */
 void recorder_say(const char *what, const char *of, const char *why);
+/* Writes the name that a pattern gives this process: %p is its number, %% is a percent sign. False: there is no room. */
+bool name_of_pattern(const char *pattern, char *name, size_t room);
 
 /* heap.c: the allocator. */
 
@@ -146,11 +162,21 @@ void heap_record_all(void);
 /* The next malloc of this thread is recorded with this place, and not with that of libc's code which calls it. */
 void heap_called_from(uintptr_t caller);
 
+/* What the allocator holds. */
+struct heap_numbers {
+    uint64_t system_bytes; /* taken from the system */
+    uint64_t live_bytes;   /* of blocks that the process has, as it asked for them */
+    uint64_t live_count;
+};
+
+struct heap_numbers heap_count(void) OWN_NAME(heap_count);
+
 /* What shared objects find in the program. They are built with the small libasancol_shared.a, whose functions do
    nothing where no recorder is there. */
 struct sigaction;
 
 struct asancol_hooks {
+    size_t size; /* of this table: an object may be newer than its program */
     void (*access)(enum code code, unsigned width, uint64_t address, uintptr_t caller);
     void (*range)(enum code code, uint64_t address, uint64_t size, uintptr_t caller);
     void (*regions)(enum code code, uint64_t address, uint64_t size, uintptr_t caller);
@@ -160,6 +186,7 @@ struct asancol_hooks {
     void (*exec_failed)(void);
     void (*modules_changed)(void);
     int (*set_action)(int number, const struct sigaction *action, struct sigaction *old);
+    void (*found_checks)(void);
 };
 
 #endif

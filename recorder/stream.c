@@ -30,6 +30,7 @@ static struct {
     int patience_ms;
     uint64_t checked;      /* up to here the records were seen to be whole */
     uint64_t checked_events;
+    bool said_unseen; /* that it gets no close, since nothing was seen */
     _Atomic uint64_t left_out;
 } keeper = {.lock = PTHREAD_MUTEX_INITIALIZER, .trace = {.descriptor = -1}, .where = {.descriptor = -1}};
 
@@ -229,7 +230,37 @@ static bool grow_to(uint64_t end)
     return true;
 }
 
-/* Writes the close, if there shall be one, and leaves nothing after it. The lock is held and the cursor off. */
+static unsigned length_of_ending(enum finish finish)
+{
+    return finish == FINISH_CLOSED ? CLOSE_LENGTH : finish == FINISH_AT_LIMIT ? PLACE_LENGTH : 0;
+}
+
+/* What stands after the last record: a close, nothing, or one event more than the limit. That is a free of null, which
+   says nothing, and by which a reader knows that events are missing. */
+static void put_ending(uint64_t offset, enum finish finish)
+{
+    unsigned char *at = STREAM->bytes + offset;
+    if (finish == FINISH_CLOSED)
+        put_code(at, CODE_CLOSE);
+    if (finish == FINISH_AT_LIMIT) {
+        put_number(at + 1, 0);
+        put_code(at, CODE_FREE);
+    }
+}
+
+/* Of a process without a check nothing was seen but its blocks, so its trace must not read as clean. */
+static enum finish as_seen(enum finish finish)
+{
+    if (finish != FINISH_CLOSED || recorder_has_checks())
+        return finish;
+    if (!keeper.said_unseen)
+        recorder_say("the trace has no close: ", keeper.trace.path,
+                     "no access was recorded, since no part of the program was compiled by asancol-cc");
+    keeper.said_unseen = true;
+    return FINISH_OPEN;
+}
+
+/* Writes what stands after the last record, and leaves nothing after that. The lock is held and the cursor off. */
 static void finish_at(uint64_t end, uint64_t limit, enum finish finish)
 {
     if (!grow_to(end))
@@ -237,8 +268,12 @@ static void finish_at(uint64_t end, uint64_t limit, enum finish finish)
     check_records(end, limit, true);
     bool whole = keeper.checked == end || keeper.checked_events == limit;
     uint64_t length = keeper.checked;
-    if (finish == FINISH_CLOSED && whole && grow_to(length + CLOSE_LENGTH))
-        put_code(STREAM->bytes + length++, CODE_CLOSE);
+    finish = whole ? as_seen(finish) : FINISH_OPEN;
+    unsigned more = length_of_ending(finish);
+    if (more != 0 && grow_to(length + more)) {
+        put_ending(length, finish);
+        length += more;
+    }
     if (keeper.trace.is_mapped) {
         trim_files(length);
     } else {
@@ -256,7 +291,7 @@ static void end_at_limit(uint64_t end)
     if (is_on() && grow_to(end)) {
         atomic_store(&recorder_state, STATE_AT_LIMIT);
         if (atomic_exchange(&STREAM->cursor, 0) & CURSOR_ON) {
-            finish_at(end, limit_of_stream(), FINISH_CLOSED);
+            finish_at(end, limit_of_stream(), FINISH_AT_LIMIT);
             heap_set_bound(0);
         } else {
             atomic_store(&recorder_state, STATE_OFF);
@@ -355,6 +390,7 @@ bool stream_begin(const struct settings *settings)
     keeper.patience_ms = settings->patience_ms;
     keeper.checked = HEADER_LENGTH;
     keeper.checked_events = 0;
+    keeper.said_unseen = false;
     atomic_store(&keeper.left_out, 0);
     STREAM->bytes = keeper.trace.bytes;
     STREAM->events_end = settings->limit << 32;

@@ -3,18 +3,10 @@
 #define ASANCOL_STREAM_H
 
 #include "recorder.h"
+#include "settings.h"
 
 /* The ways a stream can have ended, so that events are not recorded. */
 enum state { STATE_UNSTARTED, STATE_STARTING, STATE_RECORDING, STATE_AT_LIMIT, STATE_OFF };
-
-struct settings {
-    const char *trace;  /* a name with %p, or null */
-    const char *socket; /* or null */
-    uint64_t limit;
-    uint64_t quarantine;
-    int patience_ms;
-    bool with_places;
-};
 
 extern _Atomic enum state recorder_state;
 

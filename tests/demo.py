@@ -4,7 +4,7 @@
 usage: tests/demo.py PROGRAM TRACE..     by this program
        tests/demo.py - TRACE..           by one that is built for this, and not proved
 
-The second way takes two to three minutes if nothing was built before. `rt try` compiles the
+The second way takes a minute or two if nothing was built before. `rt try` compiles the
 program once, with checks in the place of its proof, and runs it on each trace. If the recorder
 noted where things are, in TRACE.where, the lines go through `asancol-where`.
 """

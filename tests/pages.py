@@ -17,7 +17,15 @@ from typing import Dict, Iterator, List, Optional, Set, Tuple
 Finding = Tuple[str, int, str]
 
 # What the pages name of the system and of other programs.
-ELSEWHERE = {"asan_interface.h", "RTLD_DEEPBIND", "posix_spawn"}
+ELSEWHERE = {
+    "asan_interface.h",
+    "common_interface_defs.h",
+    "lsan_interface.h",
+    "malloc.h",
+    "__SANITIZE_ADDRESS__",
+    "RTLD_DEEPBIND",
+    "posix_spawn",
+}
 
 SPAN = re.compile(r"`([^`]+)`")
 LINK = re.compile(r"\]\(([^)\s]+)\)")

@@ -421,7 +421,7 @@ CLEAN(realloc_keeps_bytes)
 CLEAN(calloc_is_zero)
 {
     for (int i = 0; i < 100; i++) {
-        size_t size = 1 + (size_t)i * i * 17;
+        size_t size = 1 + (size_t)(i * i * 17);
         char *p = hide((char *)calloc(size, 1));
         for (size_t j = 0; j < size; j++)
             if (p[j] != 0)

@@ -286,6 +286,7 @@ static void *works_on(void *unused)
 {
     for (;;)
         allocate_one(unused);
+    return NULL;
 }
 
 /* Its other threads are in the middle of something when it ends. */
@@ -528,7 +529,7 @@ static void closes_all(void)
             break;
     fault();
     for (int i = 0; i < 200000; i++)
-        *(volatile char *)hide(&sink) = 1;
+        *(volatile char *)hide((int *)&sink) = 1;
 }
 
 static void counts_descriptors(void)
@@ -560,7 +561,7 @@ static void writes_past_a_limit(void)
     set_limit(RLIMIT_FSIZE, 1 << 20);
     fault();
     for (int i = 0; i < 400000; i++)
-        *(volatile char *)hide(&sink) = 1;
+        *(volatile char *)hide((int *)&sink) = 1;
 }
 
 /* What the recorder does at an access must not show: not even where it writes, waits or fails. */
@@ -646,8 +647,16 @@ static void fills_its_memory(void)
 static void many_events(void)
 {
     for (int i = 0; i < 100000; i++)
-        *(volatile char *)hide(&sink) = 1;
+        *(volatile char *)hide((int *)&sink) = 1;
     fault();
+}
+
+/* Past the greatest limit. */
+static void twenty_million_events(void)
+{
+    fault();
+    for (int i = 0; i < 20000000; i++)
+        *(volatile char *)hide((int *)&sink) = 1;
 }
 
 static void many_frees(void)
@@ -722,7 +731,7 @@ static const struct {
     LIFE(threads_exchange), LIFE(many_threads), LIFE(ends_with_threads), LIFE(forks), LIFE(forks_in_a_thread),
     LIFE(forks_by_the_system), LIFE(vforks), LIFE(execs), LIFE(execs_in_vain), LIFE(spawns), LIFE(closes_all),
     LIFE(counts_descriptors), LIFE(closes_errors), LIFE(writes_past_a_limit), LIFE(fills_its_memory),
-    LIFE(many_events), LIFE(many_frees), LIFE(uses_exit_handlers), LIFE(loads_a_library),
+    LIFE(many_events), LIFE(twenty_million_events), LIFE(many_frees), LIFE(uses_exit_handlers), LIFE(loads_a_library),
 };
 
 /* Byte by byte: the events are then as many in each run. */

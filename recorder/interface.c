@@ -1,0 +1,352 @@
+/* What sanitizer/asan_interface.h, common_interface_defs.h and lsan_interface.h declare. A program that is built for
+   AddressSanitizer may call these, and has to link and run. docs/RECORDER.md says which do something here.
+
+   Poison and unpoison are recorded. Of the others the recorder serves what needs no shadow and no reports, since it keeps
+   none: nothing is ever said to be poisoned, and no report is there. They are weak: a program has its own callbacks and
+   options, and another sanitizer of the program may bring its own functions. */
+#include <string.h>
+
+#include "hooks.h"
+
+#ifdef IN_SHARED_OBJECT
+#define INTERFACE __attribute__((weak)) /* hidden: each shared object calls its own */
+#else
+#define INTERFACE VISIBLE __attribute__((weak))
+#endif
+
+/* Poison. */
+
+INTERFACE void __asan_poison_memory_region(const volatile void *start, size_t size)
+{
+    note_regions(CODE_POISON, (uintptr_t)start, size, CALLER());
+}
+
+INTERFACE void __asan_unpoison_memory_region(const volatile void *start, size_t size)
+{
+    note_regions(CODE_UNPOISON, (uintptr_t)start, size, CALLER());
+}
+
+/* A container owns the bytes from `start` up to `end`, and those from `new_middle` on are not in use. */
+INTERFACE void __sanitizer_annotate_contiguous_container(const void *start, const void *end, const void *old_middle,
+                                                         const void *new_middle)
+{
+    (void)old_middle;
+    note_regions(CODE_UNPOISON, (uintptr_t)start, (uintptr_t)new_middle - (uintptr_t)start, CALLER());
+    note_regions(CODE_POISON, (uintptr_t)new_middle, (uintptr_t)end - (uintptr_t)new_middle, CALLER());
+}
+
+INTERFACE int __sanitizer_verify_contiguous_container(const void *start, const void *middle, const void *end)
+{
+    (void)start, (void)middle, (void)end;
+    return 1;
+}
+
+INTERFACE const void *__sanitizer_contiguous_container_find_bad_address(const void *start, const void *middle,
+                                                                        const void *end)
+{
+    (void)start, (void)middle, (void)end;
+    return NULL;
+}
+
+INTERFACE int __asan_address_is_poisoned(const volatile void *address)
+{
+    (void)address;
+    return 0;
+}
+
+INTERFACE void *__asan_region_is_poisoned(void *start, size_t size)
+{
+    (void)start, (void)size;
+    return NULL;
+}
+
+/* Accesses that a program makes by a call. */
+
+#define UNALIGNED(bits)                                                                                                \
+    INTERFACE uint##bits##_t __sanitizer_unaligned_load##bits(const void *at)                                          \
+    {                                                                                                                  \
+        uint##bits##_t value;                                                                                          \
+        note_range(CODE_LOAD, (uintptr_t)at, sizeof value, CALLER());                                                  \
+        __builtin_memcpy(&value, at, sizeof value);                                                                    \
+        return value;                                                                                                  \
+    }                                                                                                                  \
+    INTERFACE void __sanitizer_unaligned_store##bits(void *at, uint##bits##_t value)                                   \
+    {                                                                                                                  \
+        note_range(CODE_STORE, (uintptr_t)at, sizeof value, CALLER());                                                 \
+        __builtin_memcpy(at, &value, sizeof value);                                                                    \
+    }
+
+UNALIGNED(16)
+UNALIGNED(32)
+UNALIGNED(64)
+
+/* A bad access that the program has found: it is recorded as an access, and the checker decides. */
+INTERFACE void __asan_report_error(void *place, void *frame, void *stack, void *address, int is_store, size_t size)
+{
+    (void)frame, (void)stack;
+    note_range(is_store ? CODE_STORE : CODE_LOAD, (uintptr_t)address, size, (uintptr_t)place);
+}
+
+/* Reports: in this process there are none. */
+
+INTERFACE int __asan_report_present(void)
+{
+    return 0;
+}
+
+#define NO_REPORT(type, what, answer)                                                                                  \
+    INTERFACE type __asan_get_report_##what(void)                                                                      \
+    {                                                                                                                  \
+        return answer;                                                                                                 \
+    }
+
+NO_REPORT(void *, pc, NULL)
+NO_REPORT(void *, bp, NULL)
+NO_REPORT(void *, sp, NULL)
+NO_REPORT(void *, address, NULL)
+NO_REPORT(int, access_type, 0)
+NO_REPORT(size_t, access_size, 0)
+NO_REPORT(const char *, description, "")
+
+INTERFACE void __asan_describe_address(void *address)
+{
+    (void)address;
+}
+
+/* AddressSanitizer's word for an address that it knows nothing of. */
+INTERFACE const char *__asan_locate_address(void *address, char *name, size_t name_size, void **region, size_t *size)
+{
+    (void)address;
+    if (name != NULL && name_size != 0)
+        name[0] = 0;
+    if (region != NULL)
+        *region = NULL;
+    if (size != NULL)
+        *size = 0;
+    return "heap-invalid";
+}
+
+#define NO_STACK(what)                                                                                                 \
+    INTERFACE size_t __asan_get_##what##_stack(void *address, void **frames, size_t size, int *thread)                 \
+    {                                                                                                                  \
+        (void)address, (void)frames, (void)size;                                                                       \
+        if (thread != NULL)                                                                                            \
+            *thread = 0;                                                                                               \
+        return 0;                                                                                                      \
+    }
+
+NO_STACK(alloc)
+NO_STACK(free)
+
+INTERFACE void __asan_get_shadow_mapping(size_t *scale, size_t *offset)
+{
+    *scale = 0;
+    *offset = 0;
+}
+
+INTERFACE int __asan_update_allocation_context(void *address)
+{
+    (void)address;
+    return 0;
+}
+
+INTERFACE void *__asan_get_current_fake_stack(void)
+{
+    return NULL;
+}
+
+INTERFACE void *__asan_addr_is_in_fake_stack(void *stack, void *address, void **start, void **end)
+{
+    (void)stack, (void)address, (void)start, (void)end;
+    return NULL;
+}
+
+/* Callbacks are never called: the recorder never ends the process. */
+
+INTERFACE void __asan_set_death_callback(void (*callback)(void))
+{
+    (void)callback;
+}
+
+INTERFACE void __sanitizer_set_death_callback(void (*callback)(void))
+{
+    (void)callback;
+}
+
+INTERFACE void __asan_set_error_report_callback(void (*callback)(const char *))
+{
+    (void)callback;
+}
+
+/* The first thread that asks may treat the crash. */
+INTERFACE int __sanitizer_acquire_crash_state(void)
+{
+    static _Atomic int is_taken;
+    return !atomic_exchange(&is_taken, 1);
+}
+
+/* What a program may define itself. */
+
+INTERFACE void __asan_on_error(void)
+{
+}
+
+#define NO_TEXT(name)                                                                                                  \
+    INTERFACE const char *name(void)                                                                                   \
+    {                                                                                                                  \
+        return "";                                                                                                     \
+    }
+
+NO_TEXT(__asan_default_options)
+NO_TEXT(__lsan_default_options)
+NO_TEXT(__lsan_default_suppressions)
+
+INTERFACE int __lsan_is_turned_off(void)
+{
+    return 0;
+}
+
+/* Output: nothing is written. */
+
+INTERFACE void __sanitizer_set_report_path(const char *path)
+{
+    (void)path;
+}
+
+INTERFACE void __sanitizer_set_report_fd(void *descriptor)
+{
+    (void)descriptor;
+}
+
+NO_TEXT(__sanitizer_get_report_path)
+
+INTERFACE void __sanitizer_report_error_summary(const char *summary)
+{
+    (void)summary;
+}
+
+INTERFACE void __sanitizer_print_stack_trace(void)
+{
+}
+
+INTERFACE void __sanitizer_print_memory_profile(size_t percent, size_t contexts)
+{
+    (void)percent, (void)contexts;
+}
+
+INTERFACE void __asan_print_accumulated_stats(void)
+{
+}
+
+INTERFACE void __sanitizer_sandbox_on_notify(void *arguments)
+{
+    (void)arguments;
+}
+
+/* Symbols: none is known. */
+
+static void no_symbol(char *text, size_t room)
+{
+    if (text != NULL && room != 0)
+        text[0] = 0;
+}
+
+INTERFACE void __sanitizer_symbolize_pc(void *place, const char *format, char *text, size_t room)
+{
+    (void)place, (void)format;
+    no_symbol(text, room);
+}
+
+INTERFACE void __sanitizer_symbolize_global(void *data, const char *format, char *text, size_t room)
+{
+    (void)data, (void)format;
+    no_symbol(text, room);
+}
+
+INTERFACE int __sanitizer_get_module_and_offset_for_pc(void *place, char *path, size_t room, void **offset)
+{
+    (void)place;
+    no_symbol(path, room);
+    if (offset != NULL)
+        *offset = NULL;
+    return 0;
+}
+
+/* Fibers: no stack has redzones. */
+
+INTERFACE void __sanitizer_start_switch_fiber(void **save, const void *bottom, size_t size)
+{
+    (void)save, (void)bottom, (void)size;
+}
+
+INTERFACE void __sanitizer_finish_switch_fiber(void *save, const void **bottom, size_t *size)
+{
+    (void)save;
+    if (bottom != NULL)
+        *bottom = NULL;
+    if (size != NULL)
+        *size = 0;
+}
+
+/* A fuzzer's hooks: the recorder's string functions call none of them. */
+
+#define HOOK(name, ...)                                                                                                \
+    INTERFACE void __sanitizer_weak_hook_##name(void *place, const void *one, __VA_ARGS__)                             \
+    {                                                                                                                  \
+        (void)place, (void)one, (void)other, (void)result;                                                             \
+    }
+
+HOOK(strcmp, const void *other, int result)
+HOOK(strcasecmp, const void *other, int result)
+HOOK(strstr, const void *other, char *result)
+HOOK(strcasestr, const void *other, char *result)
+
+#define SIZED_HOOK(name, ...)                                                                                          \
+    INTERFACE void __sanitizer_weak_hook_##name(void *place, const void *one, __VA_ARGS__)                             \
+    {                                                                                                                  \
+        (void)place, (void)one, (void)other, (void)size, (void)result;                                                 \
+    }
+
+SIZED_HOOK(memcmp, const void *other, size_t size, int result)
+SIZED_HOOK(strncmp, const void *other, size_t size, int result)
+SIZED_HOOK(strncasecmp, const void *other, size_t size, int result)
+
+INTERFACE void __sanitizer_weak_hook_memmem(void *place, const void *one, size_t one_size, const void *other,
+                                            size_t other_size, void *result)
+{
+    (void)place, (void)one, (void)one_size, (void)other, (void)other_size, (void)result;
+}
+
+/* Leaks are not looked for. */
+
+INTERFACE void __lsan_disable(void)
+{
+}
+
+INTERFACE void __lsan_enable(void)
+{
+}
+
+INTERFACE void __lsan_ignore_object(const void *object)
+{
+    (void)object;
+}
+
+INTERFACE void __lsan_register_root_region(const void *start, size_t size)
+{
+    (void)start, (void)size;
+}
+
+INTERFACE void __lsan_unregister_root_region(const void *start, size_t size)
+{
+    (void)start, (void)size;
+}
+
+INTERFACE void __lsan_do_leak_check(void)
+{
+}
+
+INTERFACE int __lsan_do_recoverable_leak_check(void)
+{
+    return 0;
+}

@@ -1,0 +1,200 @@
+#define _GNU_SOURCE
+#include "settings.h"
+
+#include <limits.h>
+#include <stdlib.h>
+#include <string.h>
+#include <sys/auxv.h>
+#include <unistd.h>
+
+#include "recorder.h"
+
+#define FRONT "ASANCOL_"
+
+/* All that the recorder and its tools read. */
+static const char *const names[] = {
+    "ASANCOL_TRACE",    "ASANCOL_SOCKET", "ASANCOL_WHERE", "ASANCOL_QUARANTINE", "ASANCOL_LIMIT",
+    "ASANCOL_PATIENCE", "ASANCOL_LOG",    "ASANCOL_CC",    "ASANCOL_CXX",        "ASANCOL_SYMBOLIZER",
+};
+
+enum { NAMES = sizeof names / sizeof *names, LONGEST_NAME = 32 };
+
+/* How many letters have to be put in, left out or changed to make one name of the other. */
+static unsigned distance(const char *one, size_t length, const char *other)
+{
+    unsigned row[LONGEST_NAME + 1];
+    size_t width = strlen(other);
+    for (unsigned i = 0; i <= width; i++)
+        row[i] = i;
+    for (size_t i = 0; i < length; i++) {
+        unsigned corner = row[0];
+        row[0]++;
+        for (size_t j = 0; j < width; j++) {
+            unsigned least = corner + (one[i] != other[j]);
+            least = least < row[j] + 1 ? least : row[j] + 1;
+            least = least < row[j + 1] + 1 ? least : row[j + 1] + 1;
+            corner = row[j + 1];
+            row[j + 1] = least;
+        }
+    }
+    return row[width];
+}
+
+static bool is_known(const char *name, size_t length)
+{
+    for (size_t i = 0; i < NAMES; i++)
+        if (strlen(names[i]) == length && strncmp(name, names[i], length) == 0)
+            return true;
+    return false;
+}
+
+/* The name that is meant, if one is near; or null. */
+static const char *nearest(const char *name, size_t length)
+{
+    const char *found = NULL;
+    unsigned least = 3;
+    for (size_t i = 0; i < NAMES; i++) {
+        unsigned far = distance(name, length, names[i]);
+        if (far < least) {
+            found = names[i];
+            least = far;
+        }
+    }
+    return found;
+}
+
+static void say_unknown(const char *name, size_t length)
+{
+    char shown[LONGEST_NAME + 1], why[64 + LONGEST_NAME] = "there is no such setting";
+    const char *meant = length <= LONGEST_NAME ? nearest(name, length) : NULL;
+    size_t count = length < LONGEST_NAME ? length : LONGEST_NAME;
+    memcpy(shown, name, count);
+    shown[count] = 0;
+    if (meant != NULL)
+        strcat(strcat(strcat(why, "; did you mean "), meant), "?");
+    recorder_say("ignored: ", shown, why);
+}
+
+static void look_for_unknown(void)
+{
+    for (char **entry = environ; entry != NULL && *entry != NULL; entry++) {
+        size_t length = strcspn(*entry, "=");
+        if (strncmp(*entry, FRONT, strlen(FRONT)) == 0 && !is_known(*entry, length))
+            say_unknown(*entry, length);
+    }
+}
+
+/* The value of a setting, or null where it has none. */
+static const char *value_of(const char *name)
+{
+    const char *value = secure_getenv(name);
+    return value != NULL && *value != 0 ? value : NULL;
+}
+
+/* Adds to a text that has this much room. Returns false where it does not fit. */
+static bool add(char *text, size_t room, const char *more)
+{
+    size_t length = strlen(text);
+    if (length + strlen(more) >= room)
+        return false;
+    strcpy(text + length, more);
+    return true;
+}
+
+static void add_number(char *text, size_t room, uint64_t number)
+{
+    char digits[24];
+    size_t first = sizeof digits;
+    digits[--first] = 0;
+    do
+        digits[--first] = (char)('0' + number % 10);
+    while ((number /= 10) != 0);
+    add(text, room, digits + first);
+}
+
+/* "VALUE is no number from LEAST to MOST, and OTHERWISE holds" */
+static void say_no_number(const char *name, const char *value, uint64_t least, uint64_t most, uint64_t otherwise)
+{
+    char why[256] = "";
+    strncat(why, value, 64);
+    add(why, sizeof why, " is no number from ");
+    add_number(why, sizeof why, least);
+    add(why, sizeof why, " to ");
+    add_number(why, sizeof why, most);
+    add(why, sizeof why, ", and ");
+    add_number(why, sizeof why, otherwise);
+    add(why, sizeof why, " holds");
+    recorder_say("ignored: ", name, why);
+}
+
+/* A number of the environment, if it is one and in range. */
+static uint64_t number_of(const char *name, uint64_t least, uint64_t most, uint64_t otherwise)
+{
+    const char *text = value_of(name);
+    uint64_t value = 0;
+    if (text == NULL)
+        return otherwise;
+    for (const char *digit = text; *digit != 0; digit++) {
+        if (*digit < '0' || *digit > '9' || value > most) {
+            value = UINT64_MAX;
+            break;
+        }
+        value = value * 10 + (uint64_t)(*digit - '0');
+    }
+    if (value >= least && value <= most)
+        return value;
+    say_no_number(name, text, least, most, otherwise);
+    return otherwise;
+}
+
+/* An entry of the environment with a file's name from the root. */
+struct entry {
+    char text[PATH_MAX + LONGEST_NAME];
+};
+
+/* Adds the folder of the process. A percent sign in it is doubled, since the name is a pattern. */
+static bool add_folder(char *text, size_t room)
+{
+    char folder[PATH_MAX];
+    if (getcwd(folder, sizeof folder) == NULL)
+        return false;
+    for (const char *from = folder; *from != 0; from++) {
+        char piece[3] = {*from, *from == '%' ? '%' : 0, 0};
+        if (!add(text, room, piece))
+            return false;
+    }
+    return add(text, room, "/");
+}
+
+/* Gives the name that a setting has, from the root, and puts it back into the environment so. Null: there is none. */
+static const char *name_from_root(const char *name, struct entry *entry)
+{
+    const char *value = value_of(name);
+    char *text = entry->text;
+    size_t room = sizeof entry->text;
+    if (value == NULL)
+        return NULL;
+    text[0] = 0;
+    bool is_relative = value[0] != '/';
+    if (!add(text, room, name) || !add(text, room, "=") || (is_relative && !add_folder(text, room))
+        || !add(text, room, value))
+        return value; /* it is too long for a file's name */
+    for (char **at = environ; is_relative && *at != NULL; at++)
+        if (strncmp(*at, text, strlen(name) + 1) == 0)
+            *at = text;
+    return text + strlen(name) + 1;
+}
+
+void settings_read(struct settings *settings)
+{
+    static struct entry trace, log;
+    say_to(name_from_root("ASANCOL_LOG", &log));
+    if (getauxval(AT_SECURE) == 0)
+        look_for_unknown();
+    settings->trace = name_from_root("ASANCOL_TRACE", &trace);
+    settings->socket = settings->trace == NULL ? value_of("ASANCOL_SOCKET") : NULL;
+    settings->limit = number_of("ASANCOL_LIMIT", 1, EVENT_LIMIT, EVENT_LIMIT);
+    settings->quarantine = number_of("ASANCOL_QUARANTINE", 0, (uint64_t)1 << 40, QUARANTINE_BOUND);
+    settings->patience_ms = (int)number_of("ASANCOL_PATIENCE", 0, 86400, 60) * 1000;
+    settings->with_places = number_of("ASANCOL_WHERE", 0, 1, 0) == 1;
+}

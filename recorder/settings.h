@@ -1,0 +1,21 @@
+/* What the environment says. */
+#ifndef ASANCOL_SETTINGS_H
+#define ASANCOL_SETTINGS_H
+
+#include <stdbool.h>
+#include <stdint.h>
+
+struct settings {
+    const char *trace;  /* the name of the trace with %p, from the root, or null */
+    const char *socket; /* or null */
+    uint64_t limit;
+    uint64_t quarantine;
+    int patience_ms;
+    bool with_places;
+};
+
+/* Reads all settings, and says what is none or has a value that is none. In the environment the names of the trace and of
+   the log are from the root afterwards, so that a process that this one starts elsewhere finds them. */
+void settings_read(struct settings *settings);
+
+#endif

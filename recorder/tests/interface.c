@@ -1,0 +1,163 @@
+/* Calls each function that asan_interface.h, common_interface_defs.h and lsan_interface.h declare, and fails where one
+   answers what a program would not expect that finds nothing wrong. check.py sees that none of them is missing here. */
+#define _GNU_SOURCE
+#include <sanitizer/asan_interface.h>
+#include <sanitizer/lsan_interface.h>
+#include <stdio.h>
+#include <stdlib.h>
+#include <string.h>
+
+static int failures;
+
+static void want(int holds, const char *what)
+{
+    if (!holds) {
+        fprintf(stderr, "not so: %s\n", what);
+        failures++;
+    }
+}
+
+#define WANT(condition) want(condition, #condition)
+
+static void on_death(void)
+{
+    failures++;
+}
+
+static void on_report(const char *text)
+{
+    (void)text;
+    failures++;
+}
+
+/* Poison, and the bytes of a container in use. */
+static void poison(char *block)
+{
+    __asan_poison_memory_region(block, 8);
+    __asan_unpoison_memory_region(block, 8);
+    __sanitizer_annotate_contiguous_container(block, block + 64, block + 64, block + 32);
+    __sanitizer_annotate_contiguous_container(block, block + 64, block + 32, block + 64);
+    WANT(__asan_address_is_poisoned(block) == 0);
+    WANT(__asan_region_is_poisoned(block, 64) == NULL);
+    WANT(__sanitizer_verify_contiguous_container(block, block + 64, block + 64) == 1);
+    WANT(__sanitizer_contiguous_container_find_bad_address(block, block + 64, block + 64) == NULL);
+}
+
+/* Accesses that are no multiple of their width. */
+static void unaligned(char *block)
+{
+    __sanitizer_unaligned_store16(block + 1, 0x1234);
+    WANT(__sanitizer_unaligned_load16(block + 1) == 0x1234);
+    __sanitizer_unaligned_store32(block + 1, 0x12345678);
+    WANT(__sanitizer_unaligned_load32(block + 1) == 0x12345678);
+    __sanitizer_unaligned_store64(block + 1, 0x123456789abcdef0);
+    WANT(__sanitizer_unaligned_load64(block + 1) == 0x123456789abcdef0);
+}
+
+static void reports(char *block)
+{
+    char name[8] = "x";
+    void *start = block;
+    size_t size = 1;
+    WANT(__asan_report_present() == 0);
+    WANT(__asan_get_report_pc() == NULL && __asan_get_report_bp() == NULL && __asan_get_report_sp() == NULL);
+    WANT(__asan_get_report_address() == NULL && __asan_get_report_access_type() == 0);
+    WANT(__asan_get_report_access_size() == 0 && strlen(__asan_get_report_description()) == 0);
+    WANT(__asan_locate_address(block, name, sizeof name, &start, &size) != NULL);
+    __asan_describe_address(block);
+    __asan_report_error(__builtin_return_address(0), NULL, NULL, block, 0, 4);
+    __sanitizer_report_error_summary("none");
+    __sanitizer_set_report_path("asancol.report");
+    __sanitizer_set_report_fd((void *)2);
+    WANT(__sanitizer_get_report_path() != NULL);
+    __sanitizer_print_stack_trace();
+    __sanitizer_print_memory_profile(100, 10);
+    __asan_print_accumulated_stats();
+}
+
+static void callbacks(void)
+{
+    __asan_set_death_callback(on_death);
+    __sanitizer_set_death_callback(on_death);
+    __asan_set_error_report_callback(on_report);
+    __asan_on_error();
+    __asan_handle_no_return();
+    WANT(__sanitizer_acquire_crash_state() != 0);
+    WANT(__sanitizer_acquire_crash_state() == 0);
+    WANT(__asan_default_options() != NULL);
+    WANT(__lsan_default_options() != NULL && __lsan_default_suppressions() != NULL);
+    WANT(__lsan_is_turned_off() == 0);
+}
+
+static void places(char *block)
+{
+    char text[64] = "x";
+    void *frames[4], *offset = block;
+    size_t scale = 1, shadow = 1;
+    int thread = 0;
+    WANT(__asan_get_alloc_stack(block, frames, 4, &thread) <= 4);
+    WANT(__asan_get_free_stack(block, frames, 4, &thread) == 0);
+    __asan_get_shadow_mapping(&scale, &shadow);
+    __asan_update_allocation_context(block);
+    __sanitizer_symbolize_pc(__builtin_return_address(0), "%f", text, sizeof text);
+    __sanitizer_symbolize_global(block, "%g", text, sizeof text);
+    WANT(memchr(text, 0, sizeof text) != NULL);
+    WANT(__sanitizer_get_module_and_offset_for_pc((void *)places, text, sizeof text, &offset) <= 1);
+}
+
+static void fibers(char *block)
+{
+    void *saved = NULL;
+    const void *bottom = block;
+    size_t size = 1;
+    WANT(__asan_addr_is_in_fake_stack(__asan_get_current_fake_stack(), block, NULL, NULL) == NULL);
+    __sanitizer_start_switch_fiber(&saved, block, 64);
+    __sanitizer_finish_switch_fiber(saved, &bottom, &size);
+}
+
+static void hooks(char *block)
+{
+    __sanitizer_weak_hook_memcmp(NULL, block, block, 1, 0);
+    __sanitizer_weak_hook_strcmp(NULL, "a", "b", -1);
+    __sanitizer_weak_hook_strncmp(NULL, "a", "b", 1, -1);
+    __sanitizer_weak_hook_strcasecmp(NULL, "a", "b", -1);
+    __sanitizer_weak_hook_strncasecmp(NULL, "a", "b", 1, -1);
+    __sanitizer_weak_hook_strstr(NULL, "a", "b", NULL);
+    __sanitizer_weak_hook_strcasestr(NULL, "a", "b", NULL);
+    __sanitizer_weak_hook_memmem(NULL, block, 1, block, 1, block);
+}
+
+static void leaks(char *block)
+{
+    __sanitizer_sandbox_arguments sandbox = {0};
+    __lsan_disable();
+    __lsan_enable();
+    __lsan_ignore_object(block);
+    __lsan_register_root_region(block, 64);
+    __lsan_unregister_root_region(block, 64);
+    WANT(__lsan_do_recoverable_leak_check() == 0);
+    __lsan_do_leak_check();
+    __sanitizer_sandbox_on_notify(&sandbox);
+}
+
+int interface(void)
+{
+    char *block = malloc(64);
+    poison(block);
+    unaligned(block);
+    reports(block);
+    callbacks();
+    places(block);
+    fibers(block);
+    hooks(block);
+    leaks(block);
+    free(block);
+    return failures != 0;
+}
+
+#ifndef IN_LIBRARY
+int main(void)
+{
+    return interface();
+}
+#endif

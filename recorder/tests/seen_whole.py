@@ -1,0 +1,500 @@
+"""Tests that nothing is called clean which was not seen whole: limits, builds that record nothing, settings that
+are none, and programs that are sound without a recorder."""
+
+import glob
+import os
+import re
+import shutil
+import subprocess
+from typing import Dict, List, Sequence, Tuple
+
+from support import (
+    CC,
+    HELPER,
+    MARK,
+    PAST_THE_END,
+    RECORDER,
+    TESTS,
+    WHERE,
+    Compiler,
+    Failure,
+    Suite,
+    Trace,
+    build,
+    environment,
+    expect,
+    one_mark,
+    reports,
+    run,
+    write,
+)
+
+# A free of null: the event that is one too many.
+FREE = 4
+ONE_TOO_MANY = (FREE, 0, 0)
+
+NOT_SEEN = b"no access was recorded"
+
+
+def lines_of(text: bytes) -> List[str]:
+    return text.decode().splitlines()
+
+
+# The event limit.
+
+
+def expect_cut(suite: Suite, path: str, limit: int) -> None:
+    """A trace with one event more than its limit, and no close, whatever limit its reader has."""
+    trace = Trace(path)
+    expect((len(trace.events), trace.is_closed), (limit + 1, False), path)
+    expect(trace.events[-1], ONE_TOO_MANY, "the event that is one too many")
+    for option, fate in (([f"--limit={limit}"], "too-many"), (["--limit=10"], "too-many"), ([], "no-close")):
+        status, _, end = reports(suite.asancol, path, option)
+        expect((status, end.split(" events ")[0]), (3, fate), f"{path} {option}")
+
+
+def check_limit(suite: Suite, folder: str, program: str) -> None:
+    ran = run([program, "many_events"], folder, ASANCOL_TRACE="t.trace", ASANCOL_LIMIT="50000")
+    expect(ran.returncode, 0, "status of the program")
+    expect_cut(suite, f"{folder}/t.trace", 50000)
+    whole = run([program, "many_events"], folder, ASANCOL_TRACE="whole.trace")
+    events = len(Trace(f"{folder}/whole.trace").events)
+    said = lines_of(ran.stderr)
+    expect((len(said), said[0].split(": ")[0], said[0].split(": ")[-1]), (1, "asancol", str(events - 50000)), "said")
+    expect(whole.stderr, b"", "standard error without a limit")
+    # One event fewer, and as many as there are.
+    less, exact = f"{folder}/less.trace", f"{folder}/exact.trace"
+    ran = run([program, "many_events"], folder, ASANCOL_TRACE=less, ASANCOL_LIMIT=str(events - 1))
+    expect(len(lines_of(ran.stderr)), 1, ran.stderr)
+    expect_cut(suite, less, events - 1)
+    ran = run([program, "many_events"], folder, ASANCOL_TRACE=exact, ASANCOL_LIMIT=str(events))
+    expect((ran.stderr, Trace(exact).is_closed), (b"", True), "with room for all")
+
+
+def check_limit_in_threads(suite: Suite, folder: str, program: str) -> None:
+    """The limit is just after what a file has at first, where some threads are waiting for more."""
+    for limit in (104856, 104857, 104858, 104870, 105300):
+        name = f"{limit}.trace"
+        ran = run([program, "many_events_in_threads"], folder, ASANCOL_TRACE=name, ASANCOL_LIMIT=str(limit))
+        expect((ran.returncode, len(lines_of(ran.stderr))), (0, 1), name)
+        expect_cut(suite, f"{folder}/{name}", limit)
+
+
+def check_exec_after_limit(suite: Suite, folder: str, program: str) -> None:
+    ran = run([program, "execs_after_much"], folder, ASANCOL_TRACE="t.trace", ASANCOL_LIMIT="100")
+    expect((ran.returncode, len(lines_of(ran.stderr))), (0, 1), ran.stderr)
+    expect_cut(suite, f"{folder}/t.trace", 100)
+
+
+def check_greatest_limit(suite: Suite, folder: str, program: str) -> None:
+    """More events than any trace may have: `too-many`, with what came before."""
+    ran = run([program, "twenty_million_events"], folder, ASANCOL_TRACE="t.trace")
+    expect((ran.returncode, len(lines_of(ran.stderr))), (0, 1), ran.stderr)
+    checked = run([suite.asancol, "check", "t.trace"], folder)
+    said = lines_of(checked.stdout)
+    expect((checked.returncode, len(said)), (3, 2), said)
+    expect(said[-1].split(" offset ")[0], "p0 end too-many events 16777216", "its end")
+    expect(os.listdir(folder), ["t.trace"], "files")
+
+
+def check_no_room_at_the_limit(suite: Suite, folder: str, program: str) -> None:
+    """The records up to the limit fill the file as far as it may grow: `no-close`."""
+    words = ["sh", "-c", f"ulimit -f 2048; exec {program} many_events_in_threads"]
+    ran = run(words, folder, ASANCOL_TRACE="t.trace", ASANCOL_LIMIT="209714")
+    expect(ran.returncode, 0, ran.stderr)
+    expect(len(lines_of(ran.stderr)) >= 1, True, "that it says so")
+    status, _, end = reports(suite.asancol, f"{folder}/t.trace")
+    expect((status, end.split(" events ")[0]), (3, "no-close"), "its end")
+
+
+def limit_tests(suite: Suite, compiler: Compiler, program: str) -> None:
+    suite.test(f"{compiler} limit of events", check_limit, program)
+    suite.test(f"{compiler} limit in threads", check_limit_in_threads, program)
+    suite.test(f"{compiler} exec after the limit", check_exec_after_limit, program)
+    suite.test(f"{compiler} greatest limit", check_greatest_limit, program)
+    suite.test(f"{compiler} no room at the limit", check_no_room_at_the_limit, program)
+
+
+# Builds that record nothing, or not all.
+
+
+def warned(folder: str, compiler: Compiler, *words: str) -> List[str]:
+    """The warnings of a build that succeeds."""
+    made = run([CC, *words], folder, ASANCOL_CC=compiler.name)
+    expect(made.returncode, 0, f"{words}: {made.stderr.decode()}")
+    return lines_of(made.stderr)
+
+
+def expect_warnings(said: Sequence[str], *wanted: str) -> None:
+    expect(len(said), len(wanted), f"warnings {said}")
+    for line, piece in zip(said, wanted):
+        if not line.startswith("asancol-cc: warning: ") or piece not in line:
+            raise Failure(f"warned {line!r}, wanted {piece!r}")
+
+
+def expect_unseen(suite: Suite, folder: str, program: str = "./program") -> None:
+    """A program without a check runs, says that nothing was seen of it, and its trace does not read as clean."""
+    ran = run([program], folder, ASANCOL_TRACE="u.trace")
+    expect((ran.returncode, len(lines_of(ran.stderr))), (0, 1), ran.stderr)
+    expect(NOT_SEEN in ran.stderr, True, ran.stderr)
+    status, texts, end = reports(suite.asancol, f"{folder}/u.trace")
+    expect((status, texts, end.split(" events ")[0]), (3, [], "no-close"), "its trace")
+    os.unlink(f"{folder}/u.trace")
+    expect(run([program], folder).stderr, b"", "what it says where nothing is recorded")
+
+
+def check_link_time(suite: Suite, folder: str, compiler: Compiler) -> None:
+    """-flto, in one step and in two, with an archive too."""
+    linkers = [["-fuse-ld=lld"]] if shutil.which("ld.lld") else []
+    linkers += [[]] if compiler.name == "gcc" else []
+    write(folder, main_c=PAST_THE_END, helper_c=HELPER)
+    for linker in linkers if compiler.name == "clang" else [[]]:
+        flags = ["-O2", "-flto", "-DVALUE=1"]
+        expect_warnings(warned(folder, compiler, *flags, *linker, "main.c", "helper.c", "-o", "program"))
+        one_mark(suite, folder)
+        expect_warnings(warned(folder, compiler, *flags, "-c", "main.c", "helper.c"))
+        expect_warnings(warned(folder, compiler, "-O2", "-flto", *linker, "main.o", "helper.o", "-o", "program"))
+        one_mark(suite, folder)
+        archiver = "gcc-ar" if compiler.name == "gcc" else "llvm-ar"
+        if shutil.which(archiver):
+            build([archiver, "rcs", "libhelper.a", "helper.o"], folder)
+            expect_warnings(warned(folder, compiler, "-flto", *linker, "main.o", "libhelper.a", "-o", "program"))
+            one_mark(suite, folder)
+
+
+def check_foreign_link_time(suite: Suite, folder: str, compiler: Compiler) -> None:
+    """Objects that GCC made with -flto are compiled when they are linked, and that with settings of their own."""
+    write(folder, main_c=PAST_THE_END, helper_c=HELPER)
+    build([compiler.name, "-O2", "-flto", "-DVALUE=1", "-c", "main.c", "helper.c"], folder)
+    said = warned(folder, compiler, "-O2", "-flto", "main.o", "helper.o", "-o", "program")
+    expect_warnings(said, "main.o, helper.o")
+    expect_unseen(suite, folder)
+    build([CC, "-O2", "-flto", "-c", "main.c"], folder, ASANCOL_CC=compiler.name)
+    made = run([CC, "-O2", "-flto", "main.o", "helper.o", "-o", "program"], folder, ASANCOL_CC=compiler.name)
+    expect((made.returncode, b"error: helper.o: " in made.stderr), (1, True), made.stderr)
+
+
+def check_refusals(suite: Suite, folder: str, compiler: Compiler) -> None:
+    """Flags by which a compiler puts no calls before accesses."""
+    write(folder, main_c=PAST_THE_END, helper_c=HELPER)
+    for flag in ("-fno-sanitize=all", "-fno-sanitize=address", "-fno-sanitize=undefined,kernel-address"):
+        expect_warnings(warned(folder, compiler, flag, "-DVALUE=1", "main.c", "helper.c", "-o", "program"), flag)
+        expect_unseen(suite, folder)
+        expect_warnings(warned(folder, compiler, flag, "-DVALUE=1", "-c", "helper.c"), flag)
+        expect_warnings(warned(folder, compiler, "-c", "main.c"))
+        expect_warnings(warned(folder, compiler, "main.o", "helper.o", "-o", "program"), "helper.o")
+    for flag in ("-fsanitize=thread", "-fsanitize=address", "-m32"):
+        expect_warnings(warned(folder, compiler, flag, "-DVALUE=1", "-S", "helper.c", "-o", "helper.s"), flag)
+        expect("__asan_store1_noabort" in open(f"{folder}/helper.s").read(), False, flag)
+
+
+def check_plain_objects(suite: Suite, folder: str, compiler: Compiler) -> None:
+    """Objects that the plain compiler made, all of them and some."""
+    write(folder, main_c=PAST_THE_END, helper_c=HELPER, code_s='.section .note.GNU-stack,"",@progbits\n')
+    names = [f"n{i}" for i in range(6)]
+    write(folder, **{f"{name}_c": f"int {name};\n" for name in names})
+    build([compiler.name, "-DVALUE=1", "-c", "main.c", "helper.c", *(f"{name}.c" for name in names)], folder)
+    for flags in ([], ["-static"], ["-no-pie"]):
+        expect_warnings(warned(folder, compiler, *flags, "main.o", "helper.o", "-o", "program"), "main.o, helper.o")
+        expect_unseen(suite, folder)
+    objects = [f"{name}.o" for name in names]
+    said = warned(folder, compiler, "-DVALUE=1", "main.c", "helper.c", *objects, "-o", "program")
+    expect_warnings(said, "n0.o, n1.o, n2.o, n3.o and 2 more")
+    one_mark(suite, folder)
+    # What was assembled is not recorded either.
+    expect_warnings(warned(folder, compiler, "-c", "code.s"))
+    said = warned(folder, compiler, "-DVALUE=1", "main.c", "helper.c", "code.o", "-o", "program")
+    expect_warnings(said, "code.o")
+    # A shared object, or a member of an archive, is enough for a program to be seen.
+    expect_warnings(warned(folder, compiler, "-fPIC", "-DVALUE=1", "-c", "helper.c"))
+    expect_warnings(warned(folder, compiler, "-shared", "helper.o", "-o", "libhelper.so"))
+    expect_warnings(warned(folder, compiler, "main.o", "./libhelper.so", "-o", "program"), "main.o")
+    one_mark(suite, folder)
+    build(["ar", "rcs", "libhelper.a", "helper.o"], folder)
+    expect_warnings(warned(folder, compiler, "main.o", "libhelper.a", "-o", "program"), "main.o")
+    one_mark(suite, folder)
+
+
+def check_nothing_to_see(suite: Suite, folder: str, compiler: Compiler) -> None:
+    """A program that makes no access was seen whole, if it was compiled for it."""
+    write(folder, empty_c="int main(void) { return 0; }\n")
+    expect_warnings(warned(folder, compiler, "-c", "empty.c"))
+    for words in (["empty.c"], ["empty.o"], ["-static", "empty.o"], ["-O2", "-flto", "empty.c"]):
+        if "-flto" in words and compiler.name == "clang":
+            continue
+        expect_warnings(warned(folder, compiler, *words, "-o", "program"))
+        ran = run(["./program"], folder, ASANCOL_TRACE="t.trace")
+        expect((ran.returncode, ran.stderr), (0, b""), words)
+        expect(reports(suite.asancol, f"{folder}/t.trace")[0], 0, words)
+        os.unlink(f"{folder}/t.trace")
+
+
+PLUGIN = """
+#include <dlfcn.h>
+#include <stdlib.h>
+int main(void) {
+    char *p = malloc(8);
+    void *library = dlopen("./libhelper.so", RTLD_NOW);
+    int (*helper)(char *) = library ? (int (*)(char *))dlsym(library, "helper") : NULL;
+    int result = helper ? helper(p) : 9;
+    free(p);
+    return result; }
+"""
+
+
+def check_plugins(suite: Suite, folder: str, compiler: Compiler) -> None:
+    """A shared object that is opened later is seen, whoever has linked it."""
+    write(folder, plugin_c=PLUGIN, helper_c=HELPER)
+    build([compiler.name, "-c", "plugin.c"], folder)
+    warned(folder, compiler, "plugin.o", "-ldl", "-o", "program")
+    warned(folder, compiler, "-fPIC", "-DVALUE=1", "-c", "helper.c")
+    for linker in ([CC], [compiler.name]):
+        build([*linker, "-shared", "helper.o", "-o", "libhelper.so"], folder, ASANCOL_CC=compiler.name)
+        one_mark(suite, folder)
+
+
+def seen_tests(suite: Suite, compiler: Compiler) -> None:
+    suite.test(f"{compiler} link time", check_link_time, compiler)
+    if compiler.name == "gcc":
+        suite.test(f"{compiler} link time of others", check_foreign_link_time, compiler)
+    suite.test(f"{compiler} refusals", check_refusals, compiler)
+    suite.test(f"{compiler} plain objects", check_plain_objects, compiler)
+    suite.test(f"{compiler} nothing to see", check_nothing_to_see, compiler)
+    suite.test(f"{compiler} plugins", check_plugins, compiler)
+
+
+# Programs that are sound without a recorder.
+
+
+def check_allocation(suite: Suite, folder: str, compiler: Compiler, flags: Sequence[str]) -> None:
+    """All of the C library's interface, recorded and not."""
+    compiler.c(folder, [f"{TESTS}/allocation.c"], f"{folder}/program", "-w", *flags)
+    for settings in ({}, {"ASANCOL_TRACE": "t.trace"}):
+        ran = run(["./program"], folder, **settings)
+        expect((ran.returncode, ran.stderr), (0, b""), settings)
+    status, texts, end = reports(suite.asancol, f"{folder}/t.trace")
+    expect((status, texts, end.split()[0]), (0, [], "closed"), "its trace")
+
+
+SECOND = """
+#include <stdlib.h>
+void __malloc_fork_lock_parent(void);
+int main(void) { free(malloc(8)); __malloc_fork_lock_parent(); return 0; }
+"""
+
+
+def check_second_allocator(suite: Suite, folder: str, compiler: Compiler) -> None:
+    """A static program into which the C library's allocator comes is not linked."""
+    write(folder, second_c=SECOND)
+    for linker, program in (("bfd", "ld.bfd"), ("gold", "ld.gold"), ("lld", "ld.lld")):
+        if not shutil.which(program):
+            continue
+        words = [CC, "-w", "-static", f"-fuse-ld={linker}", "second.c", "-o", "program"]
+        made = run(words, folder, ASANCOL_CC=compiler.name)
+        said = [line for line in lines_of(made.stderr) if "asancol-cc: the C library's allocator (malloc.o" in line]
+        expect((made.returncode != 0, len(said) >= 1), (True, True), f"{linker}: {made.stderr.decode()}")
+
+
+HEADERS = ("asan_interface.h", "common_interface_defs.h", "lsan_interface.h")
+DECLARED = re.compile(r"\b(__(?:asan|lsan|sanitizer)_\w+) *\(")
+
+
+def declared(folder: str, compiler: Compiler) -> List[str]:
+    """The functions of the headers as they are installed."""
+    write(folder, all_c="".join(f"#include <sanitizer/{name}>\n" for name in HEADERS))
+    return sorted(set(DECLARED.findall(run([compiler.name, "-E", "all.c"], folder).stdout.decode())))
+
+
+def check_interface(suite: Suite, folder: str, compiler: Compiler) -> None:
+    source = f"{TESTS}/interface.c"
+    with open(source, encoding="utf-8") as file:
+        called = set(DECLARED.findall(file.read()))
+    names = declared(folder, compiler)
+    expect(len(names) > 60, True, "functions of the headers")
+    expect([name for name in names if name not in called], [], "functions that interface.c does not call")
+    for flags in (["-O0"], ["-O2"], ["-static"]):
+        compiler.c(folder, [source], f"{folder}/program", "-w", *flags)
+        for settings in ({}, {"ASANCOL_TRACE": "t.trace"}):
+            ran = run(["./program"], folder, **settings)
+            expect((ran.returncode, ran.stderr, ran.stdout), (0, b"", b""), flags)
+        expect(reports(suite.asancol, f"{folder}/t.trace")[:2], (0, []), flags)
+        os.unlink(f"{folder}/t.trace")
+    # In a shared object, which is used with and without a recorder.
+    write(folder, main_c="int interface(void);\nint main(void) { return interface(); }\n")
+    shared = ["-fPIC", "-shared", "-DIN_LIBRARY", "-Wl,-z,defs"]
+    compiler.c(folder, [source], f"{folder}/libinterface.so", "-w", *shared)
+    compiler.c(folder, ["main.c", "./libinterface.so"], f"{folder}/program")
+    compiler.c(folder, ["main.c", "./libinterface.so"], f"{folder}/plain", native=True)
+    for program in ("./program", "./plain"):
+        ran = run([program], folder, ASANCOL_TRACE="t.trace")
+        expect((ran.returncode, ran.stderr), (0, b""), program)
+
+
+def sound_tests(suite: Suite, compiler: Compiler) -> None:
+    for flags in (["-O0"], ["-O2"], ["-O0", "-static"], ["-O2", "-static"]):
+        suite.test(f"{compiler} allocation {' '.join(flags)}", check_allocation, compiler, flags)
+    suite.test(f"{compiler} second allocator", check_second_allocator, compiler)
+    suite.test(f"{compiler} interface", check_interface, compiler)
+
+
+# Settings, and where the recorder's lines go.
+
+
+def expect_said(said: Sequence[str], *pieces: str) -> None:
+    expect(len(said), len(pieces), f"lines {said}")
+    for line, piece in zip(said, pieces):
+        if not line.startswith("asancol: ") or piece not in line:
+            raise Failure(f"said {line!r}, wanted {piece!r}")
+
+
+def check_settings(suite: Suite, folder: str, program: str) -> None:
+    """What is no setting, or has a value that is none, is named once, and the program goes on."""
+    for settings, pieces in (
+        ({"ASANCOL_TRCE": "t.trace"}, ["ASANCOL_TRCE: there is no such setting; did you mean ASANCOL_TRACE?"]),
+        ({"ASANCOL_NOTHING_LIKE_IT": ""}, ["ASANCOL_NOTHING_LIKE_IT: there is no such setting"]),
+        ({"ASANCOL_WHERE": "yes"}, ["ASANCOL_WHERE: yes is no number from 0 to 1, and 0 holds"]),
+        ({"ASANCOL_LIMIT": "0"}, ["ASANCOL_LIMIT: 0 is no number from 1 to 16777216, and 16777216 holds"]),
+        ({"ASANCOL_LIMIT": "99999999999999999999"}, ["ASANCOL_LIMIT: 99999999999999999999 is no number"]),
+        ({"ASANCOL_QUARANTINE": "1M"}, ["ASANCOL_QUARANTINE: 1M is no number from 0 to 1099511627776"]),
+        ({"ASANCOL_PATIENCE": "-1"}, ["ASANCOL_PATIENCE: -1 is no number from 0 to 86400, and 60 holds"]),
+        ({"ASANCOL_WHERE": "", "ASANCOL_LIMIT": "", "ASANCOL_LOG": ""}, []),
+        ({"ASANCOL_CC": "gcc", "ASANCOL_CXX": "g++", "ASANCOL_SYMBOLIZER": "addr2line"}, []),
+    ):
+        ran = run([program, "ends_normally"], folder, **settings)
+        expect(ran.returncode, 0, settings)
+        expect_said(lines_of(ran.stderr), *pieces)
+    expect(os.listdir(folder), [], "files")
+    wrong = {"ASANCOL_LIMIT": "x", "ASANCOL_QUARANTINE": "x", "ASANCOL_X": "x"}
+    ran = run([program, "ends_normally"], folder, ASANCOL_TRACE="t.trace", **wrong)
+    expect_said(lines_of(ran.stderr), "ASANCOL_X", "ASANCOL_LIMIT", "ASANCOL_QUARANTINE")
+    expect(reports(suite.asancol, f"{folder}/t.trace")[:2], (1, [MARK]), "its trace")
+
+
+def check_log(suite: Suite, folder: str, program: str) -> None:
+    """ASANCOL_LOG takes what the recorder says, line after line."""
+    limited = {"ASANCOL_TRACE": "%p.trace", "ASANCOL_LIMIT": "100", "ASANCOL_LOG": "log"}
+    for _ in range(2):
+        ran = run([program, "many_events"], folder, **limited)
+        expect((ran.returncode, ran.stderr), (0, b""), "with a log")
+    with open(f"{folder}/log", "rb") as file:
+        expect_said(lines_of(file.read()), *["further events left out"] * 2)
+    run([program, "many_events"], folder, **{**limited, "ASANCOL_LOG": "log.%p"})
+    expect(len(glob.glob(f"{folder}/log.[0-9]*")), 1, "a log with the number of the process")
+    ran = run([program, "many_events"], folder, **{**limited, "ASANCOL_LOG": "none/log"})
+    expect_said(lines_of(ran.stderr), "the log can't be opened: ", "further events left out")
+
+
+def check_other_folder(suite: Suite, folder: str, program: str) -> None:
+    """A process that starts another one in another folder: both have their trace, and one log."""
+    os.makedirs(f"{folder}/50%p/other")
+    write(folder, chief_c='#include <stdlib.h>\nint main(void) { return system("cd other && exec $PROGRAM"); }\n')
+    here = f"{folder}/50%p"
+    build([CC, "chief.c", "-o", "chief"], folder, ASANCOL_CC="cc")
+    settings = {"ASANCOL_TRACE": "%p.trace", "ASANCOL_LOG": "log", "ASANCOL_LIMIT": "1"}
+    ran = run(["../chief"], here, PROGRAM=f"{program} many_events", **settings)
+    expect((ran.returncode, ran.stderr), (0, b""), "the program")
+    expect(len(glob.glob(f"{glob.escape(here)}/*.trace")), 2, f"traces beside each other: {os.listdir(here)}")
+    expect(os.listdir(f"{here}/other"), [], "what is in the other folder")
+    with open(f"{here}/log", "rb") as file:
+        expect(len(lines_of(file.read())) >= 1, True, "the log")
+
+
+def setting_tests(suite: Suite, compiler: Compiler, program: str) -> None:
+    suite.test(f"{compiler} settings", check_settings, program)
+    suite.test(f"{compiler} log", check_log, program)
+    suite.test(f"{compiler} another folder", check_other_folder, program)
+
+
+# The way to one result a test.
+
+
+def check_where_status(suite: Suite, folder: str, program: str) -> None:
+    """asancol-where ends as the lines say, so that a pipe into it does."""
+    run([program, "ends_normally"], folder, ASANCOL_TRACE="t.trace", ASANCOL_WHERE="1")
+    report, closed = run([suite.asancol, "check", "t.trace"], folder).stdout.splitlines(True)
+    unfinished = closed.replace(b"closed", b"no-close")
+    for said, status in (
+        (report + closed, 1),
+        (closed, 0),
+        (report + unfinished, 3),
+        (unfinished, 3),
+        (report, 3),
+        (b"", 3),
+        (b"p0 end not-opened\n", 3),
+        (b"p0 end no-memory checked 5 reports 0\n", 3),
+    ):
+        expect(run([WHERE, "t.trace"], folder, stdin=said).returncode, status, said)
+    full = ["sh", "-c", f"{WHERE} t.trace > /dev/full"]
+    expect(run(full, folder, stdin=closed).returncode, 4, "a full disk")
+    # Without a symbolizer, and after a new build, it says so.
+    lacking = run([WHERE, "t.trace"], folder, stdin=report + closed, ASANCOL_SYMBOLIZER="no-such-symbolizer")
+    expect(b"no-such-symbolizer can't be run" in lacking.stderr, True, lacking.stderr)
+    shutil.copy(program, f"{folder}/copy")
+    run(["./copy", "ends_normally"], folder, ASANCOL_TRACE="copy.trace", ASANCOL_WHERE="1")
+    later = os.stat(f"{folder}/copy.trace").st_mtime + 10
+    os.utime(f"{folder}/copy", (later, later))
+    old = run([WHERE, "copy.trace"], folder, stdin=report + closed)
+    expect((old.returncode, old.stderr.count(b"was changed after")), (1, 1), old.stderr)
+
+
+def script_of(page: str, first: str) -> str:
+    """The script of a page that has this line."""
+    with open(page, encoding="utf-8") as file:
+        found = [text for text in re.findall(r"```sh\n(.*?)```", file.read(), re.S) if first in text]
+    expect(len(found), 1, f"{page}: {first}")
+    return found[0]
+
+
+# Each test, and what record-all says of it.
+FARM: Dict[str, Tuple[str, str, str]] = {
+    "sound/check": ("int main(void) { char *p = malloc(8); p[7] = 1; free(p); return 0; }", "", "clean, ended with 0"),
+    "bad/check": (
+        "int main(int n, char **w) { char *p = malloc(8); ((volatile char *)p)[atoi(w[1])] = 1; return n - 2; }",
+        "8",
+        "reports, ended with 0",
+    ),
+    "aborts": ("int main(void) { abort(); }", "", "incomplete, ended with 134"),
+    "plain": ("int main(void) { return 0; }", "", "nothing recorded, ended with 0"),
+    "busy": (
+        "int main(void) { volatile char *p = malloc(1); for (int i = 0; i < 2000; i++) p[0] = 1; return 0; }",
+        "",
+        "incomplete, ended with 0",
+    ),
+}
+
+
+def check_farm(suite: Suite, folder: str, compiler: Compiler) -> None:
+    """The script of docs/FARMS.md, with a folder from where it is called."""
+    with open(f"{folder}/record-all", "w", encoding="utf-8") as file:
+        file.write(script_of(f"{RECORDER}/../docs/FARMS.md", "# record-all FOLDER JOBS TEST.."))
+    os.makedirs(f"{folder}/bin")
+    os.symlink(suite.asancol, f"{folder}/bin/asancol")
+    os.symlink(WHERE, f"{folder}/bin/asancol-where")
+    for number, (name, (source, _, _)) in enumerate(FARM.items()):
+        os.makedirs(os.path.dirname(f"{folder}/tests/{name}"), exist_ok=True)
+        write(folder, **{f"t{number}_c": f"#include <stdlib.h>\n{source}\n"})
+        compiler.c(folder, [f"t{number}.c"], f"{folder}/tests/{name}", native=name == "plain")
+    tests = [f"tests/{name} {words}".strip() for name, (_, words, _) in FARM.items()]
+    path = f"{folder}/bin:{os.environ['PATH']}"
+    ran = run(["sh", "record-all", "runs", "4", *tests], folder, PATH=path, ASANCOL_LIMIT="1000")
+    expect((ran.returncode, ran.stderr), (1, b""), "record-all")
+    wanted = [f"{test}: {said}" for test, (_, _, said) in zip(tests, FARM.values())]
+    expect(sorted(lines_of(ran.stdout)), sorted(wanted), "what it says")
+    kept = glob.glob(f"{folder}/runs/*bad-check*/*.txt") + glob.glob(f"{folder}/runs/*check*/*.txt")
+    expect(any("heap-buffer-overflow" in open(path).read() for path in kept), True, "the reports")
+    expect(run(["sh", "record-all", "runs2", "2", tests[0]], folder, PATH=path).returncode, 0, "a clean run")
+
+
+def farm_tests(suite: Suite, compiler: Compiler, program: str) -> None:
+    suite.test(f"{compiler} where, status", check_where_status, program)
+    suite.test(f"{compiler} farm", check_farm, compiler)
+
+
+def tests(suite: Suite, compiler: Compiler, folder: str) -> None:
+    """Takes its programs where the tests of lives have built them."""
+    program = f"{folder}/lives-{compiler}"
+    limit_tests(suite, compiler, program)
+    seen_tests(suite, compiler)
+    sound_tests(suite, compiler)
+    setting_tests(suite, compiler, program)
+    farm_tests(suite, compiler, program)

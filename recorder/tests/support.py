@@ -1,0 +1,249 @@
+"""What the recorder's tests share: runs, builds, traces, and a suite that runs tests side by side."""
+
+import os
+import re
+import shutil
+import subprocess
+import tempfile
+import threading
+from concurrent.futures import ThreadPoolExecutor
+
+TESTS = os.path.dirname(os.path.abspath(__file__))
+RECORDER = os.path.dirname(TESTS)
+CC = f"{RECORDER}/asancol-cc"
+CXX = f"{RECORDER}/asancol-c++"
+WHERE = f"{RECORDER}/asancol-where"
+
+# No run may take longer, in seconds. Nothing is measured by it.
+PATIENCE = 300
+
+REDZONE = 32
+LENGTHS = {1: 10, 2: 10, 3: 17, 4: 9, 5: 17, 6: 17}
+CLOSE = 7
+
+
+class Failure(Exception):
+    """What a test saw and did not expect."""
+
+
+def expect(seen, wanted, what=""):
+    if seen != wanted:
+        raise Failure(f"{what}: saw {seen!r}, wanted {wanted!r}")
+
+
+def environment(**settings):
+    """The environment without what speaks to a recorder, and with these settings."""
+    kept = {name: value for name, value in os.environ.items() if not name.startswith("ASANCOL_")}
+    kept["LC_ALL"] = "C"
+    return {**kept, **settings}
+
+
+def run(words, folder, stdin=None, **settings):
+    return subprocess.run(
+        words,
+        cwd=folder,
+        env=environment(**settings),
+        input=stdin,
+        capture_output=True,
+        timeout=PATIENCE,
+        check=False,
+    )
+
+
+def build(words, folder, **settings):
+    made = run(words, folder, **settings)
+    if made.returncode != 0:
+        raise Failure(f"{' '.join(words)}: {made.stderr.decode()}")
+
+
+class Trace:
+    """A trace as it lies in a file."""
+
+    def __init__(self, path):
+        self.data = open(path, "rb").read()
+        self.events = []
+        self.is_closed = False
+        at = 8
+        while at < len(self.data):
+            code = self.data[at]
+            length = LENGTHS.get(code)
+            if code == CLOSE:
+                self.is_closed = at + 1 == len(self.data)
+            if length is None or at + length > len(self.data):
+                break
+            record = self.data[at : at + length]
+            if length == 10:
+                self.events.append((code, int.from_bytes(record[2:], "little"), record[1]))
+            else:
+                address = int.from_bytes(record[1:9], "little")
+                self.events.append((code, address, int.from_bytes(record[9:], "little")))
+            at += length
+
+    def count(self, code):
+        return sum(1 for event in self.events if event[0] == code)
+
+    def block(self, address, before):
+        """The start of the block whose span has the address, as it was at an event."""
+        for code, start, size in reversed(self.events[: before - 1]):
+            end = start + (size + 7) // 8 * 8 + REDZONE
+            if code == 3 and start != 0 and start - REDZONE <= address < end:
+                return start
+        return None
+
+
+LINE = re.compile(
+    r"p0 #(\d+) (load|store|free|malloc)(?: (\d+))? at ([0-9a-f]+)(?: bad ([0-9a-f]+))?"
+    r" ([a-z-]+)(?: shadow ..)?"
+)
+
+
+def reports(asancol, path, options=(), most=1000):
+    """The status, the first reports as the tests write them, and what comes after `end`."""
+    checked = run([asancol, "check", *options, path], ".")
+    lines = checked.stdout.decode().splitlines()
+    trace = Trace(path) if len(lines) > 1 else None
+    texts = []
+    for line in lines[:-1][:most]:
+        number, kind, width, at, bad, wrong = LINE.fullmatch(line).groups()
+        address = int(at, 16)
+        start = trace.block(address, int(number))
+        words = [kind]
+        if width:
+            words.append(width)
+        if start is not None:
+            words.append(f"{address - start:+d}")
+            if bad and bad != at:
+                words += ["bad", f"{int(bad, 16) - start:+d}"]
+        texts.append(" ".join([*words, wrong]))
+    end = lines[-1].removeprefix("p0 end ") if lines else ""
+    return checked.returncode, texts, end
+
+
+ERROR = re.compile(r"ERROR: AddressSanitizer: (.*)")
+PLACE = re.compile(r"is located (\d+) bytes (to the right of|to the left of|inside of) (\d+)-byte region")
+
+
+def by_sanitizer(text):
+    """What AddressSanitizer's first report says: the class, and the place in the block."""
+    error = ERROR.search(text)
+    if not error:
+        return None
+    said = error.group(1)
+    if said.startswith("attempting double-free"):
+        wrong = "double-free"
+    elif said.startswith("attempting free"):
+        wrong = "bad-free"
+    else:
+        wrong = said.split()[0]
+    place = PLACE.search(text)
+    if not place:
+        return wrong, None
+    distance, side, size = int(place.group(1)), place.group(2), int(place.group(3))
+    offset = {"to the right of": size + distance, "to the left of": -distance, "inside of": distance}
+    return wrong, offset[side]
+
+
+def same_as_sanitizer(text, said):
+    """Whether a report, as the tests write it, is what AddressSanitizer said. It names the access's
+    address or the first bad byte."""
+    words = text.split()
+    places = [int(word) for word in words if word[0] in "+-"]
+    wrong, offset = said
+    if words[-1] != wrong:
+        return False
+    return offset is None or not places or offset in places
+
+
+class Suite:
+    """Tests that run side by side, one on each processor."""
+
+    def __init__(self, asancol, words):
+        self.asancol = asancol
+        self.words = words
+        self.passed = 0
+        self.failed = 0
+        self.counting = threading.Lock()
+        self.pool = ThreadPoolExecutor(max_workers=len(os.sched_getaffinity(0)))
+
+    def test(self, name, run_it, *arguments):
+        if not self.words or any(word in name for word in self.words):
+            self.pool.submit(self.run_test, name, run_it, *arguments)
+
+    def run_test(self, name, run_it, *arguments):
+        folder = tempfile.mkdtemp(prefix="asancol.")
+        wrong = None
+        try:
+            run_it(self, folder, *arguments)
+        except Exception as error:  # whatever it is, the test has failed
+            wrong = error
+        shutil.rmtree(folder, ignore_errors=True)
+        with self.counting:
+            if wrong is None:
+                self.passed += 1
+            else:
+                self.failed += 1
+                print(f"FAILED {name}: {type(wrong).__name__}: {wrong}", flush=True)
+
+    def finish(self):
+        self.pool.shutdown()
+        print(f"{self.passed} passed, {self.failed} failed")
+        return 0 if self.passed > 0 and self.failed == 0 else 1
+
+
+class Compiler:
+    """A compiler by its C and its C++ command."""
+
+    def __init__(self, name, cxx):
+        self.name = name
+        self.cxx = cxx
+        self.has_sanitizer = False
+
+    def __str__(self):
+        return self.name
+
+    def c(self, folder, sources, program, *flags, native=False, **settings):
+        words = [self.name] if native else [CC]
+        build([*words, "-g", *flags, *sources, "-o", program], folder, ASANCOL_CC=self.name, **settings)
+
+    def cpp(self, folder, sources, program, *flags, native=False):
+        words = [self.cxx] if native else [CXX]
+        build([*words, "-g", *flags, *sources, "-o", program], folder, ASANCOL_CXX=self.cxx)
+
+
+def compilers():
+    found = []
+    for name, cxx in (("gcc", "g++"), ("clang", "clang++")):
+        if not shutil.which(name):
+            print(f"left out: {name} is not there")
+            continue
+        found.append(Compiler(name, cxx if shutil.which(cxx) else None))
+        if not found[-1].cxx:
+            print(f"left out: {cxx} is not there")
+    return found
+
+
+# The report of a program that stores a byte past a block of 8.
+MARK = "store 1 +8 heap-buffer-overflow"
+
+PAST_THE_END = """
+#include <stdlib.h>
+int helper(char *p);
+int main(void) { char *p = malloc(8); int r = helper(p); free(p); return r; }
+"""
+HELPER = "int helper(char *p) { ((volatile char *)p)[8] = VALUE; return 0; }\n"
+
+
+def write(folder, **files):
+    for name, text in files.items():
+        with open(f"{folder}/{name.replace('_', '.')}", "w") as file:
+            file.write(text)
+
+
+def one_mark(suite, folder, program="./program"):
+    """The program shows its mark, and nothing else."""
+    ran = run([program], folder, ASANCOL_TRACE="mark.trace")
+    expect((ran.returncode, ran.stderr), (0, b""), "the program")
+    expect(reports(suite.asancol, f"{folder}/mark.trace")[1], [MARK], "reports")
+    os.unlink(f"{folder}/mark.trace")
+    ran = run([program], folder)
+    expect((ran.returncode, ran.stderr), (0, b""), "the program alone")
