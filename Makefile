@@ -9,7 +9,7 @@ SOURCES := crates.txt HANDLES $(shell find crates -name out -prune -o -type f \(
 EXAMPLE := examples/one_byte_past_the_end.trace
 REDZONES := examples/stack_and_global_poison.trace
 
-.PHONY: all demo check stress failures install clean recorder check-recorder install-recorder
+.PHONY: all demo check stress failures install clean recorder check-recorder check-real bench-record install-recorder
 
 # The program, proved.
 all: asancol
@@ -62,6 +62,15 @@ recorder:
 # or a symbolizer that is not there are left out, and it says which.
 check-recorder: asancol recorder
 	recorder/tests/check.py ./asancol
+
+# What recording costs, beside AddressSanitizer: some minutes, on a machine with nothing else to do.
+bench-record: recorder
+	recorder/tests/bench.py
+
+# The test suites of real programs, recorded: each passes as without a recorder, and no trace has a report. The sources
+# come from Debian by `apt-get source` the first time; it takes some minutes.
+check-real: asancol recorder
+	recorder/tests/real.py ./asancol
 
 install-recorder:
 	$(MAKE) -C recorder install PREFIX=$(PREFIX) DESTDIR=$(DESTDIR)

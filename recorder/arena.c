@@ -1,14 +1,14 @@
 #define _GNU_SOURCE
 #include "arena.h"
+#include "shadow.h"
 
 #include <string.h>
 #include <sys/mman.h>
 
 /* By how many units memory is asked for: the notes on them then fill whole pages. */
 enum { COMMIT_STEP = 256 };
-/* Where the range may begin. */
-#define FIRST_RANGE ((uint64_t)1 << 44)
-#define LAST_RANGE ((uint64_t)1 << 46)
+/* Where the range begins: shadow.h says why there. */
+#define RANGE ((uint64_t)ARENA_NUMBER << ARENA_SHIFT)
 
 struct arena arena;
 
@@ -46,15 +46,14 @@ static bool commit(uint32_t units)
    and what isn't counts towards no limit of the process. */
 bool arena_find(void)
 {
-    for (uint64_t start = FIRST_RANGE; start < LAST_RANGE; start *= 2) {
-        arena.blocks = (struct block *)start;
-        arena.units = (struct unit *)(arena.blocks + (size_t)UNITS * SLOTS);
-        arena.bytes = (unsigned char *)(arena.units + UNITS);
-        arena.spare = arena.bytes + (size_t)UNITS * UNIT;
-        arena.top = 1;
-        if (commit(1))
-            return true;
-    }
+    shadow_map(); /* in a static program this comes before all constructors */
+    arena.blocks = (struct block *)RANGE;
+    arena.units = (struct unit *)(arena.blocks + (size_t)UNITS * SLOTS);
+    arena.bytes = (unsigned char *)(arena.units + UNITS);
+    arena.spare = arena.bytes + (size_t)UNITS * UNIT;
+    arena.top = 1;
+    if (commit(1))
+        return true;
     arena.bytes = NULL;
     return false;
 }

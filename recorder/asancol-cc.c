@@ -29,21 +29,36 @@
 /* The compiler notes its switches in the object, where the link finds what was compiled so (linked.c). */
 #define NOTE_SWITCHES "-frecord-gcc-switches"
 
-static const char *const gcc_flags[] = {
-    COMPILED_SO,
-    NOTE_SWITCHES,
-    "--param", "asan-instrumentation-with-call-threshold=0",
-    "--param", "asan-stack=0",
-    "--param", "asan-globals=0",
-};
+/* By default the compilers' own check, inline, and a call if it finds the access bad; with ASANCOL_ALL=1 a call
+   before each access. -fsanitize=kernel-address is the form that goes on after that call, and links no runtime. Where
+   the shadow begins is said in shadow.h. */
+#define GCC_FLAGS(name, threshold)                                                                                     \
+    static const char *const name[] = {                                                                                \
+        COMPILED_SO,                                                                                                   \
+        "-fasan-shadow-offset=0x7fff8000",                                                                             \
+        "-fsanitize-address-use-after-scope",                                                                          \
+        "--param", "asan-instrumentation-with-call-threshold=" threshold,                                              \
+        "--param", "asan-stack=1",                                                                                     \
+        "--param", "asan-globals=1",                                                                                   \
+        "--param", "asan-instrument-allocas=1",                                                                        \
+    }
 
-static const char *const clang_flags[] = {
-    COMPILED_SO,
-    NOTE_SWITCHES,
-    "-mllvm", "-asan-instrumentation-with-call-threshold=0",
-    "-mllvm", "-asan-stack=0",
-    "-mllvm", "-asan-globals=0",
-};
+/* An experiment gives Clang's calls after a check names of their own. */
+#define CLANG_FLAGS(name, threshold, experiment)                                                                       \
+    static const char *const name[] = {                                                                                \
+        COMPILED_SO,                                                                                                   \
+        "-mllvm", "-asan-mapping-offset=0x7fff8000",                                                                   \
+        "-Xclang", "-fsanitize-address-use-after-scope",                                                               \
+        "-mllvm", "-asan-instrumentation-with-call-threshold=" threshold,                                              \
+        "-mllvm", "-asan-force-experiment=" experiment,                                                                \
+        "-mllvm", "-asan-stack=1",                                                                                     \
+        "-mllvm", "-asan-globals=1",                                                                                   \
+    }
+
+GCC_FLAGS(gcc_flags, "2147483647");
+GCC_FLAGS(gcc_all_flags, "0");
+CLANG_FLAGS(clang_flags, "1000000000", "1");
+CLANG_FLAGS(clang_all_flags, "0", "0");
 
 #define WRAP(name) "-Wl,--wrap=" #name,
 static const char *const wraps[] = {
@@ -53,12 +68,14 @@ static const char *const wraps[] = {
 #endif
 };
 
-/* The archive's members come in by these names, and shared objects find the last two. */
+/* The recorder comes in by the first of these, and shared objects find the others. */
 static const char *const program_flags[] = {
     "-Wl,--undefined=asancol_start",
-    "-Wl,--undefined=asancol_hooks",
-    "-Wl,--export-dynamic-symbol=asancol_hooks",
     "-Wl,--export-dynamic-symbol=__asan_*",
+    "-Wl,--export-dynamic-symbol=pthread_create",
+    "-Wl,--export-dynamic-symbol=*longjmp*",
+    "-Wl,--export-dynamic-symbol=_Unwind_RaiseException",
+    "-Wl,--export-dynamic-symbol=_Unwind_Resume_or_Rethrow",
 };
 
 #define COUNT(array) (sizeof(array) / sizeof *(array))
@@ -70,11 +87,16 @@ struct wish {
     bool has_compiled;  /* one that is compiled */
     bool has_linked;    /* an input that comes to be linked: a header does not */
     bool names_language;
+    bool names_assembly;
     bool stops_early;   /* before the link */
     bool is_shared;
     bool is_partial;    /* a link of objects to an object */
     bool is_bare;       /* without the C library */
     bool is_static;     /* with the C library inside, whose own calls would be wrapped too */
+    bool finds_static;  /* after its last word of this kind the linker looks for static libraries alone */
+    bool has_libc;      /* named by itself */
+    char **folders;     /* in which libraries are looked for */
+    size_t folder_count;
     char *foreign;      /* a word for another sanitizer, which brings its own runtime, or another machine; or null */
     char *refusal;      /* a word by which the compiler puts no calls before accesses, or null */
     struct linked linked; /* the files that are linked */
@@ -121,16 +143,68 @@ static bool is_linked(const char *word)
            || ends(word, ".obj") || strstr(word, ".so.") != NULL || begins(word, "-l");
 }
 
+/* Whether the compiler only assembles this, or takes it in a language of its own: it puts no checks into it. */
+static bool is_compiled_already(const struct wish *wish, const char *word)
+{
+    static const char *const suffixes[] = {".s", ".S", ".sx", ".asm", ".ll"};
+    if (wish->names_language)
+        return wish->names_assembly;
+    for (size_t i = 0; i < COUNT(suffixes); i++)
+        if (ends(word, suffixes[i]))
+            return true;
+    return false;
+}
+
 static void take_input(struct wish *wish, const char *word)
 {
     bool is_header = ends(word, ".h") || ends(word, ".hh") || ends(word, ".hpp") || ends(word, ".hxx");
-    bool is_source = wish->names_language || !is_linked(word);
+    bool is_source = wish->names_language || (!is_linked(word) && !linked_takes(word));
+    bool is_compiled = is_source && !is_compiled_already(wish, word);
     wish->has_input = true;
     wish->has_source |= is_source;
-    wish->has_compiled |= is_source && !ends(word, ".S") && !ends(word, ".sx");
+    wish->has_compiled |= is_compiled;
     wish->has_linked |= wish->names_language || !is_header;
-    if (!is_source)
+    if (!is_compiled)
         linked_look_at(&wish->linked, word);
+}
+
+/* The words of a -Wl, or one of an -Xlinker: objects among them, and which kind of library the linker looks for. */
+static void take_linker_word(struct wish *wish, const char *word, size_t length)
+{
+    char path[PATH_MAX];
+    snprintf(path, sizeof path, "%.*s", (int)length, word);
+    if (strcmp(path, "-Bstatic") == 0 || strcmp(path, "-dn") == 0 || strcmp(path, "-static") == 0)
+        wish->finds_static = true;
+    else if (strcmp(path, "-Bdynamic") == 0 || strcmp(path, "-dy") == 0)
+        wish->finds_static = false;
+    else if (path[0] != '-' && path[0] != 0 && linked_takes(path))
+        linked_look_at(&wish->linked, path);
+}
+
+static void take_linker_words(struct wish *wish, const char *words)
+{
+    while (*words != 0) {
+        size_t length = strcspn(words, ",");
+        take_linker_word(wish, words, length);
+        words += length + (words[length] == ',');
+    }
+}
+
+/* A library: what GCC made with -flto is compiled when it is linked. */
+static void take_library(struct wish *wish, const char *name)
+{
+    char path[2 * PATH_MAX];
+    wish->has_libc |= strcmp(name, "c") == 0;
+    for (size_t i = 0; i < wish->folder_count; i++) {
+        snprintf(path, sizeof path, "%s/lib%s.a", wish->folders[i], name);
+        linked_look_at(&wish->linked, path);
+    }
+}
+
+static void take_folder(struct wish *wish, const char *folder)
+{
+    wish->folders = must(realloc(wish->folders, (wish->folder_count + 1) * sizeof *wish->folders));
+    wish->folders[wish->folder_count++] = must(strdup(folder));
 }
 
 static void look_at(struct wish *wish, const char *word);
@@ -177,7 +251,7 @@ static void look_into(struct wish *wish, const char *path)
 
 /* Their value is the next word. */
 static const char *const with_value[] = {
-    "-o",        "-x",        "-I",         "-L",       "-D",           "-U",          "-A",         "-F",
+    "-o",        "--output",  "-x",        "-I",         "-L",       "-D",           "-U",          "-A",         "-F",
     "-include",  "-imacros",  "-idirafter", "-iprefix", "-iwithprefix", "-isystem",    "-isysroot",  "-iquote",
     "-MF",       "-MT",       "-MQ",        "-Xlinker", "-Xassembler",  "-Xclang",     "-mllvm",     "-Xpreprocessor",
     "-u",        "-z",        "-T",         "-e",       "-B",           "--param",     "-target",    "-soname",
@@ -224,6 +298,7 @@ static bool take_plain(struct wish *wish, const char *word)
 static void take_language(struct wish *wish, const char *language)
 {
     wish->names_language = strcmp(language, "none") != 0;
+    wish->names_assembly = begins(language, "assembler") || strcmp(language, "ir") == 0;
     wish->stops_early |= ends(language, "-header");
 }
 
@@ -267,11 +342,23 @@ static void look_at(struct wish *wish, const char *word)
     if (option != NULL) {
         if (strcmp(option, "-x") == 0)
             take_language(wish, word);
+        else if (strcmp(option, "-L") == 0)
+            take_folder(wish, word);
+        else if (strcmp(option, "-Xlinker") == 0)
+            take_linker_word(wish, word, strlen(word));
     } else if (word[0] == '@') {
         take_response_file(wish, word);
-    } else if (word[0] != '-' || word[1] == 0 || begins(word, "-l")) {
+    } else if (begins(word, "-l") && word[2] != 0) {
+        wish->has_input = wish->has_linked = true;
+        take_library(wish, word + 2);
+    } else if (begins(word, "-L") && word[2] != 0) {
+        take_folder(wish, word + 2);
+    } else if (word[0] != '-' || word[1] == 0) {
         if (word[0] != 0)
             take_input(wish, word);
+    } else if (begins(word, "-Wl,")) {
+        take_plain(wish, word);
+        take_linker_words(wish, word + strlen("-Wl,"));
     } else if (take_plain(wish, word)) {
         return;
     } else if ((option = find(word, with_value, COUNT(with_value))) != NULL) {
@@ -423,9 +510,10 @@ static void add_all(struct line *line, const char *const *words, size_t count)
 static void add_link(struct line *line, const struct wish *wish, const char *self)
 {
     /* What was compiled here, or so before, has checks, also if it has no access. */
-    if (wish->linked.has_marked || (wish->has_compiled && wish->refusal == NULL))
+    bool is_refused = wish->refusal != NULL;
+    if ((wish->linked.has_marked && !(is_refused && wish->linked.has_lto)) || (wish->has_compiled && !is_refused))
         add(line, "-Wl,--undefined=asancol_checks");
-    if (wish->is_static && !wish->is_shared) {
+    if ((wish->is_static || wish->finds_static) && !wish->is_shared) {
         add_all(line, program_flags, COUNT(program_flags));
         add(line, own_file(self, "libasancol_static.a"));
         add(line, own_file(self, "no-second-allocator.ld"));
@@ -433,12 +521,15 @@ static void add_link(struct line *line, const struct wish *wish, const char *sel
     }
     add_all(line, wraps, COUNT(wraps));
     if (wish->is_shared) {
+        add(line, "-Wl,--undefined=asancol_map_early");
         add(line, own_file(self, "libasancol_shared.a"));
         return;
     }
-    if (!wish->is_bare)
+    if (!wish->is_bare || wish->has_libc)
         add_all(line, program_flags, COUNT(program_flags));
     add(line, own_file(self, "libasancol_record.a"));
+    if (wish->has_libc)
+        add(line, "-lc"); /* for what the recorder calls */
 }
 
 /* Says what will not be recorded. */
@@ -448,7 +539,7 @@ static void warn(const struct wish *wish, bool links)
         fprintf(stderr, NAME ": warning: %s: with this nothing is recorded\n", wish->foreign);
     else if (wish->refusal != NULL && (wish->has_compiled || (links && wish->linked.has_lto)))
         fprintf(stderr, NAME ": warning: %s: what is compiled with this is not recorded\n", wish->refusal);
-    if (wish->foreign == NULL && links)
+    if (wish->foreign == NULL && (links || wish->is_partial))
         linked_warn(&wish->linked, NAME);
 }
 
@@ -456,18 +547,20 @@ static void warn(const struct wish *wish, bool links)
    -flto. It would do so with the settings of an object that was made without these flags. */
 static void add_checks(struct line *line, const struct wish *wish, const struct command *command)
 {
+    const char *setting = getenv("ASANCOL_ALL");
+    bool all = setting != NULL && strcmp(setting, "1") == 0;
     if (wish->refusal != NULL)
         return;
     if (is_clang(command)) {
         if (wish->has_source)
-            add_all(line, clang_flags, COUNT(clang_flags));
+            add_all(line, all ? clang_all_flags : clang_flags, COUNT(clang_flags));
         return;
     }
     if (!wish->has_source && !wish->linked.has_marked)
         return;
     if (!wish->stops_early && wish->linked.unmarked_lto != NULL)
         fail("it was made with -flto, but not by " NAME ": compile it again", wish->linked.unmarked_lto);
-    add_all(line, gcc_flags, COUNT(gcc_flags));
+    add_all(line, all ? gcc_all_flags : gcc_flags, COUNT(gcc_flags));
 }
 
 int main(int count, char **words)
@@ -491,6 +584,8 @@ int main(int count, char **words)
     if (takes_part)
         add_checks(&line, &wish, &command);
     add_all(&line, (const char *const *)words + 1, (size_t)count - 1);
+    if (takes_part && wish.has_source && wish.refusal == NULL)
+        add(&line, NOTE_SWITCHES); /* whatever the caller's words say of it */
     if (takes_part && links)
         add_link(&line, &wish, self);
     execv(found, (char *const *)line.words);

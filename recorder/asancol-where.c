@@ -72,12 +72,17 @@ static bool next_record(const struct trace *trace, size_t *offset, struct record
 {
     const unsigned char *at = trace->stream.bytes + *offset;
     unsigned length = *offset < trace->stream.size ? record_length(*at) : 0;
+    if (length == POISON_LENGTH && trace->stream.bytes[VERSION_OFFSET] == 1)
+        length = REGION_LENGTH; /* it has no kind */
     if (length == 0 || length > trace->stream.size - *offset)
         return false;
     record->code = (enum code)*at;
     if (length == ACCESS_LENGTH) {
         record->size = at[1];
         record->address = number_at(at + 2);
+    } else if (length == POISON_LENGTH) {
+        record->address = number_at(at + 2);
+        record->size = number_at(at + 10);
     } else {
         record->address = number_at(at + 1);
         record->size = length == REGION_LENGTH ? number_at(at + 9) : 0;
@@ -150,7 +155,7 @@ static void say_no_symbolizer(const char *program)
 {
     static bool is_said;
     if (!is_said)
-        fprintf(stderr, "asancol-where: no lines: %s can't be run (ASANCOL_SYMBOLIZER names another)\n", program);
+        fprintf(stderr, "asancol-where: no lines: %s gives none (ASANCOL_SYMBOLIZER names another)\n", program);
     is_said = true;
 }
 
@@ -185,8 +190,9 @@ static void ask(const char *path, uint64_t address, char *answer, size_t room)
             break;
     answer[length] = 0;
     close(ends[0]);
-    int status = 0;
-    if (child < 0 || (waitpid(child, &status, 0) == child && WIFEXITED(status) && WEXITSTATUS(status) == 127))
+    if (child > 0)
+        waitpid(child, NULL, 0);
+    if (length == 0)
         say_no_symbolizer(program);
 }
 
@@ -258,7 +264,9 @@ static void look_at_age(const struct trace *trace, const char *path)
     if (tfind(path, &looked_at, by_name) != NULL)
         return;
     must(tsearch(must(strdup(path)), &looked_at, by_name));
-    if (stat(path, &seen) == 0 && is_later(seen.st_mtim, trace->written))
+    if (stat(path, &seen) != 0)
+        fprintf(stderr, "asancol-where: %s is not there: it has no lines\n", path);
+    else if (is_later(seen.st_mtim, trace->written))
         fprintf(stderr, "asancol-where: %s was changed after the trace was recorded: its lines may be wrong\n", path);
 }
 
@@ -385,6 +393,7 @@ static bool read_report(const char *line, struct report *report)
 struct summary {
     size_t ends;
     bool has_report, has_unfinished;
+    bool has_stranger; /* a process without a trace among the arguments */
 };
 
 /* Takes in a line that says how a process's trace ended: "pI end WORD ..". */
@@ -405,6 +414,10 @@ static void write_line(struct trace *traces, size_t count, const char *line, str
     fputs(line, stdout);
     if (!read_end(line, summary) && read_report(line, &report)) {
         summary->has_report = true;
+        if (report.process >= count && !summary->has_stranger) {
+            fprintf(stderr, "asancol-where: no trace is named for process %" PRIu64 "\n", report.process);
+            summary->has_stranger = true;
+        }
         if (report.process < count) {
             struct trace *trace = &traces[report.process];
             write_place(trace, " at", report.event);
@@ -435,7 +448,8 @@ static struct trace open_trace(const char *path)
     sprintf(side, "%s.where", path);
     trace.where = map_file(side);
     if (trace.where.size < PLACES_OFFSET || memcmp(trace.where.bytes, WHERE_HEADER, WHERE_HEADER_LENGTH) != 0) {
-        fprintf(stderr, "asancol-where: there is no side file %s: record with ASANCOL_WHERE=1\n", side);
+        const char *what = trace.where.size == 0 ? "there is no side file" : "this side file is not whole:";
+        fprintf(stderr, "asancol-where: %s %s: record with ASANCOL_WHERE=1\n", what, side);
         trace.where.size = 0;
     }
     free(side);

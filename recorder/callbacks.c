@@ -1,42 +1,18 @@
-/* The compilers' calls before each access. Their names end in _noabort as asked for by -fsanitize=kernel-address, and
-   without as by -fsanitize=address.
-
-   This file is compiled three times. In libasancol_shared.a it is a member that comes in only if the object's own checks
-   ask for it, and so it is, as checks.o, in the archives of programs. So that it came in says that something was
-   compiled by asancol-cc. Programs have it a third time, weak and always: an object that is opened later, and was linked
-   by something else, finds these in the program. */
-#include "hooks.h"
-
-#if defined IN_SHARED_OBJECT
-#define CALLBACK /* hidden: each shared object calls its own */
-#elif defined IN_CHECKS
-#define CALLBACK VISIBLE
-#else
-#define CALLBACK VISIBLE __attribute__((weak))
-#endif
+/* The compilers' calls for accesses. By default their inline check calls only if it finds the access bad, and with
+   ASANCOL_ALL=1 there is a call before each access. Names end in _noabort as asked for by -fsanitize=kernel-address,
+   and without as by -fsanitize=address. */
+#include "callbacks.h"
 
 #if defined IN_SHARED_OBJECT || defined IN_CHECKS
-/* The wrapper asks for this one by name where it knows that what it links was compiled by it. */
+/* The wrapper asks for this one by name if it knows that what it links was compiled by it. */
 const char asancol_checks = 1;
-
-static inline void note_checks(void)
-{
-}
-#else
-static inline void note_checks(void)
-{
-    static bool is_noted;
-    if (UNLIKELY(!is_noted))
-        recorder_found_checks();
-    is_noted = true;
-}
 #endif
 
 #ifdef IN_SHARED_OBJECT
-/* Before those of the program, for an object that is loaded with it. */
+/* Before the constructors of the program, for an object that is loaded with it. */
 __attribute__((constructor)) static void say_that_checks_are_here(void)
 {
-    if (HAS_HOOKS && asancol_hooks.size > offsetof(struct asancol_hooks, found_checks))
+    if (HAS_HOOK(found_checks))
         asancol_hooks.found_checks();
 }
 #endif
@@ -88,11 +64,68 @@ ACCESS(store, CODE_STORE, 8)
 RANGE(load, CODE_LOAD)
 RANGE(store, CODE_STORE)
 
-/* Before a call that does not return. */
-CALLBACK void __asan_handle_no_return(void)
+/* What an inline check has found bad, by GCC and, with `exp`, by Clang: asancol-cc asks it for names of its own,
+   since the two mean different things by `_n`.
+
+   An access of an odd size, or one that may be unaligned, is checked by its first and its last byte. GCC then reports
+   the address and the size of all, once. Clang reports either byte with the size of all, and nothing says which of
+   the two it is. That byte is known to be accessed, and no other is: so it alone is recorded. */
+
+#define REPORT(name, code, width)                                                                                      \
+    CALLBACK void __asan_report_##name##width##_noabort(uintptr_t address)                                             \
+    {                                                                                                                  \
+        note_checks();                                                                                                 \
+        note_access(code, width, address, CALLER());                                                                   \
+    }                                                                                                                  \
+    CALLBACK void __asan_report_exp_##name##width##_noabort(uintptr_t address, uint32_t unused)                        \
+    {                                                                                                                  \
+        (void)unused;                                                                                                  \
+        note_checks();                                                                                                 \
+        note_access(code, width, address, CALLER());                                                                   \
+    }
+
+/* The check of 16 bytes looks at both granules. */
+static inline void report_halves(enum code code, uintptr_t address, uintptr_t caller)
 {
     note_checks();
+    if (shadow_is_bad(address, 8))
+        note_access(code, 8, address, caller);
+    if (shadow_is_bad(address + 8, 8))
+        note_access(code, 8, address + 8, caller);
 }
+
+#define REPORT_RANGE(name, code)                                                                                       \
+    CALLBACK void __asan_report_##name##16_noabort(uintptr_t address)                                                  \
+    {                                                                                                                  \
+        report_halves(code, address, CALLER());                                                                        \
+    }                                                                                                                  \
+    CALLBACK void __asan_report_exp_##name##16_noabort(uintptr_t address, uint32_t unused)                             \
+    {                                                                                                                  \
+        (void)unused;                                                                                                  \
+        report_halves(code, address, CALLER());                                                                        \
+    }                                                                                                                  \
+    CALLBACK void __asan_report_##name##_n_noabort(uintptr_t address, size_t size)                                     \
+    {                                                                                                                  \
+        note_checks();                                                                                                 \
+        note_bad_range(code, address, size, CALLER());                                                                 \
+    }                                                                                                                  \
+    CALLBACK void __asan_report_exp_##name##_n_noabort(uintptr_t address, size_t size, uint32_t unused)                \
+    {                                                                                                                  \
+        (void)size, (void)unused;                                                                                      \
+        note_checks();                                                                                                 \
+        note_access(code, 1, address, CALLER());                                                                       \
+    }
+
+REPORT(load, CODE_LOAD, 1)
+REPORT(load, CODE_LOAD, 2)
+REPORT(load, CODE_LOAD, 4)
+REPORT(load, CODE_LOAD, 8)
+REPORT(store, CODE_STORE, 1)
+REPORT(store, CODE_STORE, 2)
+REPORT(store, CODE_STORE, 4)
+REPORT(store, CODE_STORE, 8)
+REPORT_RANGE(load, CODE_LOAD)
+REPORT_RANGE(store, CODE_STORE)
 
 /* From objects that were compiled for AddressSanitizer itself. */
 CALLBACK void __asan_init(void)

@@ -1,4 +1,4 @@
-/* The trace format, version 1: the one place of its numbers on the recorder's side. docs/FORMAT.md says what they
+/* The trace format, version 2: the one place of its numbers on the recorder's side. docs/FORMAT.md says what they
    mean. */
 #ifndef ASANCOL_FORMAT_H
 #define ASANCOL_FORMAT_H
@@ -17,17 +17,29 @@ enum code {
     CODE_CLOSE
 };
 
-#define HEADER "ASTR\1\0\0\0"
+/* The kinds of a poison. */
+enum kind { KIND_USER, KIND_STACK, KIND_GLOBAL };
+
+#define HEADER "ASTR\2\0\0\0"
+/* Where the number of the version stands in it. */
+enum { VERSION_OFFSET = 4 };
 
 /* How many bytes each part of a stream has, codes included. */
-enum { HEADER_LENGTH = 8, ACCESS_LENGTH = 10, REGION_LENGTH = 17, PLACE_LENGTH = 9, CLOSE_LENGTH = 1 };
+enum {
+    HEADER_LENGTH = 8,
+    ACCESS_LENGTH = 10,
+    REGION_LENGTH = 17,
+    POISON_LENGTH = 18,
+    PLACE_LENGTH = 9,
+    CLOSE_LENGTH = 1
+};
 
 #define EVENT_LIMIT ((uint64_t)1 << 24)
-#define LARGEST_REGION ((uint64_t)1 << 28)
+#define LARGEST_REGION ((uint64_t)1 << 32)
 #define ADDRESS_END ((uint64_t)1 << 47)
 
-/* No stream is longer: each event a region, and then the close, or a free that is one event too many. */
-#define LARGEST_STREAM (HEADER_LENGTH + EVENT_LIMIT * REGION_LENGTH + PLACE_LENGTH)
+/* No stream is longer: each event a poison, and then the close, or a free that is one event too many. */
+#define LARGEST_STREAM (HEADER_LENGTH + EVENT_LIMIT * POISON_LENGTH + PLACE_LENGTH)
 
 /* What the checker demands round each block, and how many bytes of freed spans it holds. */
 #define REDZONE 32
@@ -42,9 +54,10 @@ static inline unsigned record_length(unsigned char code)
     case CODE_STORE:
         return ACCESS_LENGTH;
     case CODE_MALLOC:
-    case CODE_POISON:
     case CODE_UNPOISON:
         return REGION_LENGTH;
+    case CODE_POISON:
+        return POISON_LENGTH;
     case CODE_FREE:
         return PLACE_LENGTH;
     default:

@@ -17,6 +17,7 @@
 #include <sys/mman.h>
 
 #include "arena.h"
+#include "paint.h"
 #include "recorder.h"
 
 enum { LARGEST_SLOT = 1 << 14, FINE_STEP = 16, FINE_END = 1024, CLASSES = 64 + 16 };
@@ -24,6 +25,9 @@ enum { LARGEST_SLOT = 1 << 14, FINE_STEP = 16, FINE_END = 1024, CLASSES = 64 + 1
 enum { HELD_RECORDED = 4096 };
 
 enum { LARGEST_OFFSET = (1 << 30) - 1 };
+
+/* What fits into the notes of a block. The format has one byte more. */
+#define LARGEST_BLOCK ((size_t)UINT32_MAX)
 
 enum block_state { BLOCK_FREE, BLOCK_LIVE, BLOCK_HELD, BLOCK_UNRECORDED };
 
@@ -38,6 +42,7 @@ static struct {
     struct class classes[CLASSES];
     struct block *oldest, *newest; /* the quarantine */
     uint64_t held_bytes, held_count;
+    bool is_unpainted; /* the shadow shows no blocks */
     _Atomic uint64_t bound;
     _Atomic size_t spare_used;
 } heap = {.lock = PTHREAD_MUTEX_INITIALIZER};
@@ -58,7 +63,9 @@ static uintptr_t caller_or(uintptr_t caller)
 
 void heap_set_bound(uint64_t bytes)
 {
-    atomic_store(&heap.bound, bytes);
+    /* The end of the recording is not yet that of the shadow if the process is to end at a fault. */
+    if (bytes != 0 || !atomic_load(&halt_is_on))
+        atomic_store(&heap.bound, bytes);
 }
 
 /* Slots. Up to FINE_END bytes there is a class for each 16 bytes, and then four for each doubling. */
@@ -154,6 +161,24 @@ static struct block *find(const void *pointer)
     return block->state != BLOCK_FREE && block_start(block) == pointer ? block : NULL;
 }
 
+uintptr_t heap_end_around(uintptr_t address)
+{
+    uintptr_t distance = address - (uintptr_t)arena.bytes;
+    if (arena.bytes == NULL || distance >= (size_t)arena.top * UNIT)
+        return address;
+    uint32_t unit = (uint32_t)(distance / UNIT);
+    const struct unit *at = &arena.units[unit];
+    if (at->kind != UNIT_SLAB && at->kind != UNIT_RUN && at->kind != UNIT_RUN_BODY)
+        return address;
+    uint32_t first = at->kind == UNIT_RUN_BODY ? unit - at->count : unit;
+    size_t slot = at->kind == UNIT_SLAB ? distance % UNIT / at->slot_size : 0;
+    const struct block *block = arena.blocks + (size_t)first * SLOTS + slot;
+    if (block->state != BLOCK_LIVE && block->state != BLOCK_UNRECORDED)
+        return address;
+    uintptr_t end = (uintptr_t)block_start(block) + (block->state == BLOCK_UNRECORDED ? block->large_size : block->size);
+    return end > address ? end : address;
+}
+
 static size_t size_of(const struct block *block)
 {
     return block->state == BLOCK_UNRECORDED ? block->large_size : block->size;
@@ -183,6 +208,8 @@ static void release_down_to(uint64_t bound)
             heap.newest = NULL;
         heap.held_bytes -= span_bytes(block->size);
         heap.held_count--;
+        if (!heap.is_unpainted)
+            paint_released((uintptr_t)block_start(block), block->size);
         release(block);
     }
 }
@@ -230,17 +257,22 @@ static bool enter(void)
     return true;
 }
 
-static void free_block(void *pointer, uintptr_t caller)
+/* Returns whether it was one that can be freed. */
+static bool free_block(void *pointer, uintptr_t caller)
 {
     struct block *block = find(pointer);
     if (block != NULL && block->state == BLOCK_UNRECORDED) {
         release(block);
-        return;
+        return true;
     }
+    bool is_live = block != NULL && block->state == BLOCK_LIVE;
+    if (is_live && !heap.is_unpainted)
+        paint_held((uintptr_t)pointer, block->size);
     record_free((uintptr_t)pointer, caller);
     /* A bad free is recorded, and goes no further. */
-    if (block != NULL && block->state == BLOCK_LIVE)
+    if (is_live)
         hold(block);
+    return is_live;
 }
 
 static void free_deferred(void)
@@ -276,18 +308,21 @@ static void leave(void)
     } while (UNLIKELY(atomic_load_explicit(&deferred.count, memory_order_relaxed) != 0) && enter());
 }
 
-static _Thread_local bool entered;
+/* How often this thread, in signal handlers, has locked while it was in here already. */
+static _Thread_local unsigned nested;
 
 void heap_lock(void)
 {
-    entered = enter();
+    if (!enter())
+        nested++;
 }
 
 void heap_unlock(void)
 {
-    if (entered)
+    if (nested > 0)
+        nested--;
+    else
         leave();
-    entered = false;
 }
 
 /* For a signal handler whose thread was interrupted in here: memory that is no block, at addresses that are never given
@@ -355,10 +390,14 @@ static void *place_block(size_t size, size_t alignment, uintptr_t caller)
     uintptr_t start = (uintptr_t)slot_start(block);
     uintptr_t address = (start + REDZONE + alignment - 1) / alignment * alignment;
     block->offset = (address - start) / ALIGNMENT & LARGEST_OFFSET;
-    if (size <= LARGEST_REGION) {
+    if (size <= LARGEST_BLOCK) {
         block->state = BLOCK_LIVE;
         block->size = (uint32_t)size;
+        if (!heap.is_unpainted)
+            paint_redzones(address, size);
         record_region(CODE_MALLOC, address, size, caller);
+        if (!heap.is_unpainted)
+            paint_live(address, size);
     } else {
         /* It can't be spelled, so it is no block for the checker: memory like a global's. */
         block->state = BLOCK_UNRECORDED;
@@ -395,14 +434,18 @@ static void give_back(void *pointer, uintptr_t caller)
     if (pointer == NULL)
         return;
     int before = errno;
+    bool is_bad = false;
     if (is_spare(pointer)) {
         drop_spare(pointer);
     } else if (enter()) {
-        free_block(pointer, caller);
+        is_bad = !free_block(pointer, caller);
         leave();
     } else {
         defer(pointer, caller);
     }
+    /* Out of the lock: what is called before the end may allocate. */
+    if (UNLIKELY(is_bad) && atomic_load(&halt_is_on))
+        halt_at(CODE_FREE, 0, (uintptr_t)pointer, caller);
     errno = before;
 }
 
@@ -453,17 +496,58 @@ static void for_each_slot(void (*visit)(const struct block *block, void *with), 
     }
 }
 
+static bool is_poison(unsigned char shade)
+{
+    return shade == SHADE_USER || shade == SHADE_CONTAINER;
+}
+
+/* What the process has poisoned in a block that is live, by its shadow: in a stream that begins with the block.
+   Redzones of a stack that lies in it are none. */
+static void record_poison_of(uintptr_t address, size_t size)
+{
+    for (uintptr_t at = address, end = address + size; at < end;) {
+        uintptr_t bad = shadow_first_bad(at, end - at);
+        uintptr_t granule = bad / GRANULE * GRANULE, next = bad % GRANULE != 0 ? granule + GRANULE : granule;
+        uintptr_t good = next;
+        while (good < end && is_poison(*shadow_of(good)))
+            good += GRANULE;
+        if (bad < end && good > next)
+            record_poison(KIND_USER, bad, (good < end ? good : end) - bad, 0);
+        at = good > bad ? good : granule + GRANULE;
+    }
+}
+
 static void record_if_live(const struct block *block, void *unused)
 {
     (void)unused;
+    if (block->state != BLOCK_LIVE && block->state != BLOCK_UNRECORDED)
+        return;
+    uintptr_t address = (uintptr_t)block_start(block);
     if (block->state == BLOCK_LIVE)
-        record_region(CODE_MALLOC, (uintptr_t)block_start(block), block->size, 0);
+        record_region(CODE_MALLOC, address, block->size, 0);
+    if (!heap.is_unpainted)
+        record_poison_of(address, size_of(block));
 }
 
-void heap_record_all(void)
+void heap_paint(bool is_painted)
+{
+    bool alone = enter();
+    if (!is_painted && arena.bytes != NULL)
+        shadow_clear((uintptr_t)arena.bytes, (uint64_t)arena.top * UNIT);
+    heap.is_unpainted = !is_painted;
+    if (alone)
+        leave();
+}
+
+void heap_is_poisoned(void)
+{
+    heap.is_unpainted = false;
+}
+
+void heap_record_all(bool all_held)
 {
     const struct block *first = heap.oldest;
-    for (uint64_t rest = heap.held_count; rest > HELD_RECORDED; rest--)
+    for (uint64_t rest = heap.held_count; rest > HELD_RECORDED && !all_held; rest--)
         first = first->next;
     for (const struct block *block = first; block != NULL; block = block->next)
         record_region(CODE_MALLOC, (uintptr_t)block_start(block), block->size, 0);

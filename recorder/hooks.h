@@ -7,8 +7,16 @@
 
 #ifdef IN_SHARED_OBJECT
 
-extern VISIBLE __attribute__((weak)) const struct asancol_hooks asancol_hooks;
+#define asancol_hooks (**(const struct recorder_hooks *const *)MEETING_START)
 #define HAS_HOOKS (&asancol_hooks != NULL)
+/* Whether the table of the program, which may be older, has this one. */
+#define HAS_HOOK(name) (HAS_HOOKS && asancol_hooks.size > offsetof(struct recorder_hooks, name))
+
+/* Whether an access would be recorded now. */
+static inline bool is_recorded(void)
+{
+    return HAS_HOOK(stream) && stream_may_record(asancol_hooks.stream);
+}
 
 static inline void note_access(enum code code, unsigned width, uint64_t address, uintptr_t caller)
 {
@@ -22,10 +30,22 @@ static inline void note_range(enum code code, uint64_t address, uint64_t size, u
         asancol_hooks.range(code, address, size, caller);
 }
 
+static inline void note_bad_range(enum code code, uint64_t address, uint64_t size, uintptr_t caller)
+{
+    if (HAS_HOOK(bad_range))
+        asancol_hooks.bad_range(code, address, size, caller);
+}
+
 static inline void note_regions(enum code code, uint64_t address, uint64_t size, uintptr_t caller)
 {
     if (HAS_HOOKS)
         asancol_hooks.regions(code, address, size, caller);
+}
+
+static inline void note_frames_left(uintptr_t frame)
+{
+    if (HAS_HOOK(frames_left))
+        asancol_hooks.frames_left(frame);
 }
 
 static inline void note_called_from(uintptr_t caller)
@@ -34,10 +54,27 @@ static inline void note_called_from(uintptr_t caller)
         asancol_hooks.called_from(caller);
 }
 
+static inline void note_death_callback(void (*callback)(void))
+{
+    if (HAS_HOOK(on_death))
+        asancol_hooks.on_death(callback);
+}
+
+static inline bool is_first_crash(void)
+{
+    static _Atomic bool is_taken; /* where no recorder is there */
+    return HAS_HOOK(is_first_crash) ? asancol_hooks.is_first_crash() : !atomic_exchange(&is_taken, true);
+}
+
 #else
 
-extern VISIBLE const struct asancol_hooks asancol_hooks;
+extern const struct recorder_hooks asancol_hooks;
 #define HAS_HOOKS 1
+
+static inline bool is_recorded(void)
+{
+    return stream_may_record(&stream_page.stream);
+}
 
 static inline void note_access(enum code code, unsigned width, uint64_t address, uintptr_t caller)
 {
@@ -49,14 +86,34 @@ static inline void note_range(enum code code, uint64_t address, uint64_t size, u
     record_range(code, address, size, caller);
 }
 
+static inline void note_bad_range(enum code code, uint64_t address, uint64_t size, uintptr_t caller)
+{
+    record_bad_range(code, address, size, caller);
+}
+
 static inline void note_regions(enum code code, uint64_t address, uint64_t size, uintptr_t caller)
 {
     record_regions(code, address, size, caller);
 }
 
+static inline void note_frames_left(uintptr_t frame)
+{
+    stack_frames_left(frame);
+}
+
 static inline void note_called_from(uintptr_t caller)
 {
     asancol_hooks.called_from(caller);
+}
+
+static inline void note_death_callback(void (*callback)(void))
+{
+    halt_on_death(callback);
+}
+
+static inline bool is_first_crash(void)
+{
+    return halt_is_first_crash();
 }
 
 #endif

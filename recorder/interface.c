@@ -1,9 +1,9 @@
 /* What sanitizer/asan_interface.h, common_interface_defs.h and lsan_interface.h declare. A program that is built for
    AddressSanitizer may call these, and has to link and run. docs/RECORDER.md says which do something here.
 
-   Poison and unpoison are recorded. Of the others the recorder serves what needs no shadow and no reports, since it keeps
-   none: nothing is ever said to be poisoned, and no report is there. They are weak: a program has its own callbacks and
-   options, and another sanitizer of the program may bring its own functions. */
+   Poison and unpoison are recorded, and questions about them are answered by the shadow. Reports are not there: they
+   come from the collector. All are weak: a program has its own callbacks and options, and another sanitizer of the
+   program may bring its own functions. */
 #include <string.h>
 
 #include "hooks.h"
@@ -35,29 +35,47 @@ INTERFACE void __sanitizer_annotate_contiguous_container(const void *start, cons
     note_regions(CODE_POISON, (uintptr_t)new_middle, (uintptr_t)end - (uintptr_t)new_middle, CALLER());
 }
 
-INTERFACE int __sanitizer_verify_contiguous_container(const void *start, const void *middle, const void *end)
+static bool is_poisoned(uintptr_t address)
 {
-    (void)start, (void)middle, (void)end;
-    return 1;
+    return shadow_first_bad(address, 1) == address;
+}
+
+/* How many bytes from each end of a container are looked at, as AddressSanitizer does. */
+enum { LOOKED_AT = 32 };
+
+/* The first byte near the ends of a part that is poisoned or not, as it should not be; or null. */
+static const void *find_wrong(uintptr_t start, uintptr_t end, bool should_be_poisoned)
+{
+    for (uintptr_t at = start; at < end; at++) {
+        if (at - start == LOOKED_AT && end - at > LOOKED_AT)
+            at = end - LOOKED_AT;
+        if (is_poisoned(at) != should_be_poisoned)
+            return (const void *)at;
+    }
+    return NULL;
 }
 
 INTERFACE const void *__sanitizer_contiguous_container_find_bad_address(const void *start, const void *middle,
                                                                         const void *end)
 {
-    (void)start, (void)middle, (void)end;
-    return NULL;
+    const void *wrong = find_wrong((uintptr_t)start, (uintptr_t)middle, false);
+    return wrong != NULL ? wrong : find_wrong((uintptr_t)middle, (uintptr_t)end, true);
+}
+
+INTERFACE int __sanitizer_verify_contiguous_container(const void *start, const void *middle, const void *end)
+{
+    return __sanitizer_contiguous_container_find_bad_address(start, middle, end) == NULL;
 }
 
 INTERFACE int __asan_address_is_poisoned(const volatile void *address)
 {
-    (void)address;
-    return 0;
+    return is_poisoned((uintptr_t)address);
 }
 
 INTERFACE void *__asan_region_is_poisoned(void *start, size_t size)
 {
-    (void)start, (void)size;
-    return NULL;
+    uint64_t bad = shadow_first_bad((uintptr_t)start, size);
+    return bad < (uintptr_t)start + size ? (void *)(uintptr_t)bad : NULL;
 }
 
 /* Accesses that a program makes by a call. */
@@ -140,8 +158,8 @@ NO_STACK(free)
 
 INTERFACE void __asan_get_shadow_mapping(size_t *scale, size_t *offset)
 {
-    *scale = 0;
-    *offset = 0;
+    *scale = 3;
+    *offset = SHADOW_START;
 }
 
 INTERFACE int __asan_update_allocation_context(void *address)
@@ -161,17 +179,19 @@ INTERFACE void *__asan_addr_is_in_fake_stack(void *stack, void *address, void **
     return NULL;
 }
 
-/* Callbacks are never called: the recorder never ends the process. */
+/* Called before the process ends by ASANCOL_HALT, as before AddressSanitizer ends it. */
 
 INTERFACE void __asan_set_death_callback(void (*callback)(void))
 {
-    (void)callback;
+    note_death_callback(callback);
 }
 
 INTERFACE void __sanitizer_set_death_callback(void (*callback)(void))
 {
-    (void)callback;
+    note_death_callback(callback);
 }
+
+/* Never called: a report's text is the collector's. */
 
 INTERFACE void __asan_set_error_report_callback(void (*callback)(const char *))
 {
@@ -181,8 +201,7 @@ INTERFACE void __asan_set_error_report_callback(void (*callback)(const char *))
 /* The first thread that asks may treat the crash. */
 INTERFACE int __sanitizer_acquire_crash_state(void)
 {
-    static _Atomic int is_taken;
-    return !atomic_exchange(&is_taken, 1);
+    return is_first_crash();
 }
 
 /* What a program may define itself. */
@@ -272,7 +291,7 @@ INTERFACE int __sanitizer_get_module_and_offset_for_pc(void *place, char *path, 
     return 0;
 }
 
-/* Fibers: no stack has redzones. */
+/* Fibers: whose stack it is matters to nobody here. */
 
 INTERFACE void __sanitizer_start_switch_fiber(void **save, const void *bottom, size_t size)
 {

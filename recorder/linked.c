@@ -15,6 +15,9 @@
 #define WRAPPED_BITCODE "\xde\xc0\x17\x0b"
 #define ARCHIVE "!<arch>\n"
 
+/* The section of the switches. In assembly their text may be cut anywhere. */
+#define SWITCHES ".GCC.command.line"
+
 /* The sections in which GCC keeps what it compiles at the link. */
 #define GCC_LTO ".gnu.lto_"
 
@@ -41,15 +44,56 @@ static bool is_start_file(const char *path)
     return strstr(name, "crt1.o") != NULL || strncmp(name, "crt", 3) == 0;
 }
 
+/* An object that is to be linked, and neither a program nor a shared object. */
+static bool is_object(struct view view)
+{
+    const Elf64_Ehdr *header = (const Elf64_Ehdr *)view.bytes;
+    if (begins_with(view, OBJECT))
+        return view.size >= sizeof *header && header->e_type == ET_REL;
+    return begins_with(view, BITCODE) || begins_with(view, WRAPPED_BITCODE);
+}
+
+/* A file that is mapped to read; no bytes where it can't be: the compiler says so. */
+static struct view map_file(const char *path)
+{
+    struct view view = {NULL, 0};
+    struct stat seen;
+    int descriptor = open(path, O_RDONLY | O_CLOEXEC);
+    if (descriptor < 0)
+        return view;
+    if (fstat(descriptor, &seen) == 0 && S_ISREG(seen.st_mode) && seen.st_size > 0) {
+        void *bytes = mmap(NULL, (size_t)seen.st_size, PROT_READ, MAP_PRIVATE, descriptor, 0);
+        if (bytes != MAP_FAILED)
+            view = (struct view){bytes, (size_t)seen.st_size};
+    }
+    close(descriptor);
+    return view;
+}
+
+static void unmap(struct view view)
+{
+    if (view.bytes != NULL)
+        munmap((void *)view.bytes, view.size);
+}
+
+bool linked_takes(const char *path)
+{
+    struct view view = map_file(path);
+    bool takes = begins_with(view, OBJECT) || is_object(view) || begins_with(view, ARCHIVE);
+    unmap(view);
+    return takes;
+}
+
+/* A member of an archive comes in only if something asks for it, and then the callbacks come in by themselves: so an
+   archive counts only for what GCC will compile. */
 static void look_at(struct linked *linked, const char *path, struct view view)
 {
-    bool is_object = begins_with(view, OBJECT) || begins_with(view, BITCODE) || begins_with(view, WRAPPED_BITCODE);
-    if (!is_object && !begins_with(view, ARCHIVE))
-        return;
-    bool is_marked = has(view, COMPILED_SO), is_lto = has(view, GCC_LTO);
-    linked->has_marked |= is_marked;
+    bool is_library = begins_with(view, ARCHIVE) || (begins_with(view, OBJECT) && !is_object(view));
+    bool is_assembly = !is_library && !is_object(view);
+    bool is_marked = has(view, is_assembly ? SWITCHES : COMPILED_SO), is_lto = has(view, GCC_LTO);
+    linked->has_marked |= is_marked && (!is_library || is_lto);
     linked->has_lto |= is_lto;
-    if (!is_object || is_marked || is_start_file(path))
+    if (is_library || is_marked || is_start_file(path))
         return;
     if (linked->unmarked < NAMES_SHOWN)
         linked->names[linked->unmarked] = strdup(path);
@@ -60,18 +104,10 @@ static void look_at(struct linked *linked, const char *path, struct view view)
 
 void linked_look_at(struct linked *linked, const char *path)
 {
-    struct stat seen;
-    int descriptor = open(path, O_RDONLY | O_CLOEXEC);
-    if (descriptor < 0)
-        return; /* the linker says so */
-    if (fstat(descriptor, &seen) == 0 && S_ISREG(seen.st_mode) && seen.st_size > 0) {
-        void *bytes = mmap(NULL, (size_t)seen.st_size, PROT_READ, MAP_PRIVATE, descriptor, 0);
-        if (bytes != MAP_FAILED) {
-            look_at(linked, path, (struct view){bytes, (size_t)seen.st_size});
-            munmap(bytes, (size_t)seen.st_size);
-        }
-    }
-    close(descriptor);
+    struct view view = map_file(path);
+    if (view.bytes != NULL)
+        look_at(linked, path, view);
+    unmap(view);
 }
 
 void linked_warn(const struct linked *linked, const char *program)

@@ -11,14 +11,16 @@
 enum { NAMES_SHOWN = 4 };
 
 struct linked {
-    bool has_marked; /* a file with something that was compiled so */
+    bool has_marked; /* an object that was compiled so, or what GCC compiles so at the link */
     bool has_lto;    /* one that is compiled when it is linked */
     unsigned unmarked;
     char *names[NAMES_SHOWN]; /* of the first unmarked objects */
     char *unmarked_lto;       /* the first of these that is compiled when it is linked, or null */
 };
 
-/* Looks at an object or an archive, if the file is one. */
+/* What the linker takes as it is, by its first bytes: so that its name may end in anything. */
+bool linked_takes(const char *path);
+/* Looks at an object, an archive, or assembly, if the file is one. */
 void linked_look_at(struct linked *linked, const char *path);
 /* Warns of the objects that were not compiled so. Of archives nothing is said: a library may be anybody's. */
 void linked_warn(const struct linked *linked, const char *program);

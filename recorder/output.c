@@ -5,6 +5,7 @@
 #include <fcntl.h>
 #include <poll.h>
 #include <string.h>
+#include <sys/file.h>
 #include <sys/mman.h>
 #include <sys/resource.h>
 #include <sys/socket.h>
@@ -39,6 +40,8 @@ static bool numbered(char *name, const char *path, unsigned number)
 static const char *reason(void)
 {
     int error = errno;
+    if (error == ENXIO)
+        return "nobody reads it yet";
     if (error == EPIPE)
         signal_take_away(SIGPIPE);
     if (error == EFBIG)
@@ -98,6 +101,8 @@ static int open_new(struct output *output, const char *path, enum naming naming)
         struct stat seen;
         if (number == 0 && stat(output->path, &seen) == 0 && !S_ISREG(seen.st_mode))
             return open(output->path, O_WRONLY | O_NONBLOCK | O_NOCTTY | O_CLOEXEC);
+        if (strncmp(path, "/dev/", strlen("/dev/")) == 0)
+            return -1; /* a descriptor of a file: no other name stands for it */
     }
     errno = EEXIST;
     return -1;
@@ -120,8 +125,14 @@ const char *output_open_file(struct output *output, const char *path, enum namin
     int descriptor = open_new(output, path, naming);
     if (descriptor < 0 || fstat(descriptor, &seen) != 0)
         return reason();
-    if (!S_ISREG(seen.st_mode))
+    if (!S_ISREG(seen.st_mode)) {
+        /* One stream has one writer. The lock is held as long as the descriptor. */
+        if (S_ISFIFO(seen.st_mode) && flock(descriptor, LOCK_EX | LOCK_NB) != 0 && errno == EWOULDBLOCK) {
+            close(descriptor);
+            return "another process writes into this pipe";
+        }
         return take_pieces(output, descriptor, room);
+    }
     void *bytes = MAP_FAILED;
     if (fallocate(descriptor, 0, 0, (off_t)backed) == 0)
         bytes = mmap(NULL, room, PROT_READ | PROT_WRITE, MAP_SHARED | MAP_NORESERVE, descriptor, 0);

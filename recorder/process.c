@@ -31,7 +31,19 @@ bool recorder_has_checks(void)
     return &asancol_checks != NULL || atomic_load(&process.found_checks);
 }
 
-static bool begin(void)
+bool recorder_is_own_process(void)
+{
+    return getpid() == process.process;
+}
+
+/* At the end of a child of vfork, which is not its parent's end. The frames that it leaves lie on its parent's stack.
+   */
+static void leave_vfork(void)
+{
+    stack_frames_left((uintptr_t)__builtin_frame_address(0));
+}
+
+static bool begin(bool all_held)
 {
     if (process.pattern != NULL) {
         process.settings.trace = process.name;
@@ -43,8 +55,20 @@ static bool begin(void)
     if (!stream_begin(&process.settings))
         return false;
     heap_set_bound(process.settings.quarantine);
-    heap_record_all();
+    heap_record_all(all_held);
     return true;
+}
+
+/* Nothing is recorded from now on. If the process is not to end at a fault either, the shadow need not show one. */
+static void be_idle(void)
+{
+    if (process.settings.halt == HALT_NEVER) {
+        heap_set_bound(0);
+        heap_paint(false);
+        atomic_store(&stream_page.stream.is_idle, true);
+    } else {
+        heap_set_bound(process.settings.quarantine);
+    }
 }
 
 void recorder_start(void)
@@ -58,30 +82,52 @@ void recorder_start(void)
     settings_read(&process.settings);
     process.pattern = process.settings.trace;
     bool wanted = process.pattern != NULL || process.settings.socket != NULL;
+    enum halt halt = process.settings.halt;
     heap_lock();
-    if (!wanted || !begin())
+    halt_set(halt != HALT_NEVER, wanted && halt == HALT_AND_RECORD);
+    if (!wanted || halt == HALT_AND_RECORD || !begin(false)) {
         atomic_store(&recorder_state, STATE_OFF);
+        be_idle();
+    }
     heap_unlock();
     undisturbed_end(&before);
 }
 
-/* A child of vfork runs in its parent's memory: what it does at its end is not the parent's end. */
-static bool is_own_process(void)
+bool recorder_begin_late(void)
 {
-    return getpid() == process.process;
+    if (heap_is_entered()) {
+        recorder_say("nothing is recorded: ", "a signal handler", "it came in the middle of an allocation");
+        return false;
+    }
+    struct disturbance before;
+    undisturbed_begin(&before);
+    heap_lock();
+    bool has_begun = begin(true);
+    heap_unlock();
+    undisturbed_end(&before);
+    return has_begun;
+}
+
+void recorder_say_child(void)
+{
+    atomic_store(&recorder_state, STATE_OFF);
+    const char *of = process.pattern != NULL ? process.settings.trace : process.settings.socket;
+    recorder_say("a child is not recorded: ", of, "it was not made by fork, but by _Fork or clone");
 }
 
 void recorder_finish(enum finish finish)
 {
-    if (!is_own_process())
+    if (!recorder_is_own_process()) {
+        leave_vfork();
         return;
+    }
     stream_end(finish, true);
     stream_say_left_out();
 }
 
 void recorder_finish_in_handler(void)
 {
-    if (!is_own_process())
+    if (!recorder_is_own_process())
         return;
     stream_end(FINISH_OPEN, false);
     stream_say_left_out();
@@ -90,7 +136,11 @@ void recorder_finish_in_handler(void)
 bool recorder_before_exec(void)
 {
     enum state state = atomic_load(&recorder_state);
-    if (!is_own_process() || (state != STATE_RECORDING && state != STATE_AT_LIMIT))
+    if (!recorder_is_own_process()) {
+        leave_vfork();
+        return false;
+    }
+    if (state != STATE_RECORDING && state != STATE_AT_LIMIT)
         return false;
     if (state == STATE_AT_LIMIT) {
         recorder_finish(FINISH_CLOSED);
@@ -140,6 +190,7 @@ static void after_fork_in_child(void)
     bool recorded = state == STATE_RECORDING || state == STATE_AT_LIMIT;
     struct disturbance before;
     process.process = getpid();
+    say_again();
     stream_forget();
     stream_unlock();
     undisturbed_begin(&before);
@@ -148,9 +199,9 @@ static void after_fork_in_child(void)
         recorder_say("a forked child is not recorded: ", of, why_unrecorded());
         recorded = false;
     }
-    if (!recorded || !begin()) {
+    if (!recorded || !begin(false)) {
         atomic_store(&recorder_state, STATE_OFF);
-        heap_set_bound(0);
+        be_idle();
     }
     undisturbed_end(&before);
     heap_unlock();
@@ -164,6 +215,8 @@ static void finish_quickly(void)
 /* 101 is the first that a program may have: before its own constructors, and after its own destructors. */
 __attribute__((constructor(101))) void asancol_start(void)
 {
+    shadow_map();
+    stack_start();
     recorder_start();
     pthread_atfork(before_fork, after_fork_in_parent, after_fork_in_child);
     if (atomic_load(&recorder_state) != STATE_OFF) {

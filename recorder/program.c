@@ -9,8 +9,8 @@ static void access_from_object(enum code code, unsigned width, uint64_t address,
     record_access(code, width, address, caller);
 }
 
-VISIBLE const struct asancol_hooks asancol_hooks = {
-    .size = sizeof(struct asancol_hooks),
+const struct recorder_hooks asancol_hooks = {
+    .size = sizeof(struct recorder_hooks),
     .access = access_from_object,
     .range = record_range,
     .regions = record_regions,
@@ -21,4 +21,9 @@ VISIBLE const struct asancol_hooks asancol_hooks = {
     .modules_changed = stream_write_modules,
     .set_action = signals_set_action,
     .found_checks = recorder_found_checks,
+    .stream = &stream_page.stream,
+    .bad_range = record_bad_range,
+    .frames_left = stack_frames_left,
+    .on_death = halt_on_death,
+    .is_first_crash = halt_is_first_crash,
 };

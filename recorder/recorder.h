@@ -9,6 +9,7 @@
 #include <sys/single_threaded.h>
 
 #include "format.h"
+#include "shadow.h"
 
 #define LIKELY(x) __builtin_expect(!!(x), 1)
 #define UNLIKELY(x) __builtin_expect(!!(x), 0)
@@ -16,9 +17,6 @@
 
 /* Symbols that the program, or a shared object of it, finds in the recorder. All others are hidden. */
 #define VISIBLE __attribute__((visibility("default")))
-
-/* For what several members of an archive use: a program may have the name itself. */
-#define OWN_NAME(name) __asm__("asancol_" #name)
 
 /* stream.c: the stream and how a record gets into it.
 
@@ -38,7 +36,15 @@ struct stream {
     _Atomic uint64_t ready;  /* below this offset bytes can be stored */
     unsigned char *bytes;    /* room for LARGEST_STREAM bytes, backed up to `ready` */
     uint64_t *places;        /* the program counter of each event, or null */
+    _Atomic bool is_idle;    /* nothing is recorded, and nothing will be */
 };
+
+/* Whether a bad access matters: the stream is on, or may turn on, or the process ends there. */
+static inline bool stream_may_record(const struct stream *stream)
+{
+    return (atomic_load_explicit(&stream->cursor, memory_order_relaxed) & CURSOR_ON)
+           || !atomic_load_explicit(&stream->is_idle, memory_order_relaxed);
+}
 
 /* Alone in its page, which is all zeros in a child after any kind of fork: there it is off. */
 extern union stream_page {
@@ -80,9 +86,40 @@ static inline void put_code(unsigned char *at, enum code code)
     atomic_store_explicit((_Atomic unsigned char *)at, (unsigned char)code, memory_order_release);
 }
 
-/* What remains to be done for an access where something is unusual. `place` is 0 where none was taken. */
+/* Whether a stream that is off can be turned on, since nothing has started it yet. */
+bool stream_wake(void) OWN_NAME(stream_wake);
+
+/* Brings the stream up to what the shadow says of the granules that an access meets, outside the allocator's memory. */
+void stated_bring_up(uint64_t address, unsigned width, uintptr_t caller) OWN_NAME(stated_bring_up);
+
+/* Whether the stream states already what the shadow says, as far as an access goes: of a good access in the last bytes
+   of a variable, or where nothing was ever poisoned. */
+static inline bool is_stated(uint64_t address, unsigned width)
+{
+    unsigned now = *shadow_of(address), stated = atomic_load_explicit(stated_of(address), memory_order_acquire);
+    return (now | stated) == 0 || (now == stated && now < GRANULE && address % GRANULE + width <= now);
+}
+
+/* What remains to be done for an access where something is unusual. */
 void record_access_slowly(uint64_t place, unsigned code_and_width, uint64_t address, uintptr_t caller)
     OWN_NAME(record_access_slowly);
+
+/* halt.c: whether the process ends at the first access or free that the shadow holds for bad, and that end. */
+
+extern _Atomic bool halt_is_on OWN_NAME(halt_is_on);
+void halt_set(bool is_on, bool late);
+/* Ends the recording and the process, unless another thread is doing so: then it returns. */
+void halt_at(enum code code, unsigned width, uint64_t address, uintptr_t caller) OWN_NAME(halt_at);
+/* What is called before that. */
+void halt_on_death(void (*callback)(void));
+/* Whether nobody has asked this before: who asks first reports the crash. */
+bool halt_is_first_crash(void);
+
+static inline void halt_if_bad(enum code code, unsigned width, uint64_t address, uintptr_t caller)
+{
+    if (UNLIKELY(atomic_load_explicit(&halt_is_on, memory_order_relaxed)) && shadow_is_bad(address, width))
+        halt_at(code, width, address, caller);
+}
 
 static inline void put_access(unsigned char *at, unsigned code_and_width, uint64_t address)
 {
@@ -98,28 +135,43 @@ static inline void record_access(enum code code, unsigned width, uint64_t addres
     unsigned code_and_width = code | width << 8;
     if (UNLIKELY(address > ADDRESS_END - width))
         return; /* it can't be spelled, and would end the stream */
-    if (UNLIKELY(!(atomic_load_explicit(&stream->cursor, memory_order_relaxed) & CURSOR_ON))) {
-        record_access_slowly(0, code_and_width, address, caller);
+    if (UNLIKELY(is_frame_in_block(address, width)))
+        return;
+    if (UNLIKELY(!(atomic_load_explicit(&stream->cursor, memory_order_relaxed) & CURSOR_ON)) && !stream_wake()) {
+        halt_if_bad(code, width, address, caller);
         return;
     }
+    if (!is_in_arena(address) && UNLIKELY(!is_stated(address, width)))
+        stated_bring_up(address, width, caller);
     uint64_t place = stream_take(&stream->cursor, CURSOR_EVENT + ACCESS_LENGTH);
     uint32_t offset = (uint32_t)place;
     if (UNLIKELY(stream_is_unusual(place, ACCESS_LENGTH)))
         record_access_slowly(place, code_and_width, address, caller);
     else
         put_access(stream->bytes + offset, code_and_width, address);
+    halt_if_bad(code, width, address, caller);
 }
 
 /* An access of any width, in pieces of 1, 2, 4 and 8 bytes at multiples of them. */
 void record_range(enum code code, uint64_t address, uint64_t size, uintptr_t caller) OWN_NAME(record_range);
-/* A malloc, a poison or an unpoison. A region that can't be spelled is left out. */
+/* The pieces of it that the shadow holds for bad. */
+void record_bad_range(enum code code, uint64_t address, uint64_t size, uintptr_t caller) OWN_NAME(record_bad_range);
+/* A malloc or an unpoison, and a poison. A region that can't be spelled is left out. */
 void record_region(enum code code, uint64_t address, uint64_t size, uintptr_t caller);
-/* A poison or an unpoison of any size, in pieces. */
+void record_poison(enum kind kind, uint64_t address, uint64_t size, uintptr_t caller);
+/* What the process poisons and unpoisons, of any size: in the shadow, and in the allocator's memory as records too. */
 void record_regions(enum code code, uint64_t address, uint64_t size, uintptr_t caller);
 void record_free(uint64_t address, uintptr_t caller);
 
 /* Ends the recording where it is, without a close, and says why. */
 void stream_stop(const char *why);
+
+/* threads.c: the stacks of threads. */
+
+/* In the first thread, at the start. */
+void stack_start(void);
+/* Frames from this one up may be left without their returns. */
+void stack_frames_left(uintptr_t frame) OWN_NAME(stack_frames_left);
 
 /* process.c: what becomes of the stream when the process starts, forks, and ends. */
 
@@ -127,6 +179,12 @@ void stream_stop(const char *why);
 enum finish { FINISH_CLOSED, FINISH_OPEN, FINISH_AT_LIMIT };
 
 void recorder_start(void);
+/* Not in a child of vfork, which runs in its parent's memory, nor in one that no fork has announced. */
+bool recorder_is_own_process(void);
+/* Says that such a child is not recorded. */
+void recorder_say_child(void);
+/* Begins the recording that ASANCOL_HALT=2 has put off. False: it can't be, and a line said why. */
+bool recorder_begin_late(void);
 void recorder_finish(enum finish finish);
 /* In a handler of a signal that ends the process: without a close, and without waiting for other threads for ever. */
 void recorder_finish_in_handler(void);
@@ -135,32 +193,43 @@ bool recorder_before_exec(void);
 void recorder_exec_failed(void);
 /* A shared object, or what calls an exported callback, has the calls of a compiler before its accesses. */
 void recorder_found_checks(void);
-/* Whether the program or a shared object has them. If not, the trace gets no close: what the process did was not seen. */
+/* Whether the program or a shared object has them. If not, the trace gets no close: what the process did was not
+   seen. */
 bool recorder_has_checks(void);
 
 /* say.c: what the recorder has to say. */
 
 /* Where it is said: a file's name, in which %p stands for the number of the process, or null for standard error. */
 void say_to(const char *log);
+/* In a child, whose number is another one. */
+void say_again(void);
 /* Says one line, if that is possible without waiting. */
 void recorder_say(const char *what, const char *of, const char *why);
-/* Writes the name that a pattern gives this process: %p is its number, %% is a percent sign. False: there is no room. */
+/* Writes the name that a pattern gives this process: %p is its number, %% is a percent sign. False: there is no room.
+   */
 bool name_of_pattern(const char *pattern, char *name, size_t room);
 
 /* heap.c: the allocator. */
 
 /* How many bytes of freed spans are held from now on. */
 void heap_set_bound(uint64_t bytes);
-/* No other thread is in the allocator between these two. */
+/* No other thread is in the allocator between these two. A signal handler may come between and do the same. */
 void heap_lock(void);
 void heap_unlock(void);
 /* Whether this thread is in the allocator. */
 bool heap_is_entered(void);
-/* Records a malloc for each block that is live, and a malloc and a free for the newest of those that are held. The heap
-   is locked. */
-void heap_record_all(void);
+/* Records a malloc for each block that is live with what is poisoned of it, and a malloc and a free for those that are
+   held, or for the newest of them. The heap is locked. */
+void heap_record_all(bool all_held);
+/* Whether the shadow shows the state of blocks from now on. If nothing is recorded it need not, */
+void heap_paint(bool is_painted);
+/* until the process poisons a part of one. */
+void heap_is_poisoned(void);
 /* The next malloc of this thread is recorded with this place, and not with that of libc's code which calls it. */
 void heap_called_from(uintptr_t caller);
+
+/* The end of the live block around an address; the address itself if there is none. */
+uintptr_t heap_end_around(uintptr_t address);
 
 /* What the allocator holds. */
 struct heap_numbers {
@@ -175,7 +244,7 @@ struct heap_numbers heap_count(void) OWN_NAME(heap_count);
    nothing where no recorder is there. */
 struct sigaction;
 
-struct asancol_hooks {
+struct recorder_hooks {
     size_t size; /* of this table: an object may be newer than its program */
     void (*access)(enum code code, unsigned width, uint64_t address, uintptr_t caller);
     void (*range)(enum code code, uint64_t address, uint64_t size, uintptr_t caller);
@@ -187,6 +256,11 @@ struct asancol_hooks {
     void (*modules_changed)(void);
     int (*set_action)(int number, const struct sigaction *action, struct sigaction *old);
     void (*found_checks)(void);
+    const struct stream *stream;
+    void (*bad_range)(enum code code, uint64_t address, uint64_t size, uintptr_t caller);
+    void (*frames_left)(uintptr_t frame);
+    void (*on_death)(void (*callback)(void));
+    bool (*is_first_crash)(void);
 };
 
 #endif

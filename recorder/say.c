@@ -17,11 +17,12 @@ static struct {
     bool has_error;
     bool has_failed; /* the log could not be written, and that was said */
     const char *log; /* a pattern, or null */
+    char name[PATH_MAX]; /* that it gives this process */
 } say;
 
-/* No longer than what a pipe takes at once. */
+/* Less than what a pipe takes at once; and a thread's stack may be small. */
 struct line {
-    char text[PIPE_BUF];
+    char text[1024];
     size_t length;
 };
 
@@ -32,16 +33,15 @@ static void append(struct line *line, const char *text)
         line->text[line->length++] = *text++;
 }
 
-static struct line line_of(const char *what, const char *of, const char *why)
+static void make_line(struct line *line, const char *what, const char *of, const char *why)
 {
-    struct line line = {.length = 0};
-    append(&line, "asancol: ");
-    append(&line, what);
-    append(&line, of);
-    append(&line, ": ");
-    append(&line, why);
-    line.text[line.length++] = '\n';
-    return line;
+    line->length = 0;
+    append(line, "asancol: ");
+    append(line, what);
+    append(line, of);
+    append(line, ": ");
+    append(line, why);
+    line->text[line->length++] = '\n';
 }
 
 void say_to(const char *log)
@@ -51,6 +51,13 @@ void say_to(const char *log)
     say.error_device = seen.st_dev;
     say.error_node = seen.st_ino;
     say.log = log;
+    say_again();
+}
+
+void say_again(void)
+{
+    if (say.log != NULL && !name_of_pattern(say.log, say.name, sizeof say.name))
+        say.name[0] = 0;
 }
 
 bool name_of_pattern(const char *pattern, char *name, size_t room)
@@ -94,12 +101,8 @@ static void write_line(int descriptor, const struct line *line)
 /* Appends the line to the log. False: it could not be opened, and errno says why. */
 static bool write_log(const struct line *line)
 {
-    char name[PATH_MAX];
-    errno = ENAMETOOLONG;
-    if (!name_of_pattern(say.log, name, sizeof name))
-        return false;
     /* A pipe without a reader is not waited for. */
-    int log = open(name, O_WRONLY | O_CREAT | O_APPEND | O_CLOEXEC | O_NOCTTY | O_NONBLOCK, 0666);
+    int log = open(say.name, O_WRONLY | O_CREAT | O_APPEND | O_CLOEXEC | O_NOCTTY | O_NONBLOCK, 0666);
     if (log < 0)
         return false;
     write_line(log, line);
@@ -107,19 +110,27 @@ static bool write_log(const struct line *line)
     return true;
 }
 
+/* On standard error, with the cause if there is a log that does not take it. */
+static void write_error(struct line *line, const char *what, const char *of, const char *why)
+{
+    if (say.log != NULL && !say.has_failed) {
+        make_line(line, "the log can't be opened: ", say.log, strerrordesc_np(errno));
+        if (takes_line())
+            write_line(STDERR_FILENO, line);
+        say.has_failed = true;
+    }
+    make_line(line, what, of, why);
+    if (takes_line())
+        write_line(STDERR_FILENO, line);
+}
+
 void recorder_say(const char *what, const char *of, const char *why)
 {
-    struct line line = line_of(what, of, why);
+    struct line line;
     struct disturbance before;
     undisturbed_begin(&before);
-    if (say.log == NULL || !write_log(&line)) {
-        if (say.log != NULL && !say.has_failed && takes_line()) {
-            struct line failure = line_of("the log can't be opened: ", say.log, strerrordesc_np(errno));
-            write_line(STDERR_FILENO, &failure);
-            say.has_failed = true;
-        }
-        if (takes_line())
-            write_line(STDERR_FILENO, &line);
-    }
+    make_line(&line, what, of, why);
+    if (say.log == NULL || !write_log(&line))
+        write_error(&line, what, of, why);
     undisturbed_end(&before);
 }

@@ -14,7 +14,8 @@
 /* All that the recorder and its tools read. */
 static const char *const names[] = {
     "ASANCOL_TRACE",    "ASANCOL_SOCKET", "ASANCOL_WHERE", "ASANCOL_QUARANTINE", "ASANCOL_LIMIT",
-    "ASANCOL_PATIENCE", "ASANCOL_LOG",    "ASANCOL_CC",    "ASANCOL_CXX",        "ASANCOL_SYMBOLIZER",
+    "ASANCOL_PATIENCE", "ASANCOL_LOG",    "ASANCOL_ALL",   "ASANCOL_CC",         "ASANCOL_CXX",
+    "ASANCOL_HALT",     "ASANCOL_SYMBOLIZER",
 };
 
 enum { NAMES = sizeof names / sizeof *names, LONGEST_NAME = 32 };
@@ -52,7 +53,9 @@ static bool is_known(const char *name, size_t length)
 static const char *nearest(const char *name, size_t length)
 {
     const char *found = NULL;
-    unsigned least = 3;
+    /* Of a short name there is little that could be meant. */
+    size_t letters = length - strlen(FRONT);
+    unsigned least = letters >= 4 ? 3 : letters >= 2 ? 2 : 0;
     for (size_t i = 0; i < NAMES; i++) {
         unsigned far = distance(name, length, names[i]);
         if (far < least) {
@@ -197,4 +200,5 @@ void settings_read(struct settings *settings)
     settings->quarantine = number_of("ASANCOL_QUARANTINE", 0, (uint64_t)1 << 40, QUARANTINE_BOUND);
     settings->patience_ms = (int)number_of("ASANCOL_PATIENCE", 0, 86400, 60) * 1000;
     settings->with_places = number_of("ASANCOL_WHERE", 0, 1, 0) == 1;
+    settings->halt = (enum halt)number_of("ASANCOL_HALT", HALT_NEVER, HALT_AND_RECORD, HALT_NEVER);
 }

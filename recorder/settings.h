@@ -5,6 +5,9 @@
 #include <stdbool.h>
 #include <stdint.h>
 
+/* Whether the process ends at its first fault; and whether nothing is recorded until then. */
+enum halt { HALT_NEVER, HALT, HALT_AND_RECORD };
+
 struct settings {
     const char *trace;  /* the name of the trace with %p, from the root, or null */
     const char *socket; /* or null */
@@ -12,10 +15,11 @@ struct settings {
     uint64_t quarantine;
     int patience_ms;
     bool with_places;
+    enum halt halt;
 };
 
-/* Reads all settings, and says what is none or has a value that is none. In the environment the names of the trace and of
-   the log are from the root afterwards, so that a process that this one starts elsewhere finds them. */
+/* Reads all settings, and says what is none or has a value that is none. In the environment the names of the trace
+   and of the log are from the root afterwards, so that a process that this one starts elsewhere finds them. */
 void settings_read(struct settings *settings);
 
 #endif

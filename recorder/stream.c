@@ -31,6 +31,8 @@ static struct {
     uint64_t checked;      /* up to here the records were seen to be whole */
     uint64_t checked_events;
     bool said_unseen; /* that it gets no close, since nothing was seen */
+    _Atomic bool is_suspended; /* for an exec */
+    _Atomic bool has_missed;   /* other threads' events meanwhile */
     _Atomic uint64_t left_out;
 } keeper = {.lock = PTHREAD_MUTEX_INITIALIZER, .trace = {.descriptor = -1}, .where = {.descriptor = -1}};
 
@@ -123,7 +125,8 @@ static unsigned fill_hole(uint64_t offset, uint64_t end)
     static const struct {
         enum code code;
         unsigned length;
-    } fillers[] = {{CODE_LOAD, ACCESS_LENGTH}, {CODE_UNPOISON, REGION_LENGTH}, {CODE_FREE, PLACE_LENGTH}};
+    } fillers[] = {{CODE_LOAD, ACCESS_LENGTH}, {CODE_UNPOISON, REGION_LENGTH}, {CODE_POISON, POISON_LENGTH},
+                   {CODE_FREE, PLACE_LENGTH}};
     for (unsigned i = 0; i < sizeof fillers / sizeof *fillers; i++) {
         unsigned length = fillers[i].length;
         if (offset + length > end || !looks_sound(offset + length, end))
@@ -248,16 +251,29 @@ static void put_ending(uint64_t offset, enum finish finish)
     }
 }
 
-/* Of a process without a check nothing was seen but its blocks, so its trace must not read as clean. */
+/* What was not seen whole must not read as clean: a process without a check, of which nothing was seen but its
+   blocks, or one of which events are missing. */
 static enum finish as_seen(enum finish finish)
 {
-    if (finish != FINISH_CLOSED || recorder_has_checks())
+    const char *why = NULL;
+    if (finish != FINISH_CLOSED)
+        return finish;
+    if (!recorder_has_checks())
+        why = "no access was recorded, since no part of the program was compiled by asancol-cc";
+    else if (atomic_load(&keeper.has_missed))
+        why = "other threads went on while an exec was tried";
+    if (why == NULL)
         return finish;
     if (!keeper.said_unseen)
-        recorder_say("the trace has no close: ", keeper.trace.path,
-                     "no access was recorded, since no part of the program was compiled by asancol-cc");
+        recorder_say("the trace has no close: ", keeper.trace.path, why);
     keeper.said_unseen = true;
     return FINISH_OPEN;
+}
+
+/* How a stream ends whose cursor this was: at the limit, if an event has found no place. */
+static enum finish finish_of(uint64_t cursor, enum finish finish)
+{
+    return (cursor - CURSOR_ON) >> 32 > limit_of_stream() ? FINISH_AT_LIMIT : finish;
 }
 
 /* Writes what stands after the last record, and leaves nothing after that. The lock is held and the cursor off. */
@@ -327,8 +343,7 @@ static bool make_room(uint64_t place, unsigned length)
     return has_room(end);
 }
 
-/* Whether the stream is on, after a start where it had not been started. */
-static bool wake(void)
+bool stream_wake(void)
 {
     switch (atomic_load_explicit(&recorder_state, memory_order_relaxed)) {
     case STATE_UNSTARTED:
@@ -340,6 +355,13 @@ static bool wake(void)
     case STATE_AT_LIMIT:
         atomic_fetch_add_explicit(&keeper.left_out, 1, memory_order_relaxed);
         return false;
+    case STATE_RECORDING:
+        /* Another thread tries an exec just now, or this is a child that no fork has announced. */
+        if (!recorder_is_own_process())
+            recorder_say_child();
+        else if (atomic_load(&keeper.is_suspended))
+            atomic_store(&keeper.has_missed, true);
+        return false;
     default:
         return false;
     }
@@ -347,7 +369,7 @@ static bool wake(void)
 
 static const char *open_where(void)
 {
-    char path[PATH_MAX + 8];
+    static char path[PATH_MAX + 8]; /* the lock is held; and a stack may be small */
     size_t length = strlen(keeper.trace.path);
     memcpy(path, keeper.trace.path, length);
     strcpy(path + length, ".where");
@@ -391,6 +413,8 @@ bool stream_begin(const struct settings *settings)
     keeper.checked = HEADER_LENGTH;
     keeper.checked_events = 0;
     keeper.said_unseen = false;
+    atomic_store(&keeper.is_suspended, false);
+    atomic_store(&keeper.has_missed, false);
     atomic_store(&keeper.left_out, 0);
     STREAM->bytes = keeper.trace.bytes;
     STREAM->events_end = settings->limit << 32;
@@ -419,17 +443,21 @@ void stream_end(enum finish finish, bool certain)
     if (!lock_for_end(certain))
         return;
     if (was_on)
-        finish_at((uint32_t)cursor, limit_of_stream(), finish);
+        finish_at((uint32_t)cursor, limit_of_stream(), finish_of(cursor, finish));
     stream_unlock();
 }
 
 bool stream_suspend(void)
 {
+    atomic_store(&keeper.is_suspended, true);
     uint64_t cursor = atomic_exchange(&STREAM->cursor, 0);
-    if (!(cursor & CURSOR_ON))
+    if (!(cursor & CURSOR_ON)) {
+        atomic_store(&keeper.is_suspended, false);
         return false;
+    }
     stream_lock();
-    finish_at((uint32_t)cursor, limit_of_stream(), keeper.trace.is_mapped ? FINISH_CLOSED : FINISH_OPEN);
+    finish_at((uint32_t)cursor, limit_of_stream(),
+              finish_of(cursor, keeper.trace.is_mapped ? FINISH_CLOSED : FINISH_OPEN));
     stream_unlock();
     return true;
 }
@@ -449,6 +477,7 @@ void stream_resume(void)
             STREAM->bytes[keeper.checked] = 0; /* no close after all */
         atomic_store(&STREAM->cursor, CURSOR_ON | keeper.checked_events << 32 | keeper.checked);
     }
+    atomic_store(&keeper.is_suspended, false);
     stream_unlock();
 }
 
@@ -513,10 +542,9 @@ static unsigned char *open_place(uint64_t place, unsigned length, uintptr_t call
     return STREAM->bytes + (uint32_t)place;
 }
 
-/* The place of a record of `length` bytes, or null. */
-static unsigned char *reserve(unsigned length, uintptr_t caller)
+unsigned char *stream_reserve(unsigned length, uintptr_t caller)
 {
-    if (!(atomic_load_explicit(&STREAM->cursor, memory_order_relaxed) & CURSOR_ON) && !wake())
+    if (!(atomic_load_explicit(&STREAM->cursor, memory_order_relaxed) & CURSOR_ON) && !stream_wake())
         return NULL;
     uint64_t place = stream_take(&STREAM->cursor, CURSOR_EVENT + length);
     if (LIKELY(!stream_is_unusual(place, length)))
@@ -526,60 +554,7 @@ static unsigned char *reserve(unsigned length, uintptr_t caller)
 
 void record_access_slowly(uint64_t place, unsigned code_and_width, uint64_t address, uintptr_t caller)
 {
-    unsigned char *at = place == 0 ? reserve(ACCESS_LENGTH, caller) : open_place(place, ACCESS_LENGTH, caller);
+    unsigned char *at = open_place(place, ACCESS_LENGTH, caller);
     if (at != NULL)
         put_access(at, code_and_width, address);
-}
-
-void record_range(enum code code, uint64_t address, uint64_t size, uintptr_t caller)
-{
-    while (size > 0) {
-        unsigned width = 8;
-        while (width > size || (address & (width - 1)) != 0)
-            width /= 2;
-        if (address > ADDRESS_END - width)
-            return;
-        record_access(code, width, address, caller);
-        address += width;
-        size -= width;
-    }
-}
-
-void record_region(enum code code, uint64_t address, uint64_t size, uintptr_t caller)
-{
-    if (size > LARGEST_REGION || address > ADDRESS_END - size)
-        return;
-    unsigned char *at = reserve(REGION_LENGTH, caller);
-    if (at == NULL)
-        return;
-    put_number(at + 1, address);
-    put_number(at + 9, size);
-    put_code(at, code);
-}
-
-void record_regions(enum code code, uint64_t address, uint64_t size, uintptr_t caller)
-{
-    /* Cut at granules: elsewhere one granule would be treated twice, in part. */
-    if (address >= ADDRESS_END)
-        return;
-    size = size > ADDRESS_END - address ? ADDRESS_END - address : size;
-    while (size > LARGEST_REGION) {
-        uint64_t piece = LARGEST_REGION - address % GRANULE;
-        record_region(code, address, piece, caller);
-        address += piece;
-        size -= piece;
-    }
-    if (size > 0)
-        record_region(code, address, size, caller);
-}
-
-void record_free(uint64_t address, uintptr_t caller)
-{
-    if (address >= ADDRESS_END)
-        return;
-    unsigned char *at = reserve(PLACE_LENGTH, caller);
-    if (at == NULL)
-        return;
-    put_number(at + 1, address);
-    put_code(at, CODE_FREE);
 }

@@ -26,6 +26,8 @@ void stream_unlock(void);
 /* Whether this address is in the mapped trace, and what to do if the file under it is gone. */
 bool stream_has_lost(const void *address);
 void stream_write_modules(void);
+/* The place of a record of so many bytes, or null if none is recorded. */
+unsigned char *stream_reserve(unsigned length, uintptr_t caller);
 /* Says how much was left out, if anything was. */
 void stream_say_left_out(void);
 

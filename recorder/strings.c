@@ -11,12 +11,14 @@
 
 static inline void reads(const void *from, size_t size, uintptr_t caller)
 {
-    note_range(CODE_LOAD, (uintptr_t)from, size, caller);
+    if (is_recorded() && UNLIKELY(!shadow_is_clean((uintptr_t)from, size)))
+        note_bad_range(CODE_LOAD, (uintptr_t)from, size, caller);
 }
 
 static inline void writes(const void *to, size_t size, uintptr_t caller)
 {
-    note_range(CODE_STORE, (uintptr_t)to, size, caller);
+    if (is_recorded() && UNLIKELY(!shadow_is_clean((uintptr_t)to, size)))
+        note_bad_range(CODE_STORE, (uintptr_t)to, size, caller);
 }
 
 static inline void copies(const void *to, const void *from, size_t size, uintptr_t caller)

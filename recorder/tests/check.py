@@ -18,6 +18,8 @@ import sys
 import tempfile
 import time
 
+import fuzzing
+import inline
 import seen_whole
 from support import (
     build,
@@ -110,6 +112,8 @@ LIVES = {
     "many_threads": (0, "closed", [MARK]),
     "ends_with_threads": (0, "closed", [MARK]),
     "forks_by_the_system": (0, "closed", [MARK]),
+    "forks_quietly": (0, "closed", [MARK]),
+    "clones": (0, "closed", [MARK]),
     "vforks": (0, "closed", [MARK]),
     "execs_in_vain": (0, "closed", [MARK, MARK]),
     "spawns": (0, "closed", [MARK]),
@@ -124,12 +128,17 @@ LIVES = {
 }
 
 
+# They have a child that nothing announces, and a line says that it is not recorded.
+UNANNOUNCED = ("forks_by_the_system", "forks_quietly", "clones")
+
+
 def check_life(suite, folder, program, name, status, fate, wanted):
     shutil.copy(f"{os.path.dirname(program)}/libplugin.so", folder)
     trace = f"{folder}/t.trace"
     ran = run([program, name], folder, ASANCOL_TRACE="t.trace")
     expect(ran.returncode, status, "status of the program")
-    expect(ran.stderr, b"", "standard error of the program")
+    said = 1 if name in UNANNOUNCED else 0
+    expect(len(ran.stderr.splitlines()), said, f"standard error of the program: {ran.stderr}")
     checked, texts, end = reports(suite.asancol, trace)
     expect(texts, wanted, "reports")
     expect(end.split(" events ")[0], fate, "fate")
@@ -234,18 +243,12 @@ def check_file_limit(suite, folder, program):
 
 
 def check_little_memory(suite, folder, program):
-    """Under a limit of address space that the program alone keeps, it runs on."""
-    words = ["sh", "-c", f"ulimit -v 1000000; exec {program} fills_its_memory"]
-    ran = run(words, folder, ASANCOL_TRACE="t.trace")
-    expect(ran.returncode, 0, ran.stderr)
-    # Where there is no room for the stream itself, no file is left.
-    words = ["sh", "-c", f"ulimit -v 100000; exec {program} ends_normally"]
-    ran = run(words, folder, ASANCOL_TRACE="u.trace")
-    expect((ran.returncode, len(ran.stderr.splitlines())), (0, 1), ran.stderr)
-    expect(os.path.exists(f"{folder}/u.trace"), False, "a file")
-    # Without a setting it can use nearly all.
-    ran = run(["sh", "-c", f"ulimit -v 1000000; exec {program} fills_its_space"], folder)
-    expect((ran.returncode, ran.stderr), (0, b""), "a block of 600 MB")
+    """Under a limit of address space there is no room for the shadow, and the program ends with a line."""
+    for settings in ({}, {"ASANCOL_TRACE": "u.trace"}):
+        ran = run(["sh", "-c", f"ulimit -v 1000000; exec {program} ends_normally"], folder, **settings)
+        expect((ran.returncode, len(ran.stderr.splitlines())), (127, 1), ran.stderr)
+        expect(b"without asancol-cc" in ran.stderr, True, ran.stderr)
+        expect(os.path.exists(f"{folder}/u.trace"), False, "a file")
 
 
 def serve(suite, folder, count):
@@ -391,9 +394,20 @@ int main(void)
             expect(f"0 bytes past a block of {i % 10 + 1}, allocated at main" in line, True, line)
 
 
+# Where there is no place for a trace.
+NOWHERE = {
+    "no folder": {"ASANCOL_TRACE": "none/t.trace"},
+    "full disk": {"ASANCOL_TRACE": "/dev/full"},
+    "no socket": {"ASANCOL_SOCKET": "none.sock"},
+    "long name": {"ASANCOL_TRACE": "n" * 5000},
+    "long name of a socket": {"ASANCOL_SOCKET": "n" * 500},
+}
+
+
 def life_tests(suite, compiler, folder):
-    program = f"{folder}/lives-{compiler}"
+    program, every = f"{folder}/lives-{compiler}", f"{folder}/every-{compiler}"
     compiler.c(folder, [f"{TESTS}/lives.c"], program, "-O1", "-w", "-pthread")
+    compiler.c(folder, [f"{TESTS}/lives.c"], every, "-O1", "-w", "-pthread", ASANCOL_ALL="1")
     compiler.c(folder, [f"{TESTS}/plugin.c"], f"{folder}/libplugin.so", "-fPIC", "-shared", "-Wl,-z,defs")
     for name, (status, fate, wanted) in LIVES.items():
         suite.test(f"{compiler} {name}", check_life, program, name, status, fate, wanted)
@@ -406,18 +420,11 @@ def life_tests(suite, compiler, folder):
             suite.test(f"{compiler} {name} {settings}", check_lost_trace, program, name, settings)
     suite.test(f"{compiler} no standard error", check_no_errors, program)
     suite.test(f"{compiler} limit of files from the start", check_small_files, program)
-    nowhere = {
-        "no folder": {"ASANCOL_TRACE": "none/t.trace"},
-        "full disk": {"ASANCOL_TRACE": "/dev/full"},
-        "no socket": {"ASANCOL_SOCKET": "none.sock"},
-        "long name": {"ASANCOL_TRACE": "n" * 5000},
-        "long name of a socket": {"ASANCOL_SOCKET": "n" * 500},
-    }
-    for name, settings in nowhere.items():
+    for name, settings in NOWHERE.items():
         suite.test(f"{compiler} {name}", check_nowhere, program, settings)
     suite.test(f"{compiler} no trace wanted", check_unset, program)
     suite.test(f"{compiler} small quarantine", check_quarantine, program)
-    suite.test(f"{compiler} limit of files", check_file_limit, program)
+    suite.test(f"{compiler} limit of files", check_file_limit, every)
     suite.test(f"{compiler} little memory", check_little_memory, program)
     for name, status, fate, lines in (
         ("ends_normally", 0, "closed", 1),
@@ -431,10 +438,10 @@ def life_tests(suite, compiler, folder):
     ):
         suite.test(f"{compiler} socket {name}", check_socket, program, name, status, fate, lines)
     suite.test(f"{compiler} two at a socket", check_two_at_a_socket, program)
-    suite.test(f"{compiler} a peer that leaves", check_stranger, program, True)
-    suite.test(f"{compiler} a peer that never reads", check_stranger, program, False)
-    suite.test(f"{compiler} a socket that nobody reads", check_silent_reader, program, True)
-    suite.test(f"{compiler} a pipe that nobody reads", check_silent_reader, program, False)
+    suite.test(f"{compiler} a peer that leaves", check_stranger, every, True)
+    suite.test(f"{compiler} a peer that never reads", check_stranger, every, False)
+    suite.test(f"{compiler} a socket that nobody reads", check_silent_reader, every, True)
+    suite.test(f"{compiler} a pipe that nobody reads", check_silent_reader, every, False)
     suite.test(f"{compiler} pipe", check_pipe, program)
     for level in ("-O0", "-O2"):
         suite.test(f"{compiler} where {level}", check_where, compiler, level)
@@ -503,7 +510,7 @@ def check_builds(suite, folder, compiler):
     cc("-MMD", "-MF", "deps", "-MT", "it", "-DVALUE=1", "-c", "helper.c", "-o", "helper.o")
     expect(open(f"{folder}/deps").read().startswith("it: helper.c"), True, "-MF")
     cc("-S", "-DVALUE=1", "helper.c")
-    expect("__asan_store1_noabort" in open(f"{folder}/helper.s").read(), True, "-S")
+    expect("__asan_report_" in open(f"{folder}/helper.s").read(), True, "-S")
     cc("main.c", "helper.s", "-o", "program")
     one_mark(suite, folder)
     # The language of what follows, and standard input.
@@ -666,7 +673,7 @@ def store_commands():
 
 # The planted bugs: how the first report ends, and the function it is in.
 PLANTED = {
-    "short-string": ("heap-buffer-overflow", "copy_bytes"),
+    "short-string": ("heap-buffer-overflow", None),  # copy_bytes may stand in its caller's code
     "old-array": ("heap-use-after-free", "array_push"),
     "twice": ("heap-use-after-free", None),
     "short-table": ("heap-buffer-overflow", "place_of"),
@@ -733,6 +740,8 @@ def main():
             build_tests(suite, compiler)
             life_tests(suite, compiler, folder)
             seen_whole.tests(suite, compiler, folder)
+            inline.tests(suite, compiler)
+            fuzzing.tests(suite, compiler, folder)
         return suite.finish()
     finally:
         shutil.rmtree(folder, ignore_errors=True)

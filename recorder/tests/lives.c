@@ -461,6 +461,33 @@ static void forks_by_the_system(void)
     fault();
 }
 
+static void forks_quietly(void)
+{
+    char *p = hide(malloc(8));
+    pid_t child = _Fork();
+    if (child == 0) {
+        p[7] = 1;
+        free(p);
+        _exit(0);
+    }
+    wait_for(child);
+    fault();
+}
+
+static int in_clone(void *block)
+{
+    free(block);
+    return 0;
+}
+
+static void clones(void)
+{
+    char *stack = hide(malloc(1 << 16));
+    pid_t child = clone(in_clone, stack + (1 << 16), SIGCHLD, hide(malloc(8)));
+    wait_for(child);
+    fault();
+}
+
 static void vforks(void)
 {
     pid_t child = vfork();
@@ -729,7 +756,8 @@ static const struct {
     LIFE(loses_its_trace), LIFE(loses_its_trace_at_the_end), LIFE(keeps_little), LIFE(fills_its_space),
     LIFE(ends_by_another_signal),
     LIFE(threads_exchange), LIFE(many_threads), LIFE(ends_with_threads), LIFE(forks), LIFE(forks_in_a_thread),
-    LIFE(forks_by_the_system), LIFE(vforks), LIFE(execs), LIFE(execs_in_vain), LIFE(spawns), LIFE(closes_all),
+    LIFE(forks_by_the_system), LIFE(forks_quietly), LIFE(clones), LIFE(vforks), LIFE(execs), LIFE(execs_in_vain),
+    LIFE(spawns), LIFE(closes_all),
     LIFE(counts_descriptors), LIFE(closes_errors), LIFE(writes_past_a_limit), LIFE(fills_its_memory),
     LIFE(many_events), LIFE(twenty_million_events), LIFE(many_frees), LIFE(uses_exit_handlers), LIFE(loads_a_library),
 };

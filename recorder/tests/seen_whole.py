@@ -170,6 +170,11 @@ def check_foreign_link_time(suite: Suite, folder: str, compiler: Compiler) -> No
     expect_warnings(said, "main.o, helper.o")
     expect_unseen(suite, folder)
     build([CC, "-O2", "-flto", "-c", "main.c"], folder, ASANCOL_CC=compiler.name)
+    # Checks that are turned off at the link alone.
+    flags = ["-flto", "-fno-sanitize=all", "-DVALUE=1"]
+    said = warned(folder, compiler, *flags, "main.o", "-x", "c", "helper.c", "-o", "program")
+    expect_warnings(said, "-fno-sanitize=all")
+    expect_unseen(suite, folder)
     made = run([CC, "-O2", "-flto", "main.o", "helper.o", "-o", "program"], folder, ASANCOL_CC=compiler.name)
     expect((made.returncode, b"error: helper.o: " in made.stderr), (1, True), made.stderr)
 
@@ -185,7 +190,7 @@ def check_refusals(suite: Suite, folder: str, compiler: Compiler) -> None:
         expect_warnings(warned(folder, compiler, "main.o", "helper.o", "-o", "program"), "helper.o")
     for flag in ("-fsanitize=thread", "-fsanitize=address", "-m32"):
         expect_warnings(warned(folder, compiler, flag, "-DVALUE=1", "-S", "helper.c", "-o", "helper.s"), flag)
-        expect("__asan_store1_noabort" in open(f"{folder}/helper.s").read(), False, flag)
+        expect("__asan_report_" in open(f"{folder}/helper.s").read(), flag == "-fsanitize=address", flag)
 
 
 def check_plain_objects(suite: Suite, folder: str, compiler: Compiler) -> None:
@@ -213,6 +218,38 @@ def check_plain_objects(suite: Suite, folder: str, compiler: Compiler) -> None:
     build(["ar", "rcs", "libhelper.a", "helper.o"], folder)
     expect_warnings(warned(folder, compiler, "main.o", "libhelper.a", "-o", "program"), "main.o")
     one_mark(suite, folder)
+
+
+def check_spellings(suite: Suite, folder: str, compiler: Compiler) -> None:
+    """Objects and assembly by other names and other ways to name them."""
+    write(folder, main_c=PAST_THE_END, helper_c=HELPER)
+    plain = [compiler.name, "-DVALUE=1"]
+    build([*plain, "-c", "helper.c", "-o", "helper.os"], folder)
+    build([*plain, "-S", "helper.c", "-o", "helper.txt"], folder)
+    build([*plain, "-S", "helper.c", "-o", "helper.s"], folder)
+    assembly = ["-x", "assembler", "helper.txt"]
+    for words in (["helper.os"], ["-Wl,helper.os"], ["-Xlinker", "helper.os"], assembly, ["helper.s"]):
+        said = warned(folder, compiler, "main.c", *words, "-o", "program")
+        expect_warnings(said, words[-1].replace("-Wl,", ""))
+    if compiler.name == "clang":
+        build([*plain, "-emit-llvm", "-c", "helper.c", "-o", "helper.bc"], folder)
+        expect_warnings(warned(folder, compiler, "main.c", "helper.bc", "-o", "program"), "helper.bc")
+    # Nothing compiled, though an empty object or the name of the output is there.
+    write(folder, empty_c="int unused;\n")
+    build([compiler.name, "-c", "main.c"], folder)
+    expect_warnings(warned(folder, compiler, "-c", "empty.c"))
+    build(["ar", "rcs", "libempty.a", "empty.o"], folder)
+    for words in (["libempty.a", "-o", "program"], ["--output", "program"]):
+        expect_warnings(warned(folder, compiler, "main.o", "helper.os", *words), "main.o, helper.os")
+        expect_unseen(suite, folder)
+    expect_warnings(warned(folder, compiler, "-r", "empty.o", "helper.os", "-o", "both.o"), "helper.os")
+    # What is no object is not warned of, and no flag hides what was compiled.
+    flags = ["-fno-record-gcc-switches", "-DVALUE=1"]
+    expect_warnings(warned(folder, compiler, *flags, "-c", "main.c", "helper.c"))
+    libm = run([compiler.name, "-print-file-name=libm.so.6"], folder).stdout.decode().strip()
+    for words in ([libm], ["-nodefaultlibs", "-lgcc", "-lc"], ["-no-pie", "-Wl,-Bstatic", "-static-libgcc"]):
+        expect_warnings(warned(folder, compiler, "main.o", "helper.o", *words, "-o", "program"))
+        one_mark(suite, folder)
 
 
 def check_nothing_to_see(suite: Suite, folder: str, compiler: Compiler) -> None:
@@ -251,6 +288,12 @@ def check_plugins(suite: Suite, folder: str, compiler: Compiler) -> None:
     for linker in ([CC], [compiler.name]):
         build([*linker, "-shared", "helper.o", "-o", "libhelper.so"], folder, ASANCOL_CC=compiler.name)
         one_mark(suite, folder)
+    # Of one that was linked by the wrapper no name of the program has to be visible.
+    build([CC, "-shared", "helper.o", "-o", "libhelper.so"], folder, ASANCOL_CC=compiler.name)
+    write(folder, none_map="{ local: *; };\n")
+    for flag in ("-Wl,--version-script=none.map", "-Wl,--exclude-libs,ALL", "-ffreestanding"):
+        warned(folder, compiler, flag, "plugin.c", "-ldl", "-o", "program")
+        one_mark(suite, folder)
 
 
 def seen_tests(suite: Suite, compiler: Compiler) -> None:
@@ -259,6 +302,7 @@ def seen_tests(suite: Suite, compiler: Compiler) -> None:
         suite.test(f"{compiler} link time of others", check_foreign_link_time, compiler)
     suite.test(f"{compiler} refusals", check_refusals, compiler)
     suite.test(f"{compiler} plain objects", check_plain_objects, compiler)
+    suite.test(f"{compiler} spellings", check_spellings, compiler)
     suite.test(f"{compiler} nothing to see", check_nothing_to_see, compiler)
     suite.test(f"{compiler} plugins", check_plugins, compiler)
 
@@ -352,6 +396,7 @@ def check_settings(suite: Suite, folder: str, program: str) -> None:
     for settings, pieces in (
         ({"ASANCOL_TRCE": "t.trace"}, ["ASANCOL_TRCE: there is no such setting; did you mean ASANCOL_TRACE?"]),
         ({"ASANCOL_NOTHING_LIKE_IT": ""}, ["ASANCOL_NOTHING_LIKE_IT: there is no such setting"]),
+        ({"ASANCOL_": "1"}, ["ASANCOL_: there is no such setting"]),
         ({"ASANCOL_WHERE": "yes"}, ["ASANCOL_WHERE: yes is no number from 0 to 1, and 0 holds"]),
         ({"ASANCOL_LIMIT": "0"}, ["ASANCOL_LIMIT: 0 is no number from 1 to 16777216, and 16777216 holds"]),
         ({"ASANCOL_LIMIT": "99999999999999999999"}, ["ASANCOL_LIMIT: 99999999999999999999 is no number"]),
@@ -399,10 +444,23 @@ def check_other_folder(suite: Suite, folder: str, program: str) -> None:
         expect(len(lines_of(file.read())) >= 1, True, "the log")
 
 
+def check_one_pipe(suite: Suite, folder: str, program: str) -> None:
+    """A pipe takes one process. Its forked child, and a program that it starts, say that they are not recorded."""
+    for words, lines in (([program, "forks"], 1), (["sh", "-c", f"{program} ends_normally"], 0)):
+        text = " ".join(f"'{word}'" for word in words)
+        ran = run(["sh", "-c", f"ASANCOL_TRACE=/dev/fd/3 {text} 3>&1 >&2 | {suite.asancol}"], folder)
+        expect(ran.stdout.decode().splitlines()[-1].split()[:3], ["p0", "end", "closed"], text)
+        expect_said(lines_of(ran.stderr), *["another process writes into this pipe"] * lines)
+    os.mkfifo(f"{folder}/fifo")
+    ran = run([program, "ends_normally"], folder, ASANCOL_TRACE="fifo")
+    expect_said(lines_of(ran.stderr), "nobody reads it yet")
+
+
 def setting_tests(suite: Suite, compiler: Compiler, program: str) -> None:
     suite.test(f"{compiler} settings", check_settings, program)
     suite.test(f"{compiler} log", check_log, program)
     suite.test(f"{compiler} another folder", check_other_folder, program)
+    suite.test(f"{compiler} one pipe", check_one_pipe, program)
 
 
 # The way to one result a test.
@@ -428,7 +486,7 @@ def check_where_status(suite: Suite, folder: str, program: str) -> None:
     expect(run(full, folder, stdin=closed).returncode, 4, "a full disk")
     # Without a symbolizer, and after a new build, it says so.
     lacking = run([WHERE, "t.trace"], folder, stdin=report + closed, ASANCOL_SYMBOLIZER="no-such-symbolizer")
-    expect(b"no-such-symbolizer can't be run" in lacking.stderr, True, lacking.stderr)
+    expect(b"no-such-symbolizer gives none" in lacking.stderr, True, lacking.stderr)
     shutil.copy(program, f"{folder}/copy")
     run(["./copy", "ends_normally"], folder, ASANCOL_TRACE="copy.trace", ASANCOL_WHERE="1")
     later = os.stat(f"{folder}/copy.trace").st_mtime + 10
@@ -445,9 +503,10 @@ def script_of(page: str, first: str) -> str:
     return found[0]
 
 
-# Each test, and what record-all says of it.
+# A sound test; and each test with its source and its words, and what record-all says of it.
+SOUND = "int main(void) { char *p = malloc(8); p[7] = 1; free(p); return 0; }"
 FARM: Dict[str, Tuple[str, str, str]] = {
-    "sound/check": ("int main(void) { char *p = malloc(8); p[7] = 1; free(p); return 0; }", "", "clean, ended with 0"),
+    "sound/check": (SOUND, "", "clean, ended with 0"),
     "bad/check": (
         "int main(int n, char **w) { char *p = malloc(8); ((volatile char *)p)[atoi(w[1])] = 1; return n - 2; }",
         "8",
@@ -455,8 +514,9 @@ FARM: Dict[str, Tuple[str, str, str]] = {
     ),
     "aborts": ("int main(void) { abort(); }", "", "incomplete, ended with 134"),
     "plain": ("int main(void) { return 0; }", "", "nothing recorded, ended with 0"),
+    "100%p" + "long" * 30: (SOUND, "", "clean, ended with 0"),
     "busy": (
-        "int main(void) { volatile char *p = malloc(1); for (int i = 0; i < 2000; i++) p[0] = 1; return 0; }",
+        "int main(void) { for (int i = 0; i < 2000; i++) { char *volatile p = malloc(8); free(p); } return 0; }",
         "",
         "incomplete, ended with 0",
     ),
@@ -491,10 +551,10 @@ def farm_tests(suite: Suite, compiler: Compiler, program: str) -> None:
 
 
 def tests(suite: Suite, compiler: Compiler, folder: str) -> None:
-    """Takes its programs where the tests of lives have built them."""
-    program = f"{folder}/lives-{compiler}"
-    limit_tests(suite, compiler, program)
+    """Takes its programs where the tests of lives have built them: of one each access is recorded."""
+    program, every = f"{folder}/lives-{compiler}", f"{folder}/every-{compiler}"
+    limit_tests(suite, compiler, every)
     seen_tests(suite, compiler)
     sound_tests(suite, compiler)
-    setting_tests(suite, compiler, program)
+    setting_tests(suite, compiler, every)
     farm_tests(suite, compiler, program)

@@ -1,10 +1,9 @@
-/* The programs of the table of speed: `speed array|tree|sort|blocks COUNT` says how many milliseconds it took. */
+/* The programs of the table of speed, one a run: `speed NAME COUNT`. bench.py measures them. */
 #define _GNU_SOURCE
 #include <stdint.h>
 #include <stdio.h>
 #include <stdlib.h>
 #include <string.h>
-#include <time.h>
 
 static uint64_t state = 88172645463325252u;
 
@@ -101,11 +100,63 @@ static long blocks(long count)
     return count;
 }
 
-static double now(void)
+/* A frame with an array, which has redzones. */
+__attribute__((noinline)) static int fill_frame(long seed)
 {
-    struct timespec time;
-    clock_gettime(CLOCK_MONOTONIC, &time);
-    return (double)time.tv_sec * 1e3 + (double)time.tv_nsec / 1e6;
+    volatile char text[40];
+    for (int i = 0; i < 4; i++)
+        text[(seed + 7 * i) % 40] = (char)seed;
+    return text[seed % 40];
+}
+
+static long frames(long count)
+{
+    long sum = 0;
+    for (long i = 0; i < count; i++)
+        sum += fill_frame(i);
+    return sum;
+}
+
+/* Calls that access memory once. */
+__attribute__((noinline)) static long bump(long *number)
+{
+    return ++*number;
+}
+
+static long calls(long count)
+{
+    long *number = calloc(1, sizeof *number), sum = 0;
+    for (long i = 0; number != NULL && i < count; i++)
+        sum += bump(number);
+    free(number);
+    return sum;
+}
+
+/* memcpy of 64 bytes, and of a page now and then. */
+static long copies(long count)
+{
+    enum { SMALL = 64, LARGE = 4096 };
+    char *from = calloc(2, LARGE), *to = from + LARGE;
+    long sum = 0;
+    for (long i = 0; from != NULL && i < count; i++) {
+        volatile size_t size = i % 16 == 0 ? LARGE : SMALL;
+        memcpy(to, from, size);
+        sum += to[i % SMALL];
+    }
+    free(from);
+    return sum;
+}
+
+static long strings(long count)
+{
+    char *volatile text = strdup("a string that is as long as many are in programs");
+    char *volatile other = strdup("a string that is as long as many are in PROGRAMS");
+    long sum = 0;
+    for (long i = 0; text != NULL && other != NULL && i < count; i++)
+        sum += (long)strlen(text) + (strcmp(text, other) > 0);
+    free(text);
+    free(other);
+    return sum;
 }
 
 int main(int count, char **words)
@@ -113,13 +164,12 @@ int main(int count, char **words)
     static const struct {
         const char *name;
         long (*run)(long);
-    } programs[] = {{"array", array}, {"tree", tree}, {"sort", sort}, {"blocks", blocks}};
+    } programs[] = {{"array", array},   {"tree", tree},   {"sort", sort},     {"blocks", blocks},
+                    {"frames", frames}, {"calls", calls}, {"copies", copies}, {"strings", strings}};
     for (size_t i = 0; count == 3 && i < sizeof programs / sizeof *programs; i++) {
         if (strcmp(words[1], programs[i].name) != 0)
             continue;
-        double start = now();
-        long result = programs[i].run(atol(words[2]));
-        printf("%.1f ms (%ld)\n", now() - start, result);
+        printf("%ld\n", programs[i].run(atol(words[2])));
         return 0;
     }
     return 2;

@@ -18,7 +18,8 @@ WHERE = f"{RECORDER}/asancol-where"
 PATIENCE = 300
 
 REDZONE = 32
-LENGTHS = {1: 10, 2: 10, 3: 17, 4: 9, 5: 17, 6: 17}
+LENGTHS = {1: 10, 2: 10, 3: 17, 4: 9, 5: 18, 6: 17}
+POISON = 5
 CLOSE = 7
 
 
@@ -75,6 +76,8 @@ class Trace:
             if length == 10:
                 self.events.append((code, int.from_bytes(record[2:], "little"), record[1]))
             else:
+                if code == POISON:
+                    record = record[1:]  # without its kind
                 address = int.from_bytes(record[1:9], "little")
                 self.events.append((code, address, int.from_bytes(record[9:], "little")))
             at += length
@@ -205,9 +208,9 @@ class Compiler:
         words = [self.name] if native else [CC]
         build([*words, "-g", *flags, *sources, "-o", program], folder, ASANCOL_CC=self.name, **settings)
 
-    def cpp(self, folder, sources, program, *flags, native=False):
+    def cpp(self, folder, sources, program, *flags, native=False, **settings):
         words = [self.cxx] if native else [CXX]
-        build([*words, "-g", *flags, *sources, "-o", program], folder, ASANCOL_CXX=self.cxx)
+        build([*words, "-g", *flags, *sources, "-o", program], folder, ASANCOL_CXX=self.cxx, **settings)
 
 
 def compilers():

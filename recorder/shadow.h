@@ -1,0 +1,147 @@
+/* The shadow: a byte for each granule of 8 bytes, as AddressSanitizer has it. The compilers' inline checks read it
+   before each access, and their code writes the redzones of frames into it. heap.c writes the state of blocks,
+   variables.c that of globals and of scopes that end, and the process its own poison.
+
+   **The shadow decides only what is recorded; the verdict is the collector's.** An access that the check lets through
+   leaves no record. So the shadow must never be laxer than what the collector makes of the stream: what is
+   addressable here has to be addressable there, at the place that a record of the access would have. Being stricter
+   costs a record, and no verdict.
+
+   Of memory outside the allocator's the stream says nothing until an access comes that the check holds for bad. A
+   second map of the same form, `stated`, has the byte that the stream states of each granule there. Where the two
+   differ, the stream is brought up before the access is recorded (stated.c). So a frame whose redzones nobody comes
+   near costs nothing, and a stream that begins later begins with a map of zeros. */
+#ifndef ASANCOL_SHADOW_H
+#define ASANCOL_SHADOW_H
+
+#include <stdbool.h>
+#include <stddef.h>
+#include <stdint.h>
+
+#include "format.h"
+
+/* For what several members of an archive use: a program may have the name itself. */
+#define OWN_NAME(name) __asm__("asancol_" #name)
+
+/* Where the maps lie: free in all layouts of a process on x86-64. Programs lie from 0x5555.. on, or below 2^32;
+   libraries and stacks below 2^47; with an unlimited stack libraries lie below 0x1555.., and in the old layout
+   (`setarch -L`) from 0x2aaa.. on.
+
+   The shadow begins at AddressSanitizer's own place, which fits into an instruction, and ends a little above 2^44.
+   asancol-cc gives the compilers this number. */
+#define SHADOW_START ((uint64_t)0x7fff8000)
+#define SHADOW_BYTES (ADDRESS_END / GRANULE)
+/* The allocator's memory is from 2^45 up to 5 * 2^43 (arena.h), */
+#define ARENA_SHIFT 43
+#define ARENA_NUMBER 4
+/* and `stated` is from 2^46 up to 5 * 2^44. */
+#define STATED_START ((uint64_t)1 << 46)
+
+/* After them comes a page with the address of the program's hooks (hooks.h), or zeros if it has no recorder. No
+   symbol has to be exported or found for it. */
+#define MEETING_START (STATED_START + SHADOW_BYTES)
+
+/* The codes of granules without an addressable byte. Which of them it is matters to nobody but for the kind of the
+   poison that the stream gets. */
+enum {
+    SHADE_HEAP = 0xfa,
+    SHADE_FREED = 0xfd,
+    SHADE_USER = 0xf7,
+    SHADE_SCOPE = 0xf8,
+    SHADE_GLOBAL = 0xf9,
+    SHADE_CONTAINER = 0xfc,
+    SHADE_ALLOCA_LEFT = 0xca,
+    SHADE_ALLOCA_RIGHT = 0xcb,
+};
+
+/* In `stated` alone: a thread is bringing the stream up just now. */
+enum { STATED_BUSY = 0xee };
+
+static inline bool is_in_arena(uint64_t address)
+{
+    return address >> ARENA_SHIFT == ARENA_NUMBER;
+}
+
+static inline volatile unsigned char *shadow_of(uint64_t address)
+{
+    return (volatile unsigned char *)(SHADOW_START + address / GRANULE);
+}
+
+static inline _Atomic unsigned char *stated_of(uint64_t address)
+{
+    return (_Atomic unsigned char *)(STATED_START + address / GRANULE);
+}
+
+/* How many of a granule's first bytes are addressable, by its shadow byte. */
+static inline unsigned addressable_of(unsigned char shade)
+{
+    return shade == 0 ? GRANULE : shade < GRANULE ? shade : 0;
+}
+
+/* The check of the compilers, which is the collector's too: the granule of the first byte decides. */
+static inline bool shadow_is_bad(uint64_t address, unsigned width)
+{
+    unsigned shade = *shadow_of(address);
+    return shade != 0 && (shade >= GRANULE || address % GRANULE + width > shade);
+}
+
+/* A redzone of a frame, or a variable whose scope has ended. */
+static inline bool is_of_frame(unsigned char shade)
+{
+    return (shade >= 0xf1 && shade <= 0xf5) || shade == SHADE_SCOPE || shade == SHADE_ALLOCA_LEFT
+           || shade == SHADE_ALLOCA_RIGHT;
+}
+
+/* Whether an access meets the redzone of a frame that lies in a block: of a coroutine, or of a thread or a handler with
+   a stack that the program has allocated. Such memory may be used for something else without a word, and for the
+   collector it is the block's: so the redzones there are nobody's. */
+static inline bool is_frame_in_block(uint64_t address, unsigned width)
+{
+    if (!is_in_arena(address))
+        return false;
+    unsigned char shade = *shadow_of(address);
+    if (shade >= GRANULE)
+        return is_of_frame(shade);
+    return shade != 0 && address % GRANULE + width > shade && is_of_frame(*shadow_of(address + GRANULE));
+}
+
+/* Whether each byte of a region is addressable. */
+static inline bool shadow_is_clean(uint64_t address, uint64_t size)
+{
+    if (size == 0)
+        return true;
+    if (address >= ADDRESS_END || size > ADDRESS_END - address)
+        return false;
+    const unsigned char *at = (const unsigned char *)shadow_of(address);
+    const unsigned char *last = (const unsigned char *)shadow_of(address + size - 1);
+    for (uint64_t words[4]; last - at >= (ptrdiff_t)sizeof words; at += sizeof words) {
+        __builtin_memcpy(words, at, sizeof words);
+        if ((words[0] | words[1] | words[2] | words[3]) != 0)
+            return false;
+    }
+    for (uint64_t word; last - at >= (ptrdiff_t)sizeof word; at += sizeof word) {
+        __builtin_memcpy(&word, at, sizeof word);
+        if (word != 0)
+            return false;
+    }
+    for (; at < last; at++)
+        if (*at != 0)
+            return false;
+    return *at == 0 || (*at < GRANULE && (address + size - 1) % GRANULE < *at);
+}
+
+/* Maps all of this, once in a process, before any code of the compilers' that has a variable on its stack. Without
+   room for them the process ends with status 127 and a line. */
+void shadow_map(void) OWN_NAME(shadow_map);
+/* In an object's first constructor. The link asks for it by its name. */
+extern void (*const asancol_map_early)(void);
+
+/* Makes all granules that a region touches addressable. */
+void shadow_clear(uint64_t address, uint64_t size) OWN_NAME(shadow_clear);
+/* By the rules of a poison and an unpoison (docs/MODEL.md). Other threads see them on return. */
+void shadow_poison(uint64_t address, uint64_t size, unsigned char code) OWN_NAME(shadow_poison);
+void shadow_unpoison(uint64_t address, uint64_t size) OWN_NAME(shadow_unpoison);
+/* The first byte of a region that is not addressable, or its end. */
+uint64_t shadow_first_bad(uint64_t address, uint64_t size);
+
+#endif

@@ -1,0 +1,278 @@
+"""Tests of inline checks: the same faults as with a call for each access, and as AddressSanitizer's,
+wherever the system puts a program, and with everything that leaves frames without their returns."""
+
+import os
+import re
+from typing import List, Sequence, Tuple
+
+from support import (
+    TESTS,
+    WHERE,
+    Compiler,
+    Suite,
+    Trace,
+    expect,
+    reports,
+    run,
+    write,
+)
+
+# The kind of an access or free, its class, and its source line.
+Fault = Tuple[str, str, str]
+
+PLACED = re.compile(r"p0 #\d+ (\w+) .*? ([a-z-]+)(?: shadow ..)? at \S+ \S*/(\S+?:\d+)")
+
+LEVELS = ("-O0", "-O1", "-O2", "-O3")
+
+
+def make(compiler: Compiler, folder: str, source: str, program: str, *flags: str, **settings: str) -> None:
+    build = compiler.cpp if source.endswith(".cpp") else compiler.c
+    build(folder, [f"{TESTS}/inline/{source}"], program, "-w", "-pthread", *flags, **settings)
+
+
+def faults_of(suite: Suite, folder: str, program: str) -> Tuple[List[Fault], int]:
+    """The faults that the lines of a run have, in order, and the status of the check."""
+    trace = f"{program}.trace"
+    ran = run([program], folder, ASANCOL_TRACE=trace, ASANCOL_WHERE="1")
+    expect((ran.returncode, ran.stderr), (0, b""), program)
+    checked = run([suite.asancol, "check", trace], folder)
+    said = run([WHERE, trace], folder, stdin=checked.stdout).stdout.decode().splitlines()
+    expect(said[-1].startswith("p0 end closed "), True, said[-1])
+    os.unlink(trace)
+    return [match.groups() for match in map(PLACED.match, said) if match], checked.returncode
+
+
+# Programs whose faults are the same in each run.
+SAME = ("three.c", "globals.c", "stacks.c", "functions.c", "widths.c", "handlers.c", "containers.cpp")
+
+# A hole inside a copy of a structure, of which GCC checks the first and the last byte alone, as it does for
+# AddressSanitizer: the source, and how many faults it hides.
+HOLES = {("gcc", "widths.c"): 2}
+
+
+def check_same(suite: Suite, folder: str, compiler: Compiler, source: str, level: str) -> None:
+    """Inline checks find what a call for each access finds, and nothing else."""
+    for program, setting in (("inline", "0"), ("every", "1")):
+        make(compiler, folder, source, f"{folder}/{program}", level, ASANCOL_ALL=setting)
+    found, status = faults_of(suite, folder, f"{folder}/inline")
+    wanted, _ = faults_of(suite, folder, f"{folder}/every")
+    expect(status, 1, "status")
+    expect(set(found) - set(wanted), set(), "what only inline checks find")
+    missed = set(wanted) - set(found)
+    expect(len(missed), HOLES.get((compiler.name, source), 0), f"what only a call for each access finds: {missed}")
+
+
+# How many reports there are at -O0, where addresses vary from run to run or events are many.
+COUNTS = {"three.c": 3, "scopes.c": 6, "handlers.c": 8, "threads.cpp": 22}
+
+
+def check_count(suite: Suite, folder: str, compiler: Compiler, source: str, flags: Sequence[str]) -> None:
+    make(compiler, folder, source, f"{folder}/counted", "-O0", *flags)
+    for i in range(3):
+        ran = run(["./counted"], folder, ASANCOL_TRACE=f"t{i}.trace")
+        expect((ran.returncode, ran.stderr), (0, b""), source)
+        _, texts, end = reports(suite.asancol, f"{folder}/t{i}.trace")
+        expect((len(texts), end.split()[0]), (COUNTS[source], "closed"), f"{source}: {texts}")
+
+
+CLASS = re.compile(r"ERROR: AddressSanitizer: ([a-z-]+) on address .*?\n(READ|WRITE) of size (\d+)", re.S)
+PLACE = re.compile(r"^    #(\d+) \S+ in (.+) \S*?([^/\s:]+:\d+)(?::\d+)?$", re.M)
+
+# What the two call the same fault.
+ALIKE = {
+    "stack-buffer-underflow": "stack-buffer-overflow",
+    "stack-use-after-scope": "stack-buffer-overflow",
+    "dynamic-stack-buffer-overflow": "stack-buffer-overflow",
+}
+
+
+def by_sanitizer(text: str) -> List[Fault]:
+    """What AddressSanitizer reports, with the line of the first frame that has one of the program's."""
+    found = []
+    for error in CLASS.finditer(text):
+        wrong, kind, _ = error.groups()
+        for place in PLACE.finditer(text, error.end()):
+            if place.group(3).split(":")[0].endswith((".c", ".cpp")):
+                access = "load" if kind == "READ" else "store"
+                found.append((access, ALIKE.get(wrong, wrong), place.group(3)))
+                break
+    return found
+
+
+def check_beside(suite: Suite, folder: str, compiler: Compiler, source: str, level: str) -> None:
+    """AddressSanitizer, where it goes on after a report, names no line that is not named here."""
+    make(compiler, folder, source, f"{folder}/inline", level)
+    flags = ["-fsanitize=address", "-fsanitize-recover=address"]
+    make(compiler, folder, source, f"{folder}/sanitized", level, *flags, native=True)
+    options = "halt_on_error=0:detect_leaks=0:detect_stack_use_after_return=0"
+    text = run(["./sanitized"], folder, ASAN_OPTIONS=options).stderr.decode(errors="replace")
+    lines = {place for _, _, place in faults_of(suite, folder, f"{folder}/inline")[0]}
+    wanted = by_sanitizer(text)
+    expect(len(wanted) > 2, True, "that AddressSanitizer finds something")
+    expect([it for it in wanted if it[2] not in lines], [], "what AddressSanitizer alone finds")
+
+
+def check_layouts(suite: Suite, folder: str, compiler: Compiler) -> None:
+    """Wherever the system puts programs, libraries and stacks, and however they are linked."""
+    make(compiler, folder, "three.c", f"{folder}/three", "-O0")
+    runs = {
+        "old": "setarch -L ./three",
+        "not at random": "setarch -R ./three",
+        "unlimited stack": "ulimit -s unlimited; ./three",
+    }
+    for flag in ("-no-pie", "-static", "-static-pie", "-flto"):
+        if flag == "-flto" and compiler.name == "clang":
+            continue
+        make(compiler, folder, "three.c", f"{folder}/three{flag}", "-O0", flag)
+        runs[flag] = f"./three{flag}"
+    for name, words in runs.items():
+        ran = run(["sh", "-c", words], folder, ASANCOL_TRACE=f"{name}.trace")
+        expect((ran.returncode, ran.stderr), (0, b""), name)
+        expect(len(reports(suite.asancol, f"{folder}/{name}.trace")[1]), 3, name)
+
+
+def check_mixed(suite: Suite, folder: str, compiler: Compiler) -> None:
+    """Objects with inline checks and with a call for each access, in one program and over a shared object."""
+    write(folder, one_c="int one(volatile char *p) { return p[8]; }\n")
+    write(folder, two_c="int one(volatile char *);\nint two(volatile char *p) { p[8] = 1; return one(p); }\n")
+    declared = "#include <stdlib.h>\nint two(volatile char *);\n"
+    write(folder, main_c=declared + "int main(void) { char *p = malloc(8); two(p); free(p); }\n")
+    compiler.c(folder, ["one.c"], f"{folder}/one.o", "-c", "-fPIC", ASANCOL_ALL="1")
+    compiler.c(folder, ["main.c", "two.c", "one.o"], f"{folder}/mixed")
+    compiler.c(folder, ["one.o"], f"{folder}/libone.so", "-shared")
+    compiler.c(folder, ["main.c", "two.c", "./libone.so"], f"{folder}/shared")
+    for program in ("mixed", "shared"):
+        run([f"./{program}"], folder, ASANCOL_TRACE=f"{program}.trace")
+        status, texts, _ = reports(suite.asancol, f"{folder}/{program}.trace")
+        wanted = ["store 1 +8 heap-buffer-overflow", "load 1 +8 heap-buffer-overflow"]
+        expect((status, texts), (1, wanted), program)
+
+
+def check_wild(suite: Suite, folder: str, compiler: Compiler) -> None:
+    """A wild pointer faults as it does without a recorder. Only what the system says of the address may differ."""
+    make(compiler, folder, "wild.c", f"{folder}/wild", "-O0")
+    make(compiler, folder, "wild.c", f"{folder}/native", "-O0", native=True)
+    recorded, native = (run([it], folder).stdout.decode().splitlines() for it in ("./wild", "./native"))
+    expect([line.split()[:2] for line in recorded], [line.split()[:2] for line in native], "faults")
+    expect(len(native), 11, "addresses")
+
+
+def check_no_shadow(suite: Suite, folder: str, compiler: Compiler) -> None:
+    """Without room for the shadow a program ends at once, with what to do; one that is native runs."""
+    make(compiler, folder, "three.c", f"{folder}/three", "-O0")
+    words = ["sh", "-c", "ulimit -v 1000000; exec ./three"]
+    for settings in ({}, {"ASANCOL_TRACE": "t.trace"}):
+        ran = run(words, folder, **settings)
+        expect((ran.returncode, ran.stderr.count(b"\n")), (127, 1), ran.stderr)
+        for piece in (b"asancol: ", b"ulimit -v", b"without asancol-cc"):
+            expect(piece in ran.stderr, True, ran.stderr)
+    expect(os.path.exists(f"{folder}/t.trace"), False, "a trace")
+
+
+POISON = """
+#include <sanitizer/asan_interface.h>
+#include <stdlib.h>
+#include <sys/wait.h>
+#include <unistd.h>
+int main(void) {
+    char *volatile p = malloc(64);
+    volatile char local[64];
+    __asan_poison_memory_region(p + 16, 20);
+    __asan_poison_memory_region((void *)(local + 16), 16);
+    if (fork() == 0) {
+        ((volatile char *)p)[20] = 1;
+        ((volatile char *)p)[36] = 1;
+        local[20] = 1;
+        __asan_unpoison_memory_region(p, 64);
+        ((volatile char *)p)[20] = 1;
+        _exit(!(__asan_region_is_poisoned(p, 64) == 0));
+    }
+    int status;
+    wait(&status);
+    if (__asan_region_is_poisoned(p, 64) != p + 16 || !__asan_address_is_poisoned((void *)(local + 16)))
+        return 8;
+    __asan_unpoison_memory_region((void *)(local + 16), 16);
+    return status; }
+"""
+
+
+def check_poison_after_fork(suite: Suite, folder: str, compiler: Compiler) -> None:
+    """What the parent has poisoned, in the heap and elsewhere, is so in its child's trace."""
+    write(folder, poison_c=POISON)
+    for flags in ([], ["-static"]):
+        compiler.c(folder, ["poison.c"], f"{folder}/poison", "-w", *flags)
+        ran = run(["./poison"], folder, ASANCOL_TRACE="%p.trace")
+        expect((ran.returncode, ran.stderr), (0, b""), "the program")
+        seen = []
+        for name in sorted(os.listdir(folder)):
+            if name.endswith(".trace"):
+                seen.append(sorted(text.split()[-1] for text in reports(suite.asancol, f"{folder}/{name}")[1]))
+                os.unlink(f"{folder}/{name}")
+        expect(sorted(seen), [[], ["use-after-poison"] * 2], f"reports {flags}")
+        expect(run(["./poison"], folder).returncode, 0, "where nothing is recorded")
+
+
+# What a run of left.c reports: the class of each line.
+LEFT = {
+    "by_vfork": [],
+    "by_library": [],
+    "by_mapping": [],
+    "by_deep_jump": [],
+    "in_block": ["heap-buffer-overflow", "heap-use-after-free"],
+    "forked": [],
+}
+
+
+def check_left(suite: Suite, folder: str, compiler: Compiler, level: str) -> None:
+    """Frames that are left without their returns make no report, and hide none of a block behind them."""
+    inline = f"{TESTS}/inline"
+    compiler.c(folder, [f"{inline}/library.c"], f"{folder}/liblibrary.so", "-shared", "-fPIC", native=True)
+    flags = [level, "-w", "-D_FILE_OFFSET_BITS=64"]
+    compiler.c(folder, [f"{inline}/left.c", "./liblibrary.so"], f"{folder}/left", *flags)
+    for name, wanted in LEFT.items():
+        ran = run(["./left", name], folder, ASANCOL_TRACE=f"{name}.trace")
+        expect((ran.returncode, ran.stderr), (0, b""), name)
+        for trace in [it for it in os.listdir(folder) if it.startswith(f"{name}.") and it.endswith("trace")]:
+            _, texts, end = reports(suite.asancol, f"{folder}/{trace}")
+            expect(([it.split()[-1] for it in texts], end.split()[0]), (wanted, "closed"), f"{trace}: {texts[:3]}")
+
+
+def check_sizes(suite: Suite, folder: str, compiler: Compiler) -> None:
+    """A function of memory with a size that is a mistake: some of its bad pieces are recorded, and it takes no time."""
+    make(compiler, folder, "sizes.c", f"{folder}/sizes", "-O0")
+    for words in ([], ["wrapped"]):
+        ran = run(["timeout", "60", "./sizes", *words], folder, ASANCOL_TRACE=f"t{len(words)}.trace")
+        expect(ran.stderr, b"", words)
+        status, texts, _ = reports(suite.asancol, f"{folder}/t{len(words)}.trace")
+        expect((status, 1 <= len(texts) <= 140), (1, True), f"{words}: {len(texts)}")
+
+
+def check_few_records(suite: Suite, folder: str, compiler: Compiler) -> None:
+    """Good accesses leave no record, and nothing is recorded of frames and globals that nobody comes near."""
+    source = "int numbers[9]; int f(int i) { volatile int a[9]; a[i] = i; return a[i] + numbers[i]; }\n"
+    loop = "int main(void) { int s = 0; for (int i = 0; i < 9000; i++) s += f(i % 9); return s == 0; }\n"
+    write(folder, few_c=source + loop)
+    compiler.c(folder, ["few.c"], f"{folder}/few", "-O0")
+    run(["./few"], folder, ASANCOL_TRACE="t.trace")
+    expect((len(Trace(f"{folder}/t.trace").events), reports(suite.asancol, f"{folder}/t.trace")[0]), (0, 0), "events")
+
+
+def tests(suite: Suite, compiler: Compiler) -> None:
+    for source in SAME:
+        for level in LEVELS:
+            suite.test(f"{compiler} inline {source} {level}", check_same, compiler, source, level)
+    for source in COUNTS:
+        suite.test(f"{compiler} inline count {source}", check_count, compiler, source, [])
+    suite.test(f"{compiler} inline count static", check_count, compiler, "scopes.c", ["-static"])
+    if compiler.has_sanitizer:
+        for source in ("three.c", "globals.c", "stacks.c", "containers.cpp"):
+            suite.test(f"{compiler} inline beside {source}", check_beside, compiler, source, "-O0")
+    for level in ("-O0", "-O2"):
+        suite.test(f"{compiler} inline left {level}", check_left, compiler, level)
+    suite.test(f"{compiler} inline sizes", check_sizes, compiler)
+    suite.test(f"{compiler} inline layouts", check_layouts, compiler)
+    suite.test(f"{compiler} inline mixed", check_mixed, compiler)
+    suite.test(f"{compiler} inline wild", check_wild, compiler)
+    suite.test(f"{compiler} inline no shadow", check_no_shadow, compiler)
+    suite.test(f"{compiler} inline poison", check_poison_after_fork, compiler)
+    suite.test(f"{compiler} inline few records", check_few_records, compiler)

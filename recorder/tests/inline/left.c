@@ -1,0 +1,175 @@
+/* Frames that are left without their returns, in ways that no call of the compilers' announces: `left NAME`. Sound, but
+   for `in_block`, which has a fault in a frame in a block, which is not looked for, and two behind the block. */
+#define _GNU_SOURCE
+#include <pthread.h>
+#include <setjmp.h>
+#include <stdlib.h>
+#include <string.h>
+#include <sys/mman.h>
+#include <sys/resource.h>
+#include <sys/wait.h>
+#include <ucontext.h>
+#include <unistd.h>
+
+static volatile int sink, four = 4;
+
+/* Its frame lies where those were that were left. */
+__attribute__((noinline)) static void use_stack(void)
+{
+    volatile char text[5000];
+    for (size_t i = 0; i < sizeof text; i++)
+        text[i] = 1;
+    sink = text[four];
+}
+
+__attribute__((noinline)) static void exec_from_frames(void)
+{
+    volatile char one[64], other[200];
+    char *words[] = {"true", NULL};
+    one[0] = other[0] = 1;
+    sink = one[0] + other[0];
+    execv("/bin/true", words);
+    _exit(1);
+}
+
+static void by_vfork(void)
+{
+    int status;
+    pid_t child = vfork();
+    if (child == 0)
+        exec_from_frames();
+    use_stack();
+    waitpid(child, &status, 0);
+}
+
+/* library.c: plain code that calls back and jumps. */
+void jump_over(void callback(void), jmp_buf to);
+
+static jmp_buf back;
+
+__attribute__((noinline)) static void with_frames(void)
+{
+    volatile char text[300];
+    text[0] = 1;
+    sink = text[0];
+}
+
+static void by_library(void)
+{
+    for (int i = 0; i < 10; i++)
+        if (!setjmp(back))
+            jump_over(with_frames, back);
+    use_stack();
+}
+
+static ucontext_t chief, coroutine;
+enum { STACK = 1 << 16 };
+
+static void leave_in_the_middle(void)
+{
+    volatile char text[100];
+    text[0] = 1;
+    swapcontext(&coroutine, &chief);
+    sink = text[0];
+}
+
+static void start_coroutine(void *stack, void run(void))
+{
+    getcontext(&coroutine);
+    coroutine.uc_stack.ss_sp = stack;
+    coroutine.uc_stack.ss_size = STACK;
+    coroutine.uc_link = &chief;
+    makecontext(&coroutine, run, 0);
+    swapcontext(&chief, &coroutine);
+}
+
+static void *map(void)
+{
+    return mmap(NULL, STACK, PROT_READ | PROT_WRITE, MAP_PRIVATE | MAP_ANONYMOUS, -1, 0);
+}
+
+static void by_mapping(void)
+{
+    for (int i = 0; i < 3; i++) {
+        char *stack = map();
+        start_coroutine(stack, leave_in_the_middle);
+        munmap(stack, STACK);
+        char *again = map();
+        for (int at = 0; at < STACK; at++)
+            again[at] = 1;
+        munmap(again, STACK);
+    }
+}
+
+__attribute__((noinline)) static void recurse(int depth)
+{
+    volatile char text[1000];
+    text[four] = 1;
+    if (depth == 0)
+        longjmp(back, 1);
+    recurse(depth - 1);
+    sink = text[four];
+}
+
+static void by_deep_jump(void)
+{
+    struct rlimit limit = {64 << 20, RLIM_INFINITY};
+    setrlimit(RLIMIT_STACK, &limit);
+    if (!setjmp(back))
+        recurse(20000);
+    use_stack();
+}
+
+__attribute__((noinline)) static void jump(void)
+{
+    volatile char text[100];
+    text[0] = 1;
+    sink = text[0];
+    longjmp(back, 1);
+}
+
+static void fault_and_jump(void)
+{
+    volatile int local[4];
+    local[four] = 1;
+    sink = local[0];
+    if (!setjmp(back))
+        jump();
+}
+
+static void in_block(void)
+{
+    char *freed = malloc(40), *stack = malloc(STACK), *later = malloc(40);
+    free(freed);
+    start_coroutine(stack, fault_and_jump);
+    ((volatile char *)later)[40] = 1;
+    sink = ((volatile char *)freed)[3];
+    free(stack);
+}
+
+/* A child's trace has the parent's blocks, and not the redzones of a stack in one of them as poison. */
+static void forked(void)
+{
+    char *stack = malloc(STACK);
+    start_coroutine(stack, leave_in_the_middle);
+    if (fork() == 0) {
+        memset(stack, 0, STACK);
+        _exit(0);
+    }
+    wait(NULL);
+}
+
+int main(int count, char **words)
+{
+    static const struct {
+        const char *name;
+        void (*run)(void);
+    } runs[] = {
+        {"by_vfork", by_vfork},         {"by_library", by_library}, {"by_mapping", by_mapping},
+        {"by_deep_jump", by_deep_jump}, {"in_block", in_block},     {"forked", forked},
+    };
+    for (size_t i = 0; i < sizeof runs / sizeof *runs; i++)
+        if (count > 1 && strcmp(words[1], runs[i].name) == 0)
+            return runs[i].run(), 0;
+    return 99;
+}
