@@ -119,15 +119,19 @@ static inline bool shadow_is_clean(uint64_t address, uint64_t size)
         if ((words[0] | words[1] | words[2] | words[3]) != 0)
             return false;
     }
-    for (uint64_t word; last - at >= (ptrdiff_t)sizeof word; at += sizeof word) {
+    uint64_t word;
+    for (; last - at >= (ptrdiff_t)sizeof word; at += sizeof word) {
         __builtin_memcpy(&word, at, sizeof word);
         if (word != 0)
             return false;
     }
-    for (; at < last; at++)
-        if (*at != 0)
+    /* Those before the last one at once, and without what lies after them. */
+    if (at < last) {
+        __builtin_memcpy(&word, at, sizeof word);
+        if (word << (sizeof word - (size_t)(last - at)) * 8 != 0)
             return false;
-    return *at == 0 || (*at < GRANULE && (address + size - 1) % GRANULE < *at);
+    }
+    return *last == 0 || (*last < GRANULE && (address + size - 1) % GRANULE < *last);
 }
 
 /* Maps all of this, once in a process, before any code of the compilers' that has a variable on its stack. Without
