@@ -1,5 +1,6 @@
 #!/usr/bin/env python3
-"""Checks traces as `make demo` shows it: each has a report, so the program ends with status 1.
+"""Checks traces as `make demo` shows it: each has a report, so the program ends with status 1, and so
+does `asancol-where` behind it.
 
 usage: tests/demo.py PROGRAM TRACE..     by this program
        tests/demo.py - TRACE..           by one that is built for this, and not proved
@@ -57,12 +58,13 @@ def shown(trace: str, run: Run, name: str) -> bool:
     text, status = run
     is_recorded = os.path.isfile(f"{trace}.where")
     print(f"{name} < {trace}{f' | {WHERE} {trace}' if is_recorded else ''}", flush=True)
+    placed = status
     if is_recorded:
-        subprocess.run([f"{TOP}/{WHERE}", trace], input=text, text=True, check=True)
+        placed = subprocess.run([f"{TOP}/{WHERE}", trace], input=text, text=True).returncode
     else:
         print(text, end="")
     print(f"status {status}", flush=True)
-    return status == 1
+    return status == 1 and placed == status
 
 
 def main(words: List[str]) -> int:
