@@ -58,6 +58,19 @@ bool arena_find(void)
     return false;
 }
 
+void arena_keep_places(void)
+{
+    if (arena.places != NULL || (arena.bytes == NULL && !arena_find()))
+        return;
+    void *start = arena.spare + SPARE_BYTES;
+    size_t bytes = (size_t)UNITS * SLOTS * sizeof(struct places);
+    if (!arena_give_memory(start, bytes))
+        return;
+    madvise(start, bytes, MADV_NOHUGEPAGE);
+    madvise(start, bytes, MADV_DONTDUMP);
+    arena.places = start;
+}
+
 /* Runs of units. */
 
 static uint32_t *bin_of(uint32_t count)

@@ -28,6 +28,13 @@ struct block {
     };
 };
 
+enum block_state { BLOCK_FREE, BLOCK_LIVE, BLOCK_HELD, BLOCK_UNRECORDED };
+
+/* Where a block was allocated and freed: addresses after the calls; 0 if it is not known, or not freed. */
+struct places {
+    uintptr_t allocated, freed;
+};
+
 enum unit_kind { UNIT_NEW, UNIT_SLAB, UNIT_RUN, UNIT_RUN_BODY, UNIT_FREE, UNIT_FREE_END };
 
 struct unit {
@@ -48,6 +55,7 @@ extern struct arena {
     struct unit *units;
     struct block *blocks; /* SLOTS for each unit */
     unsigned char *spare; /* memory for signal handlers */
+    struct places *places; /* one for each of `blocks`; or null: they are not noted */
     uint32_t committed;   /* units that have memory */
     uint32_t top;         /* units used so far */
     uint32_t bins[BINS + 1];
@@ -58,12 +66,31 @@ static inline unsigned char *unit_start(uint32_t unit)
     return arena.bytes + (size_t)unit * UNIT;
 }
 
+/* Where the block begins of a slot or run that begins here. */
+static inline uintptr_t block_address(const struct block *block, uintptr_t slot)
+{
+    return slot + (uintptr_t)block->offset * ALIGNMENT;
+}
+
 /* Before the first allocation. False: there is no memory. */
 bool arena_find(void);
+/* Makes room for the places of blocks, which takes memory as it is written to. */
+void arena_keep_places(void);
 /* Makes whole pages of the range usable, which are zeros. */
 bool arena_give_memory(void *start, size_t bytes);
 /* Units in a row, all zeros; 0 where there is no memory. */
 uint32_t arena_take_run(uint32_t count);
 void arena_give_run(uint32_t first, uint32_t count);
+
+/* The block that is nearest to an address, and not far from it. */
+struct nearest {
+    uintptr_t start;
+    uint64_t size;
+    struct places places;
+};
+
+/* Without a lock, at any time: the notes may change meanwhile, and then what it answers is of no use. False: no block
+   is near. */
+bool arena_find_nearest(uintptr_t address, struct nearest *found);
 
 #endif

@@ -71,9 +71,59 @@ static inline uint64_t span_bytes(uint64_t size)
     return (size + GRANULE - 1) / GRANULE * GRANULE + 2 * REDZONE;
 }
 
-/* The side file: its first bytes, then the map of modules as text up to PLACES_OFFSET, then 8 bytes for each event. */
-#define WHERE_HEADER "ASWH\1\0\0\0"
-enum { WHERE_HEADER_LENGTH = 8, PLACES_OFFSET = 1 << 18, PLACE_BYTES = 8 };
-#define LARGEST_WHERE (PLACES_OFFSET + EVENT_LIMIT * PLACE_BYTES)
+/* What stands beside a trace: the memory that a process shares with a hub, or the file TRACE.where. docs/FORMAT.md says
+   it in words. */
+#define SIDE_HEADER "ASWH\2\0\0\0"
+
+/* How a process has ended. */
+enum ending { ENDING_NONE, ENDING_EXIT, ENDING_EXEC, ENDING_SIGNAL, ENDING_LOST };
+
+/* What lies nearest to a bad access, if it is no block. */
+enum variable { VARIABLE_NONE, VARIABLE_STACK, VARIABLE_GLOBAL };
+
+enum { SIDE_WORDS = 4000, SIDE_BUILD_COUNT = 112, SIDE_ID = 23, SIDE_NAME = 136, SIDE_FAULTS = 1 << 16 };
+/* Where its parts begin, but for the first: */
+enum { SIDE_BUILDS = 4096, SIDE_MAPS = 8192, SIDE_INDEX = 1 << 18, SIDE_INDEX_ENTRY = 4 };
+#define SIDE_FAULTS_AT (SIDE_INDEX + EVENT_LIMIT * SIDE_INDEX_ENTRY)
+#define SIDE_ROOM (SIDE_FAULTS_AT + SIDE_FAULTS * sizeof(struct side_fault))
+
+struct side {
+    char header[8];
+    uint64_t events;      /* in the stream, once it has ended */
+    uint64_t left_out;    /* events past the limit: grows until the process ends */
+    uint32_t ending;      /* enum ending: written last */
+    uint32_t signal;      /* that ended it */
+    uint32_t process, parent;
+    uint64_t started;     /* nanoseconds since 1970 */
+    uint32_t has_checks;  /* 1: code of asancol-cc is in the program, or in an object that it loaded */
+    uint32_t is_at_limit; /* 1: an event found no room */
+    uint32_t fault_count; /* how many faults are in the list */
+    uint32_t spare[3];
+    char words[SIDE_WORDS]; /* of the command line, each ended by a zero, and a zero after them */
+};
+
+/* The build id of a module. */
+struct side_build {
+    uint64_t start; /* of its first segment in memory; 0 ends the list */
+    unsigned char length, id[SIDE_ID];
+};
+
+/* What was seen when an access or a free was bad by the recorder's shadow. */
+struct side_fault {
+    uint64_t event; /* the first that has this fault */
+    uint64_t place; /* the address after the call */
+    uint64_t block; /* the start of the nearest block or variable; 0: none is near */
+    uint64_t block_size;
+    uint64_t allocated, freed; /* the places of the block's malloc and of its free; 0: not known, or not freed */
+    uint32_t variable;         /* enum variable */
+    uint32_t line;             /* where a variable of a frame is declared; 0: not known */
+    char name[SIDE_NAME];      /* of the variable: "name", or "name FILE:LINE" of a global */
+};
+
+_Static_assert(sizeof(struct side) == 4072 && sizeof(struct side) <= SIDE_BUILDS, "the head fits");
+_Static_assert(sizeof(struct side_build) == 32, "a build id has no padding");
+_Static_assert(SIDE_BUILDS + SIDE_BUILD_COUNT * sizeof(struct side_build) <= SIDE_MAPS, "the build ids fit");
+_Static_assert(sizeof(struct side_fault) == 192, "a fault has no padding");
+_Static_assert(SIDE_FAULTS_AT % 8 == 0, "faults are aligned");
 
 #endif

@@ -32,7 +32,7 @@ bool halt_is_first_crash(void)
 static void record(enum code code, unsigned width, uint64_t address, uintptr_t caller)
 {
     if (code == CODE_FREE)
-        record_free(address, caller);
+        record_bad_free(address, caller);
     else
         record_access(code, width, address, caller);
 }

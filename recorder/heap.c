@@ -29,8 +29,6 @@ enum { LARGEST_OFFSET = (1 << 30) - 1 };
 /* What fits into the notes of a block. The format has one byte more. */
 #define LARGEST_BLOCK ((size_t)UINT32_MAX)
 
-enum block_state { BLOCK_FREE, BLOCK_LIVE, BLOCK_HELD, BLOCK_UNRECORDED };
-
 struct class {
     struct block *free;
     uint32_t slab; /* where new slots are taken from; 0 is none */
@@ -138,7 +136,7 @@ static unsigned char *slot_start(const struct block *block)
 
 static unsigned char *block_start(const struct block *block)
 {
-    return slot_start(block) + (size_t)block->offset * ALIGNMENT;
+    return (unsigned char *)block_address(block, (uintptr_t)slot_start(block));
 }
 
 /* The block that starts here, or null. */
@@ -268,11 +266,16 @@ static bool free_block(void *pointer, uintptr_t caller)
     bool is_live = block != NULL && block->state == BLOCK_LIVE;
     if (is_live && !heap.is_unpainted)
         paint_held((uintptr_t)pointer, block->size);
-    record_free((uintptr_t)pointer, caller);
     /* A bad free is recorded, and goes no further. */
-    if (is_live)
-        hold(block);
-    return is_live;
+    if (!is_live) {
+        record_bad_free((uintptr_t)pointer, caller);
+        return false;
+    }
+    if (UNLIKELY(arena.places != NULL))
+        arena.places[block - arena.blocks].freed = caller;
+    record_free((uintptr_t)pointer);
+    hold(block);
+    return true;
 }
 
 static void free_deferred(void)
@@ -390,19 +393,21 @@ static void *place_block(size_t size, size_t alignment, uintptr_t caller)
     uintptr_t start = (uintptr_t)slot_start(block);
     uintptr_t address = (start + REDZONE + alignment - 1) / alignment * alignment;
     block->offset = (address - start) / ALIGNMENT & LARGEST_OFFSET;
+    if (UNLIKELY(arena.places != NULL))
+        arena.places[block - arena.blocks] = (struct places){caller, 0};
     if (size <= LARGEST_BLOCK) {
         block->state = BLOCK_LIVE;
         block->size = (uint32_t)size;
         if (!heap.is_unpainted)
             paint_redzones(address, size);
-        record_region(CODE_MALLOC, address, size, caller);
+        record_region(CODE_MALLOC, address, size);
         if (!heap.is_unpainted)
             paint_live(address, size);
     } else {
         /* It can't be spelled, so it is no block for the checker: memory like a global's. */
         block->state = BLOCK_UNRECORDED;
         block->large_size = size;
-        record_regions(CODE_UNPOISON, address, size, caller);
+        record_regions(CODE_UNPOISON, address, size);
     }
     return (void *)address;
 }
@@ -418,7 +423,7 @@ static void *allocate(size_t size, size_t alignment, bool zeroed, uintptr_t call
         if (arena.bytes != NULL || arena_find())
             address = place_block(size, alignment, caller);
         if (address == NULL)
-            record_region(CODE_MALLOC, 0, size, caller); /* refused */
+            record_region(CODE_MALLOC, 0, size); /* refused */
         leave();
     }
     if (address == NULL)
@@ -512,7 +517,7 @@ static void record_poison_of(uintptr_t address, size_t size)
         while (good < end && is_poison(*shadow_of(good)))
             good += GRANULE;
         if (bad < end && good > next)
-            record_poison(KIND_USER, bad, (good < end ? good : end) - bad, 0);
+            record_poison(KIND_USER, bad, (good < end ? good : end) - bad);
         at = good > bad ? good : granule + GRANULE;
     }
 }
@@ -524,7 +529,7 @@ static void record_if_live(const struct block *block, void *unused)
         return;
     uintptr_t address = (uintptr_t)block_start(block);
     if (block->state == BLOCK_LIVE)
-        record_region(CODE_MALLOC, address, block->size, 0);
+        record_region(CODE_MALLOC, address, block->size);
     if (!heap.is_unpainted)
         record_poison_of(address, size_of(block));
 }
@@ -539,6 +544,11 @@ void heap_paint(bool is_painted)
         leave();
 }
 
+void heap_keep_places(void)
+{
+    arena_keep_places();
+}
+
 void heap_is_poisoned(void)
 {
     heap.is_unpainted = false;
@@ -550,9 +560,9 @@ void heap_record_all(bool all_held)
     for (uint64_t rest = heap.held_count; rest > HELD_RECORDED && !all_held; rest--)
         first = first->next;
     for (const struct block *block = first; block != NULL; block = block->next)
-        record_region(CODE_MALLOC, (uintptr_t)block_start(block), block->size, 0);
+        record_region(CODE_MALLOC, (uintptr_t)block_start(block), block->size);
     for (const struct block *block = first; block != NULL; block = block->next)
-        record_free((uintptr_t)block_start(block), 0);
+        record_free((uintptr_t)block_start(block));
     for_each_slot(record_if_live, NULL);
 }
 

@@ -36,16 +36,22 @@ static inline void note_bad_range(enum code code, uint64_t address, uint64_t siz
         asancol_hooks.bad_range(code, address, size, caller);
 }
 
-static inline void note_regions(enum code code, uint64_t address, uint64_t size, uintptr_t caller)
+static inline void note_regions(enum code code, uint64_t address, uint64_t size)
 {
     if (HAS_HOOKS)
-        asancol_hooks.regions(code, address, size, caller);
+        asancol_hooks.regions(code, address, size);
 }
 
 static inline void note_frames_left(uintptr_t frame)
 {
     if (HAS_HOOK(frames_left))
         asancol_hooks.frames_left(frame);
+}
+
+static inline void note_globals(const struct global *table, uint64_t count, bool is_there)
+{
+    if (HAS_HOOK(globals))
+        asancol_hooks.globals(table, count, is_there);
 }
 
 static inline void note_called_from(uintptr_t caller)
@@ -91,14 +97,19 @@ static inline void note_bad_range(enum code code, uint64_t address, uint64_t siz
     record_bad_range(code, address, size, caller);
 }
 
-static inline void note_regions(enum code code, uint64_t address, uint64_t size, uintptr_t caller)
+static inline void note_regions(enum code code, uint64_t address, uint64_t size)
 {
-    record_regions(code, address, size, caller);
+    record_regions(code, address, size);
 }
 
 static inline void note_frames_left(uintptr_t frame)
 {
     stack_frames_left(frame);
+}
+
+static inline void note_globals(const struct global *table, uint64_t count, bool is_there)
+{
+    asancol_hooks.globals(table, count, is_there);
 }
 
 static inline void note_called_from(uintptr_t caller)

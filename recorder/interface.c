@@ -18,12 +18,12 @@
 
 INTERFACE void __asan_poison_memory_region(const volatile void *start, size_t size)
 {
-    note_regions(CODE_POISON, (uintptr_t)start, size, CALLER());
+    note_regions(CODE_POISON, (uintptr_t)start, size);
 }
 
 INTERFACE void __asan_unpoison_memory_region(const volatile void *start, size_t size)
 {
-    note_regions(CODE_UNPOISON, (uintptr_t)start, size, CALLER());
+    note_regions(CODE_UNPOISON, (uintptr_t)start, size);
 }
 
 /* A container owns the bytes from `start` up to `end`, and those from `new_middle` on are not in use. */
@@ -31,8 +31,8 @@ INTERFACE void __sanitizer_annotate_contiguous_container(const void *start, cons
                                                          const void *new_middle)
 {
     (void)old_middle;
-    note_regions(CODE_UNPOISON, (uintptr_t)start, (uintptr_t)new_middle - (uintptr_t)start, CALLER());
-    note_regions(CODE_POISON, (uintptr_t)new_middle, (uintptr_t)end - (uintptr_t)new_middle, CALLER());
+    note_regions(CODE_UNPOISON, (uintptr_t)start, (uintptr_t)new_middle - (uintptr_t)start);
+    note_regions(CODE_POISON, (uintptr_t)new_middle, (uintptr_t)end - (uintptr_t)new_middle);
 }
 
 static bool is_poisoned(uintptr_t address)

@@ -4,6 +4,7 @@
 #include <errno.h>
 #include <fcntl.h>
 #include <poll.h>
+#include <stddef.h>
 #include <string.h>
 #include <sys/file.h>
 #include <sys/mman.h>
@@ -153,29 +154,97 @@ const char *output_open_file(struct output *output, const char *path, enum namin
     return NULL;
 }
 
-const char *output_connect(struct output *output, const char *path, uint64_t room, int patience_ms)
+/* The name of a socket, and how long it is. An abstract one needs no folder: it is seen from a changed root, and by
+   another user. */
+static socklen_t name_socket(struct sockaddr_un *address, const char *path, bool is_abstract)
 {
-    struct sockaddr_un address = {.sun_family = AF_UNIX};
+    memset(address, 0, sizeof *address);
+    address->sun_family = AF_UNIX;
+    memcpy(address->sun_path + is_abstract, path, strlen(path));
+    return is_abstract ? (socklen_t)(offsetof(struct sockaddr_un, sun_path) + 1 + strlen(path)) : sizeof *address;
+}
+
+/* Waits for a place in a queue that is full (EAGAIN): as long as there is patience. */
+static bool connect_patiently(int descriptor, const struct sockaddr_un *address, socklen_t length, int *patience_ms)
+{
+    while (connect(descriptor, (const struct sockaddr *)address, length) != 0) {
+        if (errno != EAGAIN || *patience_ms <= 0)
+            return false;
+        *patience_ms -= 10;
+        poll(NULL, 0, 10);
+    }
+    return true;
+}
+
+const char *output_connect(struct output *output, const char *path, bool has_abstract, uint64_t room, int patience_ms)
+{
+    struct sockaddr_un address;
     clear(output, room);
     output->is_socket = true;
     if (strlen(path) >= sizeof address.sun_path)
         return strerrordesc_np(ENAMETOOLONG);
-    strcpy(address.sun_path, path);
     strcpy(output->path, path);
     int descriptor = socket(AF_UNIX, SOCK_STREAM | SOCK_CLOEXEC | SOCK_NONBLOCK, 0);
     if (descriptor < 0)
         return reason();
-    /* EAGAIN: too many wait to be accepted. */
-    while (connect(descriptor, (struct sockaddr *)&address, sizeof address) != 0) {
-        if (errno != EAGAIN || patience_ms <= 0) {
-            const char *why = reason();
-            close(descriptor);
-            return why;
-        }
-        patience_ms -= 10;
-        poll(NULL, 0, 10);
+    if (connect_patiently(descriptor, &address, name_socket(&address, path, false), &patience_ms))
+        return take_pieces(output, descriptor, room);
+    const char *why = reason();
+    if (has_abstract && connect_patiently(descriptor, &address, name_socket(&address, path, true), &patience_ms))
+        return take_pieces(output, descriptor, room);
+    close(descriptor);
+    return why;
+}
+
+const char *output_open_memory(struct output *output, uint64_t room)
+{
+    clear(output, room);
+    output->path[0] = 0;
+    int descriptor = memfd_create("asancol", MFD_CLOEXEC | MFD_ALLOW_SEALING);
+    if (descriptor < 0)
+        return reason();
+    void *bytes = MAP_FAILED;
+    if (ftruncate(descriptor, (off_t)room) == 0
+        && fcntl(descriptor, F_ADD_SEALS, F_SEAL_SHRINK | F_SEAL_GROW | F_SEAL_SEAL) == 0)
+        bytes = mmap(NULL, room, PROT_READ | PROT_WRITE, MAP_SHARED | MAP_NORESERVE, descriptor, 0);
+    if (bytes == MAP_FAILED) {
+        const char *why = reason();
+        close(descriptor);
+        return why;
     }
-    return take_pieces(output, descriptor, room);
+    madvise(bytes, room, MADV_DONTDUMP);
+    output->bytes = bytes;
+    output->descriptor = descriptor;
+    return NULL;
+}
+
+const char *output_send_first(struct output *output, uint64_t length, struct output *memory, int patience_ms)
+{
+    struct iovec piece = {output->bytes, length};
+    union {
+        struct cmsghdr header;
+        char room[CMSG_SPACE(sizeof(int))];
+    } control = {0};
+    struct msghdr message = {
+        .msg_iov = &piece, .msg_iovlen = 1, .msg_control = &control, .msg_controllen = sizeof control.room};
+    struct cmsghdr *header = CMSG_FIRSTHDR(&message);
+    header->cmsg_level = SOL_SOCKET;
+    header->cmsg_type = SCM_RIGHTS;
+    header->cmsg_len = CMSG_LEN(sizeof(int));
+    memcpy(CMSG_DATA(header), &memory->descriptor, sizeof(int));
+    ssize_t count;
+    /* ETOOMANYREFS: many descriptors are on their way, and the hub has not taken them yet. */
+    while ((count = sendmsg(output->descriptor, &message, MSG_NOSIGNAL | MSG_DONTWAIT)) < 0 && errno == ETOOMANYREFS
+           && patience_ms > 0) {
+        patience_ms -= 1;
+        poll(NULL, 0, 1);
+    }
+    const char *why = count < 0 ? reason() : NULL;
+    if (why == NULL)
+        output->sent = (uint64_t)count;
+    close(memory->descriptor);
+    memory->descriptor = -1;
+    return why;
 }
 
 static int reopen(const struct output *output)
@@ -208,6 +277,18 @@ const char *output_extend(struct output *output, uint64_t length)
     return why;
 }
 
+const char *output_back(struct output *output, uint64_t offset, uint64_t length)
+{
+    if (output->is_lost)
+        return "the file was cut";
+    int descriptor = reopen(output);
+    if (descriptor < 0)
+        return reason();
+    const char *why = fallocate(descriptor, 0, (off_t)offset, (off_t)length) != 0 ? reason() : NULL;
+    close(descriptor);
+    return why;
+}
+
 void output_trim(struct output *output, uint64_t length)
 {
     if (!output->is_mapped || output->is_lost)
@@ -233,6 +314,8 @@ const char *output_send(struct output *output, uint64_t length, bool all, int pa
 {
     uint64_t from = output->sent;
     const char *why = NULL;
+    if (output->sent == length)
+        return NULL;
     if (!is_still(output, output->descriptor))
         return "the process has closed the descriptor";
     while (output->sent < length && why == NULL) {
@@ -270,6 +353,15 @@ bool output_lose(struct output *output, const void *address)
         return false;
     output->is_lost = put_memory(output);
     return output->is_lost;
+}
+
+void output_close(struct output *output)
+{
+    if (output->bytes != NULL)
+        munmap(output->bytes, output->room);
+    if (output->descriptor >= 0)
+        close(output->descriptor);
+    clear(output, 0);
 }
 
 void output_drop(struct output *output)

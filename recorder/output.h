@@ -29,15 +29,24 @@ enum naming { NAME_NUMBERED, NAME_TAKEN_OVER };
 /* Each answers null, or what went wrong. */
 const char *output_open_file(struct output *output, const char *path, enum naming naming, uint64_t room,
                              uint64_t backed);
-const char *output_connect(struct output *output, const char *path, uint64_t room, int patience_ms);
+/* To a socket: by its path, or else, where `has_abstract`, by the abstract name of the same text. */
+const char *output_connect(struct output *output, const char *path, bool has_abstract, uint64_t room, int patience_ms);
+/* Memory of zeros that another process can map. Nobody can change its size. */
+const char *output_open_memory(struct output *output, uint64_t room);
+/* Sends the first bytes of a socket, and the descriptor of that memory with them, which is closed here. */
+const char *output_send_first(struct output *output, uint64_t length, struct output *memory, int patience_ms);
 /* Backs a mapped file up to this length. */
 const char *output_extend(struct output *output, uint64_t length);
+/* Backs a part of a mapped file, which may leave a hole before it. */
+const char *output_back(struct output *output, uint64_t offset, uint64_t length);
 /* Cuts a mapped file to this length. */
 void output_trim(struct output *output, uint64_t length);
 /* Sends what is not sent yet of the first bytes: at once what a socket takes, or all of it, with patience. */
 const char *output_send(struct output *output, uint64_t length, bool all, int patience_ms);
 /* Whether the address lies in a mapped file. Then the file is gone, and plain memory takes its place. */
 bool output_lose(struct output *output, const void *address);
+/* Forgets an output that was opened in vain. */
+void output_close(struct output *output);
 /* Forgets a parent's output in its child. */
 void output_drop(struct output *output);
 

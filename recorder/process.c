@@ -5,6 +5,7 @@
 #include <stdlib.h>
 #include <unistd.h>
 
+#include "side.h"
 #include "signals.h"
 #include "stream.h"
 
@@ -13,7 +14,7 @@ static struct {
     pid_t process;
     bool forked_inside; /* by a handler that had interrupted the allocator */
     struct settings settings;
-    const char *pattern;  /* of the trace's name, or null */
+    const char *pattern; /* of the trace's name, or null */
     char name[PATH_MAX];
     _Atomic bool found_checks;
 } process;
@@ -24,6 +25,7 @@ extern const char asancol_checks __attribute__((weak));
 void recorder_found_checks(void)
 {
     atomic_store(&process.found_checks, true);
+    side_note_checks();
 }
 
 bool recorder_has_checks(void)
@@ -43,7 +45,14 @@ static void leave_vfork(void)
     stack_frames_left((uintptr_t)__builtin_frame_address(0));
 }
 
-static bool begin(bool all_held)
+/* What the recorder's lines name: where the stream goes. */
+static const char *output_name(void)
+{
+    const struct settings *settings = &process.settings;
+    return settings->hub != NULL ? settings->hub : settings->trace != NULL ? settings->trace : settings->socket;
+}
+
+static bool open_stream(void)
 {
     if (process.pattern != NULL) {
         process.settings.trace = process.name;
@@ -52,10 +61,19 @@ static bool begin(bool all_held)
             return false;
         }
     }
-    if (!stream_begin(&process.settings))
+    return stream_begin(&process.settings);
+}
+
+static bool begin(bool all_held)
+{
+    if (process.settings.with_side)
+        heap_keep_places();
+    if (!open_stream())
         return false;
     heap_set_bound(process.settings.quarantine);
     heap_record_all(all_held);
+    /* What comes next may be an exec, after all descriptors were closed. */
+    stream_look_at_clock(true);
     return true;
 }
 
@@ -81,7 +99,7 @@ void recorder_start(void)
     process.process = getpid();
     settings_read(&process.settings);
     process.pattern = process.settings.trace;
-    bool wanted = process.pattern != NULL || process.settings.socket != NULL;
+    bool wanted = output_name() != NULL;
     enum halt halt = process.settings.halt;
     heap_lock();
     halt_set(halt != HALT_NEVER, wanted && halt == HALT_AND_RECORD);
@@ -111,8 +129,7 @@ bool recorder_begin_late(void)
 void recorder_say_child(void)
 {
     atomic_store(&recorder_state, STATE_OFF);
-    const char *of = process.pattern != NULL ? process.settings.trace : process.settings.socket;
-    recorder_say("a child is not recorded: ", of, "it was not made by fork, but by _Fork or clone");
+    recorder_say("a child is not recorded: ", output_name(), "it was not made by fork, but by _Fork or clone");
 }
 
 void recorder_finish(enum finish finish)
@@ -121,15 +138,15 @@ void recorder_finish(enum finish finish)
         leave_vfork();
         return;
     }
-    stream_end(finish, true);
+    stream_end(finish, ENDING_EXIT, 0);
     stream_say_left_out();
 }
 
-void recorder_finish_in_handler(void)
+void recorder_finish_in_handler(int number)
 {
     if (!recorder_is_own_process())
         return;
-    stream_end(FINISH_OPEN, false);
+    stream_end(FINISH_OPEN, ENDING_SIGNAL, number);
     stream_say_left_out();
 }
 
@@ -143,8 +160,9 @@ bool recorder_before_exec(void)
     if (state != STATE_RECORDING && state != STATE_AT_LIMIT)
         return false;
     if (state == STATE_AT_LIMIT) {
-        recorder_finish(FINISH_CLOSED);
-        return false;
+        stream_end(FINISH_CLOSED, ENDING_EXEC, 0);
+        stream_say_left_out();
+        return true;
     }
     heap_lock();
     if (stream_suspend())
@@ -156,8 +174,8 @@ bool recorder_before_exec(void)
 void recorder_exec_failed(void)
 {
     int before = errno;
-    stream_resume();
-    heap_unlock();
+    if (stream_resume())
+        heap_unlock();
     errno = before;
 }
 
@@ -184,6 +202,15 @@ static const char *why_unrecorded(void)
     return process.forked_inside ? "it came in the middle of an allocation" : NULL;
 }
 
+/* A hub learns of the child by a stream that is lost. */
+static void say_unrecorded(const char *why)
+{
+    if (process.settings.hub != NULL && open_stream())
+        stream_stop(why);
+    else
+        recorder_say("a forked child is not recorded: ", output_name(), why);
+}
+
 static void after_fork_in_child(void)
 {
     enum state state = atomic_load(&recorder_state);
@@ -195,8 +222,7 @@ static void after_fork_in_child(void)
     stream_unlock();
     undisturbed_begin(&before);
     if (recorded && why_unrecorded() != NULL) {
-        const char *of = process.settings.socket != NULL ? process.settings.socket : process.settings.trace;
-        recorder_say("a forked child is not recorded: ", of, why_unrecorded());
+        say_unrecorded(why_unrecorded());
         recorded = false;
     }
     if (!recorded || !begin(false)) {

@@ -1,5 +1,6 @@
 /* The table that shared objects find in the program. */
 #define _GNU_SOURCE
+#include "globals.h"
 #include "hooks.h"
 #include "signals.h"
 #include "stream.h"
@@ -26,4 +27,5 @@ const struct recorder_hooks asancol_hooks = {
     .frames_left = stack_frames_left,
     .on_death = halt_on_death,
     .is_first_crash = halt_is_first_crash,
+    .globals = globals_note,
 };

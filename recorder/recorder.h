@@ -35,9 +35,13 @@ struct stream {
     uint64_t events_end;     /* the limit of events, as a part of the cursor */
     _Atomic uint64_t ready;  /* below this offset bytes can be stored */
     unsigned char *bytes;    /* room for LARGEST_STREAM bytes, backed up to `ready` */
-    uint64_t *places;        /* the program counter of each event, or null */
+    uint64_t unused;         /* shared objects know where the next one lies */
     _Atomic bool is_idle;    /* nothing is recorded, and nothing will be */
+    bool is_watched;         /* each access is looked at for a fault, or by the clock */
+    bool has_side;           /* faults are noted */
 };
+
+_Static_assert(offsetof(struct stream, is_idle) == 40, "shared objects of older recorders find it");
 
 /* Whether a bad access matters: the stream is on, or may turn on, or the process ends there. */
 static inline bool stream_may_record(const struct stream *stream)
@@ -65,14 +69,13 @@ static inline uint64_t stream_take(_Atomic uint64_t *cursor, uint64_t step)
     return atomic_fetch_add(cursor, step);
 }
 
-/* Whether the place that was taken is past a limit, or the program counter is wanted too. Off is below CURSOR_ON, and
-   so past every limit in this subtraction. */
+/* Whether the place that was taken is past a limit. Off is below CURSOR_ON, and so past every limit in this
+   subtraction. */
 static inline bool stream_is_unusual(uint64_t place, unsigned length)
 {
     const struct stream *stream = &stream_page.stream;
     return place - CURSOR_ON >= stream->events_end
-           || (uint32_t)place + length > atomic_load_explicit(&stream->ready, memory_order_acquire)
-           || stream->places != NULL;
+           || (uint32_t)place + length > atomic_load_explicit(&stream->ready, memory_order_acquire);
 }
 
 static inline void put_number(unsigned char *at, uint64_t number)
@@ -90,7 +93,7 @@ static inline void put_code(unsigned char *at, enum code code)
 bool stream_wake(void) OWN_NAME(stream_wake);
 
 /* Brings the stream up to what the shadow says of the granules that an access meets, outside the allocator's memory. */
-void stated_bring_up(uint64_t address, unsigned width, uintptr_t caller) OWN_NAME(stated_bring_up);
+void stated_bring_up(uint64_t address, unsigned width) OWN_NAME(stated_bring_up);
 
 /* Whether the stream states already what the shadow says, as far as an access goes: of a good access in the last bytes
    of a variable, or where nothing was ever poisoned. */
@@ -101,8 +104,10 @@ static inline bool is_stated(uint64_t address, unsigned width)
 }
 
 /* What remains to be done for an access where something is unusual. */
-void record_access_slowly(uint64_t place, unsigned code_and_width, uint64_t address, uintptr_t caller)
-    OWN_NAME(record_access_slowly);
+void record_access_slowly(uint64_t place, unsigned code_and_width, uint64_t address) OWN_NAME(record_access_slowly);
+/* An access to a stream that is watched. */
+void record_watched_access(unsigned code_and_width, uint64_t address, uintptr_t caller)
+    OWN_NAME(record_watched_access);
 
 /* halt.c: whether the process ends at the first access or free that the shadow holds for bad, and that end. */
 
@@ -142,13 +147,16 @@ static inline void record_access(enum code code, unsigned width, uint64_t addres
         return;
     }
     if (!is_in_arena(address) && UNLIKELY(!is_stated(address, width)))
-        stated_bring_up(address, width, caller);
-    uint64_t place = stream_take(&stream->cursor, CURSOR_EVENT + ACCESS_LENGTH);
-    uint32_t offset = (uint32_t)place;
-    if (UNLIKELY(stream_is_unusual(place, ACCESS_LENGTH)))
-        record_access_slowly(place, code_and_width, address, caller);
-    else
-        put_access(stream->bytes + offset, code_and_width, address);
+        stated_bring_up(address, width);
+    if (UNLIKELY(stream->is_watched)) {
+        record_watched_access(code_and_width, address, caller);
+    } else {
+        uint64_t place = stream_take(&stream->cursor, CURSOR_EVENT + ACCESS_LENGTH);
+        if (UNLIKELY(stream_is_unusual(place, ACCESS_LENGTH)))
+            record_access_slowly(place, code_and_width, address);
+        else
+            put_access(stream->bytes + (uint32_t)place, code_and_width, address);
+    }
     halt_if_bad(code, width, address, caller);
 }
 
@@ -157,11 +165,12 @@ void record_range(enum code code, uint64_t address, uint64_t size, uintptr_t cal
 /* The pieces of it that the shadow holds for bad. */
 void record_bad_range(enum code code, uint64_t address, uint64_t size, uintptr_t caller) OWN_NAME(record_bad_range);
 /* A malloc or an unpoison, and a poison. A region that can't be spelled is left out. */
-void record_region(enum code code, uint64_t address, uint64_t size, uintptr_t caller);
-void record_poison(enum kind kind, uint64_t address, uint64_t size, uintptr_t caller);
+void record_region(enum code code, uint64_t address, uint64_t size);
+void record_poison(enum kind kind, uint64_t address, uint64_t size);
 /* What the process poisons and unpoisons, of any size: in the shadow, and in the allocator's memory as records too. */
-void record_regions(enum code code, uint64_t address, uint64_t size, uintptr_t caller);
-void record_free(uint64_t address, uintptr_t caller);
+void record_regions(enum code code, uint64_t address, uint64_t size);
+void record_free(uint64_t address);
+void record_bad_free(uint64_t address, uintptr_t caller);
 
 /* Ends the recording where it is, without a close, and says why. */
 void stream_stop(const char *why);
@@ -187,7 +196,7 @@ void recorder_say_child(void);
 bool recorder_begin_late(void);
 void recorder_finish(enum finish finish);
 /* In a handler of a signal that ends the process: without a close, and without waiting for other threads for ever. */
-void recorder_finish_in_handler(void);
+void recorder_finish_in_handler(int number);
 /* Before an exec. False: there is nothing to take back. */
 bool recorder_before_exec(void);
 void recorder_exec_failed(void);
@@ -228,6 +237,9 @@ void heap_is_poisoned(void);
 /* The next malloc of this thread is recorded with this place, and not with that of libc's code which calls it. */
 void heap_called_from(uintptr_t caller);
 
+/* The places of mallocs and frees are noted from now on. */
+void heap_keep_places(void);
+
 /* The end of the live block around an address; the address itself if there is none. */
 uintptr_t heap_end_around(uintptr_t address);
 
@@ -243,12 +255,13 @@ struct heap_numbers heap_count(void) OWN_NAME(heap_count);
 /* What shared objects find in the program. They are built with the small libasancol_shared.a, whose functions do
    nothing where no recorder is there. */
 struct sigaction;
+struct global;
 
 struct recorder_hooks {
     size_t size; /* of this table: an object may be newer than its program */
     void (*access)(enum code code, unsigned width, uint64_t address, uintptr_t caller);
     void (*range)(enum code code, uint64_t address, uint64_t size, uintptr_t caller);
-    void (*regions)(enum code code, uint64_t address, uint64_t size, uintptr_t caller);
+    void (*regions)(enum code code, uint64_t address, uint64_t size);
     void (*called_from)(uintptr_t caller);
     void (*finish)(enum finish finish);
     bool (*before_exec)(void);
@@ -261,6 +274,7 @@ struct recorder_hooks {
     void (*frames_left)(uintptr_t frame);
     void (*on_death)(void (*callback)(void));
     bool (*is_first_crash)(void);
+    void (*globals)(const struct global *table, uint64_t count, bool is_there);
 };
 
 #endif

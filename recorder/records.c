@@ -43,47 +43,56 @@ static bool can_be_spelled(uint64_t address, uint64_t size)
     return size <= LARGEST_REGION && address <= ADDRESS_END - size;
 }
 
-void record_region(enum code code, uint64_t address, uint64_t size, uintptr_t caller)
+/* After a record is written. */
+static void look_at_clock(void)
 {
-    unsigned char *at = can_be_spelled(address, size) ? stream_reserve(REGION_LENGTH, caller) : NULL;
+    if (UNLIKELY(stream_page.stream.is_watched))
+        stream_look_at_clock(false);
+}
+
+void record_region(enum code code, uint64_t address, uint64_t size)
+{
+    unsigned char *at = can_be_spelled(address, size) ? stream_reserve(REGION_LENGTH) : NULL;
     if (at == NULL)
         return;
     put_number(at + 1, address);
     put_number(at + 9, size);
     put_code(at, code);
+    look_at_clock();
 }
 
-void record_poison(enum kind kind, uint64_t address, uint64_t size, uintptr_t caller)
+void record_poison(enum kind kind, uint64_t address, uint64_t size)
 {
-    unsigned char *at = can_be_spelled(address, size) ? stream_reserve(POISON_LENGTH, caller) : NULL;
+    unsigned char *at = can_be_spelled(address, size) ? stream_reserve(POISON_LENGTH) : NULL;
     if (at == NULL)
         return;
     at[1] = (unsigned char)kind;
     put_number(at + 2, address);
     put_number(at + 10, size);
     put_code(at, CODE_POISON);
+    look_at_clock();
 }
 
 /* A poison is first in the shadow, and an unpoison first in the stream, as with blocks (paint.h). Outside the
    allocator's memory the stream hears of it when an access comes (stated.c). */
-static void record_piece(enum code code, uint64_t address, uint64_t size, uintptr_t caller)
+static void record_piece(enum code code, uint64_t address, uint64_t size)
 {
     if (code == CODE_POISON) {
         if (is_in_arena(address))
             heap_is_poisoned();
         shadow_poison(address, size, SHADE_USER);
         if (is_in_arena(address))
-            record_poison(KIND_USER, address, size, caller);
+            record_poison(KIND_USER, address, size);
     } else {
         if (is_in_arena(address))
-            record_region(code, address, size, caller);
+            record_region(code, address, size);
         shadow_unpoison(address, size);
     }
 }
 
 /* In pieces that end at multiples of the largest region: at granules, since elsewhere one would be treated twice in
    part, and at the ends of the allocator's memory. */
-void record_regions(enum code code, uint64_t address, uint64_t size, uintptr_t caller)
+void record_regions(enum code code, uint64_t address, uint64_t size)
 {
     if (address >= ADDRESS_END)
         return;
@@ -91,15 +100,16 @@ void record_regions(enum code code, uint64_t address, uint64_t size, uintptr_t c
     for (uint64_t piece; size > 0; address += piece, size -= piece) {
         piece = LARGEST_REGION - address % LARGEST_REGION;
         piece = size < piece ? size : piece;
-        record_piece(code, address, piece, caller);
+        record_piece(code, address, piece);
     }
 }
 
-void record_free(uint64_t address, uintptr_t caller)
+void record_free(uint64_t address)
 {
-    unsigned char *at = address < ADDRESS_END ? stream_reserve(PLACE_LENGTH, caller) : NULL;
+    unsigned char *at = address < ADDRESS_END ? stream_reserve(PLACE_LENGTH) : NULL;
     if (at == NULL)
         return;
     put_number(at + 1, address);
     put_code(at, CODE_FREE);
+    look_at_clock();
 }

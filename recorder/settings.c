@@ -13,9 +13,9 @@
 
 /* All that the recorder and its tools read. */
 static const char *const names[] = {
-    "ASANCOL_TRACE",    "ASANCOL_SOCKET", "ASANCOL_WHERE", "ASANCOL_QUARANTINE", "ASANCOL_LIMIT",
-    "ASANCOL_PATIENCE", "ASANCOL_LOG",    "ASANCOL_ALL",   "ASANCOL_CC",         "ASANCOL_CXX",
-    "ASANCOL_HALT",     "ASANCOL_SYMBOLIZER",
+    "ASANCOL_TRACE",    "ASANCOL_HUB",      "ASANCOL_SOCKET", "ASANCOL_WHERE", "ASANCOL_QUARANTINE",
+    "ASANCOL_LIMIT",    "ASANCOL_PATIENCE", "ASANCOL_LOG",    "ASANCOL_ALL",   "ASANCOL_CC",
+    "ASANCOL_CXX",      "ASANCOL_HALT",     "ASANCOL_REPORT", "ASANCOL_SYMBOLIZER",
 };
 
 enum { NAMES = sizeof names / sizeof *names, LONGEST_NAME = 32 };
@@ -155,18 +155,24 @@ struct entry {
     char text[PATH_MAX + LONGEST_NAME];
 };
 
-/* Adds the folder of the process. A percent sign in it is doubled, since the name is a pattern. */
+/* Adds the first bytes of a name to a pattern, in which a percent sign is doubled. */
+static bool add_name(char *text, size_t room, const char *name, size_t length)
+{
+    for (const char *from = name; from < name + length; from++) {
+        char piece[3] = {*from, *from == '%' ? '%' : 0, 0};
+        if (!add(text, room, piece))
+            return false;
+    }
+    return true;
+}
+
+/* Adds the folder of the process. */
 static bool add_folder(char *text, size_t room)
 {
     char folder[PATH_MAX];
     if (getcwd(folder, sizeof folder) == NULL)
         return false;
-    for (const char *from = folder; *from != 0; from++) {
-        char piece[3] = {*from, *from == '%' ? '%' : 0, 0};
-        if (!add(text, room, piece))
-            return false;
-    }
-    return add(text, room, "/");
+    return add_name(text, room, folder, strlen(folder)) && add(text, room, "/");
 }
 
 /* Gives the name that a setting has, from the root, and puts it back into the environment so. Null: there is none. */
@@ -188,17 +194,37 @@ static const char *name_from_root(const char *name, struct entry *entry)
     return text + strlen(name) + 1;
 }
 
+/* The pattern of traces beside a socket. Null: it is too long. */
+static const char *traces_beside(const char *path, struct entry *entry)
+{
+    const char *slash = strrchr(path, '/');
+    size_t length = slash != NULL ? (size_t)(slash - path) + 1 : 0;
+    entry->text[0] = 0;
+    bool fits = add_name(entry->text, PATH_MAX, path, length) && add(entry->text, PATH_MAX, "%p.trace");
+    return fits ? entry->text : NULL;
+}
+
+/* Where the stream goes: the trace comes first, and then the hub. */
+static void read_outputs(struct settings *settings)
+{
+    static struct entry trace, beside;
+    settings->trace = name_from_root("ASANCOL_TRACE", &trace);
+    settings->hub = settings->trace == NULL ? value_of("ASANCOL_HUB") : NULL;
+    settings->socket = settings->trace == NULL && settings->hub == NULL ? value_of("ASANCOL_SOCKET") : NULL;
+    if (settings->hub != NULL)
+        settings->trace = traces_beside(settings->hub, &beside);
+}
+
 void settings_read(struct settings *settings)
 {
-    static struct entry trace, log;
+    static struct entry log;
     say_to(name_from_root("ASANCOL_LOG", &log));
     if (getauxval(AT_SECURE) == 0)
         look_for_unknown();
-    settings->trace = name_from_root("ASANCOL_TRACE", &trace);
-    settings->socket = settings->trace == NULL ? value_of("ASANCOL_SOCKET") : NULL;
+    read_outputs(settings);
     settings->limit = number_of("ASANCOL_LIMIT", 1, EVENT_LIMIT, EVENT_LIMIT);
     settings->quarantine = number_of("ASANCOL_QUARANTINE", 0, (uint64_t)1 << 40, QUARANTINE_BOUND);
     settings->patience_ms = (int)number_of("ASANCOL_PATIENCE", 0, 86400, 60) * 1000;
-    settings->with_places = number_of("ASANCOL_WHERE", 0, 1, 0) == 1;
+    settings->with_side = number_of("ASANCOL_WHERE", 0, 1, 0) == 1 || settings->hub != NULL;
     settings->halt = (enum halt)number_of("ASANCOL_HALT", HALT_NEVER, HALT_AND_RECORD, HALT_NEVER);
 }

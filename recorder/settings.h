@@ -9,12 +9,14 @@
 enum halt { HALT_NEVER, HALT, HALT_AND_RECORD };
 
 struct settings {
-    const char *trace;  /* the name of the trace with %p, from the root, or null */
+    const char *hub;    /* its socket, or null */
+    const char *trace;  /* the name of the trace with %p, from the root, or null; with a hub, where it goes if the hub
+                           can't be reached */
     const char *socket; /* or null */
     uint64_t limit;
     uint64_t quarantine;
     int patience_ms;
-    bool with_places;
+    bool with_side; /* what stands beside a trace is wanted too */
     enum halt halt;
 };
 

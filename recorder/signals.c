@@ -57,7 +57,7 @@ static void on_ending(int number, siginfo_t *info, void *context)
         errno = before;
         return;
     }
-    recorder_finish_in_handler();
+    recorder_finish_in_handler(number);
     struct sigaction none = {.sa_handler = SIG_DFL};
     sigaction(number, &none, NULL);
     /* A fault comes again by itself, and with what the kernel says of it. */

@@ -21,27 +21,27 @@ static enum kind kind_of(unsigned char code)
 /* Records what gives a granule its new byte. One record is enough from any state; where the state is not known, since
    a thread was interrupted here, three. The class of a bad access to the last bytes of a granule is read from the
    next one, so those get its kind. */
-static void state(uint64_t granule, unsigned char before, unsigned char now, uintptr_t caller)
+static void state(uint64_t granule, unsigned char before, unsigned char now)
 {
     unsigned had = addressable_of(before), has = addressable_of(now);
     bool is_unknown = before == STATED_BUSY;
     if (has == 0) {
         if (had != 0 || is_unknown || kind_of(before) != kind_of(now))
-            record_poison(kind_of(now), granule, GRANULE, caller);
+            record_poison(kind_of(now), granule, GRANULE);
     } else if (has < GRANULE && (had > has || is_unknown)) {
         unsigned char next = *shadow_of(granule + GRANULE);
         enum kind kind = addressable_of(next) == 0 ? kind_of(next) : KIND_USER;
         if (is_unknown)
-            record_region(CODE_UNPOISON, granule, GRANULE, caller);
-        record_poison(kind, granule + has, GRANULE - has, caller);
+            record_region(CODE_UNPOISON, granule, GRANULE);
+        record_poison(kind, granule + has, GRANULE - has);
     } else {
-        record_region(CODE_UNPOISON, granule, has, caller);
+        record_region(CODE_UNPOISON, granule, has);
     }
 }
 
 /* Makes the stream state of a granule what its shadow byte says, and returns that byte. The record has its place in the
    stream before `stated` has the byte. */
-static unsigned char bring_up(uint64_t granule, uintptr_t caller)
+static unsigned char bring_up(uint64_t granule)
 {
     _Atomic unsigned char *stated = stated_of(granule);
     for (int looks = 0;; looks++) {
@@ -54,7 +54,7 @@ static unsigned char bring_up(uint64_t granule, uintptr_t caller)
             continue;
         now = *shadow_of(granule);
         if (before != now)
-            state(granule, before, now, caller);
+            state(granule, before, now);
         /* Unless another thread has gone on in the place of this one. */
         unsigned char busy = STATED_BUSY;
         atomic_compare_exchange_strong(stated, &busy, now);
@@ -62,11 +62,11 @@ static unsigned char bring_up(uint64_t granule, uintptr_t caller)
     }
 }
 
-void stated_bring_up(uint64_t address, unsigned width, uintptr_t caller)
+void stated_bring_up(uint64_t address, unsigned width)
 {
     uint64_t granule = address / GRANULE * GRANULE, next = granule + GRANULE;
-    unsigned has = addressable_of(bring_up(granule, caller));
+    unsigned has = addressable_of(bring_up(granule));
     bool is_bad = address % GRANULE + width > has;
     if (has != 0 && has < GRANULE && is_bad && next < ADDRESS_END && !is_in_arena(next))
-        bring_up(next, caller);
+        bring_up(next);
 }

@@ -1,14 +1,16 @@
 #define _GNU_SOURCE
 #include "stream.h"
 
-#include <fcntl.h>
 #include <pthread.h>
 #include <sched.h>
 #include <string.h>
 #include <sys/mman.h>
+#include <time.h>
 #include <unistd.h>
 
+#include "faults.h"
 #include "output.h"
+#include "side.h"
 #include "signals.h"
 
 union stream_page stream_page __attribute__((aligned(4096)));
@@ -20,13 +22,18 @@ enum { FILE_STEP = 1 << 20, PIECES_STEP = 1 << 16 };
 enum { LOOKS = 1000 };
 /* How many records in a row may be missing. */
 enum { MOST_HOLES = 8 };
+/* After so many nanoseconds a socket gets what there is; and at once, as after a fault, so often in this time. */
+enum { SEND_AFTER = 4000000, MOST_AT_ONCE = 4 };
 
 static struct {
     pthread_mutex_t lock;      /* of all below; who has it is undisturbed */
     struct disturbance before; /* of who has it */
     struct output trace;
-    struct output where;
-    bool has_where;
+    struct output side; /* a file, or memory */
+    bool has_side;
+    _Atomic bool is_side_full;
+    _Atomic uint64_t sent_at;      /* nanoseconds of the coarse clock: when a socket was given what there was */
+    _Atomic unsigned sent_at_once; /* how often, since then */
     int patience_ms;
     uint64_t checked;      /* up to here the records were seen to be whole */
     uint64_t checked_events;
@@ -34,7 +41,7 @@ static struct {
     _Atomic bool is_suspended; /* for an exec */
     _Atomic bool has_missed;   /* other threads' events meanwhile */
     _Atomic uint64_t left_out;
-} keeper = {.lock = PTHREAD_MUTEX_INITIALIZER, .trace = {.descriptor = -1}, .where = {.descriptor = -1}};
+} keeper = {.lock = PTHREAD_MUTEX_INITIALIZER, .trace = {.descriptor = -1}, .side = {.descriptor = -1}};
 
 #define STREAM (&stream_page.stream)
 
@@ -65,19 +72,23 @@ static bool lock_at_once(void)
     return false;
 }
 
-/* Takes the lock: for certain, or if it comes free while this looks. */
-static bool lock_for_end(bool certain)
+/* Takes the lock if it comes free while this looks. */
+static bool lock_soon(void)
 {
-    if (certain) {
-        stream_lock();
-        return true;
-    }
     for (int looks = 0; looks < LOOKS; looks++) {
         if (lock_at_once())
             return true;
         sched_yield();
     }
     return false;
+}
+
+/* Takes the lock: for certain, or if it comes free soon. */
+static bool lock_for_end(bool certain)
+{
+    if (certain)
+        stream_lock();
+    return certain || lock_soon();
 }
 
 static bool is_on(void)
@@ -168,14 +179,16 @@ static void check_records(uint64_t end, uint64_t limit, bool patience)
     }
 }
 
-/* Cuts the files after the last record or the close. */
+/* Cuts the files after the last record or the close, and the last fault. */
 static void trim_files(uint64_t length)
 {
     output_trim(&keeper.trace, length);
-    if (keeper.has_where) {
-        stream_write_modules();
-        output_trim(&keeper.where, PLACES_OFFSET + keeper.checked_events * PLACE_BYTES);
-    }
+    if (!keeper.has_side)
+        return;
+    if (side_length() > SIDE_INDEX)
+        side_write_modules(); /* with those that came by other ways than dlopen */
+    output_trim(&keeper.side, side_length());
+    faults_are_cut();
 }
 
 /* No more is recorded. The stream ends after its last whole record, without a close. */
@@ -185,10 +198,11 @@ static void give_up(const char *why)
     uint64_t end = (uint32_t)cursor, ready = atomic_load(&STREAM->ready);
     atomic_store(&recorder_state, STATE_OFF);
     heap_set_bound(0);
-    if (cursor & CURSOR_ON) {
+    if (cursor & CURSOR_ON)
         check_records(end < ready ? end : ready, limit_of_stream(), true);
+    side_note_ending(ENDING_LOST, 0, keeper.checked_events);
+    if (cursor & CURSOR_ON)
         trim_files(keeper.checked);
-    }
     recorder_say("recording ends: ", keeper.trace.path, why);
 }
 
@@ -201,21 +215,19 @@ void stream_stop(const char *why)
     stream_unlock();
 }
 
+/* Gives a socket or a pipe what is whole, as far as it takes it. */
+static const char *send_pieces(void)
+{
+    uint64_t reserved = (uint32_t)atomic_load(&STREAM->cursor), ready = atomic_load(&STREAM->ready);
+    check_records(reserved < ready ? reserved : ready, EVENT_LIMIT, false);
+    return output_send(&keeper.trace, keeper.checked, false, 0);
+}
+
 static const char *grow(void)
 {
-    uint64_t ready = atomic_load(&STREAM->ready);
-    uint64_t next = ready + (keeper.trace.is_mapped ? FILE_STEP : PIECES_STEP);
-    const char *why = NULL;
-    if (keeper.trace.is_mapped) {
-        why = output_extend(&keeper.trace, next);
-        /* Records have at least PLACE_LENGTH bytes, and each has its program counter. */
-        if (why == NULL && keeper.has_where)
-            why = output_extend(&keeper.where, PLACES_OFFSET + (next / PLACE_LENGTH + 1) * PLACE_BYTES);
-    } else {
-        uint64_t reserved = (uint32_t)atomic_load(&STREAM->cursor);
-        check_records(reserved < ready ? reserved : ready, EVENT_LIMIT, false);
-        why = output_send(&keeper.trace, keeper.checked, false, 0);
-    }
+    bool is_file = keeper.trace.is_mapped;
+    uint64_t next = atomic_load(&STREAM->ready) + (is_file ? FILE_STEP : PIECES_STEP);
+    const char *why = is_file ? output_extend(&keeper.trace, next) : send_pieces();
     if (why == NULL)
         atomic_store_explicit(&STREAM->ready, next, memory_order_release);
     return why;
@@ -276,8 +288,9 @@ static enum finish finish_of(uint64_t cursor, enum finish finish)
     return (cursor - CURSOR_ON) >> 32 > limit_of_stream() ? FINISH_AT_LIMIT : finish;
 }
 
-/* Writes what stands after the last record, and leaves nothing after that. The lock is held and the cursor off. */
-static void finish_at(uint64_t end, uint64_t limit, enum finish finish)
+/* Writes what stands after the last record, and leaves nothing after that. The lock is held and the cursor off. The
+   ending is noted before the last bytes are sent: a hub that has all of them finds it. */
+static void finish_at(uint64_t end, uint64_t limit, enum finish finish, enum ending ending, int number)
 {
     if (!grow_to(end))
         return;
@@ -290,12 +303,12 @@ static void finish_at(uint64_t end, uint64_t limit, enum finish finish)
         put_ending(length, finish);
         length += more;
     }
-    if (keeper.trace.is_mapped) {
-        trim_files(length);
-    } else {
-        const char *why = output_send(&keeper.trace, length, true, keeper.patience_ms);
-        if (why != NULL)
-            recorder_say("the end of the recording is lost: ", keeper.trace.path, why);
+    side_note_ending(ending, number, keeper.checked_events);
+    trim_files(length);
+    const char *why = keeper.trace.is_mapped ? NULL : output_send(&keeper.trace, length, true, keeper.patience_ms);
+    if (why != NULL) {
+        side_note_ending(ENDING_LOST, 0, keeper.checked_events);
+        recorder_say("the end of the recording is lost: ", keeper.trace.path, why);
     }
 }
 
@@ -307,13 +320,19 @@ static void end_at_limit(uint64_t end)
     if (is_on() && grow_to(end)) {
         atomic_store(&recorder_state, STATE_AT_LIMIT);
         if (atomic_exchange(&STREAM->cursor, 0) & CURSOR_ON) {
-            finish_at(end, limit_of_stream(), FINISH_AT_LIMIT);
+            finish_at(end, limit_of_stream(), FINISH_AT_LIMIT, ENDING_NONE, 0);
             heap_set_bound(0);
         } else {
             atomic_store(&recorder_state, STATE_OFF);
         }
     }
     stream_unlock();
+}
+
+static void leave_out(void)
+{
+    atomic_fetch_add_explicit(&keeper.left_out, 1, memory_order_relaxed);
+    side_note_left_out();
 }
 
 /* Whether the place that was taken can be written. */
@@ -325,7 +344,7 @@ static bool make_room(uint64_t place, unsigned length)
     if (count >= limit_of_stream()) {
         if (count == limit_of_stream())
             end_at_limit((uint32_t)place);
-        atomic_fetch_add_explicit(&keeper.left_out, 1, memory_order_relaxed);
+        leave_out();
         return false;
     }
     /* Who has the lock may be waiting for this record, and has made room for it. */
@@ -353,7 +372,7 @@ bool stream_wake(void)
         recorder_start();
         return is_on();
     case STATE_AT_LIMIT:
-        atomic_fetch_add_explicit(&keeper.left_out, 1, memory_order_relaxed);
+        leave_out();
         return false;
     case STATE_RECORDING:
         /* Another thread tries an exec just now, or this is a child that no fork has announced. */
@@ -367,45 +386,86 @@ bool stream_wake(void)
     }
 }
 
-static const char *open_where(void)
+static const char *open_side_file(void)
 {
     static char path[PATH_MAX + 8]; /* the lock is held; and a stack may be small */
     size_t length = strlen(keeper.trace.path);
     memcpy(path, keeper.trace.path, length);
     strcpy(path + length, ".where");
-    const char *why = output_open_file(&keeper.where, path, NAME_TAKEN_OVER, LARGEST_WHERE,
-                                       PLACES_OFFSET + (FILE_STEP / PLACE_LENGTH + 1) * PLACE_BYTES);
-    if (why == NULL && !keeper.where.is_mapped)
+    const char *why = output_open_file(&keeper.side, path, NAME_TAKEN_OVER, SIDE_ROOM, SIDE_INDEX);
+    if (why == NULL && !keeper.side.is_mapped)
         why = "it can't be mapped";
     return why;
 }
 
+/* Without it the trace is no worse. */
+static void open_side(void)
+{
+    const char *of = keeper.trace.path, *why = "it is no file";
+    if (keeper.trace.is_mapped) {
+        why = open_side_file();
+        of = keeper.side.path;
+    }
+    keeper.has_side = why == NULL;
+    if (why != NULL)
+        recorder_say("nothing is kept beside the trace: ", of, why);
+}
+
+/* The header goes to a hub at once, and the side memory with it. */
+static const char *open_hub(const struct settings *settings)
+{
+    uint64_t room = LARGEST_STREAM + FILE_STEP;
+    const char *why = output_connect(&keeper.trace, settings->hub, true, room, settings->patience_ms);
+    if (why != NULL)
+        return why;
+    memcpy(keeper.trace.bytes, HEADER, HEADER_LENGTH);
+    const char *why_not = output_open_memory(&keeper.side, SIDE_ROOM);
+    if (why_not != NULL) {
+        recorder_say("nothing is kept beside the trace: ", settings->hub, why_not);
+        return output_send(&keeper.trace, HEADER_LENGTH, true, settings->patience_ms);
+    }
+    keeper.has_side = true;
+    side_begin(keeper.side.bytes);
+    return output_send_first(&keeper.trace, HEADER_LENGTH, &keeper.side, settings->patience_ms);
+}
+
 static const char *open_output(const struct settings *settings)
 {
+    uint64_t room = LARGEST_STREAM + FILE_STEP;
     const char *why;
-    keeper.has_where = false;
-    if (settings->trace != NULL)
-        why = output_open_file(&keeper.trace, settings->trace, NAME_NUMBERED, LARGEST_STREAM + FILE_STEP, FILE_STEP);
-    else
-        why = output_connect(&keeper.trace, settings->socket, LARGEST_STREAM + FILE_STEP, settings->patience_ms);
-    if (why != NULL || !settings->with_places)
-        return why;
-    if (!keeper.trace.is_mapped) {
-        recorder_say("no program counters are kept: ", keeper.trace.path, "it is no file");
-        return NULL;
+    keeper.has_side = false;
+    if (settings->hub != NULL) {
+        why = open_hub(settings);
+        if (why == NULL || settings->trace == NULL)
+            return why;
+        side_begin(NULL);
+        output_close(&keeper.trace);
+        output_close(&keeper.side);
+        keeper.has_side = false;
+        recorder_say("the hub can't be reached, so the trace goes to a file: ", settings->hub, why);
     }
-    const char *why_not = open_where();
-    keeper.has_where = why_not == NULL;
-    if (why_not != NULL)
-        recorder_say("no program counters are kept: ", keeper.where.path, why_not);
-    return NULL;
+    if (settings->trace != NULL)
+        why = output_open_file(&keeper.trace, settings->trace, NAME_NUMBERED, room, FILE_STEP);
+    else
+        why = output_connect(&keeper.trace, settings->socket, false, room, settings->patience_ms);
+    if (why == NULL && settings->with_side)
+        open_side();
+    return why;
+}
+
+static uint64_t coarse_clock(void)
+{
+    struct timespec now;
+    clock_gettime(CLOCK_MONOTONIC_COARSE, &now);
+    return (uint64_t)now.tv_sec * 1000000000 + (uint64_t)now.tv_nsec;
 }
 
 bool stream_begin(const struct settings *settings)
 {
     const char *why = open_output(settings);
     if (why != NULL) {
-        recorder_say("nothing is recorded: ", settings->trace ? settings->trace : settings->socket, why);
+        const char *of = settings->trace ? settings->trace : settings->hub ? settings->hub : settings->socket;
+        recorder_say("nothing is recorded: ", of, why);
         return false;
     }
     madvise(&stream_page, sizeof stream_page, MADV_WIPEONFORK);
@@ -416,34 +476,40 @@ bool stream_begin(const struct settings *settings)
     atomic_store(&keeper.is_suspended, false);
     atomic_store(&keeper.has_missed, false);
     atomic_store(&keeper.left_out, 0);
+    atomic_store(&keeper.is_side_full, false);
+    atomic_store(&keeper.sent_at, coarse_clock());
+    atomic_store(&keeper.sent_at_once, 0);
     STREAM->bytes = keeper.trace.bytes;
     STREAM->events_end = settings->limit << 32;
-    STREAM->places = NULL;
     memcpy(STREAM->bytes, HEADER, HEADER_LENGTH);
-    if (keeper.has_where) {
-        memcpy(keeper.where.bytes, WHERE_HEADER, WHERE_HEADER_LENGTH);
-        stream_write_modules();
-        STREAM->places = (uint64_t *)(keeper.where.bytes + PLACES_OFFSET);
-    }
+    if (keeper.has_side && keeper.side.is_mapped)
+        side_begin(keeper.side.bytes);
+    STREAM->has_side = keeper.has_side;
+    STREAM->is_watched = keeper.has_side || keeper.trace.is_socket;
     atomic_store(&STREAM->ready, keeper.trace.is_mapped ? FILE_STEP : PIECES_STEP);
     atomic_store(&recorder_state, STATE_RECORDING);
     atomic_store(&STREAM->cursor, CURSOR_ON | HEADER_LENGTH);
     return true;
 }
 
-void stream_end(enum finish finish, bool certain)
+void stream_end(enum finish finish, enum ending ending, int number)
 {
     uint64_t cursor = atomic_exchange(&STREAM->cursor, 0);
     bool was_on = (cursor & CURSOR_ON) != 0;
     /* At the limit another thread may be ending it. */
-    if (!was_on && atomic_load(&recorder_state) != STATE_AT_LIMIT)
+    if (!was_on && atomic_load(&recorder_state) != STATE_AT_LIMIT) {
+        if (ending == ENDING_SIGNAL)
+            side_note_late_signal(number);
         return;
+    }
     if (was_on)
         atomic_store(&recorder_state, STATE_OFF);
-    if (!lock_for_end(certain))
+    if (!lock_for_end(ending != ENDING_SIGNAL))
         return;
     if (was_on)
-        finish_at((uint32_t)cursor, limit_of_stream(), finish_of(cursor, finish));
+        finish_at((uint32_t)cursor, limit_of_stream(), finish_of(cursor, finish), ending, number);
+    else
+        side_note_ending(ending, number, keeper.checked_events);
     stream_unlock();
 }
 
@@ -457,64 +523,99 @@ bool stream_suspend(void)
     }
     stream_lock();
     finish_at((uint32_t)cursor, limit_of_stream(),
-              finish_of(cursor, keeper.trace.is_mapped ? FINISH_CLOSED : FINISH_OPEN));
+              finish_of(cursor, keeper.trace.is_mapped ? FINISH_CLOSED : FINISH_OPEN), ENDING_EXEC, 0);
     stream_unlock();
     return true;
 }
 
-void stream_resume(void)
+/* Takes back what stands at the end of the stream, and turns it on again. */
+static void go_on(void)
 {
-    stream_lock();
     bool is_file = keeper.trace.is_mapped;
     const char *why = is_file ? output_extend(&keeper.trace, atomic_load(&STREAM->ready)) : NULL;
-    if (why == NULL && keeper.has_where)
-        why = output_extend(&keeper.where,
-                            PLACES_OFFSET + (atomic_load(&STREAM->ready) / PLACE_LENGTH + 1) * PLACE_BYTES);
     if (why != NULL) {
         give_up(why);
-    } else {
-        if (is_file)
-            STREAM->bytes[keeper.checked] = 0; /* no close after all */
-        atomic_store(&STREAM->cursor, CURSOR_ON | keeper.checked_events << 32 | keeper.checked);
+        return;
     }
+    if (is_file)
+        STREAM->bytes[keeper.checked] = 0; /* no close after all */
+    atomic_store(&STREAM->cursor, CURSOR_ON | keeper.checked_events << 32 | keeper.checked);
+}
+
+bool stream_resume(void)
+{
+    stream_lock();
+    bool was_suspended = atomic_load(&keeper.is_suspended);
+    side_note_ending(ENDING_NONE, 0, was_suspended ? 0 : keeper.checked_events);
+    if (was_suspended && atomic_load(&recorder_state) == STATE_RECORDING)
+        go_on();
     atomic_store(&keeper.is_suspended, false);
     stream_unlock();
+    return was_suspended;
 }
 
 void stream_forget(void)
 {
     atomic_store(&STREAM->cursor, 0);
+    side_begin(NULL);
     output_drop(&keeper.trace);
-    output_drop(&keeper.where);
-    keeper.has_where = false;
+    output_drop(&keeper.side);
+    keeper.has_side = false;
 }
 
 bool stream_has_lost(const void *address)
 {
-    if (!output_lose(&keeper.trace, address) && !output_lose(&keeper.where, address))
+    if (!output_lose(&keeper.trace, address) && !output_lose(&keeper.side, address))
         return false;
     atomic_store(&STREAM->cursor, 0);
     atomic_store(&recorder_state, STATE_OFF);
     heap_set_bound(0);
+    side_note_ending(ENDING_LOST, 0, keeper.checked_events);
     recorder_say("recording ends: ", keeper.trace.path, "the file was cut");
     return true;
 }
 
-/* Copies the map of modules from the system: each line as it is, for as many as there is room. */
 void stream_write_modules(void)
 {
-    if (!keeper.has_where || keeper.where.bytes == NULL)
+    if (!keeper.has_side)
         return;
-    int maps = open("/proc/self/maps", O_RDONLY | O_CLOEXEC);
-    if (maps < 0)
+    stream_lock();
+    side_write_modules();
+    stream_unlock();
+}
+
+bool stream_back_side(uint64_t offset, uint64_t length)
+{
+    if (!keeper.side.is_mapped)
+        return true;
+    /* Who has the lock may be waiting for a record of this thread. */
+    if (atomic_load(&keeper.is_side_full) || !lock_soon())
+        return false;
+    const char *why = output_back(&keeper.side, offset, length);
+    if (why != NULL && !atomic_exchange(&keeper.is_side_full, true))
+        recorder_say("no more is kept beside the trace: ", keeper.side.path, why);
+    stream_unlock();
+    return why == NULL;
+}
+
+void stream_look_at_clock(bool at_once)
+{
+    if (!keeper.trace.is_socket)
         return;
-    unsigned char *next = keeper.where.bytes + WHERE_HEADER_LENGTH;
-    unsigned char *end = keeper.where.bytes + PLACES_OFFSET - 1;
-    ssize_t count;
-    while (next < end && (count = read(maps, next, (size_t)(end - next))) > 0)
-        next += count;
-    *next = 0;
-    close(maps);
+    uint64_t now = coarse_clock();
+    if (now - atomic_load_explicit(&keeper.sent_at, memory_order_relaxed) >= SEND_AFTER) {
+        atomic_store_explicit(&keeper.sent_at, now, memory_order_relaxed);
+        atomic_store_explicit(&keeper.sent_at_once, 0, memory_order_relaxed);
+    } else if (!at_once || atomic_fetch_add(&keeper.sent_at_once, 1) >= MOST_AT_ONCE) {
+        return;
+    }
+    /* A child of vfork may have closed the descriptor for itself. */
+    if (!recorder_is_own_process() || !lock_at_once())
+        return;
+    const char *why = is_on() ? send_pieces() : NULL;
+    if (why != NULL)
+        give_up(why);
+    stream_unlock();
 }
 
 void stream_say_left_out(void)
@@ -522,7 +623,8 @@ void stream_say_left_out(void)
     uint64_t left_out = atomic_exchange(&keeper.left_out, 0);
     char digits[24];
     size_t first = sizeof digits;
-    if (left_out == 0)
+    /* A hub says it by itself. */
+    if (left_out == 0 || (keeper.has_side && !keeper.side.is_mapped))
         return;
     digits[--first] = 0;
     for (; left_out != 0; left_out /= 10)
@@ -531,30 +633,63 @@ void stream_say_left_out(void)
 }
 
 /* Where the record of a place goes, or null where it is not recorded. */
-static unsigned char *open_place(uint64_t place, unsigned length, uintptr_t caller)
+static unsigned char *open_place(uint64_t place, unsigned length)
 {
     uint64_t event = place - CURSOR_ON;
     bool fits = event < STREAM->events_end && (uint32_t)place + length <= atomic_load(&STREAM->ready);
     if (!fits && !make_room(place, length))
         return NULL;
-    if (STREAM->places != NULL)
-        STREAM->places[event >> 32] = caller;
     return STREAM->bytes + (uint32_t)place;
 }
 
-unsigned char *stream_reserve(unsigned length, uintptr_t caller)
+unsigned char *stream_reserve(unsigned length)
 {
     if (!(atomic_load_explicit(&STREAM->cursor, memory_order_relaxed) & CURSOR_ON) && !stream_wake())
         return NULL;
     uint64_t place = stream_take(&STREAM->cursor, CURSOR_EVENT + length);
     if (LIKELY(!stream_is_unusual(place, length)))
         return STREAM->bytes + (uint32_t)place;
-    return open_place(place, length, caller);
+    return open_place(place, length);
 }
 
-void record_access_slowly(uint64_t place, unsigned code_and_width, uint64_t address, uintptr_t caller)
+void record_access_slowly(uint64_t place, unsigned code_and_width, uint64_t address)
 {
-    unsigned char *at = open_place(place, ACCESS_LENGTH, caller);
+    unsigned char *at = open_place(place, ACCESS_LENGTH);
     if (at != NULL)
         put_access(at, code_and_width, address);
+}
+
+/* Takes the place of a record that has this fault, or none (0). The fault is noted before the record is written: who
+   reads the record finds it. */
+static unsigned char *reserve_with(uint32_t fault, unsigned length)
+{
+    uint64_t place = stream_take(&STREAM->cursor, CURSOR_EVENT + length);
+    unsigned char *at = open_place(place, length);
+    if (at != NULL && fault != 0)
+        fault_note(fault, ((place - CURSOR_ON) >> 32) + 1);
+    return at;
+}
+
+void record_watched_access(unsigned code_and_width, uint64_t address, uintptr_t caller)
+{
+    bool is_bad = STREAM->has_side && shadow_is_bad(address, code_and_width >> 8);
+    uint32_t fault = is_bad ? fault_of(code_and_width, address, caller) : 0;
+    unsigned char *at = reserve_with(fault, ACCESS_LENGTH);
+    if (at == NULL)
+        return;
+    put_access(at, code_and_width, address);
+    stream_look_at_clock(is_bad);
+}
+
+void record_bad_free(uint64_t address, uintptr_t caller)
+{
+    bool is_on = (atomic_load_explicit(&STREAM->cursor, memory_order_relaxed) & CURSOR_ON) != 0;
+    if (address >= ADDRESS_END || (!is_on && !stream_wake()))
+        return;
+    unsigned char *at = reserve_with(STREAM->has_side ? fault_of(CODE_FREE, address, caller) : 0, PLACE_LENGTH);
+    if (at == NULL)
+        return;
+    put_number(at + 1, address);
+    put_code(at, CODE_FREE);
+    stream_look_at_clock(true);
 }

@@ -12,12 +12,13 @@ extern _Atomic enum state recorder_state;
 
 /* Opens the output, writes the header, and turns the stream on. False: one line said why not. */
 bool stream_begin(const struct settings *settings);
-/* Turns it off and ends it, with or without a close. `certain` is false in a handler of a signal, which does not wait
-   for the lock for ever. */
-void stream_end(enum finish finish, bool certain);
-/* Ends it with a close, keeping what is needed to go on. */
+/* Turns it off and ends it, with or without a close: at an exit, an exec, or the end by a signal, which has a number.
+   The last is in a handler, which does not wait for the lock for ever. */
+void stream_end(enum finish finish, enum ending ending, int number);
+/* For an exec: ends it with a close, keeping what is needed to go on. */
 bool stream_suspend(void);
-void stream_resume(void);
+/* The exec has failed. False: the stream had ended before. */
+bool stream_resume(void);
 /* In a child: forgets the parent's stream. */
 void stream_forget(void);
 /* Whoever has the lock is undisturbed. */
@@ -25,9 +26,14 @@ void stream_lock(void);
 void stream_unlock(void);
 /* Whether this address is in the mapped trace, and what to do if the file under it is gone. */
 bool stream_has_lost(const void *address);
+/* After a library was opened. */
 void stream_write_modules(void);
 /* The place of a record of so many bytes, or null if none is recorded. */
-unsigned char *stream_reserve(unsigned length, uintptr_t caller);
+unsigned char *stream_reserve(unsigned length);
+/* Backs a part of the side file, if there is one. False: it can't be, or not without waiting. */
+bool stream_back_side(uint64_t offset, uint64_t length);
+/* After a record: gives a socket what there is, if it is time for it; or at once, but only so often. */
+void stream_look_at_clock(bool at_once);
 /* Says how much was left out, if anything was. */
 void stream_say_left_out(void);
 

@@ -2,16 +2,7 @@
 #include <string.h>
 
 #include "callbacks.h"
-
-/* A global, as the compilers lay it out. */
-struct global {
-    uintptr_t start;
-    size_t size, size_with_redzone;
-    const char *name, *module;
-    uintptr_t has_dynamic_init;
-    const void *location;
-    uintptr_t odr_indicator;
-};
+#include "globals.h"
 
 /* A constructor of the compilers' calls this, which may come before the recorder's. */
 CALLBACK void __asan_register_globals(const struct global *globals, uintptr_t count)
@@ -20,10 +11,12 @@ CALLBACK void __asan_register_globals(const struct global *globals, uintptr_t co
     shadow_map();
     for (uintptr_t i = 0; i < count; i++)
         shadow_poison(globals[i].start + globals[i].size, globals[i].size_with_redzone - globals[i].size, SHADE_GLOBAL);
+    note_globals(globals, count, true);
 }
 
 CALLBACK void __asan_unregister_globals(const struct global *globals, uintptr_t count)
 {
+    note_globals(globals, count, false);
     for (uintptr_t i = 0; i < count; i++)
         shadow_clear(globals[i].start, globals[i].size_with_redzone);
 }

@@ -9,18 +9,25 @@ record and does not; then the last two as parts of AddressSanitizer's, and the g
 both in MB. Runs are interleaved. Every build has its branches aligned alike: without that, the time
 of a short loop is luck on some processors.
 
+Small programs, each of which does one thing, and two real ones: bzip2 compresses and decompresses 2 MB
+of words, and Lua's interpreter runs a script. Their sources come from Debian as those of real.py do,
+and if they are not to be had these two are left out, by name.
+
+All of it takes about ten minutes on a machine with nothing else to do, half of them for the two real
+programs, each of which is built six times.
 """
 
 import argparse
 import os
+import random
 import shutil
 import subprocess
 import sys
 import tempfile
-from typing import Dict, List, NamedTuple, Optional, Sequence
+from typing import Dict, List, NamedTuple, Optional, Sequence, Tuple
 
-TESTS = os.path.dirname(os.path.abspath(__file__))
-RECORDER = os.path.dirname(TESTS)
+import real
+from support import CC, CXX, TESTS, Compiler, Failure, build, compilers, environment
 
 ALIGNED = {
     "gcc": "-Wa,-mbranches-within-32B-boundaries",
@@ -29,22 +36,27 @@ ALIGNED = {
 
 
 class Program(NamedTuple):
+    """A program of one source, or one of those of real.py. `runs` are its command lines, one after the other."""
+
     name: str
     source: str
-    words: List[str]
+    runs: Tuple[Sequence[str], ...]
     is_cpp: bool = False
+    is_real: bool = False  # `source` is then where its build leaves the program
 
 
 PROGRAMS = [
-    Program("array", "speed.c", ["array", "100000000"]),
-    Program("tree", "speed.c", ["tree", "300000"]),
-    Program("sort", "speed.c", ["sort", "2000000"]),
-    Program("blocks", "speed.c", ["blocks", "3000000"]),
-    Program("frames", "speed.c", ["frames", "30000000"]),
-    Program("calls", "speed.c", ["calls", "50000000"]),
-    Program("copies", "speed.c", ["copies", "20000000"]),
-    Program("strings", "speed.c", ["strings", "5000000"]),
-    Program("containers", "containers.cpp", ["300000"], is_cpp=True),
+    Program("array", "speed.c", (["array", "100000000"],)),
+    Program("tree", "speed.c", (["tree", "300000"],)),
+    Program("sort", "speed.c", (["sort", "2000000"],)),
+    Program("blocks", "speed.c", (["blocks", "3000000"],)),
+    Program("frames", "speed.c", (["frames", "30000000"],)),
+    Program("calls", "speed.c", (["calls", "50000000"],)),
+    Program("copies", "speed.c", (["copies", "20000000"],)),
+    Program("strings", "speed.c", (["strings", "5000000"],)),
+    Program("containers", "containers.cpp", (["300000"],), is_cpp=True),
+    Program("bzip2", "bzip2", (["-kf", "words"], ["-kdf", "words.bz2"]), is_real=True),
+    Program("lua5.4", "src/lua", ([f"{TESTS}/real/work.lua", "40000"],), is_real=True),
 ]
 
 # Each way to run a program: its build, and what its environment has besides.
@@ -56,57 +68,97 @@ class Cost(NamedTuple):
     megabytes: float
 
 
-def build(compiler: str, program: Program, way: str, folder: str) -> str:
+def build_small(compiler: Compiler, program: Program, flags: Sequence[str], is_recorded: bool, path: str) -> None:
+    command = compiler.cxx if program.is_cpp else compiler.name
+    words = [CXX if program.is_cpp else CC] if is_recorded else [command]
+    words += [*flags, f"{TESTS}/{program.source}", "-o", path]
+    build(words, ".", **{"ASANCOL_CXX" if program.is_cpp else "ASANCOL_CC": command})
+
+
+def build_real(compiler: Compiler, program: Program, flags: Sequence[str], is_recorded: bool, folder: str) -> None:
+    settings = real.flags_for(compiler, " ".join(flags), is_recorded)
+    settings["ASAN_OPTIONS"] = "detect_leaks=0"  # for what runs while it is built
+    os.mkdir(folder)
+    real.build_in(next(it for it in real.PROGRAMS if it.name == program.name), folder, settings)
+
+
+def make(compiler: Compiler, program: Program, way: str, folder: str) -> str:
     """Builds a program and returns its path. The two ways of a recorded one share a build."""
-    kind = "recorded" if way == "off" else way
-    path = f"{folder}/{program.source}.{compiler}.{kind}"
-    if os.path.exists(path):
-        return path
-    command = {"gcc": "g++", "clang": "clang++"}[compiler] if program.is_cpp else compiler
-    words = [command]
-    if kind == "recorded":
-        words = [f"{RECORDER}/asancol-{'c++' if program.is_cpp else 'cc'}"]
-    words += ["-O2", ALIGNED[compiler], f"{TESTS}/{program.source}", "-o", path]
-    words += ["-fsanitize=address"] if kind == "sanitizer" else []
-    settings = {"ASANCOL_CXX" if program.is_cpp else "ASANCOL_CC": command}
-    subprocess.run(words, env={**os.environ, **settings}, check=True)
+    is_recorded, is_sanitized = way in ("recorded", "off"), way == "sanitizer"
+    flags = ["-O2", ALIGNED[compiler.name]] + (["-fsanitize=address"] if is_sanitized else [])
+    name = program.name if program.is_real else program.source
+    base = f"{folder}/{name}.{compiler}.{'recorded' if is_recorded else way}"
+    path = f"{base}/src/{program.source}" if program.is_real else base
+    if not os.path.exists(path):
+        if program.is_real:
+            build_real(compiler, program, flags, is_recorded, base)
+        else:
+            build_small(compiler, program, flags, is_recorded, path)
     return path
 
 
-def measure(path: str, words: Sequence[str], way: str, folder: str) -> Cost:
-    """Runs a program once."""
-    settings = {name: value for name, value in os.environ.items() if not name.startswith("ASANCOL_")}
-    settings["ASAN_OPTIONS"] = "detect_leaks=0"
+def measure_run(path: str, words: Sequence[str], way: str, folder: str) -> Cost:
+    """Runs a program once, with the libraries that were built beside it."""
+    settings = {"ASAN_OPTIONS": "detect_leaks=0", "LD_LIBRARY_PATH": os.path.dirname(path)}
     if way == "recorded":
         settings["ASANCOL_TRACE"] = f"{folder}/%p.trace"
     with open(os.devnull, "wb") as nothing:
-        process = subprocess.Popen([path, *words], stdout=nothing, env=settings)
+        process = subprocess.Popen([path, *words], stdout=nothing, cwd=folder, env=environment(**settings))
         _, status, usage = os.wait4(process.pid, 0)
     process.returncode = status
     for name in os.listdir(folder):
         if name.endswith(".trace"):
             os.unlink(f"{folder}/{name}")
     if status:
-        sys.exit(f"{path} {' '.join(words)}: wait status {status}")
+        raise Failure(f"{path} {' '.join(words)}: wait status {status}")
     return Cost(usage.ru_utime + usage.ru_stime, usage.ru_maxrss / 1024)
+
+
+def measure(path: str, program: Program, way: str, folder: str) -> Cost:
+    costs = [measure_run(path, words, way, folder) for words in program.runs]
+    return Cost(sum(it.seconds for it in costs), max(it.megabytes for it in costs))
 
 
 def least(costs: Sequence[Cost]) -> Cost:
     return Cost(min(it.seconds for it in costs), min(it.megabytes for it in costs))
 
 
-def row(compiler: str, program: Program, rounds: int, folder: str) -> str:
-    paths = {way: build(compiler, program, way, folder) for way in WAYS}
+def row(compiler: Compiler, program: Program, rounds: int, folder: str) -> str:
+    paths = {way: make(compiler, program, way, folder) for way in WAYS}
     costs: Dict[str, List[Cost]] = {way: [] for way in WAYS}
     for _ in range(rounds):
         for way in WAYS:
-            costs[way].append(measure(paths[way], program.words, way, folder))
+            costs[way].append(measure(paths[way], program, way, folder))
     best = {way: least(costs[way]) for way in WAYS}
     base = best["sanitizer"]
     seconds = "".join(f"{best[way].seconds:11.3f}" for way in WAYS)
     parts = "".join(f"{best[way].seconds / base.seconds:10.2f}" for way in ("recorded", "off"))
     memory = f"{base.megabytes:11.0f}{best['recorded'].megabytes:10.0f}"
-    return f"{program.name:<12}{compiler:<7}{seconds}{parts}{memory}"
+    return f"{program.name:<12}{compiler!s:<7}{seconds}{parts}{memory}"
+
+
+def write_words(folder: str) -> None:
+    """2 MB of text, the same each time: some words are common and most are rare."""
+    numbers = random.Random(1)
+    words = ["".join(numbers.choices("etaoinshrdlu", k=numbers.randint(2, 9))) for _ in range(5000)]
+    text = " ".join(words[int(5000 * numbers.random() ** 4)] for _ in range(350000))
+    with open(f"{folder}/words", "w", encoding="ascii") as file:
+        file.write(text)
+
+
+def chosen(names: Sequence[str]) -> List[Program]:
+    """The programs that were asked for and whose sources are there."""
+    programs = []
+    for program in PROGRAMS:
+        if names and program.name not in names:
+            continue
+        try:
+            if program.is_real:
+                real.fetch([it for it in real.PROGRAMS if it.name == program.name])
+            programs.append(program)
+        except (Failure, OSError) as error:
+            print(f"left out: {program.name}, its sources are not to be had: {error}", flush=True)
+    return programs
 
 
 def main(words: Optional[List[str]] = None) -> int:
@@ -114,13 +166,17 @@ def main(words: Optional[List[str]] = None) -> int:
     parser.add_argument("--rounds", type=int, default=5)
     parser.add_argument("names", nargs="*")
     options = parser.parse_args(words)
+    programs, found = chosen(options.names), compilers()
     heads = "".join(f"{way:>11}" for way in WAYS) + f"{'recorded/':>10}{'off/':>10}{'MB sanit.':>11}{'recorded':>10}"
     print(f"{'program':<12}{'by':<7}{heads}", flush=True)
     with tempfile.TemporaryDirectory(prefix="asancol-bench-") as folder:
-        for program in PROGRAMS:
-            for compiler in ("gcc", "clang"):
-                if shutil.which(compiler) and (not options.names or program.name in options.names):
+        write_words(folder)
+        for program in programs:
+            for compiler in found:
+                try:
                     print(row(compiler, program, options.rounds, folder), flush=True)
+                except Failure as error:
+                    sys.exit(str(error))
     return 0
 
 

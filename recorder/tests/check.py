@@ -19,9 +19,11 @@ import tempfile
 import time
 
 import fuzzing
+import hub
 import inline
 import seen_whole
 from support import (
+    EXIT,
     build,
     by_sanitizer,
     CC,
@@ -41,7 +43,8 @@ from support import (
     Suite,
     TESTS,
     Trace,
-    WHERE,
+    placed,
+    side_of,
     write,
 )
 
@@ -350,24 +353,20 @@ def check_where(suite, folder, compiler, level):
     write(folder, w_trace_where="of another trace")
     ran = run(["./w"], folder, ASANCOL_TRACE="w.trace", ASANCOL_WHERE="1")
     expect((ran.returncode, ran.stderr), (0, b""))
-    verdicts = run([suite.asancol, "check", "w.trace"], folder).stdout
-    for symbolizer in ("addr2line", "llvm-symbolizer"):
-        if not shutil.which(symbolizer):
-            print(f"left out: {symbolizer} is not there")
-            continue
-        said = run([WHERE, "w.trace"], folder, stdin=verdicts, ASANCOL_SYMBOLIZER=symbolizer)
-        lines = said.stdout.decode().splitlines()
-        plain = verdicts.decode().splitlines()
-        expect(len(lines), len(plain), "lines")
-        expect([line.startswith(old) for line, old in zip(lines, plain)], [True] * len(lines))
-        expect(re.findall(r"w\.c:(\d+)", lines[0])[0], "10", lines[0])
-        allocated, freed = lines[0].split("allocated at ")[1].split("freed at ")
-        expect(re.findall(r"w\.c:(\d+)", allocated)[0], "4", lines[0])
-        expect(re.findall(r"w\.c:(\d+)", freed)[0], "6", lines[0])
+    said, _ = placed(suite.asancol, f"{folder}/w.trace")
+    expect([(it.kind, it.line) for it in said], [("store", "w.c:10")], "the access")
+    side = side_of(f"{folder}/w.trace")
+    fault = side.fault(said[0].number)
+    expect((side.header, side.words, side.ending), (b"ASWH\2\0\0\0", [b"./w"], EXIT), "the head")
+    events = len(Trace(f"{folder}/w.trace").events)
+    expect((side.events, side.fault_count, fault.size), (events, 1, 6), "events, faults, and the block")
+    places = side.lines([fault.allocated, fault.freed])
+    expect([line for _, line in places], ["w.c:4", "w.c:6"], "where the block was made and freed")
+    expect(os.stat(f"{folder}/w.trace.where").st_blocks * 512 < 1 << 20, True, "that the file is sparse")
 
 
 def check_many_places(suite, folder, compiler):
-    """Many reports, of which each has its own block; and in another order."""
+    """Many reports of one place are one fault."""
     source = """
 #include <stdlib.h>
 int main(void)
@@ -385,13 +384,11 @@ int main(void)
     write(folder, m_c=source)
     compiler.c(folder, ["m.c"], f"{folder}/m", "-w")
     run(["./m"], folder, ASANCOL_TRACE="m.trace", ASANCOL_WHERE="1")
-    verdicts = run([suite.asancol, "check", "m.trace"], folder).stdout.splitlines(True)
-    for lines in (verdicts, verdicts[::-1]):
-        said = run([WHERE, "m.trace"], folder, stdin=b"".join(lines)).stdout.decode().splitlines()
-        said = said if lines is verdicts else said[::-1]
-        expect(len(said), 301, "lines")
-        for i, line in enumerate(said[:-1]):
-            expect(f"0 bytes past a block of {i % 10 + 1}, allocated at main" in line, True, line)
+    said, _ = placed(suite.asancol, f"{folder}/m.trace")
+    side = side_of(f"{folder}/m.trace")
+    expect((len(said), side.fault_count), (300, 1), "reports, and faults")
+    expect([side.fault(it.number).event for it in said], [301] * 300, "the first event of their fault")
+    expect(side.lines([side.faults[0].allocated])[0][0], "main", "where they were allocated")
 
 
 # Where there is no place for a trace.
@@ -468,9 +465,8 @@ def check_cpp(suite, folder, program, sanitized, name, wanted):
         said = by_sanitizer(run([sanitized, name], folder).stderr.decode())
         if said is None or not same_as_sanitizer(texts[0], said):
             raise Failure(f"AddressSanitizer says {said}, the trace {texts[0]!r}")
-    verdicts = run([suite.asancol, "check", "t.trace"], folder).stdout
-    placed = run([WHERE, "t.trace"], folder, stdin=verdicts).stdout.decode()
-    expect("new.cpp:" in placed, bool(wanted), placed)
+    found, _ = placed(suite.asancol, f"{folder}/t.trace")
+    expect([it for it in found if not re.search(r":\d+$", it.line)], [], "reports without a line")
 
 
 def cpp_tests(suite, compiler, folder):
@@ -570,13 +566,17 @@ def check_builds(suite, folder, compiler):
 
 def check_by_itself(suite, folder, compiler):
     """The recorder, built by the compiler without a warning."""
+    copy = f"{folder}/recorder"
+    os.mkdir(copy)
     for name in os.listdir(RECORDER):
-        if name == "Makefile" or name.endswith((".c", ".h", ".def")):
-            shutil.copy(f"{RECORDER}/{name}", folder)
-    made = run(["make", "-s", f"CC={compiler.name}"], folder)
+        if name == "Makefile" or name.endswith((".c", ".h", ".def", ".ld")):
+            shutil.copy(f"{RECORDER}/{name}", copy)
+    for name in ("install.mk", "VERSION"):
+        shutil.copy(f"{RECORDER}/../{name}", folder)
+    made = run(["make", "-s", f"CC={compiler.name}"], copy)
     expect((made.returncode, made.stderr), (0, b""), "make")
     write(folder, main_c=PAST_THE_END, helper_c=HELPER)
-    build(["./asancol-cc", "-DVALUE=1", "main.c", "helper.c", "-o", "program"], folder, ASANCOL_CC=compiler.name)
+    build(["recorder/asancol-cc", "-DVALUE=1", "main.c", "helper.c", "-o", "program"], folder, ASANCOL_CC=compiler.name)
     one_mark(suite, folder)
 
 
@@ -636,7 +636,6 @@ def check_install(suite, folder, compiler):
     there = f"{folder}/there/bin"
     build([f"{there}/asancol-cc", "-DVALUE=1", "main.c", "helper.c", "-o", "program"], folder, ASANCOL_CC=compiler.name)
     one_mark(suite, folder)
-    expect(run([f"{there}/asancol-where", "--help"], folder).returncode, 0)
 
 
 def check_command(suite, folder, compiler):
@@ -699,10 +698,8 @@ def check_store(suite, folder, compiler, level):
         run(["./store", "--bug", bug], folder, stdin=commands, ASANCOL_TRACE=trace, ASANCOL_WHERE="1")
         _, texts, _ = reports(suite.asancol, trace, most=1)
         expect(texts[0].split()[-1] if texts else None, wrong, bug)
-        verdicts = run([suite.asancol, "check", trace], folder).stdout
-        first = run([WHERE, trace], folder, stdin=verdicts.splitlines(True)[0]).stdout.decode().splitlines()[0]
         if function:
-            expect(re.search(r" at (\w+)", first.split("shadow")[1]).group(1), function, first)
+            expect(placed(suite.asancol, trace)[0][0].function, function, bug)
         if os.path.exists(f"{folder}/sanitized"):
             options = "detect_leaks=0"
             said = run(["./sanitized", "--bug", bug], folder, stdin=commands, ASAN_OPTIONS=options).stderr.decode()
@@ -742,6 +739,7 @@ def main():
             seen_whole.tests(suite, compiler, folder)
             inline.tests(suite, compiler)
             fuzzing.tests(suite, compiler, folder)
+            hub.tests(suite, compiler, folder)
         return suite.finish()
     finally:
         shutil.rmtree(folder, ignore_errors=True)

@@ -7,11 +7,11 @@ from typing import List, Sequence, Tuple
 
 from support import (
     TESTS,
-    WHERE,
     Compiler,
     Suite,
     Trace,
     expect,
+    placed,
     reports,
     run,
     write,
@@ -19,8 +19,6 @@ from support import (
 
 # The kind of an access or free, its class, and its source line.
 Fault = Tuple[str, str, str]
-
-PLACED = re.compile(r"p0 #\d+ (\w+) .*? ([a-z-]+)(?: shadow ..)? at \S+ \S*/(\S+?:\d+)")
 
 LEVELS = ("-O0", "-O1", "-O2", "-O3")
 
@@ -35,11 +33,11 @@ def faults_of(suite: Suite, folder: str, program: str) -> Tuple[List[Fault], int
     trace = f"{program}.trace"
     ran = run([program], folder, ASANCOL_TRACE=trace, ASANCOL_WHERE="1")
     expect((ran.returncode, ran.stderr), (0, b""), program)
-    checked = run([suite.asancol, "check", trace], folder)
-    said = run([WHERE, trace], folder, stdin=checked.stdout).stdout.decode().splitlines()
-    expect(said[-1].startswith("p0 end closed "), True, said[-1])
+    said, status = placed(suite.asancol, trace)
+    expect(Trace(trace).is_closed, True, trace)
     os.unlink(trace)
-    return [match.groups() for match in map(PLACED.match, said) if match], checked.returncode
+    os.unlink(f"{trace}.where")
+    return [(it.kind, it.wrong, it.line) for it in said], status
 
 
 # Programs whose faults are the same in each run.
@@ -63,7 +61,7 @@ def check_same(suite: Suite, folder: str, compiler: Compiler, source: str, level
 
 
 # How many reports there are at -O0, where addresses vary from run to run or events are many.
-COUNTS = {"three.c": 3, "scopes.c": 6, "handlers.c": 8, "threads.cpp": 22}
+COUNTS = {"three.c": 3, "scopes.c": 6, "handlers.c": 8, "threads.cpp": 22, "load.cpp": 30}
 
 
 def check_count(suite: Suite, folder: str, compiler: Compiler, source: str, flags: Sequence[str]) -> None:

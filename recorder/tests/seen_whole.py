@@ -5,23 +5,19 @@ import glob
 import os
 import re
 import shutil
-import subprocess
-from typing import Dict, List, Sequence, Tuple
+from typing import List, Sequence
 
 from support import (
     CC,
     HELPER,
     MARK,
     PAST_THE_END,
-    RECORDER,
     TESTS,
-    WHERE,
     Compiler,
     Failure,
     Suite,
     Trace,
     build,
-    environment,
     expect,
     one_mark,
     reports,
@@ -403,7 +399,7 @@ def check_settings(suite: Suite, folder: str, program: str) -> None:
         ({"ASANCOL_QUARANTINE": "1M"}, ["ASANCOL_QUARANTINE: 1M is no number from 0 to 1099511627776"]),
         ({"ASANCOL_PATIENCE": "-1"}, ["ASANCOL_PATIENCE: -1 is no number from 0 to 86400, and 60 holds"]),
         ({"ASANCOL_WHERE": "", "ASANCOL_LIMIT": "", "ASANCOL_LOG": ""}, []),
-        ({"ASANCOL_CC": "gcc", "ASANCOL_CXX": "g++", "ASANCOL_SYMBOLIZER": "addr2line"}, []),
+        ({"ASANCOL_CC": "gcc", "ASANCOL_CXX": "g++", "ASANCOL_REPORT": "r", "ASANCOL_SYMBOLIZER": "addr2line"}, []),
     ):
         ran = run([program, "ends_normally"], folder, **settings)
         expect(ran.returncode, 0, settings)
@@ -463,98 +459,10 @@ def setting_tests(suite: Suite, compiler: Compiler, program: str) -> None:
     suite.test(f"{compiler} one pipe", check_one_pipe, program)
 
 
-# The way to one result a test.
-
-
-def check_where_status(suite: Suite, folder: str, program: str) -> None:
-    """asancol-where ends as the lines say, so that a pipe into it does."""
-    run([program, "ends_normally"], folder, ASANCOL_TRACE="t.trace", ASANCOL_WHERE="1")
-    report, closed = run([suite.asancol, "check", "t.trace"], folder).stdout.splitlines(True)
-    unfinished = closed.replace(b"closed", b"no-close")
-    for said, status in (
-        (report + closed, 1),
-        (closed, 0),
-        (report + unfinished, 3),
-        (unfinished, 3),
-        (report, 3),
-        (b"", 3),
-        (b"p0 end not-opened\n", 3),
-        (b"p0 end no-memory checked 5 reports 0\n", 3),
-    ):
-        expect(run([WHERE, "t.trace"], folder, stdin=said).returncode, status, said)
-    full = ["sh", "-c", f"{WHERE} t.trace > /dev/full"]
-    expect(run(full, folder, stdin=closed).returncode, 4, "a full disk")
-    # Without a symbolizer, and after a new build, it says so.
-    lacking = run([WHERE, "t.trace"], folder, stdin=report + closed, ASANCOL_SYMBOLIZER="no-such-symbolizer")
-    expect(b"no-such-symbolizer gives none" in lacking.stderr, True, lacking.stderr)
-    shutil.copy(program, f"{folder}/copy")
-    run(["./copy", "ends_normally"], folder, ASANCOL_TRACE="copy.trace", ASANCOL_WHERE="1")
-    later = os.stat(f"{folder}/copy.trace").st_mtime + 10
-    os.utime(f"{folder}/copy", (later, later))
-    old = run([WHERE, "copy.trace"], folder, stdin=report + closed)
-    expect((old.returncode, old.stderr.count(b"was changed after")), (1, 1), old.stderr)
-
-
-def script_of(page: str, first: str) -> str:
-    """The script of a page that has this line."""
-    with open(page, encoding="utf-8") as file:
-        found = [text for text in re.findall(r"```sh\n(.*?)```", file.read(), re.S) if first in text]
-    expect(len(found), 1, f"{page}: {first}")
-    return found[0]
-
-
-# A sound test; and each test with its source and its words, and what record-all says of it.
-SOUND = "int main(void) { char *p = malloc(8); p[7] = 1; free(p); return 0; }"
-FARM: Dict[str, Tuple[str, str, str]] = {
-    "sound/check": (SOUND, "", "clean, ended with 0"),
-    "bad/check": (
-        "int main(int n, char **w) { char *p = malloc(8); ((volatile char *)p)[atoi(w[1])] = 1; return n - 2; }",
-        "8",
-        "reports, ended with 0",
-    ),
-    "aborts": ("int main(void) { abort(); }", "", "incomplete, ended with 134"),
-    "plain": ("int main(void) { return 0; }", "", "nothing recorded, ended with 0"),
-    "100%p" + "long" * 30: (SOUND, "", "clean, ended with 0"),
-    "busy": (
-        "int main(void) { for (int i = 0; i < 2000; i++) { char *volatile p = malloc(8); free(p); } return 0; }",
-        "",
-        "incomplete, ended with 0",
-    ),
-}
-
-
-def check_farm(suite: Suite, folder: str, compiler: Compiler) -> None:
-    """The script of docs/FARMS.md, with a folder from where it is called."""
-    with open(f"{folder}/record-all", "w", encoding="utf-8") as file:
-        file.write(script_of(f"{RECORDER}/../docs/FARMS.md", "# record-all FOLDER JOBS TEST.."))
-    os.makedirs(f"{folder}/bin")
-    os.symlink(suite.asancol, f"{folder}/bin/asancol")
-    os.symlink(WHERE, f"{folder}/bin/asancol-where")
-    for number, (name, (source, _, _)) in enumerate(FARM.items()):
-        os.makedirs(os.path.dirname(f"{folder}/tests/{name}"), exist_ok=True)
-        write(folder, **{f"t{number}_c": f"#include <stdlib.h>\n{source}\n"})
-        compiler.c(folder, [f"t{number}.c"], f"{folder}/tests/{name}", native=name == "plain")
-    tests = [f"tests/{name} {words}".strip() for name, (_, words, _) in FARM.items()]
-    path = f"{folder}/bin:{os.environ['PATH']}"
-    ran = run(["sh", "record-all", "runs", "4", *tests], folder, PATH=path, ASANCOL_LIMIT="1000")
-    expect((ran.returncode, ran.stderr), (1, b""), "record-all")
-    wanted = [f"{test}: {said}" for test, (_, _, said) in zip(tests, FARM.values())]
-    expect(sorted(lines_of(ran.stdout)), sorted(wanted), "what it says")
-    kept = glob.glob(f"{folder}/runs/*bad-check*/*.txt") + glob.glob(f"{folder}/runs/*check*/*.txt")
-    expect(any("heap-buffer-overflow" in open(path).read() for path in kept), True, "the reports")
-    expect(run(["sh", "record-all", "runs2", "2", tests[0]], folder, PATH=path).returncode, 0, "a clean run")
-
-
-def farm_tests(suite: Suite, compiler: Compiler, program: str) -> None:
-    suite.test(f"{compiler} where, status", check_where_status, program)
-    suite.test(f"{compiler} farm", check_farm, compiler)
-
-
 def tests(suite: Suite, compiler: Compiler, folder: str) -> None:
-    """Takes its programs where the tests of lives have built them: of one each access is recorded."""
-    program, every = f"{folder}/lives-{compiler}", f"{folder}/every-{compiler}"
+    """Takes its program, of which each access is recorded, where the tests of lives have built it."""
+    every = f"{folder}/every-{compiler}"
     limit_tests(suite, compiler, every)
     seen_tests(suite, compiler)
     sound_tests(suite, compiler)
     setting_tests(suite, compiler, every)
-    farm_tests(suite, compiler, program)

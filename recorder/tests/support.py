@@ -3,16 +3,17 @@
 import os
 import re
 import shutil
+import struct
 import subprocess
 import tempfile
 import threading
 from concurrent.futures import ThreadPoolExecutor
+from typing import NamedTuple
 
 TESTS = os.path.dirname(os.path.abspath(__file__))
 RECORDER = os.path.dirname(TESTS)
 CC = f"{RECORDER}/asancol-cc"
 CXX = f"{RECORDER}/asancol-c++"
-WHERE = f"{RECORDER}/asancol-where"
 
 # No run may take longer, in seconds. Nothing is measured by it.
 PATIENCE = 300
@@ -58,10 +59,10 @@ def build(words, folder, **settings):
 
 
 class Trace:
-    """A trace as it lies in a file."""
+    """A trace as it lies in a file, or as it came over a socket."""
 
-    def __init__(self, path):
-        self.data = open(path, "rb").read()
+    def __init__(self, path=None, data=None):
+        self.data = data if data is not None else open(path, "rb").read()
         self.events = []
         self.is_closed = False
         at = 8
@@ -94,6 +95,90 @@ class Trace:
         return None
 
 
+# What stands beside a trace, as docs/FORMAT.md lays it out.
+HEAD = struct.Struct("<8sQQIIIIQIII")
+BUILDS, BUILD, MAPS, INDEX = 4096, struct.Struct("<QB23s"), 8192, 1 << 18
+FAULTS_AT, FAULT = INDEX + (1 << 24) * 4, struct.Struct("<QQQQQQII136s")
+NO_ENDING, EXIT, EXEC, SIGNAL, LOST = range(5)
+NO_VARIABLE, OF_STACK, GLOBAL = range(3)
+
+
+def text_of(data):
+    return data.split(b"\0")[0].decode()
+
+
+class Fault:
+    """One entry of the list of faults."""
+
+    def __init__(self, data):
+        numbers = FAULT.unpack(data)
+        self.event, self.place, self.block, self.size, self.allocated, self.freed = numbers[:6]
+        self.variable, self.line = numbers[6:8]
+        self.name = text_of(numbers[8])
+
+
+class Side:
+    """The side memory or the side file of a process. What a file lacks at its end is zeros."""
+
+    def __init__(self, data):
+        self.data = data
+        head = HEAD.unpack_from(data)
+        self.header, self.events, self.left_out, self.ending, self.signal, self.process, self.parent = head[:7]
+        self.started, self.has_checks, self.is_at_limit, self.fault_count = head[7:]
+        self.words = data[72:4072].split(b"\0\0")[0].split(b"\0")
+        at = [FAULTS_AT + i * FAULT.size for i in range(self.fault_count)]
+        self.faults = [Fault(data[it : it + FAULT.size]) for it in at]
+        self.maps = [line.split(None, 5) for line in text_of(data[MAPS:INDEX]).splitlines()]
+
+    def fault(self, event):
+        """The fault of an event, or None."""
+        at = INDEX + (event - 1) * 4
+        entry = self.data[at : at + 4]
+        number = int.from_bytes(entry, "little")
+        return self.faults[number - 1] if number else None
+
+    def builds(self):
+        """The build ids, by the file of the module."""
+        starts = {int(words[0].split("-")[0], 16): words[5] for words in self.maps if len(words) == 6}
+        found = {}
+        for i in range(112):
+            start, length, build_id = BUILD.unpack_from(self.data, BUILDS + i * BUILD.size)
+            if start == 0:
+                break
+            found[starts[start]] = build_id[:length].hex()
+        return found
+
+    def lines(self, places):
+        """Function and FILE:LINE of each place, by addr2line."""
+        wanted = {}
+        for place in set(places):
+            wanted.setdefault(self.module(place), []).append(place)
+        found = {}
+        for (path, base), of_module in wanted.items():
+            addresses = "\n".join(hex(place - 1 - base) for place in of_module)
+            said = run(["addr2line", "-f", "-e", path], ".", stdin=addresses.encode()).stdout.decode().splitlines()
+            for place, function, line in zip(of_module, said[::2], said[1::2]):
+                found[place] = (function, os.path.basename(line.split(" (")[0]))
+        return [found[place] for place in places]
+
+    def module(self, place):
+        """The file that a place is in, and what to take away for its own address."""
+        for words in self.maps:
+            start, end = (int(word, 16) for word in words[0].split("-"))
+            if start <= place < end and len(words) == 6:
+                first = min(int(it[0].split("-")[0], 16) for it in self.maps if len(it) == 6 and it[5] == words[5])
+                with open(words[5], "rb") as file:
+                    is_at_fixed_place = file.read(18)[16] == 2
+                return words[5], 0 if is_at_fixed_place else first
+        raise Failure(f"no module is at {place:x}")
+
+
+def side_of(path):
+    """The side file of a trace."""
+    with open(f"{path}.where", "rb") as file:
+        return Side(file.read())
+
+
 LINE = re.compile(
     r"p0 #(\d+) (load|store|free|malloc)(?: (\d+))? at ([0-9a-f]+)(?: bad ([0-9a-f]+))?"
     r" ([a-z-]+)(?: shadow ..)?"
@@ -120,6 +205,32 @@ def reports(asancol, path, options=(), most=1000):
         texts.append(" ".join([*words, wrong]))
     end = lines[-1].removeprefix("p0 end ") if lines else ""
     return checked.returncode, texts, end
+
+
+class Placed(NamedTuple):
+    """A report with its line, which is "FILE:LINE", or empty without a fault."""
+
+    number: int
+    kind: str
+    width: str
+    wrong: str
+    function: str
+    line: str
+
+
+def placed(asancol, path):
+    """The reports of a trace with their lines, and the status of its check."""
+    checked = run([asancol, "check", path], ".")
+    said = [LINE.fullmatch(line).groups() for line in checked.stdout.decode().splitlines()[:-1]]
+    side = side_of(path)
+    faults = [side.fault(int(words[0])) for words in said]
+    known = [fault.place for fault in faults if fault]
+    lines = dict(zip(known, side.lines(known)))
+    found = []
+    for words, fault in zip(said, faults):
+        function, line = lines[fault.place] if fault else ("", "")
+        found.append(Placed(int(words[0]), words[1], words[2] or "", words[5], function, line))
+    return found, checked.returncode
 
 
 ERROR = re.compile(r"ERROR: AddressSanitizer: (.*)")

@@ -1,0 +1,3 @@
+# Completion of asancol-c++ for fish: that of g++.
+
+complete -c asancol-c++ -w g++

@@ -1,0 +1,4 @@
+#compdef asancol-cc=gcc
+# Completion of asancol-cc for zsh: that of gcc.
+
+_gcc "$@"

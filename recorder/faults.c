@@ -1,0 +1,272 @@
+#define _GNU_SOURCE
+#include "faults.h"
+
+#include <stdatomic.h>
+#include <string.h>
+#include <sys/mman.h>
+
+#include "arena.h"
+#include "frames.h"
+#include "globals.h"
+#include "memory.h"
+#include "stream.h"
+
+/* A side file gets room on the disk in pieces of so many bytes, as they are written to: what has no room is not
+   stored. */
+enum { PIECE = 1 << 16, PIECES = SIDE_ROOM / PIECE + 1, PIECE_BITS = 32 };
+
+static struct {
+    unsigned char *bytes;
+    _Atomic uint32_t taken; /* entries of the list */
+    _Atomic uint32_t backed[PIECES / PIECE_BITS + 1];
+} faults;
+
+/* Faults that are known: the upper bits of a hash, and the number in the lower ones. */
+#define KNOWN ((uint64_t)1 << 17)
+#define NUMBER_MASK (KNOWN - 1)
+_Static_assert(SIDE_FAULTS < KNOWN, "there is always a free place, and a number has room");
+static _Alignas(PAGE) _Atomic uint64_t known[KNOWN];
+
+/* The faults at variables that were found last, by all that decides which they are, in the same form: a loop need not
+   read a description each time. */
+enum { RECENT = 1 << 10 };
+static _Atomic uint64_t recent[RECENT];
+
+void faults_are_cut(void)
+{
+    for (size_t i = 0; i < sizeof faults.backed / sizeof *faults.backed; i++)
+        atomic_store(&faults.backed[i], 0);
+}
+
+void faults_begin(unsigned char *bytes)
+{
+    if (atomic_load(&faults.taken) != 0) {
+        /* Memory that the process has locked can't be given back to the system. */
+        if (madvise((void *)known, sizeof known, MADV_DONTNEED) != 0)
+            memset((void *)known, 0, sizeof known);
+        memset((void *)recent, 0, sizeof recent);
+    }
+    atomic_store(&faults.taken, 0);
+    faults.bytes = bytes;
+    faults_are_cut();
+}
+
+/* Whether a part of the side file has memory. */
+static bool back(uint64_t offset, uint64_t length)
+{
+    for (uint64_t piece = offset / PIECE; piece <= (offset + length - 1) / PIECE; piece++) {
+        _Atomic uint32_t *bits = &faults.backed[piece / PIECE_BITS];
+        uint32_t bit = UINT32_C(1) << piece % PIECE_BITS;
+        if (atomic_load_explicit(bits, memory_order_acquire) & bit)
+            continue;
+        if (!stream_back_side(piece * PIECE, PIECE))
+            return false;
+        atomic_fetch_or(bits, bit);
+    }
+    return true;
+}
+
+/* What is nearest. */
+
+/* Adds to a name. False: it does not fit, and nothing is added. */
+static bool add(char *name, const char *text)
+{
+    size_t length = strlen(name);
+    if (length + strlen(text) >= SIDE_NAME)
+        return false;
+    strcpy(name + length, text);
+    return true;
+}
+
+/* " FILE:LINE" after a name: with the file alone if its folders do not fit, or not at all. */
+static void add_location(char *name, const struct location *at)
+{
+    struct location location;
+    char file[SIDE_NAME], line[16];
+    size_t first = sizeof line, length = strlen(name);
+    if (at == NULL || !memory_read((uintptr_t)at, &location, sizeof location)
+        || !memory_read_text((uintptr_t)location.file, file, sizeof file))
+        return;
+    line[--first] = 0;
+    for (uint32_t rest = location.line; rest != 0; rest /= 10)
+        line[--first] = (char)('0' + rest % 10);
+    line[--first] = ':';
+    const char *last = strrchr(file, '/');
+    const char *const files[] = {file, last != NULL ? last + 1 : file};
+    for (int i = 0; i < 2; i++) {
+        if (add(name, " ") && add(name, files[i]) && add(name, line + first))
+            return;
+        name[length] = 0;
+    }
+}
+
+static void describe_global(uint64_t address, struct side_fault *fault)
+{
+    struct global global;
+    if (!globals_find(address, &global))
+        return;
+    fault->variable = VARIABLE_GLOBAL;
+    fault->block = global.start;
+    fault->block_size = global.size;
+    if (memory_read_text((uintptr_t)global.name, fault->name, sizeof fault->name))
+        add_location(fault->name, global.location);
+}
+
+/* Takes ":LINE" away from the end of a name, and answers it; 0 if it is not there. */
+static uint32_t take_line(char *name)
+{
+    uint32_t line = 0;
+    char *colon = strrchr(name, ':');
+    if (colon == NULL || colon[1] == 0)
+        return 0;
+    for (const char *digit = colon + 1; *digit != 0; digit++) {
+        if (*digit < '0' || *digit > '9')
+            return 0;
+        line = line * 10 + (uint32_t)(*digit - '0');
+    }
+    *colon = 0;
+    return line;
+}
+
+static void describe_variable(const struct frame *frame, uint64_t address, struct side_fault *fault)
+{
+    struct frame_variable variable;
+    if (!frame_nearest(frame, address, &variable))
+        return;
+    fault->variable = VARIABLE_STACK;
+    fault->block = variable.start;
+    fault->block_size = variable.size;
+    size_t length = variable.name_length < SIDE_NAME - 1 ? variable.name_length : SIDE_NAME - 1;
+    if (memory_read(variable.name, fault->name, length))
+        fault->line = take_line(fault->name);
+    /* What a cut line has left is no part of the hash. */
+    memset(fault->name + strlen(fault->name), 0, SIDE_NAME - strlen(fault->name));
+}
+
+static void describe_block(uint64_t address, struct side_fault *fault)
+{
+    struct nearest block;
+    if (!arena_find_nearest(address, &block))
+        return;
+    fault->block = block.start;
+    fault->block_size = block.size;
+    fault->allocated = block.places.allocated;
+    fault->freed = block.places.freed;
+}
+
+/* The first byte that is bad decides what is near. */
+static uint64_t first_bad(unsigned width, uint64_t address)
+{
+    uint64_t bad = width == 0 ? address : shadow_first_bad(address, width);
+    return bad < address + width ? bad : address;
+}
+
+/* The list. */
+
+static uint64_t mix(uint64_t hash, uint64_t word)
+{
+    hash = (hash ^ word) * UINT64_C(0x9e3779b97f4a7c15);
+    return hash ^ hash >> 29;
+}
+
+/* Of what makes one fault: the place, the kind and width, where the block was allocated and freed, and the name. */
+static uint64_t hash_of(unsigned code_and_width, const struct side_fault *fault)
+{
+    uint64_t hash = mix(mix(mix(mix(1, fault->place), code_and_width), fault->allocated), fault->freed);
+    for (size_t i = 0; i < SIDE_NAME && fault->name[i] != 0; i += sizeof(uint64_t)) {
+        uint64_t word;
+        memcpy(&word, fault->name + i, sizeof word);
+        hash = mix(hash, word);
+    }
+    return mix(hash, fault->variable);
+}
+
+static struct side_fault *entry_of(uint32_t number)
+{
+    return (struct side_fault *)(faults.bytes + SIDE_FAULTS_AT) + (number - 1);
+}
+
+/* Adds an entry to the list. Answers its number, or 0. */
+static uint32_t add_fault(const struct side_fault *fault)
+{
+    _Atomic uint32_t *count = (_Atomic uint32_t *)&((struct side *)faults.bytes)->fault_count;
+    uint32_t number = atomic_fetch_add(&faults.taken, 1) + 1, before = atomic_load(count);
+    if (number > SIDE_FAULTS) {
+        atomic_fetch_sub(&faults.taken, 1);
+        return 0;
+    }
+    if (!back(SIDE_FAULTS_AT + (number - 1) * sizeof *fault, sizeof *fault))
+        return 0;
+    *entry_of(number) = *fault;
+    while (before < number && !atomic_compare_exchange_weak(count, &before, number))
+        ;
+    return number;
+}
+
+/* Two threads that find the same one at once may make two entries of it, of which one has no event. */
+static uint32_t find_or_add(uint64_t hash, const struct side_fault *fault)
+{
+    uint32_t number = 0;
+    uint64_t tag = hash & ~NUMBER_MASK;
+    for (uint64_t at = hash;; at++) {
+        _Atomic uint64_t *place = &known[at & NUMBER_MASK];
+        uint64_t seen = atomic_load_explicit(place, memory_order_acquire);
+        if (seen == 0) {
+            if (number == 0 && (number = add_fault(fault)) == 0)
+                return 0;
+            if (atomic_compare_exchange_strong(place, &seen, tag | number))
+                return number;
+        }
+        if ((seen & ~NUMBER_MASK) == tag)
+            return (uint32_t)(seen & NUMBER_MASK);
+    }
+}
+
+static uint32_t block_fault(unsigned code_and_width, uint64_t bad, struct side_fault *fault)
+{
+    describe_block(bad, fault);
+    return find_or_add(hash_of(code_and_width, fault), fault);
+}
+
+static uint32_t variable_fault(unsigned code_and_width, uint64_t bad, struct side_fault *fault)
+{
+    struct frame frame = {0, 0};
+    bool has_frame = !globals_may_have(bad) && frame_around(bad, &frame);
+    uint64_t key = mix(mix(mix(fault->place, code_and_width), bad), globals_generation());
+    if (has_frame)
+        key = mix(mix(key, frame.start), frame.description);
+    _Atomic uint64_t *place = &recent[key % RECENT];
+    uint64_t seen = atomic_load(place);
+    if (seen != 0 && (seen & ~NUMBER_MASK) == (key & ~NUMBER_MASK))
+        return (uint32_t)(seen & NUMBER_MASK);
+    if (has_frame)
+        describe_variable(&frame, bad, fault);
+    else
+        describe_global(bad, fault);
+    uint32_t number = find_or_add(hash_of(code_and_width, fault), fault);
+    if (number != 0)
+        atomic_store(place, (key & ~NUMBER_MASK) | number);
+    return number;
+}
+
+uint32_t fault_of(unsigned code_and_width, uint64_t address, uintptr_t caller)
+{
+    struct side_fault fault = {.place = caller};
+    uint64_t next = atomic_load(&stream_page.stream.cursor) << 1 >> 33, bad = first_bad(code_and_width >> 8, address);
+    /* The event will be one of the next. */
+    if (next >= EVENT_LIMIT || !back(SIDE_INDEX + next * SIDE_INDEX_ENTRY, SIDE_INDEX_ENTRY))
+        return 0;
+    return is_in_arena(bad) ? block_fault(code_and_width, bad, &fault) : variable_fault(code_and_width, bad, &fault);
+}
+
+void fault_note(uint32_t number, uint64_t event)
+{
+    uint64_t offset = SIDE_INDEX + (event - 1) * SIDE_INDEX_ENTRY;
+    if (!back(offset, SIDE_INDEX_ENTRY))
+        return;
+    _Atomic uint64_t *first = (_Atomic uint64_t *)&entry_of(number)->event;
+    uint64_t seen = atomic_load(first);
+    while ((seen == 0 || event < seen) && !atomic_compare_exchange_weak(first, &seen, event))
+        ;
+    atomic_store_explicit((_Atomic uint32_t *)(faults.bytes + offset), number, memory_order_release);
+}

@@ -1,0 +1,19 @@
+/* Faults: what is seen when an access or a free is bad by the shadow. Each is one entry beside the stream, with the
+   block or the variable that is nearest. An index there has for each event the number of its fault. So a loop over bad
+   bytes is one fault, and what is good costs nothing. */
+#ifndef ASANCOL_FAULTS_H
+#define ASANCOL_FAULTS_H
+
+#include <stdint.h>
+
+/* Faults are noted in these bytes from now on (side.h); or nowhere, if they are null. */
+void faults_begin(unsigned char *bytes);
+/* The side file was cut after what it has. */
+void faults_are_cut(void);
+/* The number of a fault, from 1; 0 if there is no room for it. It is found before its event has its place in the
+   stream, for which other threads may wait. At any time, and in a signal handler too. */
+uint32_t fault_of(unsigned code_and_width, uint64_t address, uintptr_t caller);
+/* An event has this fault. */
+void fault_note(uint32_t fault, uint64_t event);
+
+#endif

@@ -1,0 +1,24 @@
+/* What stands beside a stream: who the process is and how it ended, its modules, and its faults (faults.h). It is the
+   memory that a hub shares, or the file TRACE.where. */
+#ifndef ASANCOL_SIDE_H
+#define ASANCOL_SIDE_H
+
+#include <stdbool.h>
+
+#include "format.h"
+
+/* Begins a new one in these bytes, which are zeros, with who the process is; or forgets it, if they are null. */
+void side_begin(unsigned char *bytes);
+/* Up to where it has something. */
+uint64_t side_length(void);
+/* Copies the map of modules from the system, with the build id of each. */
+void side_write_modules(void);
+void side_note_checks(void);
+/* An event finds no room. */
+void side_note_left_out(void);
+/* How the process ends, with so many events in the stream: ENDING_NONE takes an exec back. What is lost stays lost. */
+void side_note_ending(enum ending ending, int number, uint64_t events);
+/* A signal after the stream has ended. */
+void side_note_late_signal(int number);
+
+#endif

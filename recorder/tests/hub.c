@@ -1,0 +1,458 @@
+/* Faults of every sort, and processes that end in every way, one a run: `hub NAME`. */
+#define _GNU_SOURCE
+#include <dlfcn.h>
+#include <errno.h>
+#include <fcntl.h>
+#include <pthread.h>
+#include <signal.h>
+#include <stdio.h>
+#include <stdlib.h>
+#include <string.h>
+#include <sys/mman.h>
+#include <sys/time.h>
+#include <sys/wait.h>
+#include <time.h>
+#include <unistd.h>
+
+static volatile int sink;
+int table[5];
+static volatile char letters[3] = "ab";
+static volatile int left, middle, right;
+
+static void *hide(void *pointer)
+{
+    __asm__ volatile("" : "+r"(pointer) : : "memory");
+    return pointer;
+}
+
+static void fail(const char *what)
+{
+    perror(what);
+    exit(9);
+}
+
+__attribute__((noinline)) static char *make(size_t size)
+{
+    return hide(malloc(size));
+}
+
+__attribute__((noinline)) static void give_back(void *p)
+{
+    free(p);
+}
+
+__attribute__((noinline)) static void put(char *p, long offset)
+{
+    ((volatile char *)hide(p))[offset] = 1;
+}
+
+static void sleep_ms(long ms)
+{
+    struct timespec time = {ms / 1000, ms % 1000 * 1000000};
+    while (nanosleep(&time, &time) != 0 && errno == EINTR)
+        ;
+}
+
+/* Blocks. */
+
+static void before(void)
+{
+    put(make(24), -3);
+}
+
+static void behind(void)
+{
+    put(make(24), 25);
+}
+
+static void inside_freed(void)
+{
+    char *p = make(24);
+    give_back(p);
+    put(p, 10);
+}
+
+static void twice(void)
+{
+    char *p = make(24);
+    give_back(p);
+    give_back(p);
+}
+
+static void large(void)
+{
+    char *p = make(1 << 20);
+    put(p, 1 << 20);
+    put(p, -20);
+}
+
+static void inside_free(void)
+{
+    char *p = make(24);
+    give_back(p + 16);
+}
+
+/* A loop is one fault. */
+static void loops(void)
+{
+    char *p = make(8);
+    for (int i = 0; i < 100; i++)
+        put(p, 8 + i % 8);
+}
+
+/* Variables. */
+
+__attribute__((noinline)) static void on_stack(void)
+{
+    volatile char first[10], second[20];
+    volatile int ten = 10;
+    first[ten] = 1;
+    second[ten + 11] = 1;
+    second[ten - 13] = 1;
+}
+
+__attribute__((noinline)) static void after_scope(void)
+{
+    volatile char *kept;
+    {
+        volatile char inner[16];
+        kept = inner;
+        *kept = 1;
+    }
+    kept[3] = 1;
+}
+
+static void globals(void)
+{
+    volatile int five = 5;
+    table[five] = 1;
+    letters[five - 2] = 1;
+    /* One of the others lies before it. */
+    (&middle)[five - 6] = left + right;
+}
+
+static void frees_variables(void)
+{
+    volatile char local[32];
+    free(hide((void *)local));
+    free(hide(table));
+}
+
+/* Children. */
+
+static void wait_for(pid_t child)
+{
+    int status;
+    if (waitpid(child, &status, 0) != child || status != 0)
+        fail("the child");
+}
+
+static void forks(void)
+{
+    char *p = make(24);
+    pid_t child = fork();
+    if (child == 0) {
+        put(p, 24);
+        give_back(p);
+        put(p, 1);
+        exit(0);
+    }
+    wait_for(child);
+    give_back(p);
+}
+
+static void forks_after_fault(void)
+{
+    char *p = make(24);
+    put(p, 24);
+    pid_t child = fork();
+    put(p, 25);
+    if (child == 0)
+        exit(0);
+    wait_for(child);
+}
+
+static void forks_and_closes(void)
+{
+    char *p = make(24);
+    pid_t child = fork();
+    if (child == 0) {
+        for (int i = 3; i < 2000; i++)
+            close(i);
+        execlp("true", "true", NULL);
+        _exit(9);
+    }
+    wait_for(child);
+    put(p, 24);
+}
+
+/* The child is in its parent's memory, but closes only its copies of the descriptors. */
+static void vforks_and_closes(void)
+{
+    char *p = make(24);
+    pid_t child = vfork();
+    if (child == 0) {
+        for (int i = 3; i < 2000; i++)
+            close(i);
+        for (int i = 0; i < 5; i++) {
+            sleep_ms(10);
+            put(p, 24);
+        }
+        _exit(0);
+    }
+    wait_for(child);
+    sleep_ms(10);
+    put(p, 24);
+}
+
+static void execs(void)
+{
+    put(make(8), 8);
+    execl("/proc/self/exe", "hub", "behind", NULL);
+    fail("exec");
+}
+
+static void execs_true(void)
+{
+    put(make(8), 8);
+    execlp("true", "true", NULL);
+    fail("exec");
+}
+
+static void execs_in_vain(void)
+{
+    put(make(8), 8);
+    execl("/none", "none", NULL);
+    put(make(8), 9);
+}
+
+static void execs_in_vain_at_limit(void)
+{
+    for (int i = 0; i < 200; i++)
+        give_back(make(8));
+    execl("/none", "none", NULL);
+    kill(getpid(), SIGKILL);
+}
+
+static void execs_at_limit(void)
+{
+    for (int i = 0; i < 200; i++)
+        give_back(make(8));
+    execlp("true", "true", NULL);
+}
+
+/* Ends. */
+
+static void terminates(void)
+{
+    put(make(8), 8);
+    raise(SIGTERM);
+}
+
+static void aborts(void)
+{
+    put(make(8), 8);
+    abort();
+}
+
+static void segfaults(void)
+{
+    put(make(8), 8);
+    *(volatile int *)hide((void *)16) = 1;
+}
+
+static void ends_by__exit(void)
+{
+    put(make(8), 8);
+    _exit(7);
+}
+
+static void aborts_at_exit(void)
+{
+    abort();
+}
+
+static void many(void)
+{
+    for (int i = 0; i < 200; i++)
+        give_back(make(8));
+}
+
+/* What was recorded has been sent when a kill comes. */
+
+static void is_killed_after_fault(void)
+{
+    put(make(8), 8);
+    sleep_ms(300);
+    kill(getpid(), SIGKILL);
+}
+
+static void is_killed_after_a_while(void)
+{
+    char *first = make(8);
+    sleep_ms(30);
+    char *second = make(8);
+    sleep_ms(300);
+    sink = *first + *second;
+    kill(getpid(), SIGKILL);
+}
+
+static void many_faults(void)
+{
+    char *p = make(8);
+    for (int i = 0; i < 100000; i++)
+        put(p, 8 + i % 8);
+}
+
+static void closes_all(void)
+{
+    put(make(8), 8);
+    for (int i = 3; i < 2000; i++)
+        close(i);
+    for (int i = 0; i < 20000; i++)
+        give_back(make(8));
+}
+
+static void keeps_descriptors(void)
+{
+    int first = open("/dev/null", O_RDONLY);
+    int second = dup(first);
+    if (first != 3 || second != 4)
+        exit(8);
+    put(make(8), 8);
+}
+
+static void keeps_errno(void)
+{
+    char *p = make(8);
+    volatile char local[8];
+    errno = 77;
+    put(p, 8);
+    put((char *)local, 8);
+    put((char *)table, sizeof table);
+    give_back(p + 1);
+    if (errno != 77)
+        exit(8);
+}
+
+static void sleeps(void)
+{
+    put(make(8), 8);
+    sleep_ms(300000);
+}
+
+/* Threads, and signal handlers that interrupt anything. */
+
+static void *faults_often(void *number)
+{
+    for (int i = 0; i < 3000; i++) {
+        char *p = make(16);
+        put(p, 16);
+        volatile char local[10];
+        put((char *)local, 10);
+        give_back(p);
+    }
+    return number;
+}
+
+static void threads(void)
+{
+    pthread_t pair[2];
+    for (int i = 0; i < 2; i++)
+        if (pthread_create(&pair[i], NULL, faults_often, NULL) != 0)
+            fail("pthread_create");
+    for (int i = 0; i < 2; i++)
+        pthread_join(pair[i], NULL);
+}
+
+static char *_Atomic victim;
+static volatile sig_atomic_t ticks;
+
+static void on_tick(int number)
+{
+    (void)number;
+    put(victim, 24);
+    put(victim, -1);
+    ticks++;
+}
+
+static void handlers(void)
+{
+    struct sigaction ours = {.sa_handler = on_tick};
+    struct itimerval often = {{0, 50}, {0, 50}}, never = {{0, 0}, {0, 0}};
+    char *kept[64] = {0};
+    victim = make(24);
+    sigaction(SIGALRM, &ours, NULL);
+    setitimer(ITIMER_REAL, &often, NULL);
+    for (int i = 0; ticks < 2000; i++) {
+        give_back(kept[i % 64]);
+        kept[i % 64] = make((size_t)(i * 37 % 3000));
+        put(kept[i % 64], -1);
+    }
+    setitimer(ITIMER_REAL, &never, NULL);
+}
+
+/* A library that is loaded later, whose globals are its own, and which is closed again. */
+static void loads(void)
+{
+    void *library = dlopen("./libhub.so", RTLD_NOW);
+    void (*of_library)(int) = library ? (void (*)(int))dlsym(library, "of_library") : NULL;
+    if (of_library == NULL)
+        fail("dlopen");
+    of_library(4);
+}
+
+static void closes_library(void)
+{
+    loads();
+    void *library = dlopen("./libhub.so", RTLD_NOW);
+    dlclose(library);
+    dlclose(library);
+    library = dlopen("libm.so.6", RTLD_NOW);
+    globals();
+}
+
+static void changes_root(void)
+{
+    if (chroot("empty") != 0 || chdir("/") != 0)
+        fail("chroot");
+    char *p = make(24);
+    pid_t child = fork();
+    if (child == 0) {
+        put(p, 24);
+        exit(0);
+    }
+    wait_for(child);
+}
+
+#define NAMED(name)                                                                                                    \
+    {                                                                                                                  \
+        #name, name                                                                                                    \
+    }
+
+static const struct {
+    const char *name;
+    void (*run)(void);
+} runs[] = {
+    NAMED(before), NAMED(behind), NAMED(inside_freed), NAMED(twice), NAMED(large), NAMED(inside_free),
+    NAMED(loops), NAMED(on_stack), NAMED(after_scope), NAMED(globals), NAMED(frees_variables), NAMED(forks),
+    NAMED(forks_after_fault), NAMED(forks_and_closes), NAMED(vforks_and_closes), NAMED(execs),
+    NAMED(execs_true), NAMED(execs_in_vain), NAMED(execs_in_vain_at_limit), NAMED(execs_at_limit),
+    NAMED(terminates), NAMED(aborts), NAMED(segfaults), NAMED(ends_by__exit), NAMED(many),
+    NAMED(is_killed_after_fault), NAMED(is_killed_after_a_while), NAMED(many_faults), NAMED(closes_all),
+    NAMED(keeps_descriptors), NAMED(keeps_errno), NAMED(sleeps), NAMED(threads), NAMED(handlers),
+    NAMED(loads), NAMED(closes_library), NAMED(changes_root),
+};
+
+int main(int count, char **words)
+{
+    for (size_t i = 0; count > 1 && i < sizeof runs / sizeof *runs; i++) {
+        if (strcmp(runs[i].name, words[1]) != 0)
+            continue;
+        if (count > 2 && strcmp(words[2], "at_exit") == 0)
+            atexit(aborts_at_exit);
+        runs[i].run();
+        return 0;
+    }
+    return 2;
+}

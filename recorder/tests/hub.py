@@ -1,0 +1,559 @@
+"""Tests of what a hub gets: the streams of all processes, and the memory beside each with who it is, how it ended,
+its modules, and its faults with the block or the variable that is nearest."""
+
+import array
+import fcntl
+import itertools
+import mmap
+import os
+import re
+import select
+import shutil
+import signal
+import socket
+import subprocess
+import threading
+import time
+from typing import Dict, List, Optional, Tuple
+
+from support import (
+    EXEC,
+    EXIT,
+    GLOBAL,
+    LOST,
+    NO_ENDING,
+    NO_VARIABLE,
+    OF_STACK,
+    PATIENCE,
+    SIGNAL,
+    TESTS,
+    Compiler,
+    Failure,
+    Fault,
+    Side,
+    Suite,
+    Trace,
+    environment,
+    expect,
+    placed,
+    reports,
+    run,
+    side_of,
+    write,
+)
+
+# No call becomes a jump, so each has its place.
+FLAGS = ("-w", "-pthread", "-fno-optimize-sibling-calls")
+LIMIT = "ASANCOL_LIMIT"
+F_GET_SEALS = 1034
+# A name that is free again may still be held by a child that another test has just forked.
+NUMBERS = itertools.count()
+
+
+class Peer:
+    """A process that has connected."""
+
+    def __init__(self, connection: socket.socket) -> None:
+        self.connection = connection
+        self.data = bytearray()
+        self.memory: Optional[mmap.mmap] = None
+        self.reader = threading.Thread(target=self.read)
+        self.reader.start()
+
+    def read(self) -> None:
+        first, ancillary, _, _ = self.connection.recvmsg(8, socket.CMSG_SPACE(4))
+        self.data += first
+        for level, kind, content in ancillary:
+            if (level, kind) == (socket.SOL_SOCKET, socket.SCM_RIGHTS):
+                descriptor = array.array("i", content)[0]
+                self.memory = mmap.mmap(descriptor, 0, mmap.MAP_SHARED, mmap.PROT_READ)
+                self.seals = fcntl.fcntl(descriptor, F_GET_SEALS)
+                os.close(descriptor)
+        while more := self.connection.recv(1 << 16):
+            self.data += more
+        self.connection.close()
+
+    def side(self) -> Side:
+        if self.memory is None:
+            raise Failure("no side memory came with the header")
+        return Side(self.memory)
+
+    def trace(self) -> Trace:
+        return Trace(data=self.data)
+
+
+class Hub:
+    """Accepts processes under a path, under the abstract name of the same text, or under both."""
+
+    def __init__(self, path: str, has_path: bool = True, has_abstract: bool = True) -> None:
+        self.path = path
+        self.peers: List[Peer] = []
+        self.is_stopping = False
+        self.listening = []
+        for name in [path] * has_path + ["\0" + path] * has_abstract:
+            listener = socket.socket(socket.AF_UNIX)
+            listener.bind(name)
+            listener.listen(100)
+            self.listening.append(listener)
+        self.accepter = threading.Thread(target=self.accept)
+        self.accepter.start()
+
+    def accept(self) -> None:
+        """Until it is to stop and nobody waits."""
+        while True:
+            is_last = self.is_stopping
+            ready, _, _ = select.select(self.listening, [], [], 0.01)
+            for listener in ready:
+                self.peers.append(Peer(listener.accept()[0]))
+            if is_last and not ready:
+                return
+
+    def close(self) -> List[Peer]:
+        """Waits for the ends of all that have connected, in the order in which they have."""
+        self.is_stopping = True
+        self.accepter.join(timeout=PATIENCE)
+        for peer in self.peers:
+            peer.reader.join(timeout=PATIENCE)
+        for listener in self.listening:
+            listener.close()
+        return self.peers
+
+
+def run_under(folder: str, words: List[str], status: int = 0, **settings: str) -> Tuple[List[Peer], bytes]:
+    """Runs a command under a hub. What has connected, and what was said."""
+    hub = Hub(f"{folder}/hub{next(NUMBERS)}")
+    try:
+        ran = run(words, folder, ASANCOL_HUB=hub.path, **settings)
+        expect(ran.returncode, status, f"status of {words}: {ran.stderr.decode()}")
+    finally:
+        peers = hub.close()
+    return peers, ran.stderr
+
+
+def one(folder: str, words: List[str], status: int = 0, **settings: str) -> Peer:
+    peers, said = run_under(folder, words, status, **settings)
+    expect((len(peers), said), (1, b""), f"processes of {words}, and what was said")
+    return peers[0]
+
+
+def check(suite: Suite, folder: str, peer: Peer) -> Tuple[int, List[str], str]:
+    """What the checker makes of a stream: its status, the reports, and the end."""
+    with open(f"{folder}/peer.trace", "wb") as file:
+        file.write(peer.data)
+    return reports(suite.asancol, f"{folder}/peer.trace")
+
+
+def faults_of(peer: Peer) -> List[Fault]:
+    """The faults of all events that have one, one after the other."""
+    side = peer.side()
+    return [it for it in map(side.fault, range(1, len(peer.trace().events) + 1)) if it]
+
+
+def lines_of(side: Side, fault: Fault) -> List[str]:
+    """The functions in which the access was made, and its block allocated and freed."""
+    return [name for name, _ in side.lines([it for it in (fault.place, fault.allocated, fault.freed) if it])]
+
+
+# Faults.
+
+# By the test: for each event with a fault how far its address is from the start of the block, the size of the block,
+# and the functions.
+BLOCKS: Dict[str, List[Tuple[int, int, List[str]]]] = {
+    "before": [(-3, 24, ["put", "make"])],
+    "behind": [(25, 24, ["put", "make"])],
+    "inside_freed": [(10, 24, ["put", "make", "give_back"])],
+    "twice": [(0, 24, ["give_back", "make", "give_back"])],
+    "large": [(1 << 20, 1 << 20, ["put", "make"]), (-20, 1 << 20, ["put", "make"])],
+    "inside_free": [(16, 24, ["give_back", "make"])],
+    "loops": [(8 + i % 8, 8, ["put", "make"]) for i in range(100)],
+}
+
+
+def check_blocks(suite: Suite, folder: str, program: str) -> None:
+    for name, wanted in BLOCKS.items():
+        peer = one(folder, [program, name])
+        side, trace = peer.side(), peer.trace()
+        found = []
+        for number, (_, address, _) in enumerate(trace.events, 1):
+            fault = side.fault(number)
+            if fault:
+                expect((fault.variable, fault.name), (NO_VARIABLE, ""), name)
+                found.append((address - fault.block, fault.size, lines_of(side, fault)))
+        expect(found, wanted, name)
+        expect(side.fault_count, 1, f"faults of {name}")
+        expect(len(check(suite, folder, peer)[1]), len(wanted), f"reports of {name}")
+
+
+# By the test: the kind, the name and the size of the variable, how far its address is from its start, and whether its
+# declaration is known.
+VARIABLES: Dict[str, List[Tuple[int, str, int, int]]] = {
+    "on_stack": [(OF_STACK, "first", 10, 10), (OF_STACK, "second", 20, 21), (OF_STACK, "second", 20, -3)],
+    "after_scope": [(OF_STACK, "inner", 16, 3)],
+    "globals": [(GLOBAL, "table", 20, 20), (GLOBAL, "letters", 3, 3), (GLOBAL, "middle", 4, -4)],
+    "frees_variables": [(OF_STACK, "local", 32, 0), (GLOBAL, "table", 20, 0)],
+}
+
+
+def check_variables(suite: Suite, folder: str, program: str) -> None:
+    source = f"{TESTS}/hub.c"
+    with open(source, encoding="utf-8") as file:
+        text = file.read().splitlines()
+    for name, variables in VARIABLES.items():
+        peer = one(folder, [program, name])
+        side, trace = peer.side(), peer.trace()
+        found = []
+        for number, (_, address, _) in enumerate(trace.events, 1):
+            fault = side.fault(number)
+            if not fault:
+                continue
+            declared, _, where = fault.name.partition(" ")
+            found.append((fault.variable, declared, fault.size, address - fault.block))
+            line = int(where.split(":")[-1]) if where else fault.line
+            expect(declared.split(":")[-1] in text[line - 1], True, f"{name}: {declared} at {where} {fault.line}")
+            expect(where.startswith(f"{source}:"), fault.variable == GLOBAL, where)
+        expect(found, variables, name)
+
+
+CPP_BLOCKS = {"past_new": (16, ["past_new", "make"]), "after_delete": (4, ["after_delete", "make", "give_back"])}
+
+
+def check_cpp(suite: Suite, folder: str, compiler: Compiler, level: str) -> None:
+    compiler.cpp(folder, [f"{TESTS}/hub.cpp"], f"{folder}/program", level, *FLAGS)
+    for name, (offset, functions) in CPP_BLOCKS.items():
+        peer = one(folder, ["./program", name])
+        (fault,) = faults_of(peer)
+        _, address, _ = peer.trace().events[fault.event - 1]
+        names = [re.search("|".join(functions), it).group() for it in lines_of(peer.side(), fault)[1:]]
+        expect((address - fault.block, fault.size, names), (offset, 16, functions[1:]), name)
+    of_namespace = faults_of(one(folder, ["./program", "of_namespace"]))
+    names = [re.search(r"([a-z]+)E?$", it.name.split(" ")[0]).group(1) for it in of_namespace]
+    expect(names, ["numbers", "kept"], "of a namespace, and static")
+    (fault,) = faults_of(one(folder, ["./program", "on_stack"]))
+    expect((fault.variable, fault.name, fault.size), (OF_STACK, "array", 16), "on the stack")
+
+
+def fault_tests(suite: Suite, compiler: Compiler, folder: str) -> None:
+    for level in ("-O0", "-O2"):
+        program = f"{folder}/hub-{compiler}{level}"
+        compiler.c(folder, [f"{TESTS}/hub.c"], program, level, *FLAGS)
+        suite.test(f"{compiler} {level} hub blocks", check_blocks, program)
+        if level == "-O0":
+            suite.test(f"{compiler} hub variables", check_variables, program)
+        if compiler.cxx:
+            suite.test(f"{compiler} {level} hub c++", check_cpp, compiler, level)
+    program = f"{folder}/hub-{compiler}-static"
+    compiler.c(folder, [f"{TESTS}/hub.c"], program, "-O0", *FLAGS, "-static")
+    suite.test(f"{compiler} hub static blocks", check_blocks, program)
+    program = f"{folder}/hub-{compiler}-every"
+    compiler.c(folder, [f"{TESTS}/hub.c"], program, "-O0", *FLAGS, ASANCOL_ALL="1")
+    suite.test(f"{compiler} hub with each access", check_blocks, program)
+
+
+# Processes.
+
+
+def check_head(suite: Suite, folder: str, program: str) -> None:
+    """Who the process is."""
+    before = time.time()
+    peer = one(folder, [program, "behind", "", "some word", "w" * 5000], ASANCOL_WHERE="0")
+    side = peer.side()
+    expect((side.header, peer.seals & 7), (b"ASWH\2\0\0\0", 7), "its header and its seals")
+    expect(side.data[72:4072].startswith(f"{program}\0behind\0\0some word\0www".encode()), True, "its words")
+    expect(side.data[4069:4072], b"w\0\0", "a word that was cut")
+    expect(before - 1 < side.started / 1e9 < time.time() + 1, True, "when it was started")
+    expect((side.parent, side.process > 0), (os.getpid(), True), "its numbers")
+    events = len(peer.trace().events)
+    seen = (side.ending, side.signal, side.events, side.left_out, side.has_checks, side.is_at_limit)
+    expect(seen, (EXIT, 0, events, 0, 1, 0), "how it ended")
+    expect(check(suite, folder, peer)[2].split()[0], "closed", "its fate")
+
+
+# The status, and what the side memory says: the ending, the signal, and the fate of the stream.
+ENDINGS = {
+    "ends_by__exit": (7, EXIT, 0, "closed"),
+    "terminates": (-15, SIGNAL, 15, "no-close"),
+    "aborts": (-6, SIGNAL, 6, "no-close"),
+    "segfaults": (-11, SIGNAL, 11, "no-close"),
+    "execs_true": (0, EXEC, 0, "no-close"),
+    "execs_in_vain": (0, EXIT, 0, "closed"),
+    "is_killed_after_fault": (-9, NO_ENDING, 0, "no-close"),
+}
+
+
+def check_endings(suite: Suite, folder: str, program: str) -> None:
+    for name, (status, ending, number, fate) in ENDINGS.items():
+        peer = one(folder, [program, name], status)
+        side = peer.side()
+        expect((side.ending, side.signal), (ending, number), name)
+        _, texts, end = check(suite, folder, peer)
+        expect((len(texts), end.split(" events ")[0].split()[0]), (2 if name == "execs_in_vain" else 1, fate), name)
+        if ending != NO_ENDING:
+            expect(side.events, len(peer.trace().events), f"events of {name}")
+    side = one(folder, [program, "behind", "at_exit"], -6).side()
+    expect((side.ending, side.signal), (SIGNAL, 6), "a signal in an exit handler")
+
+
+def check_forks(suite: Suite, folder: str, program: str) -> None:
+    """A child connects by itself, begins with its live blocks, and knows where its parent allocated them."""
+    peers, said = run_under(folder, [program, "forks"])
+    expect((len(peers), said), (2, b""), "processes")
+    parent, child = (peer.side() for peer in peers)
+    expect((child.parent, child.ending, parent.ending), (parent.process, EXIT, EXIT), "parent and child")
+    expect((parent.fault_count, child.fault_count), (0, 2), "faults")
+    behind, after = faults_of(peers[1])
+    expect(lines_of(child, behind), ["put", "make"], "past its parent's block")
+    expect(lines_of(child, after), ["put", "make", "give_back"], "after its free")
+    expect([check(suite, folder, peer)[2].split()[0] for peer in peers], ["closed"] * 2, "fates")
+    peers, _ = run_under(folder, [program, "forks_after_fault"])
+    expect([len(faults_of(peer)) for peer in peers], [2, 1], "faults before and after a fork")
+    expect(peers[1].side().fault_count, 1, "the list of the child")
+
+
+def check_closing_children(suite: Suite, folder: str, program: str) -> None:
+    """A child that closes all descriptors before it runs another program is seen whole, and so is its parent."""
+    peers, said = run_under(folder, [program, "forks_and_closes"])
+    expect(([peer.side().ending for peer in peers], said), ([EXIT, EXEC], b""), "endings")
+    expect([peer.side().events for peer in peers], [len(peer.trace().events) for peer in peers], "events")
+    peer = one(folder, [program, "vforks_and_closes"])
+    expect((peer.side().ending, peer.trace().is_closed), (EXIT, True), "with a child of vfork")
+    expect(len(faults_of(peer)), 6, "faults of both")
+
+
+def check_forks_in_handlers(suite: Suite, folder: str, lives: str) -> None:
+    """A child that a handler has made in the middle of an allocation is not recorded: the hub knows that it is lost."""
+    peers, said = run_under(folder, [lives, "forks_in_handlers"])
+    lost = [peer for peer in peers if peer.side().ending == LOST]
+    lines = said.decode().splitlines()
+    expect((len(peers), len(lines)), (51, len(lost)), said)
+    expect([line for line in lines if "it came in the middle of an allocation" not in line], [], "lines")
+    expect([peer.trace().is_closed for peer in lost], [False] * len(lost), "their closes")
+    for peer in peers:
+        if peer not in lost:
+            expect((peer.side().ending, len(faults_of(peer))), (EXIT, 1), "one that is recorded")
+
+
+def check_exec(suite: Suite, folder: str, program: str) -> None:
+    """A program that runs another one has ended in that, and the other one connects."""
+    peers, said = run_under(folder, [program, "execs"])
+    expect((len(peers), said), (2, b""), "processes")
+    first, second = (peer.side() for peer in peers)
+    expect((first.ending, second.ending, first.process), (EXEC, EXIT, second.process), "endings")
+    expect(second.words[:2], [b"hub", b"behind"], "the words of the second")
+    expect([len(check(suite, folder, peer)[1]) for peer in peers], [1, 1], "reports")
+
+
+def check_limit(suite: Suite, folder: str, program: str) -> None:
+    """Past the limit events are counted and not recorded, and the recorder leaves it to the hub to say so."""
+    wanted = {"many": (0, EXIT), "execs_at_limit": (0, EXEC), "execs_in_vain_at_limit": (-9, NO_ENDING)}
+    for name, (status, ending) in wanted.items():
+        peer = one(folder, [program, name], status, **{LIMIT: "100"})
+        side = peer.side()
+        expect((side.ending, side.is_at_limit, side.events), (ending, 1, 100), name)
+        expect(side.left_out, 300, f"left out of {name}")
+        expect(peer.trace().is_closed, False, "a close")
+
+
+def check_no_checks(suite: Suite, folder: str, compiler: Compiler) -> None:
+    """A program of which nothing was compiled for it has no checks, until it loads a library that has some."""
+    loader = "#include <dlfcn.h>\nint main(int n, char **w) { return n > 1 && !dlopen(w[1], RTLD_NOW); }\n"
+    write(folder, main_c=loader)
+    compiler.c(folder, ["main.c"], f"{folder}/main.o", "-c", native=True)
+    compiler.c(folder, ["main.o"], f"{folder}/program", "-ldl")
+    shared = ["-fPIC", "-shared"]
+    compiler.c(folder, [f"{TESTS}/hub_library.c"], f"{folder}/libhub.so", *shared)
+    peers, said = run_under(folder, ["./program"])
+    expect((peers[0].side().has_checks, b"no access was recorded" in said), (0, True), said)
+    peers, said = run_under(folder, ["./program", "./libhub.so"])
+    expect((peers[0].side().has_checks, peers[0].trace().is_closed, said), (1, True, b""), "with a library")
+    # One that its own compiler has linked calls the program.
+    compiler.c(folder, [f"{TESTS}/hub_library.c"], f"{folder}/library.o", "-c", "-fPIC")
+    compiler.c(folder, ["library.o"], f"{folder}/libhub.so", *shared, native=True)
+    peers, said = run_under(folder, ["./program", "./libhub.so"])
+    expect((peers[0].side().has_checks, said), (1, b""), "with a library of another linker")
+
+
+def build_id(path: str) -> str:
+    said = subprocess.run(["readelf", "-n", path], stdout=subprocess.PIPE, check=True).stdout.decode()
+    return re.search(r"Build ID: (\w+)", said).group(1)
+
+
+def check_modules(suite: Suite, folder: str, program: str, compiler: Compiler) -> None:
+    """Build ids of what is loaded at the start and later; and the globals of a library, until it is closed."""
+    flags = ["-fPIC", "-shared", "-Wl,--build-id", "-Wl,-z,defs"]
+    compiler.c(folder, [f"{TESTS}/hub_library.c"], f"{folder}/libhub.so", "-w", *flags)
+    shutil.copy(program, f"{folder}/program")
+    peer = one(folder, ["./program", "loads"])
+    builds = peer.side().builds()
+    for name in ("program", "libhub.so"):
+        expect(builds.get(f"{folder}/{name}"), build_id(f"{folder}/{name}"), name)
+    expect(any("libc" in name for name in builds), True, f"the C library's: {builds}")
+    first, second = faults_of(peer)
+    expect((first.variable, first.name.split()[0], first.size), (GLOBAL, "of_the_library", 16), "its global")
+    expect(lines_of(peer.side(), second), ["of_library"] * 2, "its block")
+    # Of one that was closed the lines are kept, unless another one lies there now.
+    peer = one(folder, ["./program", "closes_library"])
+    side = peer.side()
+    if f"{folder}/libhub.so" in [words[5] for words in side.maps if len(words) == 6]:
+        expect(side.builds().get(f"{folder}/libhub.so"), build_id(f"{folder}/libhub.so"), "of the closed library")
+        expect(lines_of(side, faults_of(peer)[1]), ["of_library"] * 2, "places in the closed library")
+    else:
+        print("left out: another library took the place of the one that was closed")
+    names = [fault.name.split()[0] for fault in faults_of(peer) if fault.variable == GLOBAL]
+    expect(names, ["of_the_library", "table", "letters", "middle"], "globals after the library was closed")
+
+
+# Ways to the hub.
+
+
+def check_names(suite: Suite, folder: str, program: str) -> None:
+    """By the path alone, and by the abstract name alone; and a trace wins over both."""
+    for has_path in (True, False):
+        hub = Hub(f"{folder}/hub{has_path}", has_path, not has_path)
+        ran = run([program, "behind"], folder, ASANCOL_HUB=hub.path)
+        expect((ran.returncode, ran.stderr), (0, b""), "the program")
+        expect([len(faults_of(peer)) for peer in hub.close()], [1], f"path {has_path}")
+    hub = Hub(f"{folder}/hub")
+    ran = run([program, "behind"], folder, ASANCOL_HUB=hub.path, ASANCOL_TRACE="t.trace")
+    expect((ran.stderr, hub.close(), os.path.exists(f"{folder}/t.trace")), (b"", [], True), "with a trace")
+
+
+def check_root(suite: Suite, folder: str, program: str) -> None:
+    """A child after a change of root has neither the path nor /proc."""
+    if os.getuid() != 0:
+        return
+    os.mkdir(f"{folder}/empty")
+    peers, said = run_under(folder, [program, "changes_root"])
+    expect((len(peers), said), (2, b""), "processes")
+    side = peers[1].side()
+    expect((side.ending, side.words[0] != b""), (EXIT, True), "the child")
+    expect([fault.size for fault in faults_of(peers[1])], [24], "its fault")
+
+
+def check_fallback(suite: Suite, folder: str, program: str) -> None:
+    """If there is no hub, the traces go to files beside its socket, and a line says so for each process."""
+    os.mkdir(f"{folder}/10%p")
+    ran = run([program, "forks"], folder, ASANCOL_HUB=f"{folder}/10%p/hub")
+    said = ran.stderr.decode().splitlines()
+    expect((ran.returncode, len(said)), (0, 2), said)
+    expect(all("the hub can't be reached, so the trace goes to a file" in line for line in said), True, said)
+    names = sorted(os.listdir(f"{folder}/10%p"))
+    expect([re.sub(r"^\d+", "N", name) for name in names], ["N.trace", "N.trace.where"] * 2, "files")
+    found = [placed(suite.asancol, f"{folder}/10%p/{name}")[0] for name in names[::2]]
+    expect(sorted(len(it) for it in found), [0, 2], "reports")
+    for name in names[::2]:
+        side = side_of(f"{folder}/10%p/{name}")
+        expect((side.process, side.ending), (int(name.split(".")[0]), EXIT), name)
+    ran = run([program, "behind"], folder, ASANCOL_HUB=f"{folder}/none/hub")
+    expect((ran.returncode, len(ran.stderr.splitlines())), (0, 2), ran.stderr)
+
+
+def check_files(suite: Suite, folder: str, program: str) -> None:
+    """A side file has what a hub gets: also after a kill, after an exec that failed, and of a child."""
+    for name, (status, ending, number, _) in ENDINGS.items():
+        path = f"{folder}/{name}.trace"
+        ran = run([program, name], folder, ASANCOL_TRACE=path, ASANCOL_WHERE="1")
+        expect((ran.returncode, ran.stderr), (status, b""), name)
+        side = side_of(path)
+        expect((side.ending, side.signal), (ending, number), name)
+        found, _ = placed(suite.asancol, path)
+        expect([it.function for it in found], ["put"] * (2 if name == "execs_in_vain" else 1), name)
+    ran = run([program, "forks"], folder, ASANCOL_TRACE="f.%p.trace", ASANCOL_WHERE="1")
+    names = [name for name in os.listdir(folder) if re.fullmatch(r"f\.\d+\.trace", name)]
+    expect(sorted(len(placed(suite.asancol, f"{folder}/{name}")[0]) for name in names), [0, 2], "parent and child")
+
+
+def check_small_files(suite: Suite, folder: str, program: str) -> None:
+    """Under a limit on the size of files there is no room for faults: a line says so, and the trace is whole."""
+    limited = ["sh", "-c", f"ulimit -f 4096; exec {program} loops"]
+    ran = run(limited, folder, ASANCOL_TRACE="t.trace", ASANCOL_WHERE="1")
+    expect((ran.returncode, len(ran.stderr.splitlines())), (0, 1), ran.stderr)
+    expect(len(reports(suite.asancol, f"{folder}/t.trace")[1]), 100, "reports")
+    peers, said = run_under(folder, limited)
+    expect((peers[0].memory, len(said.splitlines())), (None, 1), said)
+    expect(len(check(suite, folder, peers[0])[1]), 100, "reports of the hub")
+
+
+def check_closed(suite: Suite, folder: str, program: str) -> None:
+    """A process that closes all descriptors is lost, and says so."""
+    peers, said = run_under(folder, [program, "closes_all"])
+    expect((peers[0].side().ending, len(said.splitlines())), (LOST, 1), said)
+    expect([fault.size for fault in faults_of(peers[0])], [8], "what it had sent")
+    for name in ("keeps_descriptors", "keeps_errno"):
+        one(folder, [program, name])
+
+
+def check_gone(suite: Suite, folder: str, program: str) -> None:
+    """A hub that is gone: the program runs on, and what is lost is noted."""
+    hub = Hub(f"{folder}/hub")
+    words = [program, "many_faults"]
+    with subprocess.Popen(words, env=environment(ASANCOL_HUB=hub.path), stderr=subprocess.PIPE) as process:
+        while not hub.peers:
+            time.sleep(0.01)
+        hub.peers[0].connection.shutdown(socket.SHUT_RD)
+        said = process.communicate(timeout=PATIENCE)[1]
+    hub.close()
+    expect((process.returncode, len(said.splitlines())), (0, 1), said)
+    expect(hub.peers[0].side().ending, LOST, "its ending")
+
+
+def check_sent(suite: Suite, folder: str, program: str) -> None:
+    """What was recorded some time before a kill was sent, and a fault at once."""
+    peer = one(folder, [program, "is_killed_after_fault"], -9)
+    expect((check(suite, folder, peer)[1], len(faults_of(peer))), (["store 1 +8 heap-buffer-overflow"], 1), "a fault")
+    peer = one(folder, [program, "is_killed_after_a_while"], -9)
+    expect(peer.trace().count(3), 2, "mallocs")
+    # It is there while the process still runs.
+    hub = Hub(f"{folder}/running")
+    with subprocess.Popen([program, "sleeps"], env=environment(ASANCOL_HUB=hub.path)) as process:
+        deadline = time.monotonic() + PATIENCE
+        while not (hub.peers and hub.peers[0].memory and faults_of(hub.peers[0])) and time.monotonic() < deadline:
+            time.sleep(0.01)
+        expect(len(faults_of(hub.peers[0])), 1, "a fault of a process that runs")
+        process.send_signal(signal.SIGTERM)
+    (peer,) = hub.close()
+    expect((peer.side().ending, peer.side().signal), (SIGNAL, 15), "its end")
+
+
+def check_many(suite: Suite, folder: str, program: str) -> None:
+    """Many faults of one place, of two threads at once, and of handlers that interrupt the allocator."""
+    peer = one(folder, [program, "many_faults"])
+    expect((peer.side().fault_count, len(faults_of(peer))), (1, 100000), "faults in a loop")
+    peer = one(folder, [program, "threads"])
+    side = peer.side()
+    found = [(fault.size, fault.name) for fault in faults_of(peer)]
+    expect((found.count((16, "")), found.count((10, "local"))), (6000, 6000), "faults of two threads")
+    expect(side.fault_count <= 8, True, f"a list of {side.fault_count}")
+    expect(check(suite, folder, peer)[2].split()[0], "closed", "fate")
+    peer = one(folder, [program, "handlers"])
+    end = check(suite, folder, peer)[2]
+    noted = faults_of(peer)
+    count = int(re.search(r"reports (\d+)", end).group(1))
+    expect((end.split()[0], len(noted)), ("closed", count), "reports under a handler")
+
+
+def process_tests(suite: Suite, compiler: Compiler, folder: str) -> None:
+    """One program is where the tests of lives have built it."""
+    program = f"{folder}/hub-{compiler}-O0"
+    suite.test(f"{compiler} hub head", check_head, program)
+    suite.test(f"{compiler} hub endings", check_endings, program)
+    suite.test(f"{compiler} hub forks", check_forks, program)
+    suite.test(f"{compiler} hub closing children", check_closing_children, program)
+    suite.test(f"{compiler} hub forks in handlers", check_forks_in_handlers, f"{folder}/lives-{compiler}")
+    suite.test(f"{compiler} hub exec", check_exec, program)
+    suite.test(f"{compiler} hub limit", check_limit, program)
+    suite.test(f"{compiler} hub no checks", check_no_checks, compiler)
+    suite.test(f"{compiler} hub modules", check_modules, program, compiler)
+    suite.test(f"{compiler} hub names", check_names, program)
+    suite.test(f"{compiler} hub root", check_root, program)
+    suite.test(f"{compiler} hub fallback", check_fallback, program)
+    suite.test(f"{compiler} hub files", check_files, program)
+    suite.test(f"{compiler} hub small files", check_small_files, program)
+    suite.test(f"{compiler} hub closed descriptors", check_closed, program)
+    suite.test(f"{compiler} hub gone", check_gone, program)
+    suite.test(f"{compiler} hub sent", check_sent, program)
+    suite.test(f"{compiler} hub many", check_many, program)
+
+
+def tests(suite: Suite, compiler: Compiler, folder: str) -> None:
+    fault_tests(suite, compiler, folder)
+    process_tests(suite, compiler, folder)
