@@ -1,0 +1,204 @@
+/* Runs a command, checks each recorded process under it while it runs, and reports at the end.
+
+   Each process connects to a socket of this program, the hub. Its connection becomes the standard input of an asancol,
+   its checker: no byte of a trace is read here. docs/FORMAT.md says what a process sends, and the manual page says
+   what a user sees. */
+#include <errno.h>
+#include <inttypes.h>
+#include <stdio.h>
+#include <string.h>
+#include <sys/wait.h>
+
+#include "checkers.h"
+#include "children.h"
+#include "collect.h"
+#include "command.h"
+#include "descendants.h"
+#include "hub.h"
+#include "keep.h"
+#include "nested.h"
+#include "options.h"
+#include "processes.h"
+#include "report.h"
+#include "say.h"
+#include "signals.h"
+#include "verdict.h"
+
+/* What all processes come to. */
+struct sum {
+    uint64_t events, reports;
+    size_t not_whole, with_reports, recorded;
+};
+
+static struct sum sum_up(void)
+{
+    struct sum sum = {0};
+    for (size_t i = 0; i < process_count(); i++) {
+        struct process *process = process_at(i);
+        if (verdict_again(process)) {
+            keep_again(process);
+            report_again(process);
+        }
+        sum.events += process->events;
+        sum.reports += process->reports;
+        sum.with_reports += process->reports > 0;
+        sum.not_whole += !process->is_whole;
+        sum.recorded += process->has_checks;
+    }
+    return sum;
+}
+
+static const char *plural(uint64_t count, const char *end)
+{
+    return count == 1 ? "" : end;
+}
+
+/* The lines of processes: of those that were not seen whole if asancol-report does not print them, and of the others if
+   all are wanted. */
+static void say_processes(bool is_reported, bool is_verbose)
+{
+    for (size_t i = 0; i < process_count(); i++) {
+        const struct process *process = process_at(i);
+        if (!process->is_whole && !is_reported)
+            say("asancol: process %d %s: NOT SEEN WHOLE: %s", process->own_number, process->name, process->why);
+        else if (process->is_whole && is_verbose)
+            say("asancol: process %d %s: seen whole%s%s, %" PRIu64 " event%s, %" PRIu64 " report%s",
+                process->own_number, process->name, process->why[0] != 0 ? ": " : "", process->why, process->events,
+                plural(process->events, "s"), process->reports, plural(process->reports, "s"));
+    }
+}
+
+static void say_summary(const struct sum *sum, bool is_incomplete)
+{
+    char reports[96] = "no reports", whole[48] = "all seen whole";
+    if (sum->reports > 0)
+        snprintf(reports, sizeof reports, "%" PRIu64 " report%s in %zu process%s", sum->reports,
+                 plural(sum->reports, "s"), sum->with_reports, plural(sum->with_reports, "es"));
+    if (sum->not_whole > 0)
+        snprintf(whole, sizeof whole, "%zu NOT SEEN WHOLE", sum->not_whole);
+    else if (is_incomplete)
+        snprintf(whole, sizeof whole, "NOT SEEN WHOLE");
+    say("asancol: %s; %zu process%s, %" PRIu64 " event%s; %s", reports, process_count(), plural(process_count(), "es"),
+        sum->events, plural(sum->events, "s"), whole);
+}
+
+/* What holds of the run, and not of one process. */
+static void say_outcome(const struct outcome *outcome)
+{
+    if (outcome->nothing)
+        say("asancol: NOTHING WAS RECORDED: was a program built with asancol-cc?");
+    else if (outcome->missing > 0)
+        say("asancol: NOT ALL SEEN: %" PRIu64 " fewer than --at-least asks for were recorded", outcome->missing);
+    if (outcome->is_running)
+        say("asancol: NOT ALL SEEN: processes of the command still run");
+    if (outcome->lost > 0)
+        say("asancol: NOT ALL SEEN: %" PRIu64 " run%s inside this one left no result", outcome->lost,
+            plural(outcome->lost, "s"));
+}
+
+/* Ends the feed, and answers what asancol-report says; or says it here if it did not run. */
+static enum answer conclude(const struct options *options, const struct sum *sum, const struct outcome *outcome,
+                            bool has_nested)
+{
+    if (sum->reports > 0 || has_nested || options->has_output)
+        report_start();
+    bool is_incomplete = sum->not_whole > 0 || outcome->nothing || outcome->missing > 0 || outcome->is_running
+                         || outcome->lost > 0;
+    enum answer answer = is_incomplete ? ANSWER_NOT_WHOLE : ANSWER_CLEAN;
+    progress_erase();
+    say_processes(true, options->verbose);
+    report_finish(outcome);
+    if (report_was_started()) {
+        collect_report();
+        answer = report_answer();
+        if (answer == ANSWER_CLEAN || answer == ANSWER_REPORTS || answer == ANSWER_NOT_WHOLE
+            || answer == ANSWER_NOT_WRITTEN)
+            return answer;
+        report_print_raw(options->keep);
+    } else if (nested_result() != NULL) {
+        report_leave(nested_result());
+    }
+    say_processes(false, false);
+    say_outcome(outcome);
+    if (!options->quiet || is_incomplete || answer == ANSWER_NONE || answer == ANSWER_ARGUMENTS)
+        say_summary(sum, is_incomplete);
+    return answer;
+}
+
+/* Ends as the command did. */
+static int end_as(int status)
+{
+    if (!WIFSIGNALED(status))
+        return WEXITSTATUS(status);
+    signals_end_by(WTERMSIG(status));
+    return 128 + WTERMSIG(status);
+}
+
+/* The first rule that applies. */
+static int status_of(const struct options *options, enum answer answer, const struct sum *sum,
+                     const struct outcome *outcome, bool is_incomplete)
+{
+    bool is_known = answer == ANSWER_CLEAN || answer == ANSWER_REPORTS || answer == ANSWER_NOT_WHOLE;
+    bool has_reports = is_known ? answer == ANSWER_REPORTS : sum->reports > 0;
+    if (has_reports && options->exitcode != 0)
+        return (int)options->exitcode;
+    if (outcome->nothing && options->nothing != 0)
+        return (int)options->nothing;
+    if ((is_incomplete || answer == ANSWER_NOT_WHOLE || !is_known) && !outcome->nothing && options->incomplete != 0)
+        return (int)options->incomplete;
+    return end_as(outcome->status);
+}
+
+static pid_t start(const struct options *options, int *signals)
+{
+    int status = 0;
+    say_open(options->log);
+    hub_open();
+    children_begin();
+    *signals = signals_open();
+    descendants_adopt();
+    report_begin(options);
+    nested_note_begun();
+    pid_t command = command_start(options, hub_address(), &status);
+    if (command == 0) {
+        int error = errno;
+        nested_take_back();
+        hub_remove();
+        fail(status, options->command[0], strerror(error));
+    }
+    signals_ignore_pipe();
+    if (!options->quiet && !options->live)
+        progress_allow();
+    return command;
+}
+
+int main(int count, char **words)
+{
+    int signals;
+    (void)count;
+    say_fill_standard();
+    struct options options = options_read(words);
+    checkers_begin(&options);
+    nested_begin();
+    double started = now();
+    pid_t command = start(&options, &signals);
+    struct collected collected = collect(&options, command, signals);
+    struct sum sum = sum_up();
+    struct nested nested = nested_found(hub_folder());
+    struct outcome outcome = {
+        .seconds = now() - started,
+        .status = collected.status,
+        .nothing = sum.recorded == 0 && !nested.has_recorded,
+        .missing = options.at_least > sum.recorded ? options.at_least - sum.recorded : 0,
+        .is_running = collected.is_running,
+        .lost = nested.lost,
+    };
+    bool is_incomplete = sum.not_whole > 0 || outcome.missing > 0 || outcome.is_running || outcome.lost > 0
+                         || collected.has_timed_out;
+    if (!outcome.nothing)
+        nested_note_recorded();
+    enum answer answer = conclude(&options, &sum, &outcome, nested.is_there);
+    hub_remove();
+    is_incomplete |= !say_close();
+    return status_of(&options, answer, &sum, &outcome, is_incomplete);
+}

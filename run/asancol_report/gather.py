@@ -1,0 +1,173 @@
+"""From the verdicts and the side memory of processes to findings.
+
+What comes of one process is grouped, and groups that are the same in several processes of a run are put together before
+any symbol is looked up. So what is held grows with the places in the program, and not with the lines.
+"""
+
+from __future__ import annotations
+
+from typing import Dict, List, NamedTuple, Optional, Tuple
+
+from .findings import Block, declaration_of, Finding, Frame, GLOBAL, HEAP, STACK, Stack, Tally
+from .modules import Modules, Place
+from .results import Results
+from .side import Fault, Side, VARIABLE_NONE, VARIABLE_STACK
+from .sources import Sources
+from .symbols import Symbols
+from .verdicts import Group, Verdicts
+
+NO_PLACE = "its place was not recorded"
+NO_ALLOCATION = "before the trace began"
+
+Key = Tuple[str, str, Optional[int], Optional[Place], Optional[Place], Optional[Place], str]
+
+
+class Sighting:
+    """Groups of one run that are the same."""
+
+    __slots__ = ("finding", "place", "allocated", "freed", "count", "processes", "first")
+
+    def __init__(self, finding: Finding, places: Places, first: Tally) -> None:
+        self.finding = finding
+        self.place, self.allocated, self.freed = places
+        self.count = 0
+        self.processes = 0  # a bit for each, since there may be many
+        self.first = first
+
+
+class Places(NamedTuple):
+    """The places of a fault: of the access, the malloc and the free. None, if one is not known."""
+
+    place: Optional[Place]
+    allocated: Optional[Place]
+    freed: Optional[Place]
+
+
+class Gatherer:
+    """Takes in the processes of one run."""
+
+    def __init__(self, results: Results, run: int, modules: Modules, symbols: Symbols, sources: Sources) -> None:
+        self.results = results
+        self.run = run
+        self.modules = modules
+        self.symbols = symbols
+        self.sources = sources
+        self.sightings: Dict[Key, Sighting] = {}
+        self.frames: Dict[Optional[Place], Stack] = {}
+        # The processes of each finding that was seen, by its identity.
+        self.seen_in: Dict[int, int] = {}
+
+    def take(self, process: int, pid: int, verdicts: int, side: Optional[Side]) -> Verdicts:
+        """Takes in the lines of a process, behind the descriptor `verdicts`."""
+        lines = Verdicts(verdicts, side.fault_of if side else lambda event: 0)
+        for group in lines.groups.values():
+            fault = side.fault(group.fault) if side and group.fault else None
+            places = self.places_of(side, fault)
+            self.sight(group, fault, places, process, pid)
+            if self.modules.is_full():
+                self.symbols.look_up()
+        if lines.strange:
+            self.results.notes[f"process {pid}: {lines.strange} lines of asancol were not understood"] = None
+        return lines
+
+    def places_of(self, side: Optional[Side], fault: Optional[Fault]) -> Places:
+        if side is None or fault is None:
+            return Places(None, None, None)
+        freed = self.place(side, fault.freed) if fault.freed else None
+        return Places(self.place(side, fault.place), self.place(side, fault.allocated), freed)
+
+    def place(self, side: Side, after_call: int) -> Optional[Place]:
+        """Returns the place of a call, from the address after it."""
+        if after_call == 0:
+            return None
+        address = after_call - 1
+        mapping = side.mapping(address)
+        if mapping is None:
+            return Place(None, address, address)
+        module = self.modules.find(mapping, side.started)
+        in_file = address - mapping.low + mapping.offset
+        if module.elf is not None and not module.trouble:
+            linked = module.elf.address(in_file)
+            if linked not in module.names:
+                module.wanted[linked] = None
+        return Place(module, in_file, address - mapping.base)
+
+    def sight(self, group: Group, fault: Optional[Fault], places: Places, process: int, pid: int) -> None:
+        first = group.first
+        size = None if first.access == "malloc" else first.size
+        key = (first.class_name, first.access, size, *places, fault.name if fault else "")
+        sighting = self.sightings.get(key)
+        if sighting is None:
+            finding = Finding(first.class_name, first.access, first.size, first.address, first.bad)
+            finding.shadow = first.shadow
+            finding.block = block_of(fault)
+            tally = Tally(0, 0, process, pid, first.event)
+            sighting = self.sightings[key] = Sighting(finding, places, tally)
+        sighting.count += group.count
+        sighting.processes |= 1 << process
+
+    def finish(self) -> List[Finding]:
+        """Looks up the symbols of all that was taken in, adds it to the results, and returns what is new there."""
+        self.symbols.look_up()
+        new = []
+        for sighting in self.sightings.values():
+            finding = self.complete(sighting)
+            known = self.results.places.get((finding.fingerprint, finding.top.line))
+            if known is None:
+                new.append(finding)
+            finding = known or finding
+            before = self.seen_in.get(id(finding), 0)
+            self.seen_in[id(finding)] = before | sighting.processes
+            added = bits_of(sighting.processes & ~before)
+            first = sighting.first._replace(times=sighting.count, processes=added)
+            self.results.add(finding, self.run, first)
+        self.sightings.clear()
+        return new
+
+    def complete(self, sighting: Sighting) -> Finding:
+        """Gives a finding its stacks and its fingerprint."""
+        finding = sighting.finding
+        finding.stack = self.stack(sighting.place, NO_PLACE)
+        if finding.block is not None and finding.block.kind == HEAP:
+            finding.allocated = self.stack(sighting.allocated, NO_ALLOCATION)
+            if sighting.freed is not None:
+                finding.freed = self.stack(sighting.freed, "")
+        finding.set_fingerprint(self.sources)
+        return finding
+
+    def stack(self, place: Optional[Place], note: str) -> Stack:
+        if place is None:
+            return (Frame(note=note),)
+        stack = self.frames.get(place)
+        if stack is None:
+            stack = self.frames[place] = self.read_stack(place)
+        return stack
+
+    def read_stack(self, place: Place) -> Stack:
+        module = place.module
+        if module is None:
+            return (Frame(offset=place.offset),)
+        names = module.names.get(module.elf.address(place.in_file)) if module.elf else None
+        base = Frame(module=module.path, offset=place.offset, build=module.build)
+        if not names:
+            return (base,)
+        return tuple(
+            base._replace(function=it.function, file=it.file, line=it.line, column=it.column,
+                          is_inlined=number < len(names) - 1, text=self.sources.line(it.file, it.line))
+            for number, it in enumerate(names)
+        )
+
+
+def bits_of(number: int) -> int:
+    return bin(number).count("1")
+
+
+def block_of(fault: Optional[Fault]) -> Optional[Block]:
+    """Returns what a fault lies beside."""
+    if fault is None or fault.block == 0:
+        return None
+    if fault.variable == VARIABLE_NONE:
+        return Block(fault.block, fault.block_size)
+    kind = STACK if fault.variable == VARIABLE_STACK else GLOBAL
+    name, file, line = declaration_of(fault.name)
+    return Block(fault.block, fault.block_size, kind, name, file, line or fault.line)

@@ -1,0 +1,299 @@
+"""Results as JSON lines: what asancol-report writes with --json and merges. docs/REPORTS.md describes each field."""
+
+from __future__ import annotations
+
+import json
+import sys
+from typing import Any, Dict, Iterable, Iterator, Optional, TextIO, Tuple, Union
+
+from .errors import Broken, reason
+from .findings import Block, Finding, Frame, GLOBAL, HEAP, STACK, Stack, Tally
+from .results import Process, Results, Run
+
+VERSION = 1
+LARGEST_NUMBER = (1 << 64) - 1
+
+# A line that begins a run, has a process of it, or a finding.
+Entry = Dict[str, Any]
+# Commands that came up, each once.
+Commands = Dict[Tuple[str, ...], Tuple[str, ...]]
+
+
+# Writing.
+
+def run_entry(run: Run, number: int) -> Entry:
+    return {
+        "type": "run", "version": VERSION, "run": number, "id": run.identity, "command": list(run.command),
+        "host": run.host, "directory": run.directory, "time": run.time, "seconds": run.seconds, "status": run.status,
+        "signal": run.signal, "ended": run.has_ended, "nothing": run.is_nothing, "missing": run.missing,
+        "running": run.is_running, "lost": run.lost,
+    }
+
+
+def process_entry(process: Process, run: int) -> Entry:
+    entry = {
+        "type": "process", "run": run, "n": process.number, "pid": process.pid, "parent": process.parent,
+        "command": list(process.command), "fate": process.fate, "events": process.events, "reports": process.reports,
+        "whole": process.is_whole, "left_out": process.left_out, "why": process.why,
+    }
+    if process.kept:
+        entry["kept"] = process.kept
+    return entry
+
+
+def frame_entry(frame: Frame) -> Entry:
+    if frame.note:
+        return {"note": frame.note}
+    entry: Entry = {"offset": f"{frame.offset:x}"}
+    for name, value in (("module", frame.module), ("build_id", frame.build), ("function", frame.function),
+                        ("file", frame.file), ("line", frame.line), ("column", frame.column),
+                        ("inlined", frame.is_inlined), ("text", frame.text)):
+        if value:
+            entry[name] = value
+    return entry
+
+
+def block_entry(block: Block) -> Entry:
+    entry: Entry = {"kind": block.kind, "address": f"{block.address:x}", "size": block.size}
+    if block.kind != HEAP:
+        entry["name"] = block.name
+    if block.file:
+        entry["file"] = block.file
+    if block.line:
+        entry["line"] = block.line
+    return entry
+
+
+def finding_entry(finding: Finding, run: int, tally: Tally) -> Entry:
+    entry: Entry = {
+        "type": "finding", "run": run, "fingerprint": finding.fingerprint, "class": finding.class_name,
+        "access": finding.access, "size": finding.size, "address": f"{finding.address:x}",
+        "bad": None if finding.bad is None else f"{finding.bad:x}", "shadow": finding.shadow or None,
+        "count": tally.times, "processes": tally.processes, "process": tally.process, "pid": tally.pid,
+        "event": tally.event, "stack": [frame_entry(frame) for frame in finding.stack],
+    }
+    if finding.block:
+        entry["block"] = block_entry(finding.block)
+        entry["where"] = finding.where
+    for name, stack in (("allocated", finding.allocated), ("freed", finding.freed)):
+        if stack:
+            entry[name] = [frame_entry(frame) for frame in stack]
+    if finding.suppression:
+        entry["suppressed"] = finding.suppression
+    if finding.is_known is not None:
+        entry["baseline"] = "unchanged" if finding.is_known else "new"
+    return entry
+
+
+def entries_of(results: Results) -> Iterator[Entry]:
+    findings: Dict[int, list[Finding]] = {}
+    for finding in results.findings():
+        for number in finding.runs:
+            findings.setdefault(number, []).append(finding)
+    for number, run in enumerate(results.runs):
+        yield run_entry(run, number)
+        for process in run.processes.values():
+            yield process_entry(process, number)
+        for finding in findings.get(number, ()):
+            yield finding_entry(finding, number, finding.runs[number])
+    for note in results.notes:
+        yield {"type": "note", "text": note}
+
+
+def write(results: Results, out: TextIO) -> None:
+    encode = json.JSONEncoder(separators=(",", ":")).encode
+    for entry in entries_of(results):
+        out.write(encode(entry) + "\n")
+
+
+# Reading. What has another type than it should is as if it were missing; what is missing has a default.
+
+def text_of(value: object) -> str:
+    return value if isinstance(value, str) else ""
+
+
+def number_of(value: object) -> int:
+    return value if type(value) is int and 0 <= value <= LARGEST_NUMBER else 0
+
+
+def signed_of(value: object) -> int:
+    return value if isinstance(value, int) and abs(value) < 1 << 31 else 0
+
+
+def seconds_of(value: object) -> float:
+    return float(value) if isinstance(value, (int, float)) and 0 <= value < 1e11 else 0.0
+
+
+def address_of(value: object) -> int:
+    try:
+        return int(value, 16) if isinstance(value, str) and len(value) <= 16 else 0
+    except ValueError:
+        return 0
+
+
+def words_of(value: object) -> Tuple[str, ...]:
+    return tuple(sys.intern(word) for word in value if isinstance(word, str)) if isinstance(value, list) else ()
+
+
+def run_of(entry: Entry) -> Run:
+    run = Run(words_of(entry.get("command")), text_of(entry.get("id")))
+    run.host = text_of(entry.get("host"))
+    run.directory = text_of(entry.get("directory"))
+    run.time = seconds_of(entry.get("time"))
+    end_run(run, entry)
+    run.has_ended = entry.get("ended") is not False
+    return run
+
+
+def end_run(run: Run, entry: Entry) -> None:
+    """Takes in how a run has ended."""
+    run.has_ended = True
+    run.seconds = seconds_of(entry.get("seconds"))
+    run.status = signed_of(entry.get("status"))
+    run.signal = signed_of(entry.get("signal"))
+    run.is_nothing = bool(entry.get("nothing"))
+    run.missing = number_of(entry.get("missing"))
+    run.is_running = bool(entry.get("running"))
+    run.lost = number_of(entry.get("lost"))
+
+
+def command_of(value: object, commands: Commands) -> Tuple[str, ...]:
+    """Returns the words of a command. Processes that have the same command share it."""
+    if type(value) is not list:
+        return ()
+    try:
+        return commands[tuple(value)]
+    except (KeyError, TypeError):
+        words = words_of(value)
+        return commands.setdefault(words, words)
+
+
+def process_of(entry: Entry, commands: Commands) -> Process:
+    get = entry.get
+    return Process(number_of(get("n")), number_of(get("pid")), number_of(get("parent")),
+                   command_of(get("command"), commands), sys.intern(text_of(get("fate"))), number_of(get("events")),
+                   number_of(get("reports")), get("whole") is True, number_of(get("left_out")),
+                   sys.intern(text_of(get("why"))), text_of(get("kept")))
+
+
+def frame_of(entry: object) -> Frame:
+    get = entry.get if isinstance(entry, dict) else {}.get
+    return Frame(text_of(get("module")), address_of(get("offset")), text_of(get("build_id")), text_of(get("function")),
+                 text_of(get("file")), number_of(get("line")), number_of(get("column")), get("inlined") is True,
+                 text_of(get("text")), text_of(get("note")))
+
+
+def stack_of(value: object) -> Stack:
+    return tuple(frame_of(frame) for frame in value) if isinstance(value, list) else ()
+
+
+def block_of(entry: object) -> Optional[Block]:
+    if not isinstance(entry, dict):
+        return None
+    kind = entry.get("kind")
+    return Block(address_of(entry.get("address")), number_of(entry.get("size")),
+                 kind if kind in (STACK, GLOBAL) else HEAP, text_of(entry.get("name")), text_of(entry.get("file")),
+                 number_of(entry.get("line")))
+
+
+def finding_of(entry: Entry) -> Finding:
+    get = entry.get
+    size, bad = get("size"), get("bad")
+    finding = Finding(text_of(get("class")), text_of(get("access")), None if size is None else number_of(size),
+                      address_of(get("address")), None if bad is None else address_of(bad))
+    finding.shadow = text_of(get("shadow"))
+    finding.stack = stack_of(get("stack"))
+    finding.block = block_of(get("block"))
+    finding.allocated = stack_of(get("allocated"))
+    finding.freed = stack_of(get("freed"))
+    finding.fingerprint = text_of(get("fingerprint"))
+    return finding
+
+
+def tally_of(entry: Entry) -> Tally:
+    get = entry.get
+    return Tally(number_of(get("count")), number_of(get("processes")), number_of(get("process")), number_of(get("pid")),
+                 number_of(get("event")))
+
+
+def line_of(entry: Entry) -> int:
+    """Returns the line of a finding's place: as `Finding.top` finds it."""
+    stack = entry.get("stack")
+    for frame in stack if isinstance(stack, list) else ():
+        line = frame.get("line") if isinstance(frame, dict) else 0
+        if line:
+            return number_of(line)
+    return 0
+
+
+class Reader:
+    """Reads one file into results."""
+
+    def __init__(self, results: Results, name: str) -> None:
+        self.results = results
+        self.name = name
+        self.runs: Dict[int, Optional[int]] = {}  # numbers here; None, if a run is there already
+        self.last = 0
+        self.commands: Commands = {}
+
+    def read(self, lines: Iterable[str]) -> None:
+        take = {"run": self.take_run, "process": self.take_process, "finding": self.take_finding, "end": self.take_end,
+                "note": self.take_note}
+        decode = json.JSONDecoder().raw_decode
+        number = 0
+        try:
+            for number, line in enumerate(lines, 1):
+                if line.isspace():
+                    continue
+                entry, end = decode(line)
+                if line[end:].strip():
+                    raise ValueError
+                take[entry["type"]](entry)
+        except (ValueError, KeyError, TypeError, AttributeError, RecursionError):
+            raise Broken(f"{self.name}:{number}: not a result of asancol-report --json") from None
+        if not self.runs:
+            raise Broken(f"{self.name}: there is no run in it")
+
+    def take_run(self, entry: Entry) -> None:
+        version = number_of(entry.get("version"))
+        if version > VERSION:
+            raise Broken(f"{self.name}: version {version} of results is newer than this asancol-report, "
+                         f"which knows version {VERSION}")
+        self.last = number_of(entry.get("run"))
+        self.runs[self.last] = self.results.add_run(run_of(entry))
+
+    def take_end(self, entry: Entry) -> None:
+        """Takes in the end of a run that needed no report: asancol-run leaves it to a run round it as it came."""
+        run = self.runs[self.last]
+        if run is not None:
+            end_run(self.results.runs[run], entry)
+
+    def take_process(self, entry: Entry) -> None:
+        run = self.runs[number_of(entry.get("run", self.last))]
+        if run is not None:
+            process = process_of(entry, self.commands)
+            self.results.runs[run].processes[process.number] = process
+
+    def take_finding(self, entry: Entry) -> None:
+        run = self.runs[number_of(entry.get("run"))]
+        if run is None:
+            return
+        known = self.results.places.get((entry["fingerprint"], line_of(entry)))
+        if known is None:
+            self.results.add(finding_of(entry), run, tally_of(entry))
+        else:
+            self.results.tally(known, run, tally_of(entry))
+
+    def take_note(self, entry: Entry) -> None:
+        self.results.notes[text_of(entry.get("text"))] = None
+
+
+def read(path: str, results: Results) -> None:
+    """Reads a file, or standard input for `-`, into results."""
+    name = "standard input" if path == "-" else path
+    try:
+        source: Union[int, str] = 0 if path == "-" else path
+        with open(source, encoding="utf-8", errors="surrogateescape", closefd=path != "-") as file:
+            Reader(results, name).read(file)
+    except OSError as error:
+        raise Broken(f"{name}: {reason(error)}") from None

@@ -1,0 +1,231 @@
+"""What asancol-report does: reads, decides what counts, writes."""
+
+from __future__ import annotations
+
+import os
+import signal
+import sys
+from typing import Callable, List, Optional, TextIO
+
+from . import options as command_line
+from . import RELEASE
+from .errors import Broken, CLEAN, COUNTS, FAILED, NOT_WHOLE, reason, REFUSED, Refused
+from .files import write_file
+from .gather import Gatherer
+from .json_lines import read
+from .modules import Modules
+from .options import Options
+from .results import Results
+from .sources import Sources
+from .suppressions import Suppressions
+from .symbols import Symbols
+from .text import Colors, Text
+
+TYPE_CHECKING = False
+if TYPE_CHECKING:
+    from .baseline import Baseline
+
+Writer = Callable[[Results, TextIO, Options, Sources], None]
+
+
+def say(text: object) -> None:
+    try:
+        print(f"asancol-report: {text}", file=sys.stderr, flush=True)
+    except OSError:
+        pass
+
+
+class Report:
+    """One run of this program. It loads what it needs when it needs it, since it is to start fast."""
+
+    def __init__(self, options: Options, beside: str) -> None:
+        self.options = options
+        self.beside = beside
+        root = options.value("--source-root")
+        self.root = os.path.realpath(root) if root else ""
+        self.results = Results()
+        self.modules = Modules()
+        self.symbols = Symbols(self.modules)
+        self.sources = Sources(self.root)
+        self.suppressions = Suppressions()
+        self.baseline: Optional[Baseline] = None
+        self.has_failed = False
+        self.text = Text(sys.stdout, Colors(has_colors(options)), self.root, options.switches["--gen-suppressions"])
+
+    @property
+    def is_live(self) -> bool:
+        return self.options.switches["--live"] and self.options.has_text
+
+    def fail(self, error: object) -> None:
+        say(error)
+        self.has_failed = True
+
+    def run(self) -> int:
+        self.read_rules()
+        self.read_input()
+        self.judge()
+        self.results.unused = self.suppressions.unused()
+        self.results.gone = self.baseline.gone() if self.baseline else None
+        for trouble in self.symbols.troubles():
+            self.results.notes[trouble] = None
+        self.write()
+        return self.status()
+
+    def read_rules(self) -> None:
+        """Reads what does not count. In a run that goes on, a mistake there must not lose its reports."""
+        try:
+            for path in self.options.suppressions:
+                self.suppressions.read(path)
+            if self.options.value("--baseline"):
+                from .baseline import Baseline
+                self.baseline = Baseline(self.options.value("--baseline"))
+        except (OSError, Broken, Refused) as error:
+            if not self.options.switches["--run"]:
+                raise
+            self.fail(f"{error.filename}: {reason(error)}" if isinstance(error, OSError) else error)
+
+    def read_input(self) -> None:
+        switches, files = self.options.switches, self.options.files
+        if switches["--run"]:
+            from .hub import Hub
+            signal.signal(signal.SIGINT, signal.SIG_IGN)  # Ctrl-C is for the command, and asancol-run ends this
+            Hub(self.results, self.new_gatherer, self.come).read(0)
+            self.read_nested(self.options.value("--nested"))
+        if switches["--trace"]:
+            self.check_traces(files)
+        else:
+            for path in files:
+                read(path, self.results)
+
+    def read_nested(self, folder: str) -> None:
+        """Reads what runs inside this one have left in its folder."""
+        for name in sorted(os.listdir(folder)) if folder else ():
+            if name.startswith("nested.") and name.endswith(".jsonl"):
+                try:
+                    read(os.path.join(folder, name), self.results)
+                except Broken as error:
+                    self.fail(error)
+
+    def new_gatherer(self, run: int) -> Gatherer:
+        return Gatherer(self.results, run, self.modules, self.symbols, self.sources)
+
+    def check_traces(self, files: List[str]) -> None:
+        from .traces import find_asancol, Traces
+        self.results.are_traces = True
+        traces = Traces(find_asancol(self.beside), self.options.check_words, self.results)
+        gatherers = []
+        for path in files:
+            run = traces.begin(path)
+            if run is not None:
+                gatherers.append(self.new_gatherer(run))
+                traces.check(path, gatherers[-1])
+                self.come(gatherers[-1])
+        for gatherer in gatherers:
+            gatherer.finish()
+
+    def come(self, gatherer: Gatherer) -> None:
+        """Prints what is new, if it is to be printed at once."""
+        if not self.is_live:
+            return
+        new = gatherer.finish()
+        self.suppressions.apply(new)
+        if self.baseline:
+            self.baseline.apply(new)
+        for finding in new:
+            if finding.counts:
+                self.text.write(self.text.finding(finding, times=False))
+        self.flush()
+
+    def judge(self) -> None:
+        findings = self.results.findings()
+        self.suppressions.apply(findings)
+        if self.baseline:
+            self.baseline.apply(findings)
+
+    def write(self) -> None:
+        is_clean = not self.results.counted() and self.results.is_whole()
+        if self.options.has_text and not (self.options.switches["--quiet"] and is_clean):
+            try:
+                self.text.report(self.results, self.is_live)
+            except OSError as error:
+                self.fail_to_print(error)
+        self.flush()
+        for name, path in self.options.outputs:
+            self.write_output(writer_of(name), path)
+
+    def write_output(self, form: Writer, path: str) -> None:
+        try:
+            write_file(path, lambda out: form(self.results, out, self.options, self.sources))
+        except Broken as error:
+            self.fail(error)
+
+    def flush(self) -> None:
+        try:
+            sys.stdout.flush()
+        except OSError as error:
+            self.fail_to_print(error)
+
+    def fail_to_print(self, error: OSError) -> None:
+        if not isinstance(error, BrokenPipeError):
+            say(f"standard output: {reason(error)}")
+        self.has_failed = True
+        # What could not be written must not be tried again at the end of this program.
+        os.dup2(os.open(os.devnull, os.O_WRONLY), 1)
+
+    def status(self) -> int:
+        if self.has_failed:
+            return FAILED
+        if self.results.counted():
+            return COUNTS
+        return CLEAN if self.results.is_whole() else NOT_WHOLE
+
+
+def writer_of(name: str) -> Writer:
+    """Returns what writes an output. Each is loaded only if it is asked for."""
+    if name == "--json":
+        from . import json_lines
+        return lambda results, out, options, sources: json_lines.write(results, out)
+    if name == "--sarif":
+        from . import sarif
+        return sarif.write
+    if name == "--junit":
+        from . import junit
+        return junit.write
+    if name == "--codequality":
+        from . import code_quality
+        return code_quality.write
+    from . import html
+    return html.write
+
+
+def has_colors(options: Options) -> bool:
+    when = options.value("--color", "auto")
+    if when != "auto":
+        return when == "always"
+    return sys.stdout.isatty() and not os.environ.get("NO_COLOR") and os.environ.get("TERM") != "dumb"
+
+
+def main(words: List[str], beside: str) -> int:
+    """Runs the program with the words of its command line, and returns its status."""
+    signal.signal(signal.SIGINT, signal.SIG_DFL)
+    sys.stdout = open(1, "w", encoding="utf-8", errors="surrogateescape", newline="\n", closefd=False)
+    try:
+        options = command_line.read(words)
+        if options.switches["--help"]:
+            sys.stdout.write(command_line.HELP)
+        elif options.switches["--version"]:
+            sys.stdout.write(f"asancol-report {RELEASE}\n")
+        else:
+            return Report(options, beside).run()
+        sys.stdout.flush()
+        return CLEAN
+    except Refused as error:
+        say(error)
+        return REFUSED
+    except Broken as error:
+        say(error)
+    except OSError as error:
+        say(f"{error.filename}: {reason(error)}" if error.filename else reason(error))
+    except MemoryError:
+        say("no memory")
+    return FAILED

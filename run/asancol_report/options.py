@@ -1,0 +1,138 @@
+"""The command line."""
+
+from __future__ import annotations
+
+from typing import Dict, List, Tuple
+
+from .errors import Refused
+
+HELP = """\
+usage: asancol-report [options] RESULT.jsonl...       merges results of asancol-run --json
+       asancol-report [options] --trace A.trace...    checks traces, and reads A.trace.where
+
+outputs beside the text:
+  --json FILE            JSON lines, which this program reads again
+  --sarif FILE           SARIF 2.1.0, for code scanning
+  --junit FILE           JUnit XML: a test case for each run
+  --codequality FILE     a Code Quality report of GitLab
+  --html FILE            a page that needs no other file and no network
+                         - is standard output; the text is left out then
+which reports count:
+  --suppressions FILE    not those that match a line of FILE; may be given several times
+  --gen-suppressions     print with each report the line that suppresses it
+  --baseline FILE        not those that are in FILE, an earlier result in JSON lines
+the text:
+  --source-root DIR      show files under DIR by their paths from there
+  --live                 print the first report of each place when it comes
+  --color WHEN           auto, always or never (auto)
+  -q, --quiet            print nothing if no report counts and everything was seen
+traces:
+  --quarantine B, --memory B, --limit L    passed to asancol check
+other:
+  --run                  read from asancol-run on standard input
+  -h, --help, --version
+
+status: 0 no report counts; 1 a report counts; 2 the command line was refused;
+        3 not everything was seen; 4 a file could not be read or written
+"""
+
+OUTPUTS = ("--json", "--sarif", "--junit", "--codequality", "--html")
+OF_CHECK = ("--quarantine", "--memory", "--limit")
+WITH_VALUE = (*OUTPUTS, *OF_CHECK, "--suppressions", "--baseline", "--source-root", "--color", "--nested")
+SWITCHES = ("--trace", "--run", "--live", "--gen-suppressions", "--quiet", "--help", "--version")
+SHORT = {"-q": "--quiet", "-h": "--help"}
+COLORS = ("auto", "always", "never")
+
+
+class Options:
+    """What the command line says."""
+
+    def __init__(self) -> None:
+        self.switches: Dict[str, bool] = dict.fromkeys(SWITCHES, False)
+        self.values: Dict[str, str] = {}
+        self.outputs: List[Tuple[str, str]] = []
+        self.suppressions: List[str] = []
+        self.files: List[str] = []
+
+    @property
+    def check_words(self) -> List[str]:
+        return [word for name in OF_CHECK if name in self.values for word in (name, self.values[name])]
+
+    @property
+    def has_text(self) -> bool:
+        """Whether standard output is free for the text."""
+        return all(path != "-" for _, path in self.outputs)
+
+    def value(self, name: str, default: str = "") -> str:
+        return self.values.get(name, default)
+
+
+def closest(word: str) -> str:
+    """Returns the option that somebody may have meant, as words for a message."""
+    import difflib
+
+    near = difflib.get_close_matches(word, [*WITH_VALUE, *SWITCHES], 1)
+    return f"; did you mean {near[0]}?" if near else ""
+
+
+def take(options: Options, name: str, rest: List[str], value: str, has_value: bool) -> None:
+    """Takes in one option."""
+    if name in SWITCHES:
+        if has_value:
+            raise Refused(f"{name} takes no value")
+        options.switches[name] = True
+    elif name in WITH_VALUE:
+        if not has_value:
+            if not rest:
+                raise Refused(f"{name} needs a value")
+            value = rest.pop(0)
+        if not value:
+            raise Refused(f"{name} needs a value")
+        if name == "--suppressions":
+            options.suppressions.append(value)
+        if name in OUTPUTS:
+            options.outputs.append((name, value))
+        options.values[name] = value
+    else:
+        raise Refused(f"there is no option {name}{closest(name)}")
+
+
+def read(words: List[str]) -> Options:
+    """Reads the command line. Refused, if it makes no sense."""
+    options, rest = Options(), list(words)
+    while rest:
+        word = rest.pop(0)
+        if word == "--":
+            options.files += rest
+            break
+        if word == "-" or not word.startswith("-"):
+            options.files.append(word)
+        elif word.startswith("--"):
+            name, equals, value = word.partition("=")
+            take(options, name, rest, value, bool(equals))
+        else:
+            take(options, SHORT.get(word, word), rest, "", False)
+    if not options.switches["--help"] and not options.switches["--version"]:
+        look_over(options)
+    return options
+
+
+def look_over(options: Options) -> None:
+    """Refuses options that do not go together."""
+    switches = options.switches
+    if options.value("--color", "auto") not in COLORS:
+        raise Refused("--color is auto, always or never")
+    if sum(path == "-" for _, path in options.outputs) > 1:
+        raise Refused("only one output can go to standard output")
+    if switches["--run"] and switches["--trace"]:
+        raise Refused("--run and --trace do not go together")
+    if options.value("--nested") and not switches["--run"]:
+        raise Refused("--nested is for --run")
+    if options.check_words and not switches["--trace"]:
+        raise Refused(f"{options.check_words[0]} is for --trace")
+    if switches["--trace"] and "-" in options.files:
+        raise Refused("a trace on standard input has no side file: name a file")
+    if options.files.count("-") > 1:
+        raise Refused("standard input can be read once")
+    if not options.files and not switches["--run"]:
+        raise Refused("no file was named; --help says more")

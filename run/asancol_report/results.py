@@ -1,0 +1,148 @@
+"""What runs have come to: their processes and findings, merged."""
+
+from __future__ import annotations
+
+from typing import Dict, Iterable, List, NamedTuple, Optional, Set, Tuple
+
+from .findings import Finding, Tally
+
+Place = Tuple[str, int]  # a fingerprint and a line
+
+
+class Process(NamedTuple):
+    """A recorded process."""
+
+    number: int
+    pid: int
+    parent: int
+    command: Tuple[str, ...]
+    fate: str
+    events: int
+    reports: int
+    is_whole: bool
+    left_out: int
+    why: str
+    kept: str = ""  # where its trace was kept
+
+
+class Run:
+    """A command, and the processes under it that were recorded."""
+
+    def __init__(self, command: Iterable[str] = (), identity: str = "") -> None:
+        self.command = tuple(command)
+        self.identity = identity
+        self.host = ""
+        self.directory = ""
+        self.time = 0.0  # seconds since 1970
+        self.seconds = 0.0
+        self.status = 0
+        self.signal = 0
+        self.has_ended = True
+        self.is_nothing = False  # no process had checks
+        self.missing = 0  # how many processes are wanting
+        self.is_running = False  # something of it runs on
+        self.lost = 0  # how many runs inside this one left no result
+        self.processes: Dict[int, Process] = {}
+
+    @property
+    def is_whole(self) -> bool:
+        return not self.troubles and all(process.is_whole for process in self.processes.values())
+
+    @property
+    def troubles(self) -> List[str]:
+        """Why the run was not seen whole, but for its processes."""
+        troubles = []
+        if not self.has_ended:
+            troubles.append("NOT ALL SEEN: asancol-run ended before the run did")
+        if self.is_nothing:
+            troubles.append("NOTHING WAS RECORDED: was a program built with asancol-cc?")
+        elif self.missing:
+            troubles.append(f"NOT ALL SEEN: {self.missing} fewer than --at-least asks for were recorded")
+        if self.is_running:
+            troubles.append("NOT ALL SEEN: processes of the command still run")
+        if self.lost:
+            runs = "run" if self.lost == 1 else "runs"
+            troubles.append(f"NOT ALL SEEN: {self.lost} {runs} inside this one left no result")
+        return troubles
+
+
+class Totals(NamedTuple):
+    """The numbers of a summary."""
+
+    reports: int
+    places: int
+    suppressed: int
+    known: int
+    processes: int
+    events: int
+    not_whole: int
+    troubles: int
+
+
+class Results:
+    """Runs, and the findings of all of them by place."""
+
+    def __init__(self) -> None:
+        self.runs: List[Run] = []
+        self.identities: Dict[str, int] = {}
+        self.places: Dict[Place, Finding] = {}
+        self.notes: Dict[str, None] = {}  # lines for the reader, each once
+        self.unused: List[str] = []  # suppressions that matched nothing
+        self.gone: Optional[int] = None  # places of the baseline that were not seen
+        self.are_traces = False
+
+    def add_run(self, run: Run) -> Optional[int]:
+        """Adds a run and returns its number. None, if it is there already."""
+        if run.identity and run.identity in self.identities:
+            return None
+        if run.identity:
+            self.identities[run.identity] = len(self.runs)
+        self.runs.append(run)
+        return len(self.runs) - 1
+
+    def add(self, finding: Finding, run: int, tally: Tally) -> Finding:
+        """Adds what a run has of a finding, and returns what stands for it."""
+        place = (finding.fingerprint, finding.top.line)
+        known = self.places.setdefault(place, finding)
+        self.tally(known, run, tally)
+        return known
+
+    @staticmethod
+    def tally(finding: Finding, run: int, tally: Tally) -> None:
+        before = finding.runs.get(run)
+        if before is not None:
+            tally = before._replace(times=before.times + tally.times, processes=before.processes + tally.processes)
+        finding.runs[run] = tally
+
+    def findings(self) -> List[Finding]:
+        """Returns all findings, in an order that depends on nothing but them."""
+        def order(finding: Finding) -> Tuple[str, str, int, int, str, str]:
+            top = finding.top
+            return (finding.class_name, top.file or top.module, top.line, top.offset, top.function, finding.fingerprint)
+        return sorted(self.places.values(), key=order)
+
+    def counted(self) -> List[Finding]:
+        return [finding for finding in self.findings() if finding.counts]
+
+    def not_whole(self) -> List[Tuple[Run, Process]]:
+        return [(run, process) for run in self.runs for process in run.processes.values() if not process.is_whole]
+
+    def is_whole(self) -> bool:
+        return bool(self.runs) and all(run.is_whole for run in self.runs)
+
+    def totals(self) -> Totals:
+        reports = places = suppressed = known = 0
+        for finding in self.places.values():
+            if finding.suppression:
+                suppressed += finding.count
+            elif finding.is_known:
+                known += 1
+            else:
+                places += 1
+                reports += finding.count
+        processes = [process for run in self.runs for process in run.processes.values()]
+        return Totals(reports, places, suppressed, known, len(processes), sum(it.events for it in processes),
+                      sum(not it.is_whole for it in processes), sum(len(run.troubles) for run in self.runs))
+
+    def runs_of(self, findings: Iterable[Finding]) -> Set[int]:
+        return {run for finding in findings for run in finding.runs}

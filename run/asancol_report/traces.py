@@ -1,0 +1,145 @@
+"""Checks traces that lie in files, and reads their side files."""
+
+from __future__ import annotations
+
+import hashlib
+import os
+import re
+import signal
+from typing import BinaryIO, List, Optional
+
+from .errors import Broken, reason
+from .gather import Gatherer
+from .results import Process, Results, Run
+from .running import in_memory, start, wait
+from .side import ENDING_EXEC, ENDING_LOST, ENDING_SIGNAL, Side
+from .symbols import on_path
+from .verdicts import End
+
+CLOSED, NO_CLOSE, TOO_MANY = "closed", "no-close", "too-many"
+# What asancol answers if it has printed its verdicts.
+STATUSES_WITH_VERDICTS = (0, 1, 3)
+
+
+def find_asancol(beside: str) -> str:
+    """Returns the checker: what ASANCOL names, or one beside this program, or else on PATH."""
+    named = os.environ.get("ASANCOL")
+    if named:
+        found = on_path(named)
+        if found is None:
+            raise Broken(f"{named}, which ASANCOL names, is not there")
+        return found
+    for path in (os.path.join(beside, "asancol"), os.path.join(beside, "..", "asancol")):
+        if os.path.isfile(path) and os.access(path, os.X_OK):
+            return path
+    found = on_path("asancol")
+    if found is None:
+        raise Broken("asancol is not there: ASANCOL names it")
+    return found
+
+
+def open_side(trace: str, results: Results) -> Optional[Side]:
+    """Returns the side file of a trace. If there is none, a note says so."""
+    path = trace + ".where"
+    try:
+        side = Side.open(path)
+    except OSError as error:
+        results.notes[f"{path}: {reason(error)}: record with ASANCOL_WHERE=1 to see where each event was"] = None
+        return None
+    if not side.is_good:
+        side.close()
+        results.notes[f"{path} is no side file of version 2: {trace} was recorded by another release"] = None
+        return None
+    return side
+
+
+def signal_name(number: int) -> str:
+    try:
+        return signal.Signals(number).name
+    except ValueError:
+        return f"signal {number}"
+
+
+def why_not_whole(end: End, side: Optional[Side]) -> str:
+    """Returns why a trace does not show all that its process did; empty if it does."""
+    left_out = side.left_out if side else 0
+    if left_out:
+        return f"reached the event limit: {left_out} of {end.events + left_out} events were not recorded"
+    if end.fate == CLOSED or is_ended_otherwise(end, side):
+        return ""
+    if end.fate == TOO_MANY:
+        return "reached the event limit"
+    if side and side.ending == ENDING_LOST:
+        return "the recorder lost its trace"
+    return f"its trace ends as {end.fate}"
+
+
+def is_ended_otherwise(end: End, side: Optional[Side]) -> bool:
+    """Whether a trace without a close has all events, by the word of the recorder: an exec or a signal has ended it."""
+    return (end.fate == NO_CLOSE and side is not None and side.ending in (ENDING_EXEC, ENDING_SIGNAL)
+            and side.events == end.events)
+
+
+def number_in(trace: str) -> int:
+    """Returns the number of the process that the name of a trace has, or 0."""
+    return int((re.findall(r"[0-9]{1,9}", os.path.basename(trace)) or ["0"])[-1])
+
+
+def identity_of(trace: str, status: os.stat_result) -> str:
+    """Returns what a trace is known by: checked twice, it is one run."""
+    words = [os.uname().nodename, os.path.realpath(trace), str(status.st_size), str(status.st_mtime_ns)]
+    return hashlib.sha256("\0".join(words).encode("utf-8", "surrogateescape")).hexdigest()[:32]
+
+
+class Traces:
+    """Runs the checker on one trace after another."""
+
+    def __init__(self, asancol: str, options: List[str], results: Results) -> None:
+        self.asancol = asancol
+        self.options = options
+        self.results = results
+
+    def begin(self, trace: str) -> Optional[int]:
+        """Begins the run of a trace, and returns its number. None, if it was given before."""
+        try:
+            status = os.stat(trace)
+        except OSError as error:
+            raise Broken(f"{trace}: {reason(error)}") from None
+        run = Run([trace], identity_of(trace, status))
+        run.host = os.uname().nodename
+        run.directory = os.getcwd()
+        run.time = float(int(status.st_mtime))
+        return self.results.add_run(run)
+
+    def check(self, trace: str, gatherer: Gatherer) -> None:
+        """Checks a trace, and adds its process and what was found to the run of the gatherer."""
+        run = self.results.runs[gatherer.run]
+        side = open_side(trace, self.results)
+        try:
+            command = (side.words() if side else []) or [trace]
+            pid = side.process if side and side.process else number_in(trace)
+            with in_memory() as verdicts:
+                self.run_checker(trace, verdicts)
+                lines = gatherer.take(0, pid, verdicts.fileno(), side)
+            end = lines.end or End("not checked", 0, 0)
+            why = why_not_whole(end, side)
+            ended_by = side.signal if side and is_ended_otherwise(end, side) else 0
+            said = why or (f"ended by {signal_name(ended_by)}" if ended_by else "")
+            parent, left_out = (side.parent, side.left_out) if side else (0, 0)
+            run.processes[0] = Process(0, pid, parent, tuple(command), end.fate, end.events, end.reports, not why,
+                                       left_out, said, os.path.abspath(trace))
+        finally:
+            if side is not None:
+                side.close()
+
+    def run_checker(self, trace: str, verdicts: BinaryIO) -> None:
+        # `./-` is a file of this name, and `-` would be standard input.
+        name = trace if trace.startswith("/") else os.path.join(".", trace)
+        try:
+            with open(os.devnull, "rb") as nothing:
+                words = [self.asancol, "check", *self.options, name]
+                status = wait(start(words, nothing.fileno(), verdicts.fileno()))
+        except OSError as error:
+            raise Broken(f"{self.asancol} can't be run: {reason(error)}") from None
+        if status not in STATUSES_WITH_VERDICTS:
+            raise Broken(f"{self.asancol} check {name} ended with status {status}")

@@ -1,0 +1,177 @@
+#define _GNU_SOURCE
+#include "checkers.h"
+
+#include <errno.h>
+#include <fcntl.h>
+#include <stdio.h>
+#include <stdlib.h>
+#include <string.h>
+#include <sys/mman.h>
+#include <sys/wait.h>
+#include <unistd.h>
+
+#include "children.h"
+#include "keep.h"
+#include "names.h"
+#include "report.h"
+#include "say.h"
+#include "verdict.h"
+
+static struct {
+    char *program;
+    struct words words;
+    bool keeps;
+} checkers;
+
+void checkers_begin(const struct options *options)
+{
+    checkers.program = find_own_program("asancol", "ASANCOL");
+    if (checkers.program == NULL) {
+        const char *named = getenv("ASANCOL");
+        fail(OWN_FAILURE, named != NULL && *named != 0 ? named : "asancol",
+             "the program that checks is not there, or cannot be executed; the variable ASANCOL may name it");
+    }
+    words_add(&checkers.words, "asancol");
+    if (options->check.count > 0) {
+        words_add(&checkers.words, "check");
+        for (size_t i = 0; i < options->check.count; i++)
+            words_add(&checkers.words, options->check.words[i]);
+        words_add(&checkers.words, "-");
+    }
+    checkers.keeps = options->keep != NULL;
+    if (checkers.keeps)
+        keep_begin(options->keep);
+}
+
+/* What comes of this may be over in a moment. */
+static bool is_shortage(int error)
+{
+    return error == EAGAIN || error == ENOMEM || error == EMFILE || error == ENFILE;
+}
+
+static void close_one(int *descriptor)
+{
+    if (*descriptor >= 0)
+        close(*descriptor);
+    *descriptor = -1;
+}
+
+/* Runs the checker over an input, which it closes here unless there are no resources. */
+static bool start(struct process *process, int input)
+{
+    if (process->verdicts < 0)
+        process->verdicts = memfd_create("verdicts", MFD_CLOEXEC);
+    if (process->verdicts >= 0)
+        process->checker = child_start(ROLE_CHECKER, process, checkers.program, checkers.words.words, input,
+                                       process->verdicts);
+    if (process->checker != 0) {
+        process->stage = STAGE_CHECKED;
+        return true;
+    }
+    int error = errno;
+    if (is_shortage(error) && process_live_count() > 1)
+        return false;
+    char why[160];
+    snprintf(why, sizeof why, "%.80s: %s", checkers.program, strerror(error));
+    checker_give_up(process, why);
+    return true;
+}
+
+/* Takes the side memory, if it has come, and the name of the program. */
+static void meet(struct process *process)
+{
+    if (process->name != NULL)
+        return;
+    process->side_memory = side_receive(process->connection);
+    if (process->side_memory >= 0)
+        process->side = side_map(process->side_memory);
+    if (process->side == NULL)
+        close_one(&process->side_memory);
+    process_name(process);
+}
+
+/* As start, where what has begun can't be tried again from its beginning. */
+static void start_at_last(struct process *process, int input)
+{
+    for (int tries = 0; tries < 100; tries++) {
+        if (start(process, input))
+            return;
+        usleep(10000);
+    }
+    checker_give_up(process, strerror(EAGAIN));
+}
+
+bool checker_start(struct process *process)
+{
+    meet(process);
+    if (!checkers.keeps)
+        return start(process, process->connection);
+    int input = keep_start(process);
+    if (input < 0) {
+        say("asancol-run: a trace of %s is not kept: %s", process->name, strerror(errno));
+        free(process->kept);
+        process->kept = NULL;
+        return start(process, process->connection);
+    }
+    start_at_last(process, input); /* tee has begun to read */
+    close(input);
+    return true;
+}
+
+bool checker_start_file(struct process *process)
+{
+    char path[4200];
+    if (process->name == NULL) {
+        snprintf(path, sizeof path, "%s.where", process->trace);
+        process->side = side_read(path);
+        process_name(process);
+    }
+    int input = open(process->trace, O_RDONLY | O_CLOEXEC | O_NONBLOCK);
+    if (input < 0) {
+        checker_give_up(process, strerror(errno));
+        return true;
+    }
+    if (checkers.keeps && process->kept == NULL)
+        keep_file(process);
+    bool is_started = start(process, input);
+    close(input);
+    return is_started;
+}
+
+/* It is done: what nobody asks for any more is given back. */
+static void finish(struct process *process)
+{
+    process_is_done(process);
+    close_one(&process->connection);
+    verdict_read(process);
+    keep_end(process);
+    report_process(process);
+    close_one(&process->verdicts);
+    close_one(&process->side_memory);
+    if (process->is_settled) {
+        side_unmap(process->side);
+        process->side = NULL;
+    }
+}
+
+void checker_give_up(struct process *process, const char *why)
+{
+    snprintf(process->why, sizeof process->why, "%s", why);
+    if (process->name == NULL)
+        process_name(process);
+    finish(process);
+}
+
+void checker_has_ended(struct process *process, bool is_tee, int status)
+{
+    if (is_tee) {
+        process->tee = 0;
+        if (WIFEXITED(status) && WEXITSTATUS(status) != 0)
+            say("asancol-run: %s: not all of the trace could be kept", process->kept);
+    } else {
+        process->checker = 0;
+        process->checker_status = status;
+    }
+    if (process->checker == 0 && process->tee == 0 && process->stage == STAGE_CHECKED)
+        finish(process);
+}

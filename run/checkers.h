@@ -1,0 +1,21 @@
+/* Each recorded process has a checker: an asancol whose standard input is the connection. */
+#ifndef ASANCOL_RUN_CHECKERS_H
+#define ASANCOL_RUN_CHECKERS_H
+
+#include <stdbool.h>
+
+#include "options.h"
+#include "processes.h"
+
+/* Finds asancol, so that it is known to be there before the command starts. */
+void checkers_begin(const struct options *options);
+/* Starts the checker of a process that has sent its first bytes. False: there are no resources now, try again. */
+bool checker_start(struct process *process);
+/* Checks a trace that is in a file. Likewise. */
+bool checker_start_file(struct process *process);
+/* Gives up a process whose checker can't be started, for this cause. */
+void checker_give_up(struct process *process, const char *why);
+/* Takes the status of a checker or of a tee that has ended. */
+void checker_has_ended(struct process *process, bool is_tee, int status);
+
+#endif

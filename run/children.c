@@ -1,0 +1,97 @@
+#define _GNU_SOURCE
+#include "children.h"
+
+#include <errno.h>
+#include <signal.h>
+#include <spawn.h>
+#include <stdlib.h>
+#include <unistd.h>
+
+#include "say.h"
+
+extern char **environ;
+
+struct child {
+    pid_t number;
+    enum role role;
+    struct process *process;
+    struct child *next;
+};
+
+enum { BUCKETS = 4096 };
+static struct child *buckets[BUCKETS];
+static sigset_t mask_before, usual;
+
+void children_begin(void)
+{
+    struct sigaction action;
+    sigprocmask(SIG_SETMASK, NULL, &mask_before);
+    sigemptyset(&usual);
+    if (sigaction(SIGPIPE, NULL, &action) == 0 && action.sa_handler == SIG_DFL)
+        sigaddset(&usual, SIGPIPE); /* ignored here, later */
+}
+
+static struct child **bucket(pid_t number)
+{
+    return &buckets[(unsigned)number % BUCKETS];
+}
+
+static void add(pid_t number, enum role role, struct process *process)
+{
+    struct child *made = must(malloc(sizeof *made));
+    *made = (struct child){number, role, process, *bucket(number)};
+    *bucket(number) = made;
+}
+
+pid_t child_start(enum role role, struct process *process, const char *program, const char *const *words, int input,
+                  int output)
+{
+    posix_spawn_file_actions_t actions;
+    posix_spawnattr_t attributes;
+    pid_t child = 0;
+    sigset_t mask = mask_before;
+    /* A report may go to a terminal whose foreground is the command: stty tostop must not hold it. */
+    sigaddset(&mask, SIGTTOU);
+    posix_spawn_file_actions_init(&actions);
+    posix_spawn_file_actions_adddup2(&actions, input, STDIN_FILENO);
+    posix_spawn_file_actions_adddup2(&actions, output, STDOUT_FILENO);
+    posix_spawn_file_actions_adddup2(&actions, STDERR_FILENO, STDERR_FILENO);
+    posix_spawnattr_init(&attributes);
+    /* What is typed at the terminal ends the command, and not its check. */
+    posix_spawnattr_setflags(&attributes, POSIX_SPAWN_SETPGROUP | POSIX_SPAWN_SETSIGMASK | POSIX_SPAWN_SETSIGDEF);
+    posix_spawnattr_setpgroup(&attributes, 0);
+    posix_spawnattr_setsigmask(&attributes, &mask);
+    posix_spawnattr_setsigdefault(&attributes, &usual);
+    int error = posix_spawn(&child, program, &actions, &attributes, (char *const *)(uintptr_t)words, environ);
+    posix_spawn_file_actions_destroy(&actions);
+    posix_spawnattr_destroy(&attributes);
+    if (error != 0) {
+        errno = error;
+        return 0;
+    }
+    add(child, role, process);
+    return child;
+}
+
+bool child_take(pid_t number, enum role *role, struct process **process)
+{
+    for (struct child **at = bucket(number); *at != NULL; at = &(*at)->next) {
+        struct child *found = *at;
+        if (found->number == number) {
+            *role = found->role;
+            *process = found->process;
+            *at = found->next;
+            free(found);
+            return true;
+        }
+    }
+    return false;
+}
+
+bool child_is_ours(pid_t number)
+{
+    for (const struct child *at = *bucket(number); at != NULL; at = at->next)
+        if (at->number == number)
+            return true;
+    return false;
+}

@@ -1,0 +1,351 @@
+#define _GNU_SOURCE
+#include "collect.h"
+
+#include <dirent.h>
+#include <errno.h>
+#include <poll.h>
+#include <signal.h>
+#include <stdio.h>
+#include <stdlib.h>
+#include <string.h>
+#include <sys/resource.h>
+#include <sys/socket.h>
+#include <sys/wait.h>
+#include <unistd.h>
+
+#include "checkers.h"
+#include "children.h"
+#include "descendants.h"
+#include "hub.h"
+#include "processes.h"
+#include "report.h"
+#include "say.h"
+#include "signals.h"
+
+/* What a process holds here while it is checked, and how many more descriptors are kept free. */
+enum { HELD_BY_PROCESS = 3, KEPT_FREE = 12 };
+enum { MOST_DESCRIPTORS = 65536 };
+/* How many traces in files are checked at once. */
+enum { FILES_AT_ONCE = 8 };
+
+/* In seconds: between SIGTERM and SIGKILL of --timeout, between looks at what is left, until a shortage is tried
+   again, until what does not end after the last cut is left alone, and until there is a line of progress. */
+static const double GRACE = 5, LOOK = 1, SHORTAGE = 0.05, LAST = 30, PROGRESS = 2;
+
+static struct {
+    const struct options *options;
+    pid_t command;
+    int signals;
+    double started, ended, cut; /* when; 0: not yet */
+    double wait_from;           /* --wait counts from here */
+    double timeout_at, kill_at; /* 0: never */
+    double short_until, look_at, progress_at;
+    bool is_left; /* something that the command has started */
+    bool has_timed_out;
+    int status;
+    size_t descriptors, base; /* how many there may be, and are without processes */
+    size_t done;              /* processes, at the last look */
+    struct process **pending; /* that have not been given a checker yet */
+    size_t pending_count, pending_room;
+} run;
+
+static void count_descriptors(void)
+{
+    struct rlimit limit;
+    DIR *entries = opendir("/proc/self/fd");
+    run.base = KEPT_FREE;
+    while (entries != NULL && readdir(entries) != NULL)
+        run.base++;
+    if (entries != NULL)
+        closedir(entries);
+    if (getrlimit(RLIMIT_NOFILE, &limit) != 0)
+        return;
+    rlim_t most = limit.rlim_max < MOST_DESCRIPTORS ? limit.rlim_max : MOST_DESCRIPTORS;
+    struct rlimit more = {most, limit.rlim_max};
+    run.descriptors = most > limit.rlim_cur && setrlimit(RLIMIT_NOFILE, &more) == 0 ? most : limit.rlim_cur;
+}
+
+static bool has_room(void)
+{
+    size_t held = run.base + HELD_BY_PROCESS * process_live_count() + report_held();
+    return now() >= run.short_until && (process_live_count() == 0 || held + HELD_BY_PROCESS <= run.descriptors);
+}
+
+static void add_pending(struct process *process)
+{
+    if (run.pending_count == run.pending_room) {
+        run.pending_room = run.pending_room * 2 + 16;
+        run.pending = must(realloc(run.pending, run.pending_room * sizeof(struct process *)));
+    }
+    run.pending[run.pending_count++] = process;
+}
+
+/* Whether its connection has no other end any more. */
+static bool has_hung_up(const struct process *process)
+{
+    struct pollfd end = {process->connection, POLLRDHUP, 0};
+    return process->connection < 0 || (poll(&end, 1, 0) == 1 && (end.revents & (POLLRDHUP | POLLHUP | POLLERR)));
+}
+
+/* What has come in is still checked. The process runs on. */
+static void cut_process(struct process *process)
+{
+    if (process->stage == STAGE_DONE || has_hung_up(process))
+        return;
+    if (process->cut == CUT_NONE)
+        process->cut = CUT_BY_WAIT;
+    shutdown(process->connection, SHUT_RD);
+}
+
+static void accept_from(int listener)
+{
+    while (has_room()) {
+        pid_t peer;
+        int connection = hub_accept(listener, &peer);
+        if (connection < 0) {
+            if (errno != EAGAIN)
+                run.short_until = now() + SHORTAGE;
+            return;
+        }
+        struct process *process = process_add();
+        process->connection = connection;
+        process->peer = peer;
+        process->cut = run.has_timed_out ? CUT_BY_TIMEOUT : CUT_NONE;
+        add_pending(process);
+        if (run.cut != 0)
+            cut_process(process);
+    }
+}
+
+/* Takes what has ended: the command, programs of ours, and processes that were left to us. */
+static void reap(void)
+{
+    pid_t child;
+    int status;
+    while ((child = waitpid(-1, &status, WNOHANG)) > 0) {
+        enum role role;
+        struct process *process;
+        if (child == run.command) {
+            run.status = status;
+            run.ended = run.wait_from = now();
+            run.command = 0;
+            run.look_at = 0;
+        } else if (!child_take(child, &role, &process)) {
+            run.look_at = 0;
+        } else if (role == ROLE_REPORT) {
+            report_has_ended(status);
+        } else {
+            checker_has_ended(process, role == ROLE_TEE, status);
+        }
+    }
+}
+
+/* The user wants an end: of waiting first, and then of the report. */
+static void hurry(void)
+{
+    if (run.cut == 0)
+        run.wait_from = now() - run.options->wait;
+    else
+        report_interrupt();
+}
+
+static void read_signals(void)
+{
+    if (signals_read(run.signals, run.command) > 0)
+        hurry();
+    reap();
+}
+
+/* Starts the checkers of those that have sent their first bytes. */
+static void start_pending(const struct pollfd *polls)
+{
+    size_t kept = 0, count = run.pending_count;
+    for (size_t i = 0; i < count; i++) {
+        struct process *process = run.pending[i];
+        bool is_started = process->stage != STAGE_CONNECTED;
+        if (!is_started && polls[i].revents != 0 && now() >= run.short_until) {
+            is_started = checker_start(process);
+            if (!is_started)
+                run.short_until = now() + SHORTAGE;
+        }
+        if (!is_started)
+            run.pending[kept++] = process;
+    }
+    run.pending_count = kept;
+}
+
+/* Waits once, at most so long, and does what there is to do. */
+static void turn(double seconds)
+{
+    enum { SIGNALS, FIRST, SECOND, REPORT, FIXED };
+    static struct pollfd *polls;
+    static size_t room;
+    size_t count = run.pending_count;
+    bool is_short = now() < run.short_until, accepts = has_room();
+    if (room < count + FIXED) {
+        room = 2 * count + FIXED;
+        polls = must(realloc(polls, room * sizeof *polls));
+    }
+    polls[SIGNALS] = (struct pollfd){run.signals, POLLIN, 0};
+    for (int i = 0; i < HUB_LISTENERS; i++) /* -1 is passed over */
+        polls[FIRST + i] = (struct pollfd){accepts ? hub_listeners()[i] : -1, POLLIN, 0};
+    polls[REPORT] = report_poll();
+    for (size_t i = 0; i < count; i++)
+        polls[FIXED + i] = (struct pollfd){is_short ? -1 : run.pending[i]->connection, POLLIN, 0};
+    if ((is_short || report_held() > 0) && seconds > SHORTAGE)
+        seconds = SHORTAGE; /* a report that does not take descriptors now shows no sign when it does */
+    if (poll(polls, count + FIXED, (int)(seconds * 1000) + (seconds > 0)) < 0)
+        return;
+    if (polls[SIGNALS].revents != 0)
+        read_signals();
+    report_send();
+    start_pending(polls + FIXED);
+    for (int i = 0; i < HUB_LISTENERS; i++)
+        if (polls[FIRST + i].revents != 0)
+            accept_from(hub_listeners()[i]);
+}
+
+/* Whether a connection waits to be accepted. */
+static bool has_queue(void)
+{
+    struct pollfd polls[HUB_LISTENERS];
+    for (int i = 0; i < HUB_LISTENERS; i++)
+        polls[i] = (struct pollfd){hub_listeners()[i], POLLIN, 0};
+    return poll(polls, HUB_LISTENERS, 0) > 0;
+}
+
+/* --timeout: what belongs to the command is ended. */
+static void stop_command(double time)
+{
+    if (run.kill_at == 0) {
+        say("asancol: the command is ended by --timeout, after %g seconds", run.options->timeout);
+        run.has_timed_out = true;
+        for (size_t i = 0; i < process_count(); i++)
+            if (process_at(i)->stage != STAGE_DONE)
+                process_at(i)->cut = CUT_BY_TIMEOUT;
+        descendants_signal(SIGTERM, true);
+        run.timeout_at = run.kill_at = time + GRACE;
+        return;
+    }
+    descendants_signal(SIGKILL, false);
+    run.timeout_at = time + SHORTAGE;
+}
+
+/* --wait is over: what still runs is not seen any more. */
+static void cut_all(double time)
+{
+    run.cut = time;
+    for (size_t i = 0; i < process_count(); i++)
+        cut_process(process_at(i));
+}
+
+static void look(double time)
+{
+    if (run.ended != 0 && time >= run.look_at) {
+        run.is_left = descendants_left();
+        run.look_at = time + LOOK;
+    }
+}
+
+static void show_progress(double time)
+{
+    if (run.ended == 0 || time < run.ended + PROGRESS || time < run.progress_at)
+        return;
+    run.progress_at = time + 0.2;
+    size_t live = process_live_count();
+    progress("asancol: waiting for processes: %zu checked, %zu to go", process_count() - live, live);
+}
+
+/* Does what its time has come for, and answers how long nothing else will. */
+static double act(void)
+{
+    double time = now(), next = time + LOOK;
+    look(time);
+    bool is_killing = run.timeout_at != 0 && (run.ended == 0 || (run.kill_at != 0 && run.is_left));
+    if (is_killing && time >= run.timeout_at)
+        stop_command(time);
+    if (is_killing && run.timeout_at < next)
+        next = run.timeout_at;
+    if (run.ended == 0)
+        return next > time ? next - time : 0;
+    size_t done = process_count() - process_live_count();
+    if (done != run.done && !has_room() && has_queue())
+        run.wait_from = time; /* they wait for us, and not we for them */
+    run.done = done;
+    double deadline = run.wait_from + run.options->wait;
+    if (run.cut == 0 && time >= deadline)
+        cut_all(time);
+    if (run.cut == 0 && deadline < next)
+        next = deadline;
+    show_progress(time);
+    if (process_live_count() > 0 && next > time + 0.2)
+        next = time + 0.2;
+    return next > time ? next - time : 0;
+}
+
+static bool is_over(void)
+{
+    if (run.ended == 0)
+        return false;
+    look(now());
+    bool is_killing = run.kill_at != 0 && now() < run.kill_at + GRACE;
+    if (run.is_left && (run.cut == 0 || is_killing))
+        return false;
+    if (run.cut != 0 && now() > run.cut + LAST)
+        hub_stop(); /* new ones might come for ever */
+    return process_live_count() == 0 && !has_queue();
+}
+
+/* Checks a trace of a process that did not reach the hub. */
+static void check_file(const char *name)
+{
+    char *path;
+    while (process_live_count() >= FILES_AT_ONCE)
+        turn(LOOK);
+    if (asprintf(&path, "%s/%s", hub_folder(), name) < 0)
+        must(NULL);
+    struct process *process = process_add();
+    process->trace = path;
+    process->peer = atoi(name);
+    process->cut = run.has_timed_out ? CUT_BY_TIMEOUT : CUT_NONE;
+    while (!checker_start_file(process))
+        turn(SHORTAGE);
+}
+
+static void check_files(void)
+{
+    static const char end[] = ".trace";
+    DIR *entries = hub_folder() != NULL ? opendir(hub_folder()) : NULL;
+    struct dirent *entry;
+    while (entries != NULL && (entry = readdir(entries)) != NULL) {
+        size_t length = strlen(entry->d_name);
+        if (length > sizeof end && strcmp(entry->d_name + length - (sizeof end - 1), end) == 0)
+            check_file(entry->d_name);
+    }
+    if (entries != NULL)
+        closedir(entries);
+    while (process_live_count() > 0)
+        turn(LOOK);
+}
+
+struct collected collect(const struct options *options, pid_t command, int signals)
+{
+    run.options = options;
+    run.command = command;
+    run.signals = signals;
+    run.started = now();
+    run.timeout_at = options->timeout > 0 ? run.started + options->timeout : 0;
+    count_descriptors();
+    while (!is_over())
+        turn(act());
+    hub_stop();
+    check_files();
+    run.cut = now();
+    return (struct collected){run.status, descendants_left(), run.has_timed_out};
+}
+
+void collect_report(void)
+{
+    while (report_is_running())
+        turn(LOOK);
+}

@@ -1,0 +1,22 @@
+/* The time from the start of the command until all is checked. */
+#ifndef ASANCOL_RUN_COLLECT_H
+#define ASANCOL_RUN_COLLECT_H
+
+#include <stdbool.h>
+#include <sys/types.h>
+
+#include "options.h"
+
+/* How the command and what it started have ended. */
+struct collected {
+    int status;          /* of the command, as of waitpid */
+    bool is_running;     /* something of it still runs */
+    bool has_timed_out;  /* --timeout has ended it */
+};
+
+/* Accepts and checks what comes, until the command has ended and nothing is left of it, or --wait is over. */
+struct collected collect(const struct options *options, pid_t command, int signals);
+/* Waits until asancol-report has ended. */
+void collect_report(void);
+
+#endif

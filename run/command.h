@@ -1,0 +1,12 @@
+/* The command: it is a child of asancol-run, in its process group. */
+#ifndef ASANCOL_RUN_COMMAND_H
+#define ASANCOL_RUN_COMMAND_H
+
+#include <sys/types.h>
+
+#include "options.h"
+
+/* Starts it with ASANCOL_HUB. Answers its number, or 0, errno, and the status to end with. */
+pid_t command_start(const struct options *options, const char *hub, int *status);
+
+#endif

@@ -1,0 +1,146 @@
+#define _GNU_SOURCE
+#include "hub.h"
+
+#include <dirent.h>
+#include <errno.h>
+#include <stdbool.h>
+#include <stddef.h>
+#include <stdio.h>
+#include <stdlib.h>
+#include <string.h>
+#include <sys/random.h>
+#include <sys/socket.h>
+#include <sys/un.h>
+#include <unistd.h>
+
+#include "say.h"
+
+/* A folder's name ends so, and the socket's name follows. */
+#define FOLDER_END "/asancol-XXXXXX"
+#define SOCKET_END "/hub"
+/* An address has room for 108 bytes, with the zero at one of the ends. */
+enum { ADDRESS_ROOM = 108 };
+
+static char folder[ADDRESS_ROOM], address[ADDRESS_ROOM + sizeof SOCKET_END];
+static int listeners[HUB_LISTENERS] = {-1, -1};
+
+static bool listen_at(int *listener, bool is_abstract)
+{
+    struct sockaddr_un name = {.sun_family = AF_UNIX};
+    size_t length = strlen(address);
+    _Static_assert(sizeof name.sun_path == ADDRESS_ROOM, "an address has this room");
+    if (length + 1 > ADDRESS_ROOM)
+        return false;
+    memcpy(name.sun_path + is_abstract, address, length);
+    socklen_t size = (socklen_t)(offsetof(struct sockaddr_un, sun_path) + length + 1);
+    int made = socket(AF_UNIX, SOCK_STREAM | SOCK_CLOEXEC | SOCK_NONBLOCK, 0);
+    if (made >= 0 && bind(made, (struct sockaddr *)&name, size) == 0 && listen(made, SOMAXCONN) == 0) {
+        *listener = made;
+        return true;
+    }
+    int error = errno;
+    if (made >= 0)
+        close(made);
+    errno = error;
+    return false;
+}
+
+static bool try_folder(const char *base)
+{
+    if (base == NULL || base[0] != '/' || strlen(base) + sizeof FOLDER_END + sizeof SOCKET_END > ADDRESS_ROOM)
+        return false;
+    snprintf(folder, sizeof folder, "%s" FOLDER_END, base);
+    if (mkdtemp(folder) == NULL)
+        return false;
+    snprintf(address, sizeof address, "%s" SOCKET_END, folder);
+    if (listen_at(&listeners[0], false))
+        return true;
+    rmdir(folder);
+    return false;
+}
+
+/* A name that nobody guesses. */
+static void name_without_folder(void)
+{
+    unsigned char random[12];
+    folder[0] = 0;
+    if (getrandom(random, sizeof random, 0) != sizeof random)
+        fail(OWN_FAILURE, "no random bytes", strerror(errno));
+    int length = snprintf(address, sizeof address, "/asancol-");
+    for (size_t i = 0; i < sizeof random; i++)
+        length += snprintf(address + length, sizeof address - (size_t)length, "%02x", random[i]);
+}
+
+void hub_open(void)
+{
+    const char *const bases[] = {getenv("TMPDIR"), getenv("XDG_RUNTIME_DIR"), "/tmp", "/dev/shm", "/var/tmp"};
+    bool has_folder = false;
+    for (size_t i = 0; i < sizeof bases / sizeof *bases && !has_folder; i++)
+        has_folder = try_folder(bases[i]);
+    if (!has_folder)
+        name_without_folder();
+    if (!listen_at(&listeners[1], true) && !has_folder)
+        fail(OWN_FAILURE, "no socket", strerror(errno));
+}
+
+const char *hub_address(void)
+{
+    return address;
+}
+
+const char *hub_folder(void)
+{
+    return folder[0] != 0 ? folder : NULL;
+}
+
+const int *hub_listeners(void)
+{
+    return listeners;
+}
+
+/* Root may check others' processes, and a process of ours may have become root's. */
+static bool is_ours(const struct ucred *peer)
+{
+    return peer->uid == getuid() || peer->uid == 0 || getuid() == 0;
+}
+
+int hub_accept(int listener, pid_t *peer)
+{
+    for (;;) {
+        struct ucred of_peer = {.uid = (uid_t)-1};
+        socklen_t size = sizeof of_peer;
+        int connection = accept4(listener, NULL, NULL, SOCK_CLOEXEC);
+        if (connection < 0 && (errno == ECONNABORTED || errno == EINTR))
+            continue;
+        if (connection < 0)
+            return -1;
+        if (getsockopt(connection, SOL_SOCKET, SO_PEERCRED, &of_peer, &size) == 0 && is_ours(&of_peer)) {
+            *peer = of_peer.pid;
+            return connection;
+        }
+        close(connection);
+    }
+}
+
+void hub_stop(void)
+{
+    for (int i = 0; i < HUB_LISTENERS; i++) {
+        if (listeners[i] >= 0)
+            close(listeners[i]);
+        listeners[i] = -1;
+    }
+}
+
+void hub_remove(void)
+{
+    DIR *entries = folder[0] != 0 ? opendir(folder) : NULL;
+    struct dirent *entry;
+    while (entries != NULL && (entry = readdir(entries)) != NULL)
+        if (strcmp(entry->d_name, ".") != 0 && strcmp(entry->d_name, "..") != 0)
+            unlinkat(dirfd(entries), entry->d_name, 0);
+    if (entries != NULL)
+        closedir(entries);
+    if (folder[0] != 0)
+        rmdir(folder);
+    folder[0] = 0;
+}

@@ -1,0 +1,26 @@
+/* The sockets on which recorded processes connect: one in a private folder, and one under the same text as an abstract
+   name, which needs no folder. */
+#ifndef ASANCOL_RUN_HUB_H
+#define ASANCOL_RUN_HUB_H
+
+#include <sys/types.h>
+
+enum { HUB_LISTENERS = 2 };
+
+/* Fails if neither can be had. */
+void hub_open(void);
+/* What ASANCOL_HUB is for the command. */
+const char *hub_address(void);
+/* The private folder, or null. */
+const char *hub_folder(void);
+/* Their descriptors; -1 is one that is not there. */
+const int *hub_listeners(void);
+/* The next connection, and the number of the process that made it. -1: there is none, errno says why. Those of other
+   users are refused. */
+int hub_accept(int listener, pid_t *peer);
+/* Connections that come from now on fail. */
+void hub_stop(void);
+/* Removes the folder with all that is in it. */
+void hub_remove(void);
+
+#endif

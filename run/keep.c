@@ -1,0 +1,161 @@
+#define _GNU_SOURCE
+#include "keep.h"
+
+#include <errno.h>
+#include <fcntl.h>
+#include <limits.h>
+#include <stdio.h>
+#include <stdlib.h>
+#include <string.h>
+#include <sys/sendfile.h>
+#include <sys/stat.h>
+#include <unistd.h>
+
+#include "children.h"
+#include "names.h"
+#include "say.h"
+
+static const char *folder;
+static char *tee_program;
+
+void keep_begin(const char *path)
+{
+    folder = path;
+    if (mkdir(folder, 0777) != 0 && errno != EEXIST)
+        fail(OWN_FAILURE, folder, strerror(errno));
+    struct stat seen;
+    if (stat(folder, &seen) != 0 || !S_ISDIR(seen.st_mode))
+        fail(OWN_FAILURE, folder, strerror(ENOTDIR));
+    if (access(folder, W_OK | X_OK) != 0)
+        fail(OWN_FAILURE, folder, strerror(errno));
+    tee_program = find_on_path("tee");
+    if (tee_program == NULL)
+        fail(OWN_FAILURE, "--keep", "there is no tee on the path");
+}
+
+/* The last part of the program's name, without what is awkward in a file's name. */
+static void put_program(char *room, size_t size, const char *name)
+{
+    const char *slash = strrchr(name, '/');
+    snprintf(room, size, "%.64s", slash != NULL ? slash + 1 : name);
+    for (char *at = room; *at != 0; at++)
+        if ((unsigned char)*at <= ' ' || *at == 0x7f)
+            *at = '_';
+    if (room[0] == 0 || room[0] == '.' || room[0] == '-')
+        snprintf(room, size, "program");
+}
+
+/* Makes a new file PROGRAM.NUMBER.trace, or PROGRAM.NUMBER.1.trace, and so on. Answers its descriptor. */
+static int make_file(struct process *process)
+{
+    char program[80], more[16] = "";
+    put_program(program, sizeof program, process->name);
+    for (int number = 0; number < 100000; number++) {
+        if (number > 0)
+            snprintf(more, sizeof more, ".%d", number);
+        if (asprintf(&process->kept, "%s/%s.%d%s.trace", folder, program, (int)process->peer, more) < 0)
+            must(NULL);
+        int made = open(process->kept, O_WRONLY | O_CREAT | O_EXCL | O_CLOEXEC, 0666);
+        if (made >= 0)
+            return made;
+        int error = errno;
+        free(process->kept);
+        process->kept = NULL;
+        errno = error;
+        if (error != EEXIST)
+            return -1;
+    }
+    return -1;
+}
+
+int keep_start(struct process *process)
+{
+    int ends[2], made = make_file(process);
+    if (made < 0)
+        return -1;
+    close(made);
+    const char *words[] = {"tee", "--", process->kept, NULL};
+    if (pipe2(ends, O_CLOEXEC) != 0)
+        return -1;
+    process->tee = child_start(ROLE_TEE, process, tee_program, words, process->connection, ends[1]);
+    int error = errno;
+    close(ends[1]);
+    if (process->tee != 0)
+        return ends[0];
+    close(ends[0]);
+    errno = error;
+    return -1;
+}
+
+/* Copies what is no hole, and then makes the file as long as the other. */
+static bool copy(int from, int to)
+{
+    struct stat seen;
+    off_t at = 0;
+    if (fstat(from, &seen) != 0)
+        return false;
+    while ((at = lseek(from, at, SEEK_DATA)) >= 0 && at < seen.st_size) {
+        off_t end = lseek(from, at, SEEK_HOLE);
+        if (lseek(to, at, SEEK_SET) < 0)
+            return false;
+        while (at < end)
+            if (sendfile(to, from, &at, (size_t)(end - at)) <= 0)
+                return false;
+    }
+    return ftruncate(to, seen.st_size) == 0;
+}
+
+static void put_copy(const struct process *process, int from, int to, const char *end)
+{
+    if (from < 0 || to < 0 || !copy(from, to))
+        say("asancol-run: %s%s: %s", process->kept, end, strerror(errno));
+    if (to >= 0)
+        close(to);
+}
+
+static int open_where(const char *trace, int flags)
+{
+    char path[PATH_MAX];
+    snprintf(path, sizeof path, "%s.where", trace);
+    return open(path, flags | O_CLOEXEC, 0666);
+}
+
+void keep_file(struct process *process)
+{
+    int to = make_file(process);
+    if (to < 0) {
+        say("asancol-run: %s: a trace cannot be kept: %s", folder, strerror(errno));
+        return;
+    }
+    int from = open(process->trace, O_RDONLY | O_CLOEXEC);
+    put_copy(process, from, to, "");
+    if (from >= 0)
+        close(from);
+}
+
+void keep_end(struct process *process)
+{
+    if (process->kept == NULL)
+        return;
+    if (process->reports == 0 && process->is_whole) {
+        unlink(process->kept);
+        free(process->kept);
+        process->kept = NULL;
+        return;
+    }
+    int from = process->trace != NULL ? open_where(process->trace, O_RDONLY) : process->side_memory;
+    if (from >= 0)
+        put_copy(process, from, open_where(process->kept, O_WRONLY | O_CREAT | O_TRUNC), ".where");
+    if (from >= 0 && process->trace != NULL)
+        close(from);
+}
+
+void keep_again(const struct process *process)
+{
+    int to = process->kept != NULL && process->side != NULL ? open_where(process->kept, O_WRONLY) : -1;
+    if (to < 0)
+        return;
+    if (pwrite(to, process->side, sizeof *process->side, 0) != (ssize_t)sizeof *process->side)
+        say("asancol-run: %s.where: %s", process->kept, strerror(errno));
+    close(to);
+}

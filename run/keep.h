@@ -1,0 +1,19 @@
+/* --keep: traces that stay in a folder. */
+#ifndef ASANCOL_RUN_KEEP_H
+#define ASANCOL_RUN_KEEP_H
+
+#include "processes.h"
+
+/* Makes the folder if it is missing, and finds tee. Fails if traces cannot be kept there. */
+void keep_begin(const char *folder);
+/* Starts tee on the connection: it writes the trace into a file that it names, and into a pipe. Answers the end of the
+   pipe from which the checker reads, or -1 and errno. */
+int keep_start(struct process *process);
+/* Copies a trace that is in a file. */
+void keep_file(struct process *process);
+/* Removes the trace, or puts the side memory beside it. */
+void keep_end(struct process *process);
+/* Writes again what has changed of it since. */
+void keep_again(const struct process *process);
+
+#endif

@@ -1,0 +1,60 @@
+#define _GNU_SOURCE
+#include "processes.h"
+
+#include <stdlib.h>
+#include <string.h>
+
+#include "say.h"
+
+/* So much of the name of a program is printed. */
+enum { MOST_OF_NAME = 200 };
+
+static struct process **processes;
+static size_t count, room, live;
+
+struct process *process_add(void)
+{
+    if (count == room) {
+        room = room * 2 + 16;
+        processes = must(realloc(processes, room * sizeof *processes));
+    }
+    struct process *made = must(calloc(1, sizeof *made));
+    made->number = count;
+    made->connection = made->side_memory = made->verdicts = -1;
+    processes[count++] = made;
+    live++;
+    return made;
+}
+
+struct process *process_at(size_t number)
+{
+    return processes[number];
+}
+
+size_t process_count(void)
+{
+    return count;
+}
+
+size_t process_live_count(void)
+{
+    return live;
+}
+
+void process_is_done(struct process *process)
+{
+    if (process->stage != STAGE_DONE)
+        live--;
+    process->stage = STAGE_DONE;
+}
+
+void process_name(struct process *process)
+{
+    const struct side *side = process->side;
+    process->own_number = side != NULL ? (int)side->process : (int)process->peer;
+    process->parent = side != NULL ? (int)side->parent : 0;
+    process->name = must(side != NULL ? strndup(side->words, MOST_OF_NAME) : strdup("(unknown)"));
+    for (char *at = process->name; *at != 0; at++)
+        if ((unsigned char)*at < ' ' || *at == 0x7f)
+            *at = '?'; /* it is printed on terminals */
+}

@@ -1,0 +1,53 @@
+/* The recorded processes of the run, in the order in which they connected. */
+#ifndef ASANCOL_RUN_PROCESSES_H
+#define ASANCOL_RUN_PROCESSES_H
+
+#include <stdbool.h>
+#include <stddef.h>
+#include <stdint.h>
+#include <sys/types.h>
+
+#include "side.h"
+
+enum stage {
+    STAGE_CONNECTED, /* it has sent nothing yet */
+    STAGE_CHECKED,   /* its checker runs */
+    STAGE_DONE
+};
+
+/* How a process was cut short. */
+enum cut { CUT_NONE, CUT_BY_WAIT, CUT_BY_TIMEOUT };
+
+struct process {
+    size_t number; /* from 0 */
+    enum stage stage;
+    pid_t peer;                         /* as the system numbers it for us; 0: not known */
+    int own_number, parent;             /* as it knows them itself */
+    int connection, side_memory, verdicts; /* descriptors; -1: there is none */
+    const struct side *side;            /* or null */
+    pid_t checker, tee;                 /* 0: it does not run */
+    int checker_status;                 /* as of waitpid */
+    const char *trace;                  /* the file in which its trace is, if it did not reach the hub; or null */
+    char *kept;                         /* the file in which its trace is kept, or null */
+    enum cut cut;
+    char *name;                         /* the first word of its command line */
+    /* What is known once it is done: */
+    char fate[32];
+    uint64_t events, reports, left_out;
+    bool is_whole, has_checks;
+    bool is_settled; /* nothing of it can change any more */
+    char why[160];   /* it was not seen whole, or how it ended; or empty */
+};
+
+/* Each stays where it is. */
+struct process *process_add(void);
+struct process *process_at(size_t number);
+size_t process_count(void);
+/* How many are not done. */
+size_t process_live_count(void);
+/* Notes that it is done. */
+void process_is_done(struct process *process);
+/* Takes its name and numbers from its side memory, if it has one. */
+void process_name(struct process *process);
+
+#endif

@@ -1,0 +1,404 @@
+#define _GNU_SOURCE
+#include "report.h"
+
+#include <errno.h>
+#include <fcntl.h>
+#include <inttypes.h>
+#include <limits.h>
+#include <signal.h>
+#include <stdio.h>
+#include <stdlib.h>
+#include <string.h>
+#include <sys/socket.h>
+#include <sys/wait.h>
+#include <time.h>
+#include <unistd.h>
+
+#include "children.h"
+#include "hub.h"
+#include "json.h"
+#include "names.h"
+#include "nested.h"
+#include "say.h"
+#include "verdict.h"
+
+/* A packet has at most 65,536 bytes. So much of it may be the words of the command. */
+enum { MOST_RUN_WORDS = 40000, MOST_PROCESS_WORDS = 24000, MOST_WORDS = 1000 };
+/* What is printed if asancol-report cannot run. */
+enum { RAW_PROCESSES = 20, RAW_LINES = 20, RAW_BYTES = 8192 };
+
+struct message {
+    struct message *next;
+    char *text;
+    size_t length;
+    int descriptors[2], count;
+};
+
+static struct {
+    struct message *first, **last;
+    size_t held;
+    struct words words;
+    int socket; /* -1: not started, or gone */
+    pid_t child;
+    bool was_started, had_child, is_broken, has_ended, is_over;
+    int status;
+} report = {.socket = -1};
+
+static struct {
+    char *texts[RAW_PROCESSES];
+    uint64_t left_out[RAW_PROCESSES]; /* lines */
+    int numbers[RAW_PROCESSES];
+    char *names[RAW_PROCESSES];
+    size_t count, more;
+} raw;
+
+static void drop(struct message *message)
+{
+    for (int i = 0; i < message->count; i++)
+        close(message->descriptors[i]);
+    report.held -= (size_t)message->count;
+    free(message->text);
+    free(message);
+}
+
+static void drop_all(void)
+{
+    for (struct message *message = report.first; message != NULL;) {
+        struct message *next = message->next;
+        drop(message);
+        message = next;
+    }
+    report.first = NULL;
+    report.last = &report.first;
+}
+
+/* Puts a message at the end of the queue: its text is what was written to the file. */
+static void enqueue(struct message *message, FILE *text)
+{
+    if (fclose(text) != 0)
+        must(NULL);
+    *report.last = message;
+    report.last = &message->next;
+    report.held += (size_t)message->count;
+    if (report.is_broken)
+        drop_all();
+    else if (report.socket >= 0)
+        report_send();
+}
+
+static FILE *new_message(struct message **message)
+{
+    *message = must(calloc(1, sizeof **message));
+    return must(open_memstream(&(*message)->text, &(*message)->length));
+}
+
+void report_begin(const struct options *options)
+{
+    char host[256] = "", folder[PATH_MAX];
+    struct timespec time;
+    struct message *message;
+    report.last = &report.first;
+    report.words = options->report;
+    if (options->quiet)
+        words_add(&report.words, "--quiet");
+    gethostname(host, sizeof host - 1);
+    clock_gettime(CLOCK_REALTIME, &time);
+    FILE *to = new_message(&message);
+    fputs("{\"type\":\"run\",\"version\":1,\"command\":", to);
+    json_list(to, options->command, MOST_RUN_WORDS);
+    fputs(",\"host\":", to);
+    json_text(to, host);
+    fputs(",\"directory\":", to);
+    json_text(to, getcwd(folder, sizeof folder) != NULL ? folder : "");
+    fprintf(to, ",\"id\":\"%jx-%x-", (intmax_t)time.tv_sec * 1000000 + time.tv_nsec / 1000, (unsigned)getpid());
+    for (const char *at = host; *at != 0; at++)
+        if (*at > ' ' && *at < 0x7f && *at != '"' && *at != '\\')
+            fputc(*at, to);
+    fprintf(to, "\",\"time\":%jd}", (intmax_t)time.tv_sec);
+    enqueue(message, to);
+}
+
+/* The words of the process's command line. */
+static void put_words(FILE *to, const struct side *side)
+{
+    char words[SIDE_WORDS + 1], *list[MOST_WORDS + 1];
+    size_t count = 0;
+    if (side == NULL) {
+        fputs("[]", to);
+        return;
+    }
+    memcpy(words, side->words, SIDE_WORDS); /* once: the process may write there */
+    words[SIDE_WORDS] = 0;
+    for (char *at = words; at < words + SIDE_WORDS && *at != 0 && count < MOST_WORDS; at += strlen(at) + 1)
+        list[count++] = at;
+    list[count] = NULL;
+    json_list(to, list, MOST_PROCESS_WORDS);
+}
+
+static void put_process(FILE *to, const struct process *process)
+{
+    fprintf(to,
+            "{\"type\":\"process\",\"n\":%zu,\"pid\":%d,\"parent\":%d,\"fate\":\"%s\",\"events\":%" PRIu64
+            ",\"reports\":%" PRIu64 ",\"whole\":%s,\"left_out\":%" PRIu64 ",\"why\":",
+            process->number, process->own_number, process->parent, process->fate, process->events, process->reports,
+            process->is_whole ? "true" : "false", process->left_out);
+    json_text(to, process->why);
+    fputs(",\"command\":", to);
+    put_words(to, process->side);
+    if (process->trace != NULL) {
+        fputs(",\"trace\":", to);
+        json_text(to, process->trace);
+    }
+    if (process->kept != NULL) {
+        fputs(",\"kept\":", to);
+        json_text(to, process->kept);
+    }
+    fputc('}', to);
+}
+
+/* Keeps the first lines of what the checker has printed, for the case that asancol-report cannot. */
+static void keep_raw(const struct process *process)
+{
+    char text[RAW_BYTES];
+    if (raw.count == RAW_PROCESSES) {
+        raw.more++;
+        return;
+    }
+    ssize_t length = pread(process->verdicts, text, sizeof text - 1, 0);
+    text[length > 0 ? length : 0] = 0;
+    uint64_t lines = 0;
+    char *end = text;
+    for (char *line; lines < RAW_LINES && lines < process->reports && (line = strchr(end, '\n')) != NULL; lines++)
+        end = line + 1;
+    *end = 0;
+    raw.texts[raw.count] = must(strdup(text));
+    raw.left_out[raw.count] = process->reports - lines;
+    raw.names[raw.count] = process->name;
+    raw.numbers[raw.count++] = process->own_number;
+}
+
+void report_process(struct process *process)
+{
+    struct message *message;
+    FILE *to = new_message(&message);
+    put_process(to, process);
+    if (process->reports > 0) {
+        keep_raw(process);
+        lseek(process->verdicts, 0, SEEK_SET);
+        message->descriptors[message->count++] = process->verdicts;
+        process->verdicts = -1;
+        if (process->side_memory >= 0)
+            message->descriptors[message->count++] = process->side_memory;
+        process->side_memory = -1;
+        report_start();
+    }
+    enqueue(message, to);
+}
+
+void report_again(const struct process *process)
+{
+    struct message *message;
+    FILE *to = new_message(&message);
+    put_process(to, process);
+    enqueue(message, to);
+}
+
+size_t report_held(void)
+{
+    return report.held;
+}
+
+struct pollfd report_poll(void)
+{
+    bool waits = report.socket >= 0 && report.first != NULL;
+    return (struct pollfd){waits ? report.socket : -1, POLLOUT, 0};
+}
+
+/* Nobody takes the messages any more. */
+static void give_up(void)
+{
+    report.is_broken = true;
+    if (report.socket >= 0)
+        close(report.socket);
+    report.socket = -1;
+    drop_all();
+}
+
+static ssize_t send_one(const struct message *message)
+{
+    union {
+        char room[CMSG_SPACE(2 * sizeof(int))];
+        struct cmsghdr align;
+    } control = {0};
+    struct iovec piece = {message->text, message->length};
+    struct msghdr header = {.msg_iov = &piece, .msg_iovlen = 1};
+    if (message->count > 0) {
+        size_t size = (size_t)message->count * sizeof(int);
+        header.msg_control = &control;
+        header.msg_controllen = CMSG_SPACE(size);
+        struct cmsghdr *first = CMSG_FIRSTHDR(&header);
+        first->cmsg_level = SOL_SOCKET;
+        first->cmsg_type = SCM_RIGHTS;
+        first->cmsg_len = CMSG_LEN(size);
+        memcpy(CMSG_DATA(first), message->descriptors, size);
+    }
+    return sendmsg(report.socket, &header, MSG_NOSIGNAL | MSG_DONTWAIT);
+}
+
+void report_send(void)
+{
+    while (report.socket >= 0 && report.first != NULL) {
+        if (send_one(report.first) < 0) {
+            /* Too many descriptors under way: the next turn tries again. */
+            if (errno == EAGAIN || errno == EINTR || errno == ETOOMANYREFS || errno == ENOBUFS || errno == ENOMEM)
+                return;
+            give_up();
+            return;
+        }
+        struct message *sent = report.first;
+        report.first = sent->next;
+        if (report.first == NULL)
+            report.last = &report.first;
+        drop(sent);
+    }
+    if (report.socket >= 0 && report.is_over)
+        shutdown(report.socket, SHUT_WR);
+}
+
+/* Whether it has read all that was sent to it: else the system notes an error here when it lets go. */
+static bool has_read_all(void)
+{
+    int error = 0;
+    socklen_t size = sizeof error;
+    if (report.socket >= 0 && getsockopt(report.socket, SOL_SOCKET, SO_ERROR, &error, &size) != 0)
+        return false;
+    return report.first == NULL && report.is_over && error == 0;
+}
+
+void report_has_ended(int status)
+{
+    report.has_ended = true;
+    report.status = status;
+    report.child = 0;
+    if (!has_read_all())
+        give_up();
+}
+
+/* Its words: what the command line says, and what a run inside this one and one round it have to do with it. */
+static const char *const *words_of_report(const char *program)
+{
+    struct words words = {0};
+    const char *outer = nested_result();
+    words_add(&words, program);
+    words_add(&words, "--run");
+    for (size_t i = 0; i < report.words.count; i++)
+        words_add(&words, report.words.words[i]);
+    if (outer != NULL) {
+        words_add(&words, "--json");
+        words_add(&words, outer);
+    }
+    if (hub_folder() != NULL) {
+        words_add(&words, "--nested");
+        words_add(&words, hub_folder());
+    }
+    return words.words;
+}
+
+void report_start(void)
+{
+    int ends[2];
+    if (report.was_started)
+        return;
+    report.was_started = true;
+    char *program = find_own_program("asancol-report", "ASANCOL_REPORT");
+    const char *named = getenv("ASANCOL_REPORT");
+    if (program == NULL)
+        errno = ENOENT;
+    if (program != NULL && socketpair(AF_UNIX, SOCK_SEQPACKET | SOCK_CLOEXEC, 0, ends) == 0) {
+        report.child = child_start(ROLE_REPORT, NULL, program, words_of_report(program), ends[1], say_descriptor());
+        int error = errno;
+        close(ends[1]);
+        report.socket = ends[0];
+        errno = error;
+    }
+    if (report.child == 0) {
+        say("asancol-run: %s: %s", named != NULL && *named != 0 ? named : "asancol-report", strerror(errno));
+        give_up();
+        report.has_ended = true;
+        return;
+    }
+    report.had_child = true;
+    report_send();
+}
+
+bool report_is_running(void)
+{
+    return report.child != 0;
+}
+
+bool report_was_started(void)
+{
+    return report.was_started;
+}
+
+void report_finish(const struct outcome *outcome)
+{
+    struct message *message;
+    FILE *to = new_message(&message);
+    fprintf(to,
+            "{\"type\":\"end\",\"seconds\":%.3f,\"status\":%d,\"signal\":%d,\"nothing\":%s,\"missing\":%" PRIu64
+            ",\"running\":%s,\"lost\":%" PRIu64 "}",
+            outcome->seconds, WIFEXITED(outcome->status) ? WEXITSTATUS(outcome->status) : 0,
+            WIFSIGNALED(outcome->status) ? WTERMSIG(outcome->status) : 0, outcome->nothing ? "true" : "false",
+            outcome->missing, outcome->is_running ? "true" : "false", outcome->lost);
+    report.is_over = true;
+    enqueue(message, to);
+    if (report.socket >= 0)
+        report_send();
+}
+
+void report_interrupt(void)
+{
+    if (report.child != 0)
+        kill(-report.child, SIGKILL);
+}
+
+enum answer report_answer(void)
+{
+    if (report.is_broken || !report.has_ended || !WIFEXITED(report.status) || WEXITSTATUS(report.status) >= ANSWER_NONE)
+        return ANSWER_NONE;
+    return (enum answer)WEXITSTATUS(report.status);
+}
+
+void report_leave(const char *path)
+{
+    FILE *to = fopen(path, "wxe");
+    bool is_left = to != NULL;
+    for (const struct message *message = report.first; is_left && message != NULL; message = message->next)
+        is_left = fprintf(to, "%s\n", message->text) > 0;
+    if (to != NULL && fclose(to) != 0)
+        is_left = false;
+    if (!is_left)
+        say("asancol-run: the result for the outer run was not left: %s: %s", path, strerror(errno));
+}
+
+void report_print_raw(const char *kept)
+{
+    if (report.had_child && WIFSIGNALED(report.status))
+        say("asancol-run: asancol-report was ended by %s", signal_name(WTERMSIG(report.status)));
+    else if (report.had_child)
+        say("asancol-run: asancol-report ended with status %d%s", WEXITSTATUS(report.status),
+            report.is_broken ? ", and did not read all" : "");
+    for (size_t i = 0; i < raw.count; i++) {
+        say("asancol: process %d %s:", raw.numbers[i], raw.names[i]);
+        say_text(raw.texts[i], strlen(raw.texts[i]));
+        if (raw.left_out[i] > 0)
+            say("and %" PRIu64 " more lines", raw.left_out[i]);
+    }
+    if (raw.more > 0)
+        say("asancol: and %zu more processes with reports", raw.more);
+    if (raw.count > 0 && kept != NULL)
+        say("asancol: the traces are in %s", kept);
+    else if (raw.count > 0)
+        say("asancol: --keep DIR keeps the traces");
+}

@@ -1,0 +1,56 @@
+/* Feeds asancol-report: one message for each process that has ended. It is started when there is something to report,
+   and takes the descriptors of a process with reports as soon as that has ended. */
+#ifndef ASANCOL_RUN_REPORT_H
+#define ASANCOL_RUN_REPORT_H
+
+#include <poll.h>
+#include <stdbool.h>
+
+#include "options.h"
+#include "processes.h"
+
+/* What came of the whole run. */
+struct outcome {
+    double seconds;
+    int status;   /* of the command, as of waitpid */
+    bool nothing; /* was recorded */
+    uint64_t missing;
+    bool is_running; /* something of the command */
+    uint64_t lost;   /* runs inside this one that left no result */
+};
+
+enum answer { ANSWER_CLEAN, ANSWER_REPORTS, ANSWER_ARGUMENTS, ANSWER_NOT_WHOLE, ANSWER_NOT_WRITTEN, ANSWER_NONE };
+
+/* The first message: what is run. */
+void report_begin(const struct options *options);
+/* A process is done. The message takes copies of its descriptors. */
+void report_process(struct process *process);
+/* What was said of a process has changed. */
+void report_again(const struct process *process);
+
+/* How many descriptors wait to be sent. */
+size_t report_held(void);
+/* What the hub has to wait for, so that messages go out; and sends what goes out now. */
+struct pollfd report_poll(void);
+void report_send(void);
+/* Takes the status with which asancol-report has ended. */
+void report_has_ended(int status);
+
+/* Starts it if there is no report yet. */
+void report_start(void);
+bool report_is_running(void);
+/* Whether it was ever started. */
+bool report_was_started(void);
+/* The last message. */
+void report_finish(const struct outcome *outcome);
+/* Ends it, since nobody wants to wait for it. */
+void report_interrupt(void);
+/* What it has answered, once it has ended. */
+enum answer report_answer(void);
+
+/* Leaves the messages in a file, as JSON lines, for a run round this one. They have not been sent. */
+void report_leave(const char *path);
+/* The first lines of the first processes with reports, as the checkers have printed them. */
+void report_print_raw(const char *kept);
+
+#endif

@@ -1,0 +1,132 @@
+#define _GNU_SOURCE
+#include "say.h"
+
+#include <errno.h>
+#include <fcntl.h>
+#include <stdarg.h>
+#include <stdio.h>
+#include <stdlib.h>
+#include <string.h>
+#include <time.h>
+#include <unistd.h>
+
+static int log_descriptor = STDERR_FILENO;
+static bool has_failed, is_progress_allowed, is_progress_shown;
+
+void say_fill_standard(void)
+{
+    for (int descriptor = 0; descriptor <= STDERR_FILENO; descriptor++)
+        if (fcntl(descriptor, F_GETFD) < 0 && errno == EBADF)
+            if (open("/dev/null", O_RDWR | O_CLOEXEC) < 0)
+                return; /* it would be the least free number, which is this one */
+}
+
+void say_open(const char *path)
+{
+    if (path == NULL)
+        return;
+    int descriptor = open(path, O_WRONLY | O_CREAT | O_TRUNC | O_CLOEXEC | O_NOCTTY, 0666);
+    if (descriptor < 0)
+        fail(OWN_FAILURE, path, strerror(errno));
+    log_descriptor = descriptor;
+}
+
+int say_descriptor(void)
+{
+    return log_descriptor;
+}
+
+static bool write_all(int descriptor, const char *text, size_t length)
+{
+    while (length > 0) {
+        ssize_t count = write(descriptor, text, length);
+        if (count < 0 && errno != EINTR)
+            return false;
+        if (count > 0) {
+            text += count;
+            length -= (size_t)count;
+        }
+    }
+    return true;
+}
+
+void say_text(const char *text, size_t length)
+{
+    progress_erase();
+    if (!write_all(log_descriptor, text, length))
+        has_failed = true;
+}
+
+void say(const char *form, ...)
+{
+    va_list rest;
+    char *text;
+    va_start(rest, form);
+    int length = vasprintf(&text, form, rest);
+    va_end(rest);
+    if (length < 0) {
+        has_failed = true;
+        return;
+    }
+    text[length] = '\n'; /* in the place of its end: one line is one write */
+    say_text(text, (size_t)length + 1);
+    free(text);
+}
+
+bool say_close(void)
+{
+    progress_erase();
+    if (log_descriptor != STDERR_FILENO && close(log_descriptor) != 0)
+        has_failed = true;
+    return !has_failed;
+}
+
+void fail(int status, const char *of, const char *what)
+{
+    progress_erase();
+    fprintf(stderr, "asancol-run: %s: %s\n", of, what);
+    exit(status);
+}
+
+void *must(void *memory)
+{
+    if (memory == NULL)
+        fail(OWN_FAILURE, "cannot go on", "no memory");
+    return memory;
+}
+
+double now(void)
+{
+    struct timespec time;
+    clock_gettime(CLOCK_MONOTONIC, &time);
+    return (double)time.tv_sec + (double)time.tv_nsec / 1e9;
+}
+
+void progress_allow(void)
+{
+    const char *terminal = getenv("TERM");
+    is_progress_allowed = isatty(STDERR_FILENO) && terminal != NULL && *terminal != 0 && strcmp(terminal, "dumb") != 0;
+}
+
+void progress(const char *form, ...)
+{
+    va_list rest;
+    char text[80];
+    if (!is_progress_allowed)
+        return;
+    va_start(rest, form);
+    int length = vsnprintf(text, sizeof text, form, rest);
+    va_end(rest);
+    if (length < 0)
+        return;
+    progress_erase();
+    is_progress_shown = write_all(STDERR_FILENO, text, strlen(text));
+}
+
+void progress_erase(void)
+{
+    static const char erase[] = "\r\033[K";
+    if (is_progress_shown)
+        write_all(STDERR_FILENO, erase, sizeof erase - 1);
+    is_progress_shown = false;
+}

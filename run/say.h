@@ -1,0 +1,36 @@
+/* The log, where reports and all other lines go, and the ends of a run that cannot go on. */
+#ifndef ASANCOL_RUN_SAY_H
+#define ASANCOL_RUN_SAY_H
+
+#include <stdbool.h>
+#include <stddef.h>
+
+/* As env: what asancol-run ends with if it cannot run the command. */
+enum { OWN_FAILURE = 125, NOT_EXECUTABLE = 126, NOT_FOUND = 127 };
+
+/* Opens descriptors 0, 1 and 2 if they are closed, so that nothing else gets these numbers. The command does not get
+   them. */
+void say_fill_standard(void);
+/* The log is this file, or standard error if it is null. Fails if it cannot be opened. */
+void say_open(const char *path);
+int say_descriptor(void);
+/* A line of the log. */
+void say(const char *form, ...) __attribute__((format(printf, 1, 2)));
+/* Text of the log as it is. */
+void say_text(const char *text, size_t length);
+/* False if something could not be written. */
+bool say_close(void);
+
+/* Prints "asancol-run: OF: WHAT" on standard error, and ends. */
+_Noreturn void fail(int status, const char *of, const char *what);
+void *must(void *memory);
+
+/* Seconds since some moment. */
+double now(void);
+
+/* A line on the terminal that says what is waited for. It is erased before any other line. */
+void progress_allow(void);
+void progress(const char *form, ...) __attribute__((format(printf, 1, 2)));
+void progress_erase(void);
+
+#endif

@@ -1,0 +1,82 @@
+#define _GNU_SOURCE
+#include "side.h"
+
+#include <fcntl.h>
+#include <stdbool.h>
+#include <stdlib.h>
+#include <string.h>
+#include <sys/mman.h>
+#include <sys/socket.h>
+#include <sys/stat.h>
+#include <unistd.h>
+
+/* How many descriptors one message may bring: more than one is a mistake, and they are closed. */
+enum { MOST_RECEIVED = 4 };
+
+int side_receive(int connection)
+{
+    char bytes[HEADER_LENGTH];
+    union {
+        char room[CMSG_SPACE(MOST_RECEIVED * sizeof(int))];
+        struct cmsghdr align;
+    } control;
+    struct iovec piece = {bytes, sizeof bytes};
+    struct msghdr message = {
+        .msg_iov = &piece, .msg_iovlen = 1, .msg_control = &control, .msg_controllen = sizeof control};
+    int received[MOST_RECEIVED];
+    if (recvmsg(connection, &message, MSG_PEEK | MSG_DONTWAIT | MSG_CMSG_CLOEXEC) < 0)
+        return -1;
+    struct cmsghdr *header = CMSG_FIRSTHDR(&message);
+    if (header == NULL || header->cmsg_level != SOL_SOCKET || header->cmsg_type != SCM_RIGHTS)
+        return -1;
+    size_t count = (header->cmsg_len - CMSG_LEN(0)) / sizeof(int);
+    if (count == 0 || count > MOST_RECEIVED)
+        return -1;
+    memcpy(received, CMSG_DATA(header), count * sizeof(int));
+    for (size_t i = 1; i < count; i++)
+        close(received[i]);
+    return received[0];
+}
+
+static bool is_side(const struct side *side)
+{
+    return memcmp(side->header, SIDE_HEADER, sizeof side->header) == 0;
+}
+
+const struct side *side_map(int descriptor)
+{
+    struct stat seen;
+    int seals = fcntl(descriptor, F_GET_SEALS);
+    if (seals < 0 || !(seals & F_SEAL_SHRINK) || fstat(descriptor, &seen) != 0
+        || seen.st_size < (off_t)sizeof(struct side))
+        return NULL;
+    void *memory = mmap(NULL, sizeof(struct side), PROT_READ, MAP_SHARED, descriptor, 0);
+    if (memory == MAP_FAILED)
+        return NULL;
+    if (is_side(memory))
+        return memory;
+    munmap(memory, sizeof(struct side));
+    return NULL;
+}
+
+const struct side *side_read(const char *path)
+{
+    void *memory = mmap(NULL, sizeof(struct side), PROT_READ | PROT_WRITE, MAP_PRIVATE | MAP_ANONYMOUS, -1, 0);
+    int descriptor = open(path, O_RDONLY | O_CLOEXEC | O_NONBLOCK);
+    bool is_read = memory != MAP_FAILED && descriptor >= 0
+                   && pread(descriptor, memory, sizeof(struct side), 0) == (ssize_t)sizeof(struct side)
+                   && is_side(memory);
+    if (descriptor >= 0)
+        close(descriptor);
+    if (is_read)
+        return memory;
+    if (memory != MAP_FAILED)
+        munmap(memory, sizeof(struct side));
+    return NULL;
+}
+
+void side_unmap(const struct side *side)
+{
+    if (side != NULL)
+        munmap((void *)(uintptr_t)side, sizeof(struct side));
+}

@@ -1,0 +1,15 @@
+/* The side memory of a process: what the recorder says of it beside its trace. */
+#ifndef ASANCOL_RUN_SIDE_H
+#define ASANCOL_RUN_SIDE_H
+
+#include "../recorder/format.h"
+
+/* The descriptor that came with the first bytes of a connection, or -1. The bytes stay there for the checker. */
+int side_receive(int connection);
+/* Maps the first part, if nobody can cut it; or answers null. */
+const struct side *side_map(int descriptor);
+/* Reads the first part from a file; or answers null. */
+const struct side *side_read(const char *path);
+void side_unmap(const struct side *side);
+
+#endif

@@ -1,0 +1,103 @@
+#define _GNU_SOURCE
+#include "signals.h"
+
+#include <errno.h>
+#include <signal.h>
+#include <stddef.h>
+#include <string.h>
+#include <sys/prctl.h>
+#include <sys/resource.h>
+#include <sys/signalfd.h>
+#include <unistd.h>
+
+#include "say.h"
+
+static const int passed_on[] = {SIGINT, SIGTERM, SIGHUP, SIGQUIT, SIGUSR1, SIGUSR2};
+/* Of the terminal's stops only this one is for a foreground process. */
+static const int others[] = {SIGCHLD, SIGTSTP, SIGCONT};
+
+static sigset_t mask_before;
+static struct sigaction child_before;
+
+#define COUNT(array) (sizeof(array) / sizeof *(array))
+
+static void add_unless_ignored(sigset_t *set, int number)
+{
+    struct sigaction action;
+    if (sigaction(number, NULL, &action) == 0 && action.sa_handler != SIG_IGN)
+        sigaddset(set, number);
+}
+
+int signals_open(void)
+{
+    sigset_t blocked;
+    struct sigaction usual = {.sa_handler = SIG_DFL};
+    sigaction(SIGCHLD, &usual, &child_before); /* if it is ignored, children vanish without their status */
+    sigemptyset(&blocked);
+    for (size_t i = 0; i < COUNT(passed_on); i++)
+        add_unless_ignored(&blocked, passed_on[i]);
+    for (size_t i = 0; i < COUNT(others); i++)
+        add_unless_ignored(&blocked, others[i]);
+    sigprocmask(SIG_BLOCK, &blocked, &mask_before);
+    int descriptor = signalfd(-1, &blocked, SFD_CLOEXEC | SFD_NONBLOCK);
+    if (descriptor < 0)
+        fail(OWN_FAILURE, "no descriptor for signals", strerror(errno));
+    return descriptor;
+}
+
+void signals_restore(void)
+{
+    sigaction(SIGCHLD, &child_before, NULL);
+    sigprocmask(SIG_SETMASK, &mask_before, NULL);
+}
+
+void signals_ignore_pipe(void)
+{
+    struct sigaction none = {.sa_handler = SIG_IGN};
+    sigaction(SIGPIPE, &none, NULL);
+}
+
+/* Stops as without us: not at all if no shell would let us go on. */
+static void stop(void)
+{
+    sigset_t set;
+    sigemptyset(&set);
+    sigaddset(&set, SIGTSTP);
+    progress_erase();
+    raise(SIGTSTP);
+    sigprocmask(SIG_UNBLOCK, &set, NULL);
+    sigprocmask(SIG_BLOCK, &set, NULL);
+}
+
+int signals_read(int descriptor, pid_t command)
+{
+    struct signalfd_siginfo info;
+    int count = 0;
+    while (read(descriptor, &info, sizeof info) == (ssize_t)sizeof info) {
+        int number = (int)info.ssi_signo;
+        bool is_of_terminal = info.ssi_code == SI_KERNEL; /* the command has it too */
+        if (number == SIGCHLD)
+            continue;
+        if (command != 0 && !is_of_terminal)
+            kill(command, number);
+        if (number == SIGTSTP)
+            stop();
+        else if (number != SIGCONT && command == 0)
+            count++;
+    }
+    return count;
+}
+
+void signals_end_by(int number)
+{
+    struct rlimit none = {0, 0};
+    struct sigaction usual = {.sa_handler = SIG_DFL};
+    sigset_t set;
+    sigemptyset(&set);
+    sigaddset(&set, number);
+    setrlimit(RLIMIT_CORE, &none);
+    prctl(PR_SET_DUMPABLE, 0);
+    sigaction(number, &usual, NULL);
+    raise(number);
+    sigprocmask(SIG_UNBLOCK, &set, NULL);
+}

@@ -1,0 +1,20 @@
+/* Signals to asancol-run: they are blocked, and read from a descriptor. */
+#ifndef ASANCOL_RUN_SIGNALS_H
+#define ASANCOL_RUN_SIGNALS_H
+
+#include <stdbool.h>
+#include <sys/types.h>
+
+/* Blocks them, and answers the descriptor. What was ignored before stays so. */
+int signals_open(void);
+/* In the child that becomes the command: as it was before. */
+void signals_restore(void);
+/* A pipe without a reader is an error from now on, and no end. */
+void signals_ignore_pipe(void);
+/* Reads all that have come. Those that are for the command are passed on to it, if it is not 0: then the answer is how
+   many others have come that want an end. */
+int signals_read(int descriptor, pid_t command);
+/* Ends this process by a signal, without a core. */
+void signals_end_by(int number);
+
+#endif

@@ -1,0 +1,43 @@
+#!/usr/bin/env python3
+"""Runs programs under asancol-run, as a user would, and looks at what it prints and how it ends; and asancol-report.
+
+usage: run/tests/check.py ASANCOL [WORD..]
+
+With words, only tests whose names have one of them are run. The last line is 'N passed, M failed',
+and the status is 1 if a test failed. What is not there, such as bubblewrap, is said in a line, and
+left out.
+"""
+
+import os
+import sys
+
+import completions
+import feeds
+import lives
+import recipes
+import report
+import rooms
+import statuses
+import whole
+from support import Suite
+
+
+def main() -> int:
+    if len(sys.argv) < 2:
+        print((__doc__ or "").split("\n\n")[1], file=sys.stderr)
+        return 2
+    suite = Suite(os.path.abspath(sys.argv[1]), sys.argv[2:])
+    suite.build()
+    statuses.tests(suite)
+    lives.tests(suite)
+    rooms.tests(suite)
+    feeds.tests(suite)
+    completions.tests(suite)
+    recipes.tests(suite)
+    whole.tests(suite)
+    suite.add(*report.run_tests(sys.argv[2:]))  # meanwhile
+    return suite.finish()
+
+
+if __name__ == "__main__":
+    sys.exit(main())

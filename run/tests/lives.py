@@ -1,0 +1,323 @@
+"""Processes and signals: what outlives the command, what is killed, stopped or left behind."""
+
+import os
+import pty
+import signal
+import subprocess
+import time
+from typing import List
+
+from support import RUN, Failure, Ran, Suite, expect, expect_ran, finish, wait_until
+
+
+def check_orphan(suite: Suite, folder: str, way: str) -> None:
+    """A process that outlives the command is waited for."""
+    expect_ran(suite.run("--", suite.program, way, "0.7", FAKE="1"), 99)
+
+
+def check_orphan_for_too_long(suite: Suite, folder: str) -> None:
+    begun = time.monotonic()
+    ran = suite.run("--wait", "0.5", "--", "sh", "-c", f"{suite.program} orphan 3 > /dev/null 2>&1")
+    expect_ran(ran, 98, "NOT SEEN WHOLE: still ran at the end of asancol-run", "processes of the command still run")
+    if time.monotonic() - begun > 2.5:
+        raise Failure("it has waited")
+
+
+def check_cut_process_runs_on(suite: Suite, folder: str) -> None:
+    """What is cut is not harmed."""
+    mark = f"{folder}/ran-on"
+    line = f"({suite.program} sleeps 1; touch {mark}) > /dev/null 2>&1 &"
+    expect_ran(suite.run("--wait", "0.2", "--", "sh", "-c", line), 98, "still ran at the end")
+    wait_until(lambda: os.path.exists(mark), "the end of the process")
+
+
+def check_hurry(suite: Suite, folder: str) -> None:
+    """Once the command has ended, a signal ends the waiting."""
+    started = suite.start("--wait", "60", "--", suite.program, "orphan", "30")
+    time.sleep(0.6)
+    started.send_signal(signal.SIGTERM)
+    expect_ran(finish(started), 98, "still ran at the end")
+
+
+def check_killed_beside_others(suite: Suite, folder: str) -> None:
+    line = f"{suite.program} sleeps 30 & sleep 0.3; kill -9 $!; {suite.program} sound"
+    expect_ran(suite.run("--", "sh", "-c", line), 98, "1 NOT SEEN WHOLE", "2 processes")
+
+
+def check_killed_checker(suite: Suite, folder: str) -> None:
+    """It costs one process."""
+    checker = f"{folder}/asancol"
+    with open(checker, "w", encoding="utf-8") as script:
+        script.write(f"#!/bin/sh\nif mkdir {folder}/first 2>/dev/null; then kill -9 $$; fi\nexec {suite.asancol}\n")
+    os.chmod(checker, 0o755)
+    line = f"{suite.program} sound; {suite.program} sound"
+    ran = suite.run("--", "sh", "-c", line, ASANCOL=checker)
+    expect_ran(ran, 98, "its checker was ended by SIGKILL", "2 processes", "1 NOT SEEN WHOLE")
+    expect(ran.out, "sound\nsound\n", "what the command printed")
+
+
+def check_term_during_report(suite: Suite, folder: str) -> None:
+    """A signal is passed on, and what was found is still reported."""
+    started = suite.start("--", suite.program, "past_and_sleeps", "30")
+    expect(started.stdout.readline() if started.stdout else "", "ready\n", "the program")
+    started.send_signal(signal.SIGTERM)
+    expect_ran(finish(started), 99, "the report")
+
+
+def check_signal(suite: Suite, folder: str, number: int, way: str, status: int, text: str) -> None:
+    started = suite.start("-v", "--", suite.program, way, "30")
+    if way != "sleeps":
+        expect(started.stdout.readline() if started.stdout else "", "ready\n", "the program")
+    else:
+        time.sleep(0.5)
+    started.send_signal(number)
+    expect_ran(finish(started), status, text, "all seen whole")
+
+
+def check_timeout_program(suite: Suite, folder: str) -> None:
+    """As under timeout(1)."""
+    ran = suite.run_words(["timeout", "0.7", RUN, "--", suite.program, "sleeps", "30"])
+    expect_ran(ran, 124, "1 process", "all seen whole")
+
+
+def check_ignored_signals(suite: Suite, folder: str) -> None:
+    """What was ignored before stays so, as under nohup."""
+    words = ["sh", "-c", f"trap '' HUP; exec {RUN} -- sh -c '{suite.program} sleeps 0.5; exit 5'"]
+    started = subprocess.Popen(words, env=suite.environment(), stderr=subprocess.PIPE, text=True)
+    time.sleep(0.3)
+    started.send_signal(signal.SIGHUP)
+    expect_ran(finish(started), 5)
+
+
+def check_child_signal_ignored(suite: Suite, folder: str) -> None:
+    """A parent that ignores its children's ends is no harm."""
+    before = signal.getsignal(signal.SIGCHLD)
+    expect(before, signal.SIG_DFL, "the test's own")
+    words = [RUN, "--", suite.program, "sound"]
+    line = f"import os, signal; signal.signal(signal.SIGCHLD, signal.SIG_IGN); os.execv({RUN!r}, {words!r})"
+    expect_ran(suite.run_words(["python3", "-c", line]), 0, "all seen whole")
+
+
+def check_time_limit(suite: Suite, folder: str) -> None:
+    begun = time.monotonic()
+    ran = suite.run("--timeout", "0.5", "--", suite.program, "sleeps", "30")
+    expect_ran(ran, 98, "ended by --timeout, after 0.5 seconds", "NOT SEEN WHOLE: was ended by --timeout")
+    if time.monotonic() - begun > 4:
+        raise Failure("SIGTERM was not enough")
+
+
+def check_time_limit_with_report(suite: Suite, folder: str) -> None:
+    expect_ran(suite.run("--timeout", "0.5", "--", suite.program, "past_and_sleeps", "30"), 99, "the report")
+
+
+def check_time_limit_for_stubborn(suite: Suite, folder: str) -> None:
+    """What ignores SIGTERM gets SIGKILL, a child of a child too."""
+    ran = suite.run("--timeout", "0.5", "--", "sh", "-c", f"{suite.program} ignores 60; true")
+    expect_ran(ran, 98, "NOT SEEN WHOLE: was ended by --timeout")
+
+
+def check_time_limit_for_orphans(suite: Suite, folder: str) -> None:
+    """What the command has left behind is ended too, also past --wait."""
+    line = f"{suite.program} ignores 60 > /dev/null 2>&1 & echo $! > {folder}/number; sleep 60"
+    ran = suite.run("--wait", "0.1", "--timeout", "0.5", "--", "sh", "-c", line)
+    expect_ran(ran, 98, "was ended by --timeout")
+    with open(f"{folder}/number", encoding="utf-8") as number:
+        expect(os.path.exists(f"/proc/{int(number.read())}"), False, "that it still runs")
+
+
+def check_time_limit_not_reached(suite: Suite, folder: str) -> None:
+    expect_ran(suite.run("--timeout", "60", "-q", "--", suite.program, "sound"), 0, absent=["asancol"])
+
+
+def check_time_limit_spares_others(suite: Suite, folder: str) -> None:
+    """Processes of the same group that the command has not started are left alone."""
+    line = f"sleep 1 & {RUN} --timeout 0.3 -- {suite.program} sleeps 30; wait $! && echo spared"
+    expect(suite.run_words(["sh", "-c", line]).out, "spared\n", "the other process")
+
+
+def at_terminal(suite: Suite, words: List[str], typed: bytes, after: float, **settings: str) -> Ran:
+    """Runs at a terminal, on which something is typed after so many seconds."""
+    child, terminal = pty.fork()
+    if child == 0:
+        os.execve(words[0], words, suite.environment(**{"TERM": "xterm", **settings}))
+    time.sleep(after)
+    os.write(terminal, typed)
+    seen = b""
+    try:
+        while True:
+            piece = os.read(terminal, 4096)
+            if not piece:
+                break
+            seen += piece
+    except OSError:
+        pass  # the terminal has no other end any more
+    os.close(terminal)
+    return Ran(os.waitstatus_to_exitcode(os.waitpid(child, 0)[1]), "", seen.decode())
+
+
+def check_interrupt_at_terminal(suite: Suite, folder: str) -> None:
+    """Ctrl-C ends the command, and not its check."""
+    ran = at_terminal(suite, [RUN, "-v", "--", suite.program, "sleeps", "30"], b"\x03", 0.7)
+    expect_ran(ran, -signal.SIGINT, "ended by SIGINT", "all seen whole")
+
+
+def check_interrupt_is_sent_once(suite: Suite, folder: str) -> None:
+    """What the terminal sends is not sent again."""
+    line = 'count=0; trap "count=\\$((count + 1))" INT; PROGRAM sleeps 30; sleep 0.5; echo count $count; exit 6'
+    ran = at_terminal(suite, [RUN, "--", "bash", "-c", line.replace("PROGRAM", suite.program)], b"\x03", 0.7)
+    expect_ran(ran, 6, "count 1")
+
+
+def check_interrupt_with_report(suite: Suite, folder: str) -> None:
+    """The report is not ended by the same key."""
+    ran = at_terminal(suite, [RUN, "--", suite.program, "past_and_sleeps", "30"], b"\x03", 0.7)
+    expect(ran.status, -signal.SIGINT if "the report" not in ran.err else 99, "status")
+    line = f"{suite.program} past; {suite.program} sleeps 30"
+    expect_ran(at_terminal(suite, [RUN, "--", "sh", "-c", line], b"\x03", 0.7), 99, "the report")
+
+
+def check_progress(suite: Suite, folder: str) -> None:
+    """A line on the terminal, and it is erased."""
+    ran = at_terminal(suite, [RUN, "--", suite.program, "orphan", "2.7"], b"", 0.1, FAKE="1")
+    expect_ran(ran, 99, "asancol: waiting for processes: 1 checked, 1 to go\r\033[K", "the report")
+    for option, terminal in (("-q", "xterm"), ("-v", "dumb"), ("--live", "xterm")):
+        words = [RUN, option, "--", suite.program, "orphan", "2.4"]
+        expect_ran(at_terminal(suite, words, b"", 0.1, TERM=terminal), 99, absent=["waiting"])
+
+
+def state_of(number: int) -> str:
+    """The letter by which the system says what a process does."""
+    with open(f"/proc/{number}/stat", encoding="utf-8") as text:
+        return text.read().rsplit(")", 1)[1].split()[0]
+
+
+def child_of(number: int) -> int:
+    with open(f"/proc/{number}/task/{number}/children", encoding="utf-8") as text:
+        return int(text.read().split()[0])
+
+
+def check_stop(suite: Suite, folder: str) -> None:
+    """SIGTSTP stops both, and SIGCONT lets both go on. In a process group that a shell looks after."""
+    words = [RUN, "--", suite.program, "handles", "1.5"]
+    pipes = {"stdout": subprocess.PIPE, "stderr": subprocess.PIPE}
+    started = subprocess.Popen(words, env=suite.environment(), text=True, preexec_fn=os.setpgrp, **pipes)
+    expect(started.stdout.readline() if started.stdout else "", "ready\n", "the program")
+    command = child_of(started.pid)
+    started.send_signal(signal.SIGTSTP)
+    wait_until(lambda: state_of(started.pid) == "T" and state_of(command) == "T", "the stop")
+    started.send_signal(signal.SIGCONT)
+    wait_until(lambda: state_of(started.pid) != "T" and state_of(command) != "T", "the end of the stop")
+    expect_ran(finish(started), 0, "all seen whole")
+
+
+def check_hub_is_killed(suite: Suite, folder: str) -> None:
+    """The command runs on, and ends as usual."""
+    mark = f"{folder}/status"
+    started = suite.start("--", "sh", "-c", f"{suite.program} handles 0.8; echo $? > {mark}", TMPDIR=folder)
+    expect(started.stdout.readline() if started.stdout else "", "ready\n", "the program")
+    started.kill()
+    started.wait()
+    wait_until(lambda: os.path.exists(mark) and os.path.getsize(mark) > 0, "the end of the command")
+    with open(mark, encoding="utf-8") as status:
+        expect(status.read(), "0\n", "its status")
+
+
+def check_crowd(suite: Suite, folder: str, count: int, descriptors: int) -> None:
+    line = f"i=0; while [ $i -lt {count} ]; do {suite.program} sleeps 1 & i=$((i+1)); done; wait"
+    words = ["sh", "-c", f"ulimit -n {descriptors}; exec {RUN} -- sh -c '{line}'"]
+    expect_ran(suite.run_words(words), 0, f"{count} processes", "all seen whole")
+
+
+def check_crowd_with_reports(suite: Suite, folder: str) -> None:
+    """Processes with reports hold no descriptors for long."""
+    line = f"i=0; while [ $i -lt 200 ]; do {suite.program} past & i=$((i+1)); done; wait"
+    packets = f"{folder}/packets"
+    words = ["sh", "-c", f"ulimit -n 64; exec {RUN} -- sh -c '{line}'"]
+    expect_ran(suite.run_words(words, FAKE_PACKETS=packets), 99, "the report")
+    with open(packets, encoding="utf-8") as lines:
+        expect(sum('"verdicts"' in it for it in lines), 200, "processes with their verdicts")
+
+
+def check_short_for_ever(suite: Suite, folder: str) -> None:
+    """Those that hold all descriptors and do not end hold nobody up for ever."""
+    line = f"i=0; while [ $i -lt 30 ]; do {suite.program} sleeps 8 > /dev/null 2>&1 & i=$((i+1)); done; sleep 1"
+    begun = time.monotonic()
+    ran = suite.run_words(["sh", "-c", f"ulimit -n 64; exec {RUN} --wait 1 -- sh -c '{line}'"])
+    expect_ran(ran, 98, "still ran at the end of asancol-run")
+    if time.monotonic() - begun > 7:
+        raise Failure("it has waited")
+
+
+def check_silent_peer(suite: Suite, folder: str) -> None:
+    """One that connects and sends nothing does not hold the end up."""
+    line = (
+        "import os, socket, time; s = socket.socket(socket.AF_UNIX); s.connect(os.environ['ASANCOL_HUB']); "
+        "os.fork() and os._exit(0); time.sleep(3)"
+    )
+    ran = suite.run("--wait", "0.5", "--", "sh", "-c", f'{suite.program} sound; python3 -c "{line}"')
+    expect_ran(ran, 98, "NOT SEEN WHOLE: still ran at the end of asancol-run")
+
+
+def check_garbage(suite: Suite, folder: str) -> None:
+    line = (
+        "import os, socket; s = socket.socket(socket.AF_UNIX); s.connect(os.environ['ASANCOL_HUB']); "
+        "s.send(b'junk' * 9)"
+    )
+    ran = suite.run("--", "sh", "-c", f'{suite.program} sound; python3 -c "{line}"')
+    expect_ran(ran, 98, "NOT SEEN WHOLE")
+
+
+def check_standard_closed(suite: Suite, folder: str, closing: str, status: int) -> None:
+    """What is closed is closed for the command too, and nothing gets into its place."""
+    words = ["sh", "-c", f"exec {RUN} -q -- {suite.program} open_ones {closing}"]
+    expect(suite.run_words(words).status, status, closing)
+
+
+def check_standard_streams(suite: Suite, folder: str) -> None:
+    """The command has its own standard input, output and error."""
+    line = f"cat; echo error >&2; {suite.program} sound"
+    environment = suite.environment()
+    ran = subprocess.run(
+        [RUN, "-q", "--", "sh", "-c", line], input=b"input\n", env=environment, capture_output=True, check=False
+    )
+    expect((ran.returncode, ran.stdout, ran.stderr), (0, b"input\nsound\n", b"error\n"), "streams")
+
+
+def tests(suite: Suite) -> None:
+    suite.test("orphan", check_orphan, "orphan")
+    suite.test("daemon", check_orphan, "daemon")
+    suite.test("orphan for too long", check_orphan_for_too_long)
+    suite.test("cut process runs on", check_cut_process_runs_on)
+    suite.test("signal ends the waiting", check_hurry)
+    suite.test("kill -9 beside others", check_killed_beside_others)
+    suite.test("checker is killed", check_killed_checker)
+    suite.test("SIGTERM with a report", check_term_during_report)
+    for number in (signal.SIGINT, signal.SIGTERM, signal.SIGHUP, signal.SIGQUIT, signal.SIGUSR1, signal.SIGUSR2):
+        text = f"ended by {signal.Signals(number).name}"
+        suite.test(f"passes on {number.name}", check_signal, number, "sleeps", -number, text)
+    suite.test("handled SIGTERM", check_signal, signal.SIGTERM, "handles", 3, "seen whole")
+    suite.test("handled SIGUSR1", check_signal, signal.SIGUSR1, "handles", 3, "seen whole")
+    suite.test("timeout(1)", check_timeout_program)
+    suite.test("ignored signals", check_ignored_signals)
+    suite.test("ignored SIGCHLD", check_child_signal_ignored)
+    suite.test("--timeout", check_time_limit)
+    suite.test("--timeout with a report", check_time_limit_with_report)
+    suite.test("--timeout for the stubborn", check_time_limit_for_stubborn)
+    suite.test("--timeout for orphans", check_time_limit_for_orphans)
+    suite.test("--timeout that is not reached", check_time_limit_not_reached)
+    suite.test("--timeout spares others", check_time_limit_spares_others)
+    suite.test("Ctrl-C", check_interrupt_at_terminal)
+    suite.test("Ctrl-C is sent once", check_interrupt_is_sent_once)
+    suite.test("Ctrl-C with a report", check_interrupt_with_report)
+    suite.test("progress", check_progress)
+    suite.test("stop and continue", check_stop)
+    suite.test("SIGKILL of asancol-run", check_hub_is_killed)
+    suite.test("200 processes, 64 descriptors", check_crowd, 200, 64)
+    suite.test("400 processes at once", check_crowd, 400, 4096)
+    suite.test("200 processes with reports, 64 descriptors", check_crowd_with_reports)
+    suite.test("short for ever", check_short_for_ever)
+    suite.test("silent peer", check_silent_peer)
+    suite.test("garbage", check_garbage)
+    for closing, status in (("<&-", 6), (">&-", 5), ("2>&-", 3), ("<&- >&- 2>&-", 0), ("", 7)):
+        suite.test(f"closed {closing}", check_standard_closed, closing, status)
+    suite.test("standard streams", check_standard_streams)

@@ -1,0 +1,206 @@
+"""Options and statuses of asancol-run."""
+
+import os
+import re
+from typing import Dict, List, Tuple
+
+from support import Failure, Suite, expect, expect_ran
+
+# A run, by the words after asancol-run, in which PROGRAM stands for the recorded program: its status, and texts that
+# are on standard error. A text after a `!` is not there.
+RUNS: Dict[str, Tuple[str, int, List[str]]] = {
+    "clean": ("-- PROGRAM sound", 0, ["asancol: no reports; 1 process, 1 event; all seen whole"]),
+    "clean and quiet": ("-q -- PROGRAM sound", 0, ["!asancol"]),
+    "without dashes": ("-q PROGRAM sound", 0, []),
+    "verbose": ("-v -- PROGRAM sound", 0, [": seen whole, 1 event, 0 reports"]),
+    "own status": ("-q -- sh -c 'PROGRAM sound; exit 7'", 7, ["!asancol"]),
+    "report": ("-- PROGRAM past", 99, []),
+    "report wins over the command": ("-- sh -c 'PROGRAM past; exit 7'", 99, []),
+    "exitcode": ("--exitcode 5 -- PROGRAM past", 5, []),
+    "error-exitcode": ("--error-exitcode=6 -- PROGRAM past", 6, []),
+    "exitcode 0": ("--exitcode=0 -- sh -c 'PROGRAM past; exit 7'", 7, []),
+    "last one counts": ("--exitcode 5 --exitcode 8 -- PROGRAM past", 8, []),
+    "forked child": ("-- PROGRAM child", 99, []),
+    "death is whole": ("-v -- PROGRAM aborts", 0, ["seen whole: ended by SIGABRT", "2 processes"]),
+    "exec": ("-- PROGRAM execs PROGRAM past", 99, []),
+    "exec is whole": ("-- PROGRAM execs PROGRAM sound", 0, ["2 processes, 2 events; all seen whole"]),
+    "failed exec": ("-- PROGRAM execs /nonexistent", 127, ["1 process, 1 event; all seen whole"]),
+    "nothing": ("-- true", 98, ["NOTHING WAS RECORDED", "no reports; 0 processes, 0 events; NOT SEEN WHOLE"]),
+    "nothing, and quiet": ("-q -- true", 98, ["NOTHING WAS RECORDED"]),
+    "nothing-exitcode": ("--nothing-exitcode 77 -- true", 77, ["NOTHING WAS RECORDED"]),
+    "nothing-exitcode 0": ("--nothing-exitcode 0 -- sh -c 'exit 4'", 4, ["NOTHING WAS RECORDED"]),
+    "no checks": ("-- UNCHECKED sound", 98, ["NOTHING WAS RECORDED"]),
+    "no checks beside checks": ("-- sh -c 'PROGRAM sound; UNCHECKED sound'", 98, ["no code of it was compiled"]),
+    "no checks as skipped": ("--nothing-exitcode 77 -- UNCHECKED sound", 77, []),
+    "at-least": (
+        "--at-least 2 -- sh -c 'PROGRAM sound; env -i PROGRAM sound'",
+        98,
+        ["NOT ALL SEEN: 1 fewer than --at-least asks for", "1 event; NOT SEEN WHOLE"],
+    ),
+    "at-least is met": ("--at-least 2 -- sh -c 'PROGRAM sound; PROGRAM sound'", 0, []),
+    "incomplete-exitcode": ("--incomplete-exitcode 3 --at-least 2 -- PROGRAM sound", 3, []),
+    "incomplete-exitcode 0": ("--incomplete-exitcode 0 --at-least 2 -- sh -c 'PROGRAM sound; exit 9'", 9, []),
+    "command ends by a signal": ("-- sh -c 'PROGRAM sound; kill -TERM $$'", -15, ["all seen whole"]),
+    "program ends by a signal": ("-- PROGRAM kills_itself 11", -11, ["all seen whole"]),
+    "killed": ("-- PROGRAM kills_itself 9", 98, ["NOT SEEN WHOLE: ended without a word, as by SIGKILL"]),
+    "not found": ("-- no-such-command", 127, ["asancol-run: no-such-command: No such file or directory"]),
+    "not executable": ("-- /etc/passwd", 126, ["asancol-run: /etc/passwd: Permission denied"]),
+    "a folder": ("-- /usr", 126, []),
+    "checker's limit": ("--limit 100 -- PROGRAM many 200", 98, ["reached the event limit of its checker, after 100"]),
+    "checker's memory": ("--memory 1048576 -- PROGRAM sound", 0, []),
+    "quarantine": ("--quarantine 0 -- sh -c 'PROGRAM many 9 && test $ASANCOL_QUARANTINE = 0'", 0, []),
+    "environment": (
+        "-- sh -c 'PROGRAM sound; test -n \"$ASANCOL_HUB\" -a -z \"${ASANCOL_QUARANTINE+x}\"'", 0, []
+    ),
+}
+
+# A command line that is refused, and what is said.
+REFUSED: Dict[str, Tuple[str, str]] = {
+    "unknown": ("--nonsense true", "there is no option --nonsense\n"),
+    "near": ("--exit-code 3 true", "there is no option --exit-code; is --exitcode meant?"),
+    "near, with a value": ("--supressions=f true", "there is no option --supressions; is --suppressions meant?"),
+    "beginning": ("--code f true", "is --codequality meant?"),
+    "letter": ("-x true", "there is no option -x\n"),
+    "valgrind's": ("--leak-check=full true", "there is no option --leak-check\n"),
+    "no command": ("-q", "there is no command"),
+    "no command after dashes": ("-q --", "there is no command"),
+    "no value": ("--wait", "--wait: it needs a value"),
+    "a value too many": ("--quiet=1 true", "--quiet: it takes no value"),
+    "status": ("--exitcode 256 true", "--exitcode: 256 is no number from 0 to 255"),
+    "status, below 0": ("--exitcode -1 true", "-1 is no number from 0 to 255"),
+    "status, empty": ("--exitcode= true", " is no number from 0 to 255"),
+    "status, text": ("--exitcode 7x true", "7x is no number from 0 to 255"),
+    "count": ("--at-least 1000000001 true", "is no number from 0 to 1000000000"),
+    "huge": ("--at-least 99999999999999999999999 true", "is no number from 0 to 1000000000"),
+    "wait": ("--wait 86401 true", "86401 is no number of seconds from 0 to 86400"),
+    "wait, text": ("--wait soon true", "soon is no number of seconds"),
+    "wait, not a number": ("--wait nan true", "nan is no number of seconds"),
+    "wait, two points": ("--wait 1.2.3 true", "1.2.3 is no number of seconds"),
+    "timeout": ("--timeout 0 true", "0 is no number of seconds from 0.001 to 31536000"),
+    "limit": ("--limit 16777217 true", "16777217 is no number from 1 to 16777216"),
+    "memory": ("--memory 1000 true", "1000 is no number from 1048576 to 1099511627776"),
+    "quarantine": ("--quarantine 1099511627777 true", "is no number from 0 to 1099511627776"),
+    "color": ("--color blue true", "blue is none of auto, always and never"),
+    "no suppressions": ("--suppressions /nonexistent true", "/nonexistent: No such file or directory"),
+    "a folder as baseline": ("--baseline /usr true", "/usr: Is a directory"),
+    "no root": ("--source-root /etc/passwd true", "/etc/passwd: Not a directory"),
+    "no folder for an output": ("--json /nonexistent/x true", "--json: /nonexistent/x: No such file or directory"),
+    "output is a folder": ("--html /usr true", "/usr: Is a directory"),
+    "output is standard output": ("--json - true", "--json: - is no file"),
+    "no folder for the log": ("--log-file /nonexistent/x true", "/nonexistent/x: No such file or directory"),
+    "keep is a file": ("--keep /etc/passwd true", "/etc/passwd: Not a directory"),
+    "keep has no parent": ("--keep /nonexistent/x true", "/nonexistent/x: No such file or directory"),
+    "mark": ("--log-file %x true", "after a % comes p, q{NAME} or another %"),
+    "mark at the end": ("--log-file 5% true", "after a % comes p, q{NAME} or another %"),
+    "mark without an end": ("--log-file %q{HOME true", "%q{ has no }"),
+    "variable": ("--log-file %q{NO_SUCH_ONE} true", "there is no such environment variable"),
+    "empty name": ("--log-file= true", "the name is empty"),
+}
+
+
+def split(suite: Suite, line: str) -> List[str]:
+    """Splits a line as a shell does."""
+    words = line.replace("PROGRAM", suite.program).replace("UNCHECKED", suite.unchecked)
+    found: List[str] = []
+    for number, piece in enumerate(words.split("'")):
+        found += [piece] if number % 2 else piece.split()
+    return found
+
+
+def check_run(suite: Suite, folder: str, line: str, status: int, texts: List[str]) -> None:
+    ran = suite.run(*split(suite, line), cwd=folder)
+    absent = [it[1:] for it in texts if it.startswith("!")]
+    expect_ran(ran, status, *[it for it in texts if not it.startswith("!")], absent=absent)
+
+
+def check_refused(suite: Suite, folder: str, line: str, text: str) -> None:
+    """Nothing is run, and the line says why."""
+    words = line.split()
+    mark = f"{folder}/ran"
+    if words[-1] == "true":
+        words[-1:] = ["touch", mark]
+    ran = suite.run(*words, cwd=folder)
+    expect_ran(ran, 125, "asancol-run: ", text)
+    expect(os.path.exists(mark), False, "that the command ran")
+
+
+def check_help(suite: Suite, folder: str) -> None:
+    for word in ("--help", "-h"):
+        ran = suite.run(word)
+        expect((ran.status, ran.err), (0, ""), word)
+        lines = ran.out.splitlines()
+        if len(lines) > 28 or max(len(it) for it in lines) > 80:
+            raise Failure(f"the help has {len(lines)} lines, and up to {max(len(it) for it in lines)} columns")
+    expect(suite.run("--version").out.split()[0], "asancol-run", "version")
+    expect(suite.run("-q", "--help").status, 0, "help after another option")
+
+
+def check_help_has_all(suite: Suite, folder: str) -> None:
+    """The help and the manual page name the same options."""
+    with open(f"{os.path.dirname(os.path.dirname(__file__))}/man/asancol-run.1", encoding="utf-8") as page:
+        of_page = set(re.findall(r"^(?:-\w, )?--[\w-]+", page.read().replace("\\-", "-"), re.M))
+    of_help = set(re.findall(r"--[a-z][\w-]+", suite.run("--help").out))
+    of_page = {it.split(", ")[-1] for it in of_page} | {"--error-exitcode"}
+    expect(of_page - of_help, {"--error-exitcode"}, "in the page alone")
+    expect(of_help - of_page, set(), "in the help alone")
+
+
+def check_missing_checker(suite: Suite, folder: str, checker: str) -> None:
+    """It is found before the command starts."""
+    mark = f"{folder}/ran"
+    ran = suite.run("--", "touch", mark, ASANCOL=checker)
+    expect_ran(ran, 125, checker, "is not there, or cannot be executed")
+    expect(os.path.exists(mark), False, "that the command ran")
+
+
+def check_other_checker(suite: Suite, folder: str) -> None:
+    """A program that prints no verdict is found out."""
+    ran = suite.run("--", suite.program, "sound", ASANCOL="/bin/true")
+    expect_ran(ran, 98, "NOT SEEN WHOLE: its checker printed no verdict, and ended with status 0")
+
+
+def check_quarantine_of_environment(suite: Suite, folder: str) -> None:
+    """What the recorder is given, the checker is given too."""
+    checker = f"{folder}/asancol"
+    with open(checker, "w", encoding="utf-8") as script:
+        script.write(f'#!/bin/sh\necho "$*" > {folder}/words\nexec {suite.asancol} "$@"\n')
+    os.chmod(checker, 0o755)
+    for setting, wanted in (("4096", "check --quarantine 4096 -"), ("junk", "")):
+        ran = suite.run("--", suite.program, "sound", ASANCOL=checker, ASANCOL_QUARANTINE=setting)
+        expect_ran(ran, 0)
+        with open(f"{folder}/words", encoding="utf-8") as words:
+            expect(words.read().strip(), wanted, setting)
+    suite.run("--quarantine=1", "--limit", "9", "--limit", "8", "--", suite.program, "sound", ASANCOL=checker)
+    with open(f"{folder}/words", encoding="utf-8") as words:
+        expect(words.read().strip(), "check --quarantine 1 --limit 8 -", "options")
+
+
+def check_environment(suite: Suite, folder: str) -> None:
+    """Nothing else of the environment changes."""
+    before = suite.environment(ASANCOL_TRACE="x", ASANCOL_SOCKET="y")
+    after = dict(it.split("=", 1) for it in suite.run("--", "env", "-0", **before).out.split("\0") if it)
+    hub = after.pop("ASANCOL_HUB")
+    expect(hub.startswith("/"), True, "an absolute name")
+    for name in ("ASANCOL_TRACE", "ASANCOL_SOCKET"):
+        del before[name]
+    expect(after, before, "environment")
+
+
+def check_event_limit(suite: Suite, folder: str) -> None:
+    ran = suite.run("--", suite.program, "many", "10000", ASANCOL_LIMIT="5000")
+    expect_ran(ran, 98, "NOT SEEN WHOLE: reached the event limit: 15001 of 20001 events were not recorded")
+
+
+def tests(suite: Suite) -> None:
+    for name, (line, status, texts) in RUNS.items():
+        suite.test(f"status: {name}", check_run, line, status, texts)
+    for name, (line, text) in REFUSED.items():
+        suite.test(f"refused: {name}", check_refused, line, text)
+    suite.test("help", check_help)
+    suite.test("help and page", check_help_has_all)
+    for checker in ("/nonexistent/asancol", "/etc/passwd", "/usr", "no-such-program"):
+        suite.test(f"checker {checker}", check_missing_checker, checker)
+    suite.test("checker that is another program", check_other_checker)
+    suite.test("quarantine of the environment", check_quarantine_of_environment)
+    suite.test("environment", check_environment)
+    suite.test("event limit", check_event_limit)

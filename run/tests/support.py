@@ -1,0 +1,157 @@
+"""What the tests of asancol-run share: builds, runs, and a suite that runs tests side by side."""
+
+import json
+import os
+import shutil
+import subprocess
+import tempfile
+import threading
+import time
+from concurrent.futures import ThreadPoolExecutor
+from typing import Any, Callable, Dict, List, NamedTuple, Optional, Sequence
+
+TESTS = os.path.dirname(os.path.abspath(__file__))
+TOP = os.path.dirname(os.path.dirname(TESTS))
+RUN = f"{TOP}/run/asancol-run"
+CC = f"{TOP}/recorder/asancol-cc"
+REPORT = f"{TOP}/run/asancol-report"
+FAKE_REPORT = f"{TESTS}/fake_report.py"
+
+# No run may take longer, in seconds. Nothing is measured by it.
+PATIENCE = 120
+
+
+class Failure(Exception):
+    """What a test saw and did not expect."""
+
+
+def expect(seen: Any, wanted: Any, what: str = "") -> None:
+    if seen != wanted:
+        raise Failure(f"{what}: saw {seen!r}, wanted {wanted!r}")
+
+
+class Ran(NamedTuple):
+    """A run that has ended. A status below 0 is a signal."""
+
+    status: int
+    out: str
+    err: str
+
+
+def expect_ran(ran: Ran, status: int, *texts: str, absent: Sequence[str] = ()) -> None:
+    """Expects this status, all of these texts on standard error, and none of the others."""
+    missing = [it for it in texts if it not in ran.err]
+    unwanted = [it for it in absent if it in ran.err]
+    if ran.status != status or missing or unwanted:
+        raise Failure(f"status {ran.status}, wanted {status}; missing {missing}; unwanted {unwanted}; {ran.err[:2000]}")
+
+
+class Suite:
+    """Tests that run side by side, and what they run: each gets a folder for itself."""
+
+    def __init__(self, asancol: str, words: Sequence[str]) -> None:
+        self.asancol = asancol
+        self.words = words
+        self.passed = 0
+        self.failed = 0
+        self.folder = tempfile.mkdtemp(prefix="asancol-tests-")
+        self.program = f"{self.folder}/programs"
+        self.unchecked = f"{self.folder}/unchecked"
+        self.counting = threading.Lock()
+        self.pool = ThreadPoolExecutor(max_workers=min(3, len(os.sched_getaffinity(0))))
+
+    def build(self) -> None:
+        """Builds the programs, recorded; and once more so that no code of them is checked."""
+        source = f"{TESTS}/programs.c"
+        plain = f"{self.folder}/plain.o"
+        compiler = os.environ.get("ASANCOL_CC", "cc")
+        subprocess.run([CC, "-g", "-O1", source, "-o", self.program], check=True)
+        subprocess.run([*compiler.split(), "-c", source, "-o", plain], check=True)
+        made = [CC, plain, "-o", self.unchecked]
+        subprocess.run(made, stderr=subprocess.DEVNULL, check=True)
+
+    def environment(self, **settings: str) -> Dict[str, str]:
+        """The environment without what speaks to asancol, and with these settings. The report is the fake one."""
+        kept = {name: value for name, value in os.environ.items() if not name.startswith("ASANCOL")}
+        return {**kept, "ASANCOL": self.asancol, "ASANCOL_REPORT": FAKE_REPORT, "LC_ALL": "C", **settings}
+
+    def run(self, *words: str, cwd: Optional[str] = None, **settings: str) -> Ran:
+        """Runs asancol-run."""
+        return self.run_words([RUN, *words], cwd, **settings)
+
+    def run_words(self, words: Sequence[str], cwd: Optional[str] = None, **settings: str) -> Ran:
+        """Runs any command."""
+        environment = self.environment(**settings)
+        pipes = {"stdout": subprocess.PIPE, "stderr": subprocess.PIPE}
+        nothing = subprocess.DEVNULL
+        ran = subprocess.run(
+            words, env=environment, cwd=cwd, stdin=nothing, timeout=PATIENCE, check=False, **pipes
+        )
+        return Ran(ran.returncode, ran.stdout.decode(errors="replace"), ran.stderr.decode(errors="replace"))
+
+    def start(self, *words: str, **settings: str) -> "subprocess.Popen[str]":
+        """Starts asancol-run."""
+        environment = self.environment(**settings)
+        pipes = {"stdout": subprocess.PIPE, "stderr": subprocess.PIPE}
+        return subprocess.Popen([RUN, *words], env=environment, stdin=subprocess.DEVNULL, text=True, **pipes)
+
+    def packets(self, folder: str, *words: str, **settings: str) -> List[Any]:
+        """Runs asancol-run, and returns what the report was sent; first its words."""
+        path = f"{folder}/packets"
+        self.run(*words, FAKE_PACKETS=path, **settings)
+        return read_packets(path)
+
+    def test(self, name: str, run_it: Callable[..., None], *arguments: Any) -> None:
+        if not self.words or any(word in name for word in self.words):
+            self.pool.submit(self.run_test, name, run_it, *arguments)
+
+    def run_test(self, name: str, run_it: Callable[..., None], *arguments: Any) -> None:
+        folder = tempfile.mkdtemp(prefix="asancol-test-")
+        wrong: Optional[BaseException] = None
+        try:
+            run_it(self, folder, *arguments)
+        except Exception as error:  # whatever it is, the test has failed
+            wrong = error
+        shutil.rmtree(folder, ignore_errors=True)
+        with self.counting:
+            if wrong is None:
+                self.passed += 1
+            else:
+                self.failed += 1
+                print(f"FAILED {name}: {type(wrong).__name__}: {wrong}", flush=True)
+
+    def add(self, passed: int, failed: int) -> None:
+        """Counts tests that were run otherwise."""
+        with self.counting:
+            self.passed += passed
+            self.failed += failed
+
+    def finish(self) -> int:
+        self.pool.shutdown()
+        shutil.rmtree(self.folder, ignore_errors=True)
+        print(f"{self.passed} passed, {self.failed} failed")
+        return 0 if self.passed > 0 and self.failed == 0 else 1
+
+
+def read_packets(path: str) -> List[Any]:
+    with open(path, encoding="utf-8") as lines:
+        return [json.loads(line) for line in lines]
+
+
+def finish(started: "subprocess.Popen[str]") -> Ran:
+    """Waits until a run that was started has ended."""
+    try:
+        out, err = started.communicate(timeout=PATIENCE)
+    except subprocess.TimeoutExpired:
+        started.kill()
+        raise
+    return Ran(started.returncode, out, err)
+
+
+def wait_until(is_so: Callable[[], bool], what: str) -> None:
+    """Waits for something that comes soon."""
+    end = time.monotonic() + 20
+    while not is_so():
+        if time.monotonic() > end:
+            raise Failure(f"{what} did not come")
+        time.sleep(0.02)

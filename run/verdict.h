@@ -1,0 +1,18 @@
+/* What came of a process: its end line, and whether it was seen whole. */
+#ifndef ASANCOL_RUN_VERDICT_H
+#define ASANCOL_RUN_VERDICT_H
+
+#include <stdbool.h>
+
+#include "processes.h"
+
+/* Reads what its checker has printed, and judges. Before that, why may say why it was not checked. */
+void verdict_read(struct process *process);
+/* Judges again what was not settled: how it ended, and how many events were left out. True if this has changed
+   something. */
+bool verdict_again(struct process *process);
+
+/* "SIGTERM", or "signal 40". */
+const char *signal_name(int number);
+
+#endif
