@@ -2,6 +2,8 @@
 # recorder, which is C.
 
 PREFIX ?= /usr/local
+TOP := .
+include install.mk
 CC ?= cc
 HAS_CC := $(shell command -v $(firstword $(CC)) 2> /dev/null)
 
@@ -9,7 +11,8 @@ SOURCES := crates.txt HANDLES $(shell find crates -name out -prune -o -type f \(
 EXAMPLE := examples/one_byte_past_the_end.trace
 REDZONES := examples/stack_and_global_poison.trace
 
-.PHONY: all demo check stress failures install clean recorder check-recorder check-real bench-record install-recorder
+.PHONY: all demo check stress failures install clean recorder check-recorder check-real bench-record stress-record \
+        install-recorder run check-run bench-run install-run dist deb check-packages
 
 # The program, proved.
 all: asancol
@@ -19,16 +22,13 @@ asancol: $(SOURCES)
 	cd crates/asancol && rt run -- --help > /dev/null
 	cp crates/asancol/out/asancol $@
 
-# A store that runs past its block: from C to the report with its line where a C compiler is there, and else from a
-# stored trace. Then a stored trace of a load in a redzone on the stack, and of a store in a global's. The program
-# reports them and ends with status 1. It is ./asancol if that is up to date. Else one is built for this alone, without
-# its proof, in a minute or two, and is not kept.
+# The two lines of README's first screen: a store that runs past its block. Without a C compiler it is that of a stored
+# trace, and then a load in a redzone on the stack and a store in a global's. They are checked by ./asancol if that is up
+# to date. Else one is built for this alone, without its proof, in a minute or two, and is not kept.
 ifneq ($(HAS_CC),)
-demo: recorder
-	@rm -f bug.trace bug.trace.where
+demo: recorder run
 	ASANCOL_CC='$(CC)' recorder/asancol-cc -g examples/bug.c -o bug
-	ASANCOL_TRACE=bug.trace ASANCOL_WHERE=1 ./bug Alice
-	@$(SHOW) bug.trace $(REDZONES)
+	@$(SHOW) -- ./bug Alice
 else
 demo:
 	@$(SHOW) $(EXAMPLE) $(REDZONES)
@@ -63,23 +63,62 @@ recorder:
 check-recorder: asancol recorder
 	recorder/tests/check.py ./asancol
 
-# What recording costs, beside AddressSanitizer: some minutes, on a machine with nothing else to do.
+# What recording costs, beside AddressSanitizer: some ten minutes, on a machine with nothing else to do. The sources of
+# the real programs come as for check-real, or these are left out.
 bench-record: recorder
 	recorder/tests/bench.py
+
+# The command that runs and checks others: plain C. It needs asancol when it runs.
+run:
+	$(MAKE) -C run
+
+# Programs under it, as a user would run them, within two minutes. Tests of tools that are not there are left out, and
+# it says which.
+check-run: asancol recorder run
+	run/tests/check.py ./asancol
+
+# What a run costs beside the same command without it: a minute, on a machine with nothing else to do.
+bench-run: asancol recorder run
+	run/tests/bench.py ./asancol
+	run/tests/bench_report.py
 
 # The test suites of real programs, recorded: each passes as without a recorder, and no trace has a report. The sources
 # come from Debian by `apt-get source` the first time; it takes some minutes.
 check-real: asancol recorder
 	recorder/tests/real.py ./asancol
 
+# Threads under load, recorded so many times: each run ends, and reports what was planted.
+TIMES := 1000
+
+stress-record: asancol recorder
+	recorder/tests/stress.py --times $(TIMES) ./asancol
+
 install-recorder:
 	$(MAKE) -C recorder install PREFIX=$(PREFIX) DESTDIR=$(DESTDIR)
 
-# With the recorder, where a C compiler is there.
-install: asancol $(if $(HAS_CC),install-recorder)
-	install -D asancol $(DESTDIR)$(PREFIX)/bin/asancol
+install-run:
+	$(MAKE) -C run install PREFIX=$(PREFIX) DESTDIR=$(DESTDIR)
+
+# With the recorder and the command that runs others, where a C compiler is there.
+install: asancol $(if $(HAS_CC),install-recorder install-run)
+	install -D asancol $(ROOT)/bin/asancol
+	$(call install-page,man/asancol.1)
+	$(call install-completions,completions,asancol)
+
+# The sources as they are committed, in an archive that is the same whoever makes it.
+dist:
+	packaging/dist.py
+
+# A package for Debian and its like, built without root. It has what `make install` installs.
+deb: asancol recorder run
+	packaging/deb.py
+
+# The archive and the package are built, unpacked and used; pages and completions have each option of the help.
+check-packages: asancol recorder run
+	tests/packages.py ./asancol
 
 # Leaves what was proved so far, in crates/*/out, for the next build.
 clean:
-	rm -f asancol bug bug.trace bug.trace.where
+	rm -f asancol bug asancol-*.tar.gz asancol_*.deb
 	$(MAKE) -C recorder clean
+	$(MAKE) -C run clean

@@ -11,6 +11,7 @@ usage: tests/hygiene.py
 - Each name that a file imports is used there (`names.py`). `rt tidy` drops those that are not; it
   proves the crate again, so this does not call it.
 - Each function, clause, file, test and target of make that a page names is there (`pages.py`).
+- The program says the release that VERSION says: it can't read the file, since it is proved.
 
 Each finding is a line `FILE:LINE: what`. The last line counts them, and the status is 1 if there are
 any.
@@ -25,17 +26,9 @@ from typing import Iterator, List, Tuple
 
 import names
 import pages
-
-TOP = os.path.dirname(os.path.dirname(os.path.abspath(__file__)))
+from files import TOP, files_of_tree
 
 Finding = Tuple[str, int, str]
-
-
-def files_of_tree() -> List[str]:
-    """Returns the files that git knows, and those that it would add."""
-    words = ["git", "ls-files", "--cached", "--others", "--exclude-standard"]
-    ran = subprocess.run(words, cwd=TOP, stdout=subprocess.PIPE, text=True, check=True)
-    return sorted(it for it in set(ran.stdout.splitlines()) if os.path.isfile(f"{TOP}/{it}"))
 
 
 def width_of(path: str) -> int:
@@ -86,11 +79,21 @@ def sources_of(files: List[str]) -> List[names.Source]:
     return found
 
 
+def other_release() -> Iterator[Finding]:
+    path = "crates/asan_request/src/arguments.rt"
+    with open(f"{TOP}/VERSION", encoding="utf-8") as file:
+        wanted = f'const RELEASE: &str = "{file.read().strip()}";'
+    with open(f"{TOP}/{path}", encoding="utf-8") as file:
+        if wanted not in file.read():
+            yield path, 1, f"VERSION says: {wanted}"
+
+
 def findings() -> Iterator[Finding]:
     files = files_of_tree()
     sources = sources_of(files)
     yield from long_lines(files)
     yield from bad_layouts(files)
+    yield from other_release()
     yield from names.uncited_lemmas(sources)
     yield from names.unused_imports(sources)
     yield from pages.findings(pages.Tree(TOP, files))

@@ -202,7 +202,7 @@ def targets_of(tree: Tree) -> Dict[str, Set[str]]:
 
 def findings(tree: Tree) -> Iterator[Finding]:
     targets = targets_of(tree)
-    pages = ["README.md"] + [it for it in tree.files if re.fullmatch(r"docs/[^/]+\.md", it)]
+    pages = ["README.md", "CHANGELOG.md"] + [it for it in tree.files if re.fullmatch(r"docs/[^/]+\.md", it)]
     for page in sorted(pages):
         text = tree.text_of(page)
         yield from bad_links(page, text, tree)

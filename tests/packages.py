@@ -1,0 +1,256 @@
+#!/usr/bin/env python3
+"""Builds the archive of the sources and the package for Debian, and uses them; looks at pages and completions.
+
+usage: tests/packages.py ASANCOL [WORD..]
+
+With words, only tests whose names have one of them are run. The last line is 'N passed, M failed', and the status is 1
+if a test failed. What needs a program that is not there is left out, and it says which. Nothing is installed outside of
+a folder in the one for temporary files.
+"""
+
+import hashlib
+import os
+import re
+import shutil
+import subprocess
+import sys
+import tarfile
+import tempfile
+from typing import Callable, Dict, List, NamedTuple, Tuple
+
+import completions
+from completions import TOP, Failure, expect, text_of
+from files import files_of_tree, is_repository
+
+# No command may take longer, in seconds.
+PATIENCE = 300
+
+
+class Ran(NamedTuple):
+    status: int
+    out: str
+    err: str
+
+
+def run(words: List[str], folder: str = TOP, **settings: str) -> Ran:
+    """Runs a command, in an environment that says nothing to make or to asancol."""
+    kept = {it: value for it, value in os.environ.items() if not it.startswith(("ASANCOL", "MAKE", "MFLAGS", "GIT_"))}
+    pipes = {"stdout": subprocess.PIPE, "stderr": subprocess.PIPE, "stdin": subprocess.DEVNULL}
+    ran = subprocess.run(
+        words, cwd=folder, env={**kept, **settings}, text=True, errors="replace", timeout=PATIENCE, check=False, **pipes
+    )
+    return Ran(ran.returncode, ran.stdout, ran.stderr)
+
+
+def must(words: List[str], folder: str = TOP, **settings: str) -> str:
+    """Runs a command that has to end with status 0, and returns what it prints."""
+    ran = run(words, folder, **settings)
+    if ran.status:
+        raise Failure(f"{' '.join(words)}: status {ran.status}: {ran.err[-1000:]}")
+    return ran.out
+
+
+def sum_of(path: str) -> str:
+    with open(path, "rb") as file:
+        return hashlib.sha256(file.read()).hexdigest()
+
+
+def release() -> str:
+    return text_of("VERSION").strip()
+
+
+def programs_say_the_release(program: str, _: str) -> None:
+    for words in ([program], [f"{TOP}/run/asancol-run"], [f"{TOP}/run/asancol-report"]):
+        name = os.path.basename(words[0])
+        expect(must([*words, "--version"]), f"{name} {release()}\n", name)
+
+
+# The archive of the sources.
+
+
+def archive_of(folder: str) -> str:
+    """Makes the archive in a folder, and returns its path."""
+    must([f"{TOP}/packaging/dist.py", folder])
+    return f"{folder}/asancol-{release()}.tar.gz"
+
+
+def archive_is_the_same(_: str, folder: str) -> None:
+    """It has what is committed, whoever makes it and whenever."""
+    first = sum_of(archive_of(folder))
+    archive = archive_of(folder)
+    expect(sum_of(archive), first, "the archive, once more")
+    front = f"asancol-{release()}/"
+    with tarfile.open(archive) as members:
+        files = {it.name[len(front) :] for it in members.getmembers() if it.isfile()}
+        expect({(it.uid, it.gid, it.uname) for it in members.getmembers()}, {(0, 0, "root")}, "owners")
+        expect(len({it.mtime for it in members.getmembers()}), 1, "times")
+    committed = must(["git", "ls-tree", "-r", "--name-only", "-z", "HEAD"]).split("\0")
+    expect(files, set(committed) - {""}, "files")
+
+
+def archive_is_enough(program: str, folder: str) -> None:
+    """Unpacked, it builds and tests without git, and the package can be made of it."""
+    must(["tar", "xf", archive_of(folder)], folder)
+    top = f"{folder}/asancol-{release()}"
+    no_git = {"PATH": path_without("git", folder)}
+    files = sorted(must(["find", ".", "-type", "f", "-printf", "%P\\n"], top).splitlines())
+    must(["make", "-s", "recorder", "run"], top, **no_git)
+    line = "import files; print('\\n'.join(files.files_of_tree()))"
+    seen = must([sys.executable, "-c", line], f"{top}/tests", **no_git)
+    expect(seen.splitlines(), files, "the files of the tree after a build")
+    if shutil.which("rt"):
+        expect(must([f"{top}/tests/hygiene.py"], top, **no_git), "hygiene: nothing found\n", "hygiene")
+    shutil.copy(program, f"{top}/asancol")
+    os.utime(f"{top}/asancol")
+    must(["make", "-q", "asancol"], top, **no_git)
+    must([f"{top}/run/tests/check.py", f"{top}/asancol", "completion"], top, **no_git)
+    if shutil.which("dpkg-deb"):
+        must(["make", "-s", "deb"], top, **no_git)
+
+
+def path_without(program: str, folder: str) -> str:
+    """Returns a PATH on which this program isn't: a folder of links to all others."""
+    links = f"{folder}/programs"
+    os.mkdir(links)
+    for place in os.environ["PATH"].split(":"):
+        for name in os.listdir(place) if os.path.isdir(place) else ():
+            if name != program and not os.path.lexists(f"{links}/{name}"):
+                os.symlink(os.path.join(os.path.abspath(place), name), f"{links}/{name}")
+    return links
+
+
+# The package.
+
+
+def package_of(folder: str) -> str:
+    """Makes the package in a folder, and returns its path."""
+    return f"{folder}/{must([f'{TOP}/packaging/deb.py', folder]).strip()}"
+
+
+def package_is_the_same(_: str, folder: str) -> None:
+    first = sum_of(package_of(folder))
+    expect(sum_of(package_of(folder)), first, "the package, once more")
+
+
+def package_has_no_error(_: str, folder: str) -> None:
+    """Lintian sees no error. That there is no licence yet it does not ask."""
+    ran = run(["lintian", "--allow-root", "--fail-on", "error", package_of(folder)])
+    expect((ran.status, re.findall(r"^E: .*", ran.out, re.M)), (0, []), "lintian")
+
+
+class Root:
+    """A folder in which dpkg installs, as if it were the root."""
+
+    def __init__(self, folder: str) -> None:
+        self.folder = f"{folder}/root"
+        for name in ("info", "updates", "triggers"):
+            os.makedirs(f"{self.folder}/var/lib/dpkg/{name}")
+        for name in ("status", "available"):
+            with open(f"{self.folder}/var/lib/dpkg/{name}", "w", encoding="utf-8"):
+                pass
+
+    def dpkg(self, *words: str) -> None:
+        """Runs dpkg. The scripts of the package run too, and find the folder in DPKG_ROOT."""
+        forced = "--force-script-chrootless,not-root,depends,bad-path"
+        must(["dpkg", f"--root={self.folder}", forced, "--log=/dev/null", *words])
+
+    def files(self) -> List[str]:
+        """Returns the paths of all that is there but for what dpkg notes of itself."""
+        found = []
+        for at, folders, names in os.walk(self.folder):
+            place = os.path.relpath(at, self.folder)
+            if place == "var/lib/dpkg":
+                folders[:] = ["info"]
+                continue
+            found += [os.path.normpath(f"{place}/{name}") for name in folders + names]
+        return sorted(it for it in found if it != "var/lib/dpkg/info/format")
+
+
+def package_finds_a_bug(_: str, folder: str) -> None:
+    """It installs, finds the first bug, and leaves nothing when it is purged, though Python has left something."""
+    root = Root(folder)
+    before = root.files()
+    root.dpkg("--install", package_of(folder))
+    programs = f"{root.folder}/usr/bin"
+    # As where py3compile is not there, and root runs asancol-report.
+    shutil.rmtree(f"{root.folder}/usr/lib/asancol/asancol_report/__pycache__", ignore_errors=True)
+    must([f"{programs}/asancol-cc", "-g", "examples/bug.c", "-o", f"{folder}/bug"])
+    ran = run([f"{programs}/asancol-run", "--", f"{folder}/bug", "Alice"])
+    expect((ran.status, ran.out), (99, "Alice\n"), ran.err)
+    for text in ("heap-buffer-overflow: store", "in main", "examples/bug.c:6", "allocated at", "examples/bug.c:5"):
+        expect(text in ran.err, True, f"{text} in {ran.err}")
+    with open(f"{folder}/bug.cpp", "w", encoding="utf-8") as file:
+        file.write("int main(int count, char **) { int *one = new int[1]; return one[count]; }\n")
+    must([f"{programs}/asancol-c++", "-g", f"{folder}/bug.cpp", "-o", f"{folder}/bug"])
+    expect(run([f"{programs}/asancol-run", "-q", "--", f"{folder}/bug"]).status, 99, "by asancol-c++")
+    for name in ("asancol", "asancol-run", "asancol-report"):
+        expect(must([f"{programs}/{name}", "--version"]), f"{name} {release()}\n", name)
+    root.dpkg("--purge", "asancol")
+    expect(root.files(), before, "what is left")
+
+
+def package_is_whole(_: str, folder: str) -> None:
+    """Pages, completions and documents are where they are looked for."""
+    must(["dpkg-deb", "-x", package_of(folder), folder])
+    wanted = ["lib/asancol/libasancol_record.a", "lib/asancol/libasancol_static.a", "lib/asancol/libasancol_shared.a"]
+    for name in ("asancol", "asancol-cc", "asancol-c++", "asancol-run", "asancol-report"):
+        wanted += [f"bin/{name}", f"share/man/man1/{name}.1.gz", f"share/bash-completion/completions/{name}"]
+        wanted += [f"share/zsh/vendor-completions/_{name}", f"share/fish/vendor_completions.d/{name}.fish"]
+    documents = [it for it in files_of_tree() if re.fullmatch(r"README.md|docs/[^/]+.md|examples/.*", it)]
+    documents += ["changelog.gz", "changelog.Debian.gz", "copyright"]
+    wanted += [f"share/doc/asancol/{it}" for it in documents]
+    modules = [it for it in files_of_tree() if re.fullmatch(r"run/asancol_report/.*", it)]
+    wanted += [f"lib/asancol/{it[len('run/') :]}" for it in modules]
+    expect([it for it in wanted if not os.path.isfile(f"{folder}/usr/{it}")], [], "missing")
+    expect("no licence" in must(["cat", f"{folder}/usr/share/doc/asancol/copyright"]), True, "copyright")
+    if shutil.which("man"):
+        page = must(["man", f"{folder}/usr/share/man/man1/asancol-c++.1.gz"], folder, LC_ALL="C")
+        expect(f"asancol {release()}" in page and "ASANCOL-CC(1)" in page, True, "the page of asancol-c++")
+
+
+# Name, what it does with a built asancol and a folder for itself, and the programs that it needs.
+TESTS: List[Tuple[str, Callable[[str, str], None], Tuple[str, ...]]] = [
+    ("release", programs_say_the_release, ()),
+    ("archive: the same", archive_is_the_same, ("git",)),
+    ("archive: enough", archive_is_enough, ("git", "cc")),
+    ("package: the same", package_is_the_same, ("dpkg-deb", "dpkg-shlibdeps")),
+    ("package: lintian", package_has_no_error, ("dpkg-deb", "dpkg-shlibdeps", "lintian")),
+    ("package: whole", package_is_whole, ("dpkg-deb", "dpkg-shlibdeps")),
+    ("package: a bug", package_finds_a_bug, ("dpkg-deb", "dpkg-shlibdeps", "dpkg", "cc", "c++")),
+]
+
+
+def left_out(needed: Tuple[str, ...]) -> str:
+    """Returns why a test is left out, or nothing."""
+    if "git" in needed and not is_repository():
+        return "this is no repository"
+    return ", ".join(f"{it} is not there" for it in needed if not shutil.which(it))
+
+
+def main() -> int:
+    if len(sys.argv) < 2:
+        print((__doc__ or "").split("\n\n")[1], file=sys.stderr)
+        return 2
+    program, words = os.path.abspath(sys.argv[1]), sys.argv[2:]
+    counts: Dict[bool, int] = {True: 0, False: 0}
+    of_words = [(name, lambda program, _, test=test: test(program), needed) for name, test, needed in completions.TESTS]
+    for name, test, needed in [*of_words, *TESTS]:
+        if words and not any(word in name for word in words):
+            continue
+        why = left_out(needed)
+        if why:
+            print(f"left out: {name}: {why}")
+            continue
+        with tempfile.TemporaryDirectory(prefix="asancol-packages-") as folder:
+            try:
+                test(program, folder)
+                counts[True] += 1
+            except Exception as error:  # whatever it is, the test has failed
+                counts[False] += 1
+                print(f"FAILED {name}: {type(error).__name__}: {error}", flush=True)
+    print(f"{counts[True]} passed, {counts[False]} failed")
+    return 0 if counts[True] and not counts[False] else 1
+
+
+if __name__ == "__main__":
+    sys.exit(main())
