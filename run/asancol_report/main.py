@@ -98,8 +98,8 @@ class Report:
                 read(path, self.results)
 
     def read_nested(self, folder: str) -> None:
-        """Reads what runs inside this one have left in its folder."""
-        for name in sorted(os.listdir(folder)) if folder else ():
+        """Reads what runs inside this one have left in its folder; asancol-run says if that is gone."""
+        for name in sorted(os.listdir(folder)) if os.path.isdir(folder) else ():
             if name.startswith("nested.") and name.endswith(".jsonl"):
                 try:
                     read(os.path.join(folder, name), self.results)

@@ -115,6 +115,12 @@ def check_nested(suite: Suite, folder: str) -> None:
     expect_ran(run_real(suite, "--", "sh", "-c", f"{RUN} -q -- {suite.program} past 2>/dev/null; true"), 99, PAST)
 
 
+def check_folder_removed(suite: Suite, folder: str) -> None:
+    """A test that clears the folder for what passes loses no report."""
+    line = f'rm -rf "$TMPDIR"/*; exec {suite.program} past'
+    expect_ran(run_real(suite, "--", "sh", "-c", line, TMPDIR=folder), 99, PAST, "1 NOT SEEN WHOLE")
+
+
 def check_kept(suite: Suite, folder: str) -> None:
     """The same report can be made again from the traces."""
     run_real(suite, "--keep", f"{folder}/kept", "--", suite.program, "past", "3")
@@ -178,6 +184,7 @@ def tests(suite: Suite) -> None:
         ("report", check_report), ("colors", check_colors), ("summaries", check_summaries_are_the_same),
         ("suppressions", check_suppressed),
         ("baseline", check_baseline), ("outputs", check_outputs), ("nested", check_nested), ("kept", check_kept),
+        ("folder removed", check_folder_removed),
         ("live", check_live), ("without Python", check_without_python), ("many", check_many),
         ("first steps", check_first_steps),
     ):
