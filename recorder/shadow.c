@@ -177,15 +177,19 @@ void shadow_unpoison(uint64_t address, uint64_t size)
 
 uint64_t shadow_first_bad(uint64_t address, uint64_t size)
 {
+    enum { STEP = 64 * GRANULE };
     if (!clip(address, &size))
         return address + size;
-    for (uint64_t at = address; at < address + size; at = at / GRANULE * GRANULE + GRANULE) {
+    uint64_t at = address, end = address + size;
+    while (end - at > STEP && shadow_is_clean(at, STEP))
+        at += STEP;
+    for (; at < end; at = at / GRANULE * GRANULE + GRANULE) {
         uint64_t good_end = at / GRANULE * GRANULE + addressable_of(*shadow_of(at));
         uint64_t bad = at > good_end ? at : good_end;
-        if (bad / GRANULE == at / GRANULE && bad < address + size)
+        if (bad / GRANULE == at / GRANULE && bad < end)
             return bad;
     }
-    return address + size;
+    return end;
 }
 
 static void map_early(int count, char **words, char **variables)
