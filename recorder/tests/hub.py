@@ -447,6 +447,30 @@ def check_fallback(suite: Suite, folder: str, program: str) -> None:
     expect((ran.returncode, len(ran.stderr.splitlines())), (0, 2), ran.stderr)
 
 
+def marks(folder: str) -> List[Tuple[str, str]]:
+    """The programs that have left word that they are not recorded, and why."""
+    paths = [f"{folder}/{name}" for name in os.listdir(folder) if re.fullmatch(r"\d+\.unseen", name)]
+    texts = [os.readlink(path).split("\n") for path in paths]
+    for path in paths:
+        os.unlink(path)
+    return [(program, why) for program, why in texts]
+
+
+def check_word(suite: Suite, folder: str, program: str, lives: str) -> None:
+    """A process that is not recorded leaves word, or connects and sends nothing."""
+    room = "address space is limited (ulimit -v, or vm.overcommit_memory=2)"
+    run_under(folder, ["sh", "-c", f"ulimit -v 1000000; exec {program} behind"], 127)
+    expect(marks(folder), [(program, room)], "without room for the shadow")
+    peers, _ = run_under(folder, [program, "behind"], ASANCOL_TRACE=f"{folder}/elsewhere")
+    expect((peers, [it for it, _ in marks(folder)]), ([], [program]), "with a trace that goes elsewhere")
+    peers, _ = run_under(folder, [lives, "forks_quietly"])
+    expect(marks(folder), [(lives, "it was not made by fork, but by _Fork or clone")], "a fork that nothing announces")
+    hub = Hub("/dev/null/hub" + str(next(NUMBERS)), has_path=False)
+    ran = run([program, "behind"], folder, ASANCOL_HUB=hub.path, ASANCOL_TRACE=f"{folder}/elsewhere")
+    peers = hub.close()
+    expect((ran.returncode, [bytes(it.data) for it in peers]), (0, [b""]), "without a folder for word")
+
+
 def check_files(suite: Suite, folder: str, program: str) -> None:
     """A side file has what a hub gets: also after a kill, after an exec that failed, and of a child."""
     for name, (status, ending, number, _) in ENDINGS.items():
@@ -546,6 +570,7 @@ def process_tests(suite: Suite, compiler: Compiler, folder: str) -> None:
     suite.test(f"{compiler} hub names", check_names, program)
     suite.test(f"{compiler} hub root", check_root, program)
     suite.test(f"{compiler} hub fallback", check_fallback, program)
+    suite.test(f"{compiler} hub word", check_word, program, f"{folder}/lives-{compiler}")
     suite.test(f"{compiler} hub files", check_files, program)
     suite.test(f"{compiler} hub small files", check_small_files, program)
     suite.test(f"{compiler} hub closed descriptors", check_closed, program)
