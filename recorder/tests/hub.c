@@ -109,6 +109,7 @@ __attribute__((noinline)) static void on_stack(void)
     first[ten] = 1;
     second[ten + 11] = 1;
     second[ten - 13] = 1;
+    (void)first, (void)second;
 }
 
 __attribute__((noinline)) static void after_scope(void)
