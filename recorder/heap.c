@@ -272,7 +272,7 @@ static bool free_block(void *pointer, uintptr_t caller)
         return false;
     }
     if (UNLIKELY(arena.places != NULL))
-        arena.places[block - arena.blocks].freed = caller;
+        arena.places[block - arena.blocks].freed = place_of(caller);
     record_free((uintptr_t)pointer);
     hold(block);
     return true;
@@ -394,7 +394,7 @@ static void *place_block(size_t size, size_t alignment, uintptr_t caller)
     uintptr_t address = (start + REDZONE + alignment - 1) / alignment * alignment;
     block->offset = (address - start) / ALIGNMENT & LARGEST_OFFSET;
     if (UNLIKELY(arena.places != NULL))
-        arena.places[block - arena.blocks] = (struct places){caller, 0};
+        arena.places[block - arena.blocks] = (struct places){place_of(caller), 0};
     if (size <= LARGEST_BLOCK) {
         block->state = BLOCK_LIVE;
         block->size = (uint32_t)size;
