@@ -33,11 +33,11 @@ static _Atomic uint64_t known[STACKS];
 /* Our own frames lie between here and the call that is looked for. */
 enum { OWN_FRAMES = 24 };
 
-/* Follows frame pointers from here: each points to the one before it, with the address after the call beside it. What
+/* Follows frame pointers: each points to the one before it, with the address after the call beside it. What
    lies on the thread's own stack above this frame can be read, whatever it is. */
-static unsigned walk(uintptr_t caller, uint64_t *frames)
+static unsigned walk(uintptr_t frame, uintptr_t caller, uint64_t *frames)
 {
-    uintptr_t frame = (uintptr_t)__builtin_frame_address(0), top = stack_top(frame);
+    uintptr_t top = stack_top(frame);
     unsigned count = 0;
     for (unsigned steps = 0; count < MOST_FRAMES && (count > 0 || steps < OWN_FRAMES); steps++) {
         if (frame % sizeof(uintptr_t) != 0 || top < 2 * sizeof(uintptr_t) || frame > top - 2 * sizeof(uintptr_t))
@@ -105,8 +105,13 @@ static uint32_t find_or_keep(const uint64_t *frames, unsigned count)
 
 place_word place_of(uintptr_t caller)
 {
+    return place_from(0, caller);
+}
+
+place_word place_from(uintptr_t frame, uintptr_t caller)
+{
     uint64_t frames[MOST_FRAMES];
-    unsigned count = walk(caller, frames);
+    unsigned count = walk(frame != 0 ? frame : (uintptr_t)__builtin_frame_address(0), caller, frames);
     uint32_t first = count > 1 ? find_or_keep(frames, count) : 0;
     return first != 0 ? IS_STACK | first : caller;
 }

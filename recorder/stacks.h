@@ -14,6 +14,8 @@ typedef uint64_t place_word;
 /* The place of the call from which we came to `caller`: with the frames round it, as far as frame pointers lead. They
    do in code of asancol-cc. At any time, and in a signal handler too. */
 place_word place_of(uintptr_t caller);
+/* Likewise, if between here and that call lies code without frame pointers: from a frame beyond that, or 0. */
+place_word place_from(uintptr_t frame, uintptr_t caller);
 /* The address after the innermost call. */
 uintptr_t place_address(place_word of);
 /* Its frames, the innermost first, and how many there are; 0: it has no stack. They stay. */

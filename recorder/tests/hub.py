@@ -447,6 +447,20 @@ def check_fallback(suite: Suite, folder: str, program: str) -> None:
     expect((ran.returncode, len(ran.stderr.splitlines())), (0, 2), ran.stderr)
 
 
+def check_stacks(suite: Suite, folder: str, program: str) -> None:
+    """Each place has its callers, also through wrappers of malloc and the C library."""
+    side = one(folder, [program, "calls"]).side()
+    places = [(fault.stack, fault.allocated_stack) for fault in side.faults]
+    found = [[[function for function, _ in side.lines(side.stack(it)[:-1])] for it in pair] for pair in places]
+    wanted = [
+        [["put", "inner", "outer", "calls", "main"], ["make", "inner", "outer", "calls", "main"]],
+        [["put", "inner", "calls", "main"], ["make", "inner", "calls", "main"]],
+        [["put", "inner"] + ["deep"] * 29, ["make", "inner"] + ["deep"] * 29],
+        [["put", "calls", "main"], ["calls", "main"]],
+    ]
+    expect(found, wanted, "stacks")
+
+
 def marks(folder: str) -> List[Tuple[str, str]]:
     """The programs that have left word that they are not recorded, and why."""
     paths = [f"{folder}/{name}" for name in os.listdir(folder) if re.fullmatch(r"\d+\.unseen", name)]
@@ -569,6 +583,7 @@ def process_tests(suite: Suite, compiler: Compiler, folder: str) -> None:
     suite.test(f"{compiler} hub modules", check_modules, program, compiler)
     suite.test(f"{compiler} hub names", check_names, program)
     suite.test(f"{compiler} hub root", check_root, program)
+    suite.test(f"{compiler} hub stacks", check_stacks, program)
     suite.test(f"{compiler} hub fallback", check_fallback, program)
     suite.test(f"{compiler} hub word", check_word, program, f"{folder}/lives-{compiler}")
     suite.test(f"{compiler} hub files", check_files, program)
