@@ -12,7 +12,7 @@ import time
 from html import escape as html_escape
 from typing import Dict, Iterable, Iterator, List, TextIO
 
-from .findings import Finding, Frame, place_text, Stack, suppression_of
+from .findings import Finding, Frame, own_frames, place_text, Stack, suppression_of
 from .options import Options
 from .results import Process, Results, Run
 from .sources import Sources
@@ -138,17 +138,18 @@ class Page:
                 yield tag("h3", title) + self.stack(stack)
 
     def stack(self, stack: Stack) -> str:
-        frames = [tag("li", self.frame(frame, is_first=not at)) for at, frame in enumerate(stack)]
+        own = own_frames(stack)[0]
+        frames = [tag("li", self.frame(frame, is_open=frame is own)) for frame in stack]
         return tag("ol", "".join(frames), start=0)
 
-    def frame(self, frame: Frame, is_first: bool) -> str:
+    def frame(self, frame: Frame, is_open: bool) -> str:
         place = frame.note or shown_path(place_text(frame), self.root) + (" (inlined)" if frame.is_inlined else "")
         line = tag("b", escape(frame.function or "?")) + " " + tag("span", escape(place), class_="dim")
         excerpt = self.excerpt(frame)
         if not excerpt:
             return tag("div", line, class_="frame mono")
         summary = tag("summary", line, class_="mono")
-        return f'<details class="frame"{" open" if is_first else ""}>{summary}{excerpt}</details>'
+        return f'<details class="frame"{" open" if is_open else ""}>{summary}{excerpt}</details>'
 
     def excerpt(self, frame: Frame) -> str:
         """Returns some lines of source. If the file has changed since, only the line that was there is known."""

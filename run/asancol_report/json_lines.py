@@ -7,7 +7,7 @@ import sys
 from typing import Any, Dict, Iterable, Iterator, Optional, TextIO, Tuple, Union
 
 from .errors import Broken, reason
-from .findings import Block, Finding, Frame, GLOBAL, HEAP, STACK, Stack, Tally
+from .findings import Block, Finding, first_own, Frame, GLOBAL, HEAP, STACK, Stack, Tally
 from .results import Process, Results, Run
 
 VERSION = 1
@@ -219,11 +219,9 @@ def tally_of(entry: Entry) -> Tally:
 def line_of(entry: Entry) -> int:
     """Returns the line of a finding's place: as `Finding.top` finds it."""
     stack = entry.get("stack")
-    for frame in stack if isinstance(stack, list) else ():
-        line = frame.get("line") if isinstance(frame, dict) else 0
-        if line:
-            return number_of(line)
-    return 0
+    frames = [frame if isinstance(frame, dict) else {} for frame in stack] if isinstance(stack, list) else []
+    places = [(text_of(frame.get("file")), number_of(frame.get("line"))) for frame in frames]
+    return places[first_own(places)][1] if places else 0
 
 
 class Reader:

@@ -9,7 +9,7 @@ from typing import Any, Dict, List, TextIO, Tuple
 from urllib.parse import quote
 
 from . import RELEASE
-from .findings import Finding, Frame, place_text, Stack
+from .findings import Finding, Frame, own_frames, place_text, Stack
 from .options import Options
 from .results import Results, Run
 from .sources import Sources
@@ -64,10 +64,6 @@ def stack(title: str, frames: Stack, root: str) -> Part:
                        if frame.module else {"location": location(frame, root)} for frame in frames]}
 
 
-def top(frames: Stack) -> Frame:
-    return next((frame for frame in frames if frame.line), frames[0])
-
-
 def steps_of(finding: Finding) -> List[Tuple[str, Stack]]:
     """Returns what happened, in the order of time."""
     steps = [("block allocated here", finding.allocated), ("block freed here", finding.freed),
@@ -89,9 +85,9 @@ def result(finding: Finding, rule: int, ordinal: int, root: str) -> Part:
                                 "primaryLocationLineHash": f"{finding.fingerprint}:{ordinal}"},
         "occurrenceCount": finding.count,
         "stacks": [stack(title, frames, root) for title, frames in reversed(steps)],
-        "relatedLocations": [dict(location(top(frames), root, title), id=number)
+        "relatedLocations": [dict(location(own_frames(frames)[0], root, title), id=number)
                              for number, (title, frames) in enumerate(steps[:-1], 1)],
-        "codeFlows": [{"threadFlows": [{"locations": [{"location": location(top(frames), root, title)}
+        "codeFlows": [{"threadFlows": [{"locations": [{"location": location(own_frames(frames)[0], root, title)}
                                                       for title, frames in steps]}]}],
         "properties": {"processes": finding.processes},
     }

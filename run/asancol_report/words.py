@@ -48,6 +48,13 @@ def shown_path(path: str, root: str) -> str:
     return path
 
 
+def stable_path(path: str, root: str) -> str:
+    """Returns the end of a path that is the same wherever the sources lie: what comes after the folder `root`, if there
+    is one and the path lies below, and else the last two names."""
+    shown = shown_path(path, root)
+    return shown if root and not shown.startswith("/") else "/".join(path.split("/")[-2:])
+
+
 def tidy(path: str) -> str:
     """Returns a path of a compiler without the steps back that it may have in it."""
     return os.path.normpath(path) if path else ""

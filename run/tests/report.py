@@ -23,33 +23,14 @@ TESTS = os.path.dirname(os.path.abspath(__file__))
 sys.path.insert(0, TESTS)
 
 import browser  # noqa: E402
+import fingerprints  # noqa: E402
 import sides  # noqa: E402
 from sides import build, fault, Feed, of_program, Program, report, side, write_trace  # noqa: E402
+from support import Failure, expect, expect_in, expect_not_in  # noqa: E402
 
 OVERFLOW = "p0 #2 store 1 at 000000002005 bad 000000002005 heap-buffer-overflow shadow 05\n"
 FREED = "p0 #5 load 4 at 000000002000 bad 000000002000 heap-use-after-free shadow fd\n"
 END = "p0 end closed events 9 offset 99 reports 1\n"
-
-
-class Failure(Exception):
-    """What a test saw and did not expect."""
-
-
-def expect(seen: object, wanted: object, what: str = "") -> None:
-    if seen != wanted:
-        raise Failure(f"{what}: saw {seen!r}, wanted {wanted!r}")
-
-
-def expect_in(text: str, *parts: str) -> None:
-    for part in parts:
-        if part not in text:
-            raise Failure(f"{part!r} is not in {text!r}")
-
-
-def expect_not_in(text: str, *parts: str) -> None:
-    for part in parts:
-        if part in text:
-            raise Failure(f"{part!r} is in {text!r}")
 
 
 def freed_block(program: Program, **more: int) -> bytes:
@@ -719,7 +700,7 @@ ALL: List[Callable[[str], None]] = [
     run_takes_anything, run_has_nested, live, program_has_changed, program_without_build_id, program_is_gone_at_the_end,
     symbolizer_fails, cpp_names, results_are_read_again, runs_are_merged, bad_results, suppressions, baseline, sarif,
     sarif_has_its_schema, junit, code_quality, page_is_safe, page_works, outputs_are_whole, side_memory_lies,
-    lines_are_no_lines, text_does_nothing_to_a_terminal, words_are_refused, completions_are_whole,
+    lines_are_no_lines, text_does_nothing_to_a_terminal, words_are_refused, completions_are_whole, *fingerprints.TESTS,
 ]
 
 
