@@ -86,7 +86,8 @@ class Page:
             yield tile(hidden, "suppressed or known", "")
 
     def banner(self) -> Iterator[str]:
-        lines = [f"{command_line(run.command)}: {trouble}" for run in self.results.runs for trouble in run.troubles]
+        lines = [f"{command_line(run.command)}: {trouble}" for run in self.results.runs
+                 for trouble in (*run.troubles, run.failure) if trouble]
         count = self.results.totals().not_whole
         if count:
             lines.append(f"{plural(count, 'process')} {'was' if count == 1 else 'were'} not seen whole: the list of "

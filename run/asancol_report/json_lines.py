@@ -26,7 +26,7 @@ def run_entry(run: Run, number: int) -> Entry:
         "type": "run", "version": VERSION, "run": number, "id": run.identity, "command": list(run.command),
         "host": run.host, "directory": run.directory, "time": run.time, "seconds": run.seconds, "status": run.status,
         "signal": run.signal, "ended": run.has_ended, "nothing": run.is_nothing, "missing": run.missing,
-        "running": run.is_running, "lost": run.lost,
+        "running": run.is_running, "timed_out": run.has_timed_out, "lost": run.lost,
     }
 
 
@@ -154,6 +154,7 @@ def end_run(run: Run, entry: Entry) -> None:
     run.is_nothing = bool(entry.get("nothing"))
     run.missing = number_of(entry.get("missing"))
     run.is_running = bool(entry.get("running"))
+    run.has_timed_out = bool(entry.get("timed_out"))
     run.lost = number_of(entry.get("lost"))
 
 

@@ -5,6 +5,7 @@ from __future__ import annotations
 from typing import Dict, Iterable, List, NamedTuple, Optional, Set, Tuple
 
 from .findings import Finding, Tally
+from .words import signal_name
 
 Place = Tuple[str, int]  # a fingerprint and a line
 
@@ -41,12 +42,20 @@ class Run:
         self.is_nothing = False  # no process had checks
         self.missing = 0  # how many processes are wanting
         self.is_running = False  # something of it runs on
+        self.has_timed_out = False  # asancol-run has ended the command
         self.lost = 0  # how many runs inside this one left no result
         self.processes: Dict[int, Process] = {}
 
     @property
     def is_whole(self) -> bool:
         return not self.troubles and all(process.is_whole for process in self.processes.values())
+
+    @property
+    def failure(self) -> str:
+        """How the command has failed, in words; empty if it has not, or if nobody knows."""
+        if self.signal:
+            return f"the command was ended by {signal_name(self.signal)}"
+        return f"the command ended with status {self.status}" if self.status else ""
 
     @property
     def troubles(self) -> List[str]:
@@ -60,6 +69,8 @@ class Run:
             troubles.append(f"NOT ALL SEEN: {self.missing} fewer than --at-least asks for were recorded")
         if self.is_running:
             troubles.append("NOT ALL SEEN: processes of the command still run")
+        if self.has_timed_out:
+            troubles.append("NOT ALL SEEN: the command was ended by --timeout")
         if self.lost:
             runs = "run" if self.lost == 1 else "runs"
             troubles.append(f"NOT ALL SEEN: {self.lost} {runs} inside this one left no result")

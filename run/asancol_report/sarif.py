@@ -14,7 +14,7 @@ from .options import Options
 from .results import Results, Run
 from .sources import Sources
 from .verdicts import CLASSES
-from .words import command_line, shown_path, whole_characters
+from .words import command_line, shown_path, signal_name, whole_characters
 
 SCHEMA = "https://json.schemastore.org/sarif-2.1.0.json"
 ROOT = "SRCROOT"
@@ -122,16 +122,19 @@ def invocation(run: Run) -> Part:
              for process in run.processes.values() if not process.is_whole] + run.troubles
     made: Part = {
         "commandLine": whole_characters(command_line(run.command)),
-        "executionSuccessful": not texts,
-        "exitCode": run.status,
+        "executionSuccessful": not texts and not run.failure,
         "toolExecutionNotifications": [{"level": "error", "message": message(text)} for text in texts],
     }
     if run.host:
         made["machine"] = whole_characters(run.host)
     if run.directory:
         made["workingDirectory"] = {"uri": "file://" + uri(run.directory)}
+    if run.failure:
+        made["exitCodeDescription"] = run.failure
     if run.signal:
-        made["exitSignalNumber"] = run.signal
+        made.update(exitSignalNumber=run.signal, exitSignalName=signal_name(run.signal))
+    elif run.has_ended:
+        made["exitCode"] = run.status
     if run.time:
         made["startTimeUtc"] = stamp(run.time)
         made["endTimeUtc"] = stamp(run.time + run.seconds)

@@ -4,6 +4,7 @@ from __future__ import annotations
 
 import os
 import re
+import signal
 from typing import Sequence
 
 # Control characters, lone surrogates (bytes that are no UTF-8), and what turns the direction of text.
@@ -39,6 +40,13 @@ def command_line(words: Sequence[str]) -> str:
     """Returns a command as a shell would show it: words that have blanks in them are quoted."""
     return " ".join(word if word and not re.search(r"[\s'\"]", word) else "'" + word.replace("'", "'\\''") + "'"
                     for word in words)
+
+
+def signal_name(number: int) -> str:
+    try:
+        return signal.Signals(number).name
+    except ValueError:
+        return f"signal {number}"
 
 
 def shown_path(path: str, root: str) -> str:

@@ -180,6 +180,7 @@ def run_ends(folder: str) -> None:
         ({"nothing": True}, 3, "asancol: NOTHING WAS RECORDED"),
         ({"missing": 2}, 3, "asancol: NOT ALL SEEN: 2 fewer than --at-least"),
         ({"running": True}, 3, "asancol: NOT ALL SEEN: processes of the command still run"),
+        ({"timed_out": True}, 3, "asancol: NOT ALL SEEN: the command was ended by --timeout"),
     ):
         feed = Feed(folder)
         feed.begin()
@@ -197,6 +198,42 @@ def run_ends(folder: str) -> None:
     ran = feed.finish()
     expect(ran.status, 1, "a hub that dies")
     expect_in(ran.text, "asancol-run ended before the run did", "load of 4 bytes")
+
+
+def command_fails(folder: str) -> None:
+    """A test case passes only if its command ended with 0, and all was seen whole."""
+    for number, (more, status, kind, text, code) in enumerate((
+        ({}, 0, "", "", 0),
+        ({"status": 7}, 0, "failure", "the command ended with status 7", 7),
+        ({"signal": 15}, 0, "failure", "the command was ended by SIGTERM", None),
+        ({"signal": 15, "timed_out": True}, 3, "error", "NOT ALL SEEN: the command was ended by --timeout", None),
+        ({"status": 7, "reports": 1}, 1, "failure", "heap-use-after-free: load of 4 bytes", 7),
+    )):
+        feed = Feed(folder, "--json", f"{number}.jsonl")
+        feed.begin(f"run-{number}")
+        feed.process(0, (FREED + END) if "reports" in more else "")
+        expect(feed.end(**more).status, status, str(more))
+        # And the same from its JSON lines.
+        ran = report(folder, f"{number}.jsonl", "--junit", "out.xml", "--sarif", "out.sarif", "--html", "out.html")
+        expect(ran.status, status, str(more))
+        (case,) = xml.dom.minidom.parse(f"{folder}/out.xml").getElementsByTagName("testcase")
+        seen = [(it.tagName, it.getAttribute("message")) for it in case.childNodes[:1]]
+        expect(bool(seen), bool(kind), str(more))
+        if kind:
+            expect(seen[0][0], kind, str(more))
+            expect_in(seen[0][1], text)
+        with open(f"{folder}/out.sarif", encoding="utf-8") as file:
+            (invocation,) = json.load(file)["runs"][0]["invocations"]
+        expect((invocation["executionSuccessful"], invocation.get("exitCode")), (not more, code), str(more))
+        expect(invocation.get("exitSignalName"), "SIGTERM" if "signal" in more else None, str(more))
+        with open(f"{folder}/out.html", encoding="utf-8") as file:
+            expect("the command" in file.read(), bool(more), "the page")
+    write_trace(folder, "a.trace", "p0 end no-close events 9 offset 99 reports 0\n", side(ending=3, signal=6, events=9))
+    expect_in(report(folder, "--trace", "a.trace", "--junit", "-").text, 'message="the command was ended by SIGABRT"')
+    report(folder, *(f"{number}.jsonl" for number in range(5)), "--junit", "out.xml")
+    (suite,) = xml.dom.minidom.parse(f"{folder}/out.xml").getElementsByTagName("testsuite")
+    expect([suite.getAttribute(it) for it in ("tests", "failures", "errors")], ["5", "3", "1"], "counts")
+    expect_in(suite.getElementsByTagName("system-err")[0].firstChild.data, "the command ended with status 7")
 
 
 def run_takes_anything(folder: str) -> None:
@@ -697,7 +734,7 @@ def completions_are_whole(folder: str) -> None:
 
 ALL: List[Callable[[str], None]] = [
     trace_has_lines, trace_without_side_file, trace_ends, trace_has_failures, variables, run_is_fed, run_ends,
-    run_takes_anything, run_has_nested, live, program_has_changed, program_without_build_id, program_is_gone_at_the_end,
+    run_takes_anything, run_has_nested, live, command_fails, program_has_changed, program_without_build_id, program_is_gone_at_the_end,
     symbolizer_fails, cpp_names, results_are_read_again, runs_are_merged, bad_results, suppressions, baseline, sarif,
     sarif_has_its_schema, junit, code_quality, page_is_safe, page_works, outputs_are_whole, side_memory_lies,
     lines_are_no_lines, text_does_nothing_to_a_terminal, words_are_refused, completions_are_whole, *fingerprints.TESTS,
