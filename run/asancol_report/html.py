@@ -79,7 +79,7 @@ class Page:
                    "bad" if totals.places else "good")
         yield tile(totals.reports, "report in all" if totals.reports == 1 else "reports in all", "")
         yield tile(totals.processes, ("process in " if totals.processes == 1 else "processes in ")
-                   + plural(len(self.results.runs), "run"), "")
+                   + plural(self.results.run_count, "run"), "")
         yield tile(unseen, "not seen whole", "warn" if unseen else "good")
         hidden = sum(not finding.counts for finding in self.results.places.values())
         if hidden:

@@ -4,11 +4,12 @@ from __future__ import annotations
 
 import json
 import sys
-from typing import Any, Dict, Iterable, Iterator, Optional, TextIO, Tuple, Union
+from typing import Any, Dict, Iterable, Iterator, List, NamedTuple, Optional, TextIO, Tuple, Union
 
 from .errors import Broken, reason
 from .findings import Block, Finding, first_own, Frame, GLOBAL, HEAP, STACK, Stack, Tally
 from .results import Process, Results, Run
+from .words import plural
 
 VERSION = 1
 LARGEST_NUMBER = (1 << 64) - 1
@@ -19,15 +20,27 @@ Entry = Dict[str, Any]
 Commands = Dict[Tuple[str, ...], Tuple[str, ...]]
 
 
+class Counts(NamedTuple):
+    """How many runs a file has, and how many processes and findings a run has in it. A file that is cut has fewer."""
+
+    runs: int
+    processes: int
+    findings: int
+
+
 # Writing.
 
-def run_entry(run: Run, number: int) -> Entry:
-    return {
+def run_entry(run: Run, number: int, counts: Counts) -> Entry:
+    entry = {
         "type": "run", "version": VERSION, "run": number, "id": run.identity, "command": list(run.command),
         "host": run.host, "directory": run.directory, "time": run.time, "seconds": run.seconds, "status": run.status,
         "signal": run.signal, "ended": run.has_ended, "nothing": run.is_nothing, "missing": run.missing,
         "running": run.is_running, "timed_out": run.has_timed_out, "lost": run.lost,
+        "runs": counts.runs, "processes": counts.processes, "findings": counts.findings,
     }
+    if run.cut:
+        entry["cut"] = run.cut
+    return entry
 
 
 def process_entry(process: Process, run: int) -> Entry:
@@ -91,7 +104,7 @@ def entries_of(results: Results) -> Iterator[Entry]:
         for number in finding.runs:
             findings.setdefault(number, []).append(finding)
     for number, run in enumerate(results.runs):
-        yield run_entry(run, number)
+        yield run_entry(run, number, Counts(len(results.runs), len(run.processes), len(findings.get(number, ()))))
         for process in run.processes.values():
             yield process_entry(process, number)
         for finding in findings.get(number, ()):
@@ -141,7 +154,9 @@ def run_of(entry: Entry) -> Run:
     run.directory = text_of(entry.get("directory"))
     run.time = seconds_of(entry.get("time"))
     end_run(run, entry)
-    run.has_ended = entry.get("ended") is not False
+    # What asancol-run leaves by itself has neither, and an end follows.
+    run.has_ended = entry.get("ended", "run" in entry) is not False
+    run.cut = text_of(entry.get("cut"))
     return run
 
 
@@ -233,9 +248,13 @@ class Reader:
         self.name = name
         self.runs: Dict[int, Optional[int]] = {}  # numbers here; None, if a run is there already
         self.last = 0
+        self.wanted: Dict[int, Counts] = {}  # what the runs say, as far as they do
+        self.found: Dict[int, List[int]] = {}  # the processes and findings that have come
+        self.missing = ""  # what has not come
         self.commands: Commands = {}
 
     def read(self, lines: Iterable[str]) -> None:
+        """Takes in all lines. Broken, if one is no line of a result; those before it are taken."""
         take = {"run": self.take_run, "process": self.take_process, "finding": self.take_finding, "end": self.take_end,
                 "note": self.take_note}
         decode = json.JSONDecoder().raw_decode
@@ -247,11 +266,24 @@ class Reader:
                 entry, end = decode(line)
                 if line[end:].strip():
                     raise ValueError
-                take[entry["type"]](entry)
+                take.get(entry["type"], self.skip)(entry)
         except (ValueError, KeyError, TypeError, AttributeError, RecursionError):
             raise Broken(f"{self.name}:{number}: not a result of asancol-report --json") from None
         if not self.runs:
             raise Broken(f"{self.name}: there is no run in it")
+        self.look_over()
+
+    def skip(self, entry: Entry) -> None:
+        """Takes in a line of a type that a later release has."""
+
+    def look_over(self) -> None:
+        """Compares the runs that have come with what they say themselves, and notes what is missing."""
+        for number, wanted in self.wanted.items():
+            found = Counts(len(self.runs), *self.found[number])
+            for has, should, one in zip(found, wanted, ("run", "process", "finding")):
+                if has < should and not self.missing:
+                    where = "" if one == "run" else f" of run {number}"
+                    self.missing = f"{self.name} is cut: it has {has} of {plural(should, one)}{where}"
 
     def take_run(self, entry: Entry) -> None:
         version = number_of(entry.get("version"))
@@ -259,7 +291,13 @@ class Reader:
             raise Broken(f"{self.name}: version {version} of results is newer than this asancol-report, "
                          f"which knows version {VERSION}")
         self.last = number_of(entry.get("run"))
+        if self.last in self.runs:  # another file comes after the first one
+            self.look_over()
+            self.runs, self.wanted, self.found = {}, {}, {}
         self.runs[self.last] = self.results.add_run(run_of(entry))
+        self.found[self.last] = [0, 0]
+        if "runs" in entry:
+            self.wanted[self.last] = Counts(*(number_of(entry.get(name)) for name in Counts._fields))
 
     def take_end(self, entry: Entry) -> None:
         """Takes in the end of a run that needed no report: asancol-run leaves it to a run round it as it came."""
@@ -268,13 +306,17 @@ class Reader:
             end_run(self.results.runs[run], entry)
 
     def take_process(self, entry: Entry) -> None:
-        run = self.runs[number_of(entry.get("run", self.last))]
+        number = number_of(entry.get("run", self.last))
+        run = self.runs[number]
+        self.found[number][0] += 1
         if run is not None:
             process = process_of(entry, self.commands)
             self.results.runs[run].processes[process.number] = process
 
     def take_finding(self, entry: Entry) -> None:
-        run = self.runs[number_of(entry.get("run"))]
+        number = number_of(entry.get("run"))
+        run = self.runs[number]
+        self.found[number][1] += 1
         if run is None:
             return
         known = self.results.places.get((entry["fingerprint"], line_of(entry)))
@@ -287,12 +329,22 @@ class Reader:
         self.results.notes[text_of(entry.get("text"))] = None
 
 
-def read(path: str, results: Results) -> None:
-    """Reads a file, or standard input for `-`, into results."""
+def read(path: str, results: Results) -> str:
+    """Reads a file, or standard input for `-`, into results. Returns what is missing in it, or nothing. Broken, if it
+    can't be read; what came before is in the results."""
     name = "standard input" if path == "-" else path
     try:
         source: Union[int, str] = 0 if path == "-" else path
         with open(source, encoding="utf-8", errors="surrogateescape", closefd=path != "-") as file:
-            Reader(results, name).read(file)
+            reader = Reader(results, name)
+            reader.read(file)
+            return reader.missing
     except OSError as error:
         raise Broken(f"{name}: {reason(error)}") from None
+
+
+def read_whole(path: str, results: Results) -> None:
+    """Reads a file as `read` does. Broken also if something is missing."""
+    missing = read(path, results)
+    if missing:
+        raise Broken(missing)

@@ -33,7 +33,7 @@ other:
   -h, --help, --version
 
 status: 0 no report counts; 1 a report counts; 2 the command line was refused;
-        3 not everything was seen; 4 a file could not be read or written
+        3 not everything was seen; 4 a file could not be read to its end, or written
 """
 
 OUTPUTS = ("--json", "--sarif", "--junit", "--codequality", "--html")

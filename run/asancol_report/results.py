@@ -44,6 +44,7 @@ class Run:
         self.is_running = False  # something of it runs on
         self.has_timed_out = False  # asancol-run has ended the command
         self.lost = 0  # how many runs inside this one left no result
+        self.cut = ""  # it stands for a file that could not be read to its end: why
         self.processes: Dict[int, Process] = {}
 
     @property
@@ -74,6 +75,8 @@ class Run:
         if self.lost:
             runs = "run" if self.lost == 1 else "runs"
             troubles.append(f"NOT ALL SEEN: {self.lost} {runs} inside this one left no result")
+        if self.cut:
+            troubles.append(f"NOT ALL SEEN: {self.cut}")
         return troubles
 
 
@@ -111,6 +114,12 @@ class Results:
         self.runs.append(run)
         return len(self.runs) - 1
 
+    def add_cut(self, path: str, why: str) -> None:
+        """Adds a run that stands for what could not be read of a file."""
+        run = Run([path], f"cut: {why}")
+        run.cut = why
+        self.add_run(run)
+
     def add(self, finding: Finding, run: int, tally: Tally) -> Finding:
         """Adds what a run has of a finding, and returns what stands for it."""
         place = (finding.fingerprint, finding.top.line)
@@ -140,6 +149,11 @@ class Results:
 
     def is_whole(self) -> bool:
         return bool(self.runs) and all(run.is_whole for run in self.runs)
+
+    @property
+    def run_count(self) -> int:
+        """How many runs there are, without those that stand for a file."""
+        return sum(not run.cut for run in self.runs)
 
     def totals(self) -> Totals:
         reports = places = suppressed = known = 0

@@ -23,6 +23,7 @@ TESTS = os.path.dirname(os.path.abspath(__file__))
 sys.path.insert(0, TESTS)
 
 import browser  # noqa: E402
+import cuts  # noqa: E402
 import fingerprints  # noqa: E402
 import sides  # noqa: E402
 from sides import build, fault, Feed, of_program, Program, report, side, write_trace  # noqa: E402
@@ -420,7 +421,7 @@ def bad_results(folder: str) -> None:
         (run + "nothing\n", "bad.jsonl:2: not a result of asancol-report --json"),
         (run + '{"type":"process","run":4}\n', "bad.jsonl:2: not a result"),
         (run + '{"type":"finding"}\n', "bad.jsonl:2: not a result"),
-        (run + '{"type":"other"}\n', "bad.jsonl:2: not a result"),
+        (run + '{"kind":"other"}\n', "bad.jsonl:2: not a result"),
         (run + "[" * 100000 + "\n", "bad.jsonl:2: not a result"),
         ("", "bad.jsonl: there is no run in it"),
         ("\0\xff\n", "bad.jsonl:1: not a result"),
@@ -428,8 +429,12 @@ def bad_results(folder: str) -> None:
         with open(f"{folder}/bad.jsonl", "w", encoding="latin-1") as file:
             file.write(text)
         ran = report(folder, "bad.jsonl")
-        expect((ran.status, ran.text), (4, ""), message)
+        expect(ran.status, 4, message)
         expect_in(ran.errors, message)
+        if text.startswith(run):
+            expect_in(ran.text, "asancol: bad.jsonl: NOT ALL SEEN: bad.jsonl:2: not a", "; NOT SEEN WHOLE\n")
+        else:
+            expect(ran.text, "", message)
     expect_in(report(folder, "missing.jsonl").errors, "asancol-report: missing.jsonl: No such file or directory\n")
     odd = {"type": "finding", "run": 0, "fingerprint": "f", "class": 3, "access": None, "size": "x", "address": [],
            "stack": [3, {"line": "x", "file": 4, "offset": "zz"}], "count": -1, "block": 4, "freed": {}}
@@ -738,6 +743,7 @@ ALL: List[Callable[[str], None]] = [
     symbolizer_fails, cpp_names, results_are_read_again, runs_are_merged, bad_results, suppressions, baseline, sarif,
     sarif_has_its_schema, junit, code_quality, page_is_safe, page_works, outputs_are_whole, side_memory_lies,
     lines_are_no_lines, text_does_nothing_to_a_terminal, words_are_refused, completions_are_whole, *fingerprints.TESTS,
+    *cuts.TESTS,
 ]
 
 
