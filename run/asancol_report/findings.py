@@ -206,13 +206,3 @@ def place_text(frame: Frame) -> str:
     if frame.module:
         return f"({frame.module}+0x{frame.offset:x})"
     return frame.note or f"0x{frame.offset:x}"
-
-
-def suppression_of(finding: Finding) -> str:
-    """Returns the line that suppresses a finding, or nothing if its place is not known."""
-    frame = finding.top
-    if frame.function:
-        return f"{finding.class_name}:^{frame.function}$"
-    if frame.module:
-        return f"{finding.class_name}:/{os.path.basename(frame.module)}$"
-    return ""

@@ -12,10 +12,11 @@ import time
 from html import escape as html_escape
 from typing import Dict, Iterable, Iterator, List, TextIO
 
-from .findings import Finding, Frame, own_frames, place_text, Stack, suppression_of
+from .findings import Finding, Frame, own_frames, place_text, Stack
 from .options import Options
 from .results import Process, Results, Run
 from .sources import Sources
+from .suppressions import suppression_of
 from .text import totals_line
 from .verdicts import CLASSES
 from .words import command_line, plural, printable, shown_path
@@ -168,7 +169,7 @@ class Page:
             parts.append(tag("span", escape("suppressed by " + finding.suppression), class_="pill"))
         if finding.is_known:
             parts.append(tag("span", "known from the baseline", class_="pill"))
-        line = suppression_of(finding)
+        line = suppression_of(finding, self.root)
         if line:
             parts.append("to suppress: " + tag("code", escape(line), class_="pill"))
         parts.append("fingerprint " + tag("code", escape(finding.fingerprint)))

@@ -4,8 +4,9 @@ from __future__ import annotations
 
 from typing import Iterator, TextIO
 
-from .findings import Finding, Frame, place_text, Stack, suppression_of
+from .findings import Finding, Frame, place_text, Stack
 from .results import Process, Results, Run
+from .suppressions import suppression_of
 from .words import plural, printable, shown_path
 
 
@@ -53,7 +54,7 @@ class Text:
                 yield f"  {title}"
                 yield from self.stack(stack)
         if self.has_suppressions:
-            line = suppression_of(finding)
+            line = suppression_of(finding, self.root)
             yield f"  suppression: {printable(line)}" if line else "  suppression: none, since its place is not known"
         yield ""
 

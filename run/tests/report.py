@@ -449,7 +449,9 @@ def suppressions(folder: str) -> None:
     one_trace(folder)
     report(folder, "--trace", "a.trace", "--json", "a.jsonl")
     generated = re.findall("suppression: (.*)", report(folder, "a.jsonl", "--gen-suppressions").text)
-    expect(generated, ["heap-buffer-overflow:^drop$", "heap-use-after-free:^use$"], "generated")
+    file = f"{os.path.basename(folder)}/program.c"
+    expect(generated, [f"at:heap-buffer-overflow:drop@{file}", f"at:heap-use-after-free:use@{file};main@{file}"],
+           "generated")
     for rules, status, text in (
         ("\n".join(generated), 0, "no reports, 4 suppressed;"),
         ("# a comment\n\nheap-use-after-free:use\n", 1, "1 report at 1 place, 3 suppressed;"),
@@ -461,13 +463,24 @@ def suppressions(folder: str) -> None:
         ("*:^us\n", 1, "3 suppressed"),
         ("double-free:use\n", 1, "a suppression matched nothing: double-free:use"),
         ("fun:^.$\n", 1, "4 reports at 2 places"),
+        # The frames of the access, from the innermost on. Others do not count.
+        ("at:heap-use-after-free:use@program.c\n", 1, "3 suppressed"),
+        ("at:heap-use-after-free:use\n", 1, "3 suppressed"),
+        ("at:*:u*;@program.c\n", 1, "3 suppressed"),
+        ("at:*:*@*/program.c\n", 0, "4 suppressed"),
+        ("at:*:us@program.c\n", 1, "4 reports at 2 places"),
+        ("at:*:use@gram.c\n", 1, "4 reports at 2 places"),
+        ("at:*:main@program.c\n", 1, "4 reports at 2 places"),
+        ("at:*:use;main;main\n", 1, "4 reports at 2 places"),
+        ("at:*:make@program.c\n", 1, "4 reports at 2 places"),
+        ("at:heap-buffer-overflow:use@program.c\n", 1, "4 reports at 2 places"),
     ):
         with open(f"{folder}/rules", "w", encoding="utf-8") as file:
             file.write(rules)
         ran = report(folder, "a.jsonl", "--suppressions", "rules")
         expect(ran.status, status, rules)
         expect_in(ran.text, text)
-    for rule in ("heap:x", "nothing", "fun:", "memory-leak:x"):
+    for rule in ("heap:x", "nothing", "fun:", "memory-leak:x", "at:", "at:*:", "at:heap:f@x.c", "at:*:f;;g", "at:*:@"):
         with open(f"{folder}/rules", "w", encoding="utf-8") as file:
             file.write("# one\n" + rule + "\n")
         ran = report(folder, "a.jsonl", "--suppressions=rules")
