@@ -78,17 +78,27 @@ class Report:
         return self.status()
 
     def read_rules(self) -> None:
-        """Reads what does not count. In a run that goes on, a mistake there must not lose its reports."""
+        """Reads what does not count. In a run that goes on, a mistake there must not lose its reports: it is said at
+        once, and after the summary."""
+        for path in self.options.suppressions:
+            self.read_rule(self.suppressions.read, path)
+        if self.options.value("--baseline"):
+            self.read_rule(self.read_baseline, self.options.value("--baseline"))
+
+    def read_rule(self, read_it: Callable[[str], None], path: str) -> None:
         try:
-            for path in self.options.suppressions:
-                self.suppressions.read(path)
-            if self.options.value("--baseline"):
-                from .baseline import Baseline
-                self.baseline = Baseline(self.options.value("--baseline"))
+            read_it(path)
         except (OSError, Broken, Refused) as error:
             if not self.options.switches["--run"]:
                 raise
-            self.fail(f"{error.filename}: {reason(error)}" if isinstance(error, OSError) else error)
+            text = f"{path}: {reason(error)}" if isinstance(error, OSError) else str(error)
+            text += "; the rest of the file was not used" if isinstance(error, Refused) else "; it was not used"
+            self.fail(text)
+            self.results.notes[text] = None
+
+    def read_baseline(self, path: str) -> None:
+        from .baseline import Baseline
+        self.baseline = Baseline(path)
 
     def read_input(self) -> None:
         switches, files = self.options.switches, self.options.files

@@ -9,7 +9,7 @@ from .errors import Refused
 from .findings import Finding, Frame
 from .patterns import path_pattern, pattern, whole_pattern
 from .verdicts import CLASSES
-from .words import stable_path, UNPRINTABLE
+from .words import printable, stable_path, UNPRINTABLE
 
 # What a pattern is compared with.
 FUNCTION, SOURCE, OBJECT = "fun", "src", "obj"
@@ -108,7 +108,7 @@ class Suppressions:
                 try:
                     self.rules.append(rule_of(text))
                 except ValueError as error:
-                    raise Refused(f"{path}:{number}: {error}") from None
+                    raise Refused(f"{path}:{number}: {printable(text)}: {error}") from None
 
     def apply(self, findings: Iterable[Finding]) -> None:
         for finding in findings:

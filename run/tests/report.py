@@ -263,6 +263,33 @@ def run_takes_anything(folder: str) -> None:
     expect_in(ran.errors, "missing: No such file or directory")
 
 
+def run_has_bad_rules(folder: str) -> None:
+    """A mistake there is said at once and after the summary, and what can be used of the files is used."""
+    feed = Feed(folder, "--json", "known.jsonl")
+    feed.begin()
+    feed.process(0, FREED + END)
+    feed.end()
+    with open(f"{folder}/first", "w", encoding="utf-8") as file:
+        file.write("# one\ndouble-free:x\nnon\x1bsense\nheap-use-after-free:*\n")
+    with open(f"{folder}/second", "w", encoding="utf-8") as file:
+        file.write("bad-free:y\n")
+    feed = Feed(folder, "--suppressions", "first", "--suppressions", "none", "--suppressions", "second",
+                "--baseline", "known.jsonl")
+    feed.begin("run-2")
+    feed.process(0, FREED + END)
+    feed.process(1, FREED.replace("load", "store") + END)
+    ran = feed.end()
+    expect(ran.status, 4, ran.text)
+    lines = [
+        "first:3: non\\x1bsense: not CLASS:PATTERN, *:PATTERN, fun:PATTERN, src:PATTERN, obj:PATTERN or "
+        "at:CLASS:FUNCTION@FILE; the rest of the file was not used",
+        "none: No such file or directory; it was not used",
+    ]
+    expect(ran.errors, "".join(f"asancol-report: {line}\n" for line in lines), "at once")
+    summary = ran.text.partition("asancol: 1 report at 1 place, 1 place known from the baseline")[2]
+    expect_in(summary, *(f"\nasancol: {line}\n" for line in lines), "nothing: double-free:x", "nothing: bad-free:y")
+
+
 def run_has_nested(folder: str) -> None:
     """What runs inside have left is merged: results, and the packets of one that needed no report."""
     os.mkdir(f"{folder}/hub")
@@ -485,7 +512,7 @@ def suppressions(folder: str) -> None:
             file.write("# one\n" + rule + "\n")
         ran = report(folder, "a.jsonl", "--suppressions=rules")
         expect((ran.status, ran.text), (2, ""), rule)
-        expect_in(ran.errors, "asancol-report: rules:2: ")
+        expect_in(ran.errors, f"asancol-report: rules:2: {rule}: ")
     expect(report(folder, "a.jsonl", "--suppressions", "missing").status, 4, "missing")
 
 
@@ -752,7 +779,7 @@ def completions_are_whole(folder: str) -> None:
 
 ALL: List[Callable[[str], None]] = [
     trace_has_lines, trace_without_side_file, trace_ends, trace_has_failures, variables, run_is_fed, run_ends,
-    run_takes_anything, run_has_nested, live, command_fails, program_has_changed, program_without_build_id, program_is_gone_at_the_end,
+    run_takes_anything, run_has_bad_rules, run_has_nested, live, command_fails, program_has_changed, program_without_build_id, program_is_gone_at_the_end,
     symbolizer_fails, cpp_names, results_are_read_again, runs_are_merged, bad_results, suppressions, baseline, sarif,
     sarif_has_its_schema, junit, code_quality, page_is_safe, page_works, outputs_are_whole, side_memory_lies,
     lines_are_no_lines, text_does_nothing_to_a_terminal, words_are_refused, completions_are_whole, *fingerprints.TESTS,
