@@ -2,6 +2,7 @@
 
 from __future__ import annotations
 
+import os
 from typing import Dict, List, Tuple
 
 from .errors import Refused
@@ -136,3 +137,22 @@ def look_over(options: Options) -> None:
         raise Refused("standard input can be read once")
     if not options.files and not switches["--run"]:
         raise Refused("no file was named; --help says more")
+    if not switches["--run"]:  # there nothing may be lost, and asancol-run has looked at the names
+        look_for_losses(options)
+
+
+def look_for_losses(options: Options) -> None:
+    """Refuses to write over what is read, or what another output writes. A result may be renewed in its own file."""
+    results = [] if options.switches["--trace"] else [*options.files, options.value("--baseline")]
+    others = [*options.suppressions, *options.files, options.value("--baseline")]
+    written: Dict[str, str] = {}
+    for name, path in options.outputs:
+        target = os.path.realpath(path)
+        if path == "-" or (os.path.exists(target) and not os.path.isfile(target)):
+            continue
+        if target in written:
+            raise Refused(f"{written[target]} and {name} both write {path}")
+        written[target] = name
+        is_renewed = name == "--json" and any(os.path.realpath(it) == target for it in results if it)
+        if not is_renewed and any(os.path.realpath(it) == target for it in others if it):
+            raise Refused(f"{name} would write over {path}, which is read")

@@ -114,6 +114,20 @@ def others_are_reported(folder: str) -> None:
     expect((ran.status, ran.text, os.path.exists(f"{folder}/none.jsonl")), (4, "", False), "no file is there")
 
 
+def results_are_renewed(folder: str) -> None:
+    """A result may be merged into its own file, and a baseline renewed in its own. An output is written over."""
+    leave_runs(folder)
+    ran = report(folder, "0.jsonl", "1.jsonl", "--json", "0.jsonl")
+    expect((ran.status, ran.errors), (1, ""), ran.text)
+    expect_in(report(folder, "0.jsonl").text, "2 reports at 2 places; 4 processes in 2 runs, 36 events; all seen whole")
+    ran = report(folder, "all.jsonl", "--baseline", "0.jsonl", "--json", "0.jsonl")
+    expect_in(ran.text, "1 report at 1 place, 2 places known from the baseline")
+    expect(report(folder, "all.jsonl", "--baseline", "0.jsonl").status, 0, "the renewed baseline")
+    report(folder, "2.jsonl", "--json", "0.jsonl", "--html", "/dev/null", "--sarif", "/dev/null")
+    expect_in(report(folder, "0.jsonl").text, "1 report at 1 place; 2 processes, 18 events; all seen whole")
+
+
 TESTS: List[Callable[[str], None]] = [
     cut_at_each_line, cut_beside_others, cut_by_asancol_run, cut_baselines, others_are_reported,
+    results_are_renewed,
 ]

@@ -745,6 +745,12 @@ def words_are_refused(folder: str) -> None:
         (["a.jsonl", "--limit", "3"], "--limit is for --trace"),
         (["-", "-"], "standard input can be read once"),
         (["--trace", "-"], "a trace on standard input has no side file"),
+        (["a.jsonl", "--json", "x", "--html", "./x"], "--json and --html both write ./x"),
+        (["a.jsonl", "--json", "x", "--json", "x"], "--json and --json both write x"),
+        (["a.jsonl", "--html", "a.jsonl"], "--html would write over a.jsonl, which is read"),
+        (["--trace", "a.trace", "--json", "a.trace"], "--json would write over a.trace, which is read"),
+        (["a.jsonl", "--baseline", "b.jsonl", "--sarif=b.jsonl"], "--sarif would write over b.jsonl, which is read"),
+        (["a.jsonl", "--suppressions", "b", "--json", "b"], "--json would write over b, which is read"),
     ):
         ran = report(folder, *words)
         expect((ran.status, ran.text), (2, ""), str(words))
