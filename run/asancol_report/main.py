@@ -104,7 +104,6 @@ class Report:
         switches, files = self.options.switches, self.options.files
         if switches["--run"]:
             from .hub import Hub
-            signal.signal(signal.SIGINT, signal.SIG_IGN)  # Ctrl-C is for the command, and asancol-run ends this
             Hub(self.results, self.new_gatherer, self.come).read(0)
             self.read_nested(self.options.value("--nested"))
         if switches["--trace"]:
@@ -240,9 +239,19 @@ def has_colors(options: Options) -> bool:
     return sys.stdout.isatty() and not os.environ.get("NO_COLOR") and os.environ.get("TERM") != "dumb"
 
 
+def set_signals(is_fed: bool) -> None:
+    """Ctrl-C ends this program without a word. While asancol-run feeds it, signals to the process group or the session
+    are for the command: it goes on until its input ends, so that no report is lost."""
+    if is_fed:
+        for number in (signal.SIGINT, signal.SIGTERM, signal.SIGHUP, signal.SIGQUIT):
+            signal.signal(number, signal.SIG_IGN)
+    else:
+        signal.signal(signal.SIGINT, signal.SIG_DFL)
+
+
 def main(words: List[str], beside: str) -> int:
     """Runs the program with the words of its command line, and returns its status."""
-    signal.signal(signal.SIGINT, signal.SIG_DFL)
+    set_signals("--run" in words)
     sys.stdout = open(1, "w", encoding="utf-8", errors="surrogateescape", newline="\n", closefd=False)
     try:
         options = command_line.read(words)

@@ -13,9 +13,11 @@ import os
 import random
 import re
 import shutil
+import signal
 import subprocess
 import sys
 import tempfile
+import time
 import xml.dom.minidom
 from typing import Callable, List, Optional, Set, Tuple
 
@@ -27,7 +29,7 @@ import cuts  # noqa: E402
 import fingerprints  # noqa: E402
 import sides  # noqa: E402
 from sides import build, fault, Feed, of_program, Program, report, side, write_trace  # noqa: E402
-from support import Failure, expect, expect_in, expect_not_in  # noqa: E402
+from support import expect, expect_in, expect_not_in, wait_until  # noqa: E402
 
 OVERFLOW = "p0 #2 store 1 at 000000002005 bad 000000002005 heap-buffer-overflow shadow 05\n"
 FREED = "p0 #5 load 4 at 000000002000 bad 000000002000 heap-use-after-free shadow fd\n"
@@ -261,6 +263,34 @@ def run_takes_anything(folder: str) -> None:
     expect(ran.status, 4, "suppressions that are not there")
     expect_in(ran.text, "load of 4 bytes")
     expect_in(ran.errors, "missing: No such file or directory")
+
+
+def ignored_by(process: int) -> int:
+    with open(f"/proc/{process}/status", encoding="utf-8") as file:
+        return int(re.findall(r"^SigIgn:\s*(\w+)", file.read(), re.M)[0], 16)
+
+
+def run_gets_signals(folder: str) -> None:
+    """A signal to the process group or the session costs no report, whenever it comes."""
+    numbers = (signal.SIGINT, signal.SIGTERM, signal.SIGHUP, signal.SIGQUIT)
+    everything = sum(1 << number - 1 for number in numbers)
+    program = build(folder)
+    for words in (["--live"], ["--json", "out.jsonl"]):
+        feed = Feed(folder, *words)
+        wait_until(lambda feed=feed: ignored_by(feed.child.pid) & everything == everything, "that signals are ignored")
+        for turn in range(30):
+            for number in numbers:
+                feed.child.send_signal(number)
+            time.sleep(0.01)
+            if turn == 10:
+                feed.begin()
+                feed.process(0, FREED + END, of_program(program, [freed_block(program)], [0, 0, 0, 0, 1]))
+        ran = feed.end()
+        expect((ran.status, ran.errors), (1, ""), ran.text)
+        expect_in(ran.text, "load of 4 bytes", "in use ", "all seen whole")
+    feed = Feed(folder)
+    feed.begin()
+    expect(feed.finish().status, 3, "when its input ends")
 
 
 def run_has_bad_rules(folder: str) -> None:
@@ -785,7 +815,7 @@ def completions_are_whole(folder: str) -> None:
 
 ALL: List[Callable[[str], None]] = [
     trace_has_lines, trace_without_side_file, trace_ends, trace_has_failures, variables, run_is_fed, run_ends,
-    run_takes_anything, run_has_bad_rules, run_has_nested, live, command_fails, program_has_changed, program_without_build_id, program_is_gone_at_the_end,
+    run_takes_anything, run_gets_signals, run_has_bad_rules, run_has_nested, live, command_fails, program_has_changed, program_without_build_id, program_is_gone_at_the_end,
     symbolizer_fails, cpp_names, results_are_read_again, runs_are_merged, bad_results, suppressions, baseline, sarif,
     sarif_has_its_schema, junit, code_quality, page_is_safe, page_works, outputs_are_whole, side_memory_lies,
     lines_are_no_lines, text_does_nothing_to_a_terminal, words_are_refused, completions_are_whole, *fingerprints.TESTS,
