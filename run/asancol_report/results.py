@@ -40,7 +40,7 @@ class Run:
         self.signal = 0
         self.has_ended = True
         self.is_nothing = False  # no process had checks
-        self.missing = 0  # how many processes are wanting
+        self.missing = 0  # how many processes fewer than were asked for
         self.is_running = False  # something of it runs on
         self.has_timed_out = False  # asancol-run has ended the command
         self.lost = 0  # how many runs inside this one left no result

@@ -41,13 +41,13 @@ def find_tool() -> Tuple[Optional[str], str]:
     """Returns the path of a symbolizer, or none and what is missing."""
     named = os.environ.get("ASANCOL_SYMBOLIZER")
     if named:
-        return on_path(named), f"{named}, which ASANCOL_SYMBOLIZER names,"
+        return on_path(named), f"{named}, which ASANCOL_SYMBOLIZER names, was not found"
     versions = [f"{LLVM}-{version}" for version in range(NEWEST_LLVM, OLDEST_LLVM - 1, -1)]
     for name in [LLVM, *versions, "addr2line"]:
         path = on_path(name)
         if path:
             return path, ""
-    return None, "neither llvm-symbolizer nor addr2line"
+    return None, "neither llvm-symbolizer nor addr2line was found"
 
 
 def is_llvm(tool: str) -> bool:
@@ -143,7 +143,7 @@ class Symbols:
         """Looks up all that is wanted, and lets the modules go."""
         wanted = self.modules.wanted()
         if wanted and self.tool is None:
-            self.notes[f"{self.missing} was not found: places have no lines"] = None
+            self.notes[f"{self.missing}: places have no lines"] = None
         elif wanted:
             found = self.ask(wanted)
             if not found and self.style == "JSON":

@@ -409,12 +409,15 @@ def symbolizer_fails(folder: str) -> None:
     with open(f"{folder}/llvm-symbolizer-silent", "w", encoding="utf-8") as file:
         file.write("#!/bin/sh\nexit 0\n")
     os.chmod(f"{folder}/llvm-symbolizer-silent", 0o755)
+    os.symlink("/bin/cat", f"{folder}/cat")
     for tool, text in (
         ("/nonexistent/tool", "/nonexistent/tool, which ASANCOL_SYMBOLIZER names, was not found: places have no lines"),
         ("./llvm-symbolizer-silent", "gives no lines"),
         ("/bin/cat", "gives no lines"),
+        ("", "asancol: neither llvm-symbolizer nor addr2line was found: places have no lines"),
     ):
-        ran = report(folder, "--trace", "a.trace", ASANCOL_SYMBOLIZER=tool)
+        path = os.environ["PATH"] if tool else folder
+        ran = report(folder, "--trace", "a.trace", ASANCOL_SYMBOLIZER=tool, PATH=path)
         expect(ran.status, 1, tool)
         expect(ran.text.count(text), 1, ran.text)
         expect_in(ran.text, f"({folder}/program+0x")
@@ -804,7 +807,7 @@ def words_are_refused(folder: str) -> None:
         ran = report(folder, *words)
         expect((ran.status, ran.errors), (0, ""), str(words))
     lines = report(folder, "--help").text.splitlines()
-    expect(len(lines) <= 40 and max(map(len, lines)) <= 100, True, "one screen")
+    expect(len(lines) <= 40 and max(map(len, lines)) <= 80, True, "one screen")
 
 
 def completions_are_whole(folder: str) -> None:
