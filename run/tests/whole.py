@@ -199,6 +199,12 @@ def check_first_steps(suite: Suite, folder: str) -> None:
     )
     expect_ran(Ran(ran.returncode, ran.stdout, ran.stderr), 99, "heap-buffer-overflow", "bug.c:6", "bug.c:5")
     expect(ran.stdout, "Alice\n", "what it prints")
+    modules = f"{where}/lib/asancol/asancol_report"
+    expect(os.path.isdir(f"{modules}/__pycache__"), True, "that the modules are compiled")
+    shutil.rmtree(f"{modules}/__pycache__")
+    expect(subprocess.run([f"{where}/bin/asancol-report", "--version"], env=environment, check=True,
+                          stdout=subprocess.PIPE).stdout.split()[0], b"asancol-report", "its name")
+    expect(os.path.exists(f"{modules}/__pycache__"), False, "that something was written where it is installed")
 
 
 def tests(suite: Suite) -> None:
