@@ -6,7 +6,7 @@ import functools
 import hashlib
 import os
 import re
-from typing import Dict, NamedTuple, Optional, Sequence, Tuple
+from typing import Dict, Iterable, NamedTuple, Optional, Tuple
 
 from .sources import Sources
 from .words import plural, stable_path
@@ -157,16 +157,21 @@ def is_of_system(file: str) -> bool:
     return SYSTEM_HEADER.search(file) is not None
 
 
-def first_own(places: Sequence[Tuple[str, int]]) -> int:
-    """Returns which frame stands for a place, from the files and lines of all: the first with a line that is in no
-    header of the system, or else the first with a line, or else the first."""
-    with_line = [at for at, (_, line) in enumerate(places) if line]
-    return next((at for at in with_line if not is_of_system(places[at][0])), with_line[0] if with_line else 0)
+def first_own(places: Iterable[Tuple[str, int]]) -> Tuple[int, int]:
+    """Returns which frame stands for a place, and its line, from the files and lines of all frames: the first with a
+    line that is in no header of the system, or else the first with a line, or else the first."""
+    first = 0, 0
+    for at, (file, line) in enumerate(places):
+        if line and not is_of_system(file):
+            return at, line
+        if line and not first[1]:
+            first = at, line
+    return first
 
 
 def own_frames(stack: Stack) -> Stack:
     """Returns the frames from the one on that stands for the place."""
-    return stack[first_own([(frame.file, frame.line) for frame in stack]):]
+    return stack[first_own((frame.file, frame.line) for frame in stack)[0]:]
 
 
 def in_words(block: Block, is_freed: bool) -> str:

@@ -2,9 +2,10 @@
 
 from __future__ import annotations
 
+import functools
 import json
 import sys
-from typing import Any, Dict, Iterable, Iterator, List, NamedTuple, Optional, TextIO, Tuple, Union
+from typing import Any, Callable, Dict, Iterable, Iterator, List, NamedTuple, Optional, TextIO, Tuple, Union
 
 from .errors import Broken, reason
 from .findings import Block, Finding, first_own, Frame, GLOBAL, HEAP, STACK, Stack, Tally
@@ -13,6 +14,8 @@ from .words import plural
 
 VERSION = 1
 LARGEST_NUMBER = (1 << 64) - 1
+# At most this many commands and other texts of processes are kept encoded.
+MOST_ENCODED = 1 << 14
 
 # A line that begins a run, has a process of it, or a finding.
 Entry = Dict[str, Any]
@@ -43,15 +46,21 @@ def run_entry(run: Run, number: int, counts: Counts) -> Entry:
     return entry
 
 
-def process_entry(process: Process, run: int) -> Entry:
-    entry = {
-        "type": "process", "run": run, "n": process.number, "pid": process.pid, "parent": process.parent,
-        "command": list(process.command), "fate": process.fate, "events": process.events, "reports": process.reports,
-        "whole": process.is_whole, "left_out": process.left_out, "why": process.why,
-    }
-    if process.kept:
-        entry["kept"] = process.kept
-    return entry
+# There may be a million processes, and as many findings in runs: their lines are put together here, and what comes again
+# is encoded once.
+
+def process_line(process: Process, run: int, encode: Callable[[object], str]) -> str:
+    kept = f',"kept":{encode(process.kept)}' if process.kept else ""
+    return (f'{{"type":"process","run":{run},"n":{process.number},"pid":{process.pid},"parent":{process.parent},'
+            f'"command":{encode(process.command)},"fate":{encode(process.fate)},"events":{process.events},'
+            f'"reports":{process.reports},"whole":{encode(process.is_whole)},"left_out":{process.left_out},'
+            f'"why":{encode(process.why)}{kept}}}')
+
+
+def finding_line(tally: Tally, run: int, rest: str) -> str:
+    """Returns the line of a finding from what a run has of it, and from the rest, which is the same in all runs."""
+    return (f'{{"type":"finding","run":{run},"count":{tally.times},"processes":{tally.processes},'
+            f'"process":{tally.process},"pid":{tally.pid},"event":{tally.event},{rest[1:]}')
 
 
 def frame_entry(frame: Frame) -> Entry:
@@ -77,13 +86,13 @@ def block_entry(block: Block) -> Entry:
     return entry
 
 
-def finding_entry(finding: Finding, run: int, tally: Tally) -> Entry:
+def finding_entry(finding: Finding) -> Entry:
+    """Returns what is the same of a finding in all runs."""
     entry: Entry = {
-        "type": "finding", "run": run, "fingerprint": finding.fingerprint, "class": finding.class_name,
+        "fingerprint": finding.fingerprint, "class": finding.class_name,
         "access": finding.access, "size": finding.size, "address": f"{finding.address:x}",
         "bad": None if finding.bad is None else f"{finding.bad:x}", "shadow": finding.shadow or None,
-        "count": tally.times, "processes": tally.processes, "process": tally.process, "pid": tally.pid,
-        "event": tally.event, "stack": [frame_entry(frame) for frame in finding.stack],
+        "stack": [frame_entry(frame) for frame in finding.stack],
     }
     if finding.block:
         entry["block"] = block_entry(finding.block)
@@ -98,25 +107,35 @@ def finding_entry(finding: Finding, run: int, tally: Tally) -> Entry:
     return entry
 
 
-def entries_of(results: Results) -> Iterator[Entry]:
-    findings: Dict[int, list[Finding]] = {}
+def lines_of(results: Results) -> Iterator[str]:
+    encode = json.JSONEncoder(separators=(",", ":")).encode
+    encode_again = functools.lru_cache(maxsize=MOST_ENCODED, typed=True)(encode)
+    shared: Dict[int, str] = {}
+
+    def rest_of(finding: Finding) -> str:
+        rest = shared.get(id(finding)) or encode(finding_entry(finding))
+        if len(finding.runs) > 1:
+            shared[id(finding)] = rest
+        return rest
+
+    findings: Dict[int, List[Finding]] = {}
     for finding in results.findings():
         for number in finding.runs:
             findings.setdefault(number, []).append(finding)
     for number, run in enumerate(results.runs):
-        yield run_entry(run, number, Counts(len(results.runs), len(run.processes), len(findings.get(number, ()))))
+        mine = findings.get(number, [])
+        yield encode(run_entry(run, number, Counts(len(results.runs), len(run.processes), len(mine))))
         for process in run.processes.values():
-            yield process_entry(process, number)
-        for finding in findings.get(number, ()):
-            yield finding_entry(finding, number, finding.runs[number])
+            yield process_line(process, number, encode_again)
+        for finding in mine:
+            yield finding_line(finding.runs[number], number, rest_of(finding))
     for note in results.notes:
-        yield {"type": "note", "text": note}
+        yield encode({"type": "note", "text": note})
 
 
 def write(results: Results, out: TextIO) -> None:
-    encode = json.JSONEncoder(separators=(",", ":")).encode
-    for entry in entries_of(results):
-        out.write(encode(entry) + "\n")
+    for line in lines_of(results):
+        out.write(line + "\n")
 
 
 # Reading. What has another type than it should is as if it were missing; what is missing has a default.
@@ -235,9 +254,8 @@ def tally_of(entry: Entry) -> Tally:
 def line_of(entry: Entry) -> int:
     """Returns the line of a finding's place: as `Finding.top` finds it."""
     stack = entry.get("stack")
-    frames = [frame if isinstance(frame, dict) else {} for frame in stack] if isinstance(stack, list) else []
-    places = [(text_of(frame.get("file")), number_of(frame.get("line"))) for frame in frames]
-    return places[first_own(places)][1] if places else 0
+    frames = [frame for frame in stack if isinstance(frame, dict)] if isinstance(stack, list) else []
+    return first_own((text_of(frame.get("file")), number_of(frame.get("line"))) for frame in frames)[1]
 
 
 class Reader:
