@@ -1,5 +1,5 @@
-"""The report as JUnit XML: a test case for each run. It passes if no report counts, the command did not fail, and all was
-seen whole."""
+"""The report as JUnit XML: a test case for each run. It passes if no report counts, the command did not fail, and all
+was seen whole."""
 
 from __future__ import annotations
 

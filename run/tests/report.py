@@ -450,7 +450,8 @@ def copies_have_the_name(folder: str) -> None:
     write_trace(folder, "a.trace", FREED + END, of_program(program, [freed_block(program)], [0, 0, 0, 0, 1]))
     tool = f"{folder}/addr2line"
     for name, wanted in (
-        ("f.constprop.0", "f"), ("f.isra.0.part.12.cold", "f"), ("a::f(int) [clone .isra.0] [clone .cold]", "a::f(int)"),
+        ("f.constprop.0", "f"), ("f.isra.0.part.12.cold", "f"),
+        ("a::f(int) [clone .isra.0] [clone .cold]", "a::f(int)"),
         ("f(int) (.llvm.123)", "f(int)"), ("file.part", "file"), ("f.other", "f.other"), ("f.cold.1.x", "f.cold.1.x"),
     ):
         with open(tool, "w", encoding="utf-8") as file:
@@ -833,11 +834,11 @@ def completions_are_whole(folder: str) -> None:
 
 ALL: List[Callable[[str], None]] = [
     trace_has_lines, trace_without_side_file, trace_ends, trace_has_failures, variables, run_is_fed, run_ends,
-    run_takes_anything, run_gets_signals, run_has_bad_rules, run_has_nested, live, command_fails, program_has_changed, program_without_build_id, program_is_gone_at_the_end,
-    symbolizer_fails, cpp_names, copies_have_the_name, results_are_read_again, runs_are_merged, bad_results, suppressions, baseline, sarif,
-    sarif_has_its_schema, junit, code_quality, page_is_safe, page_works, outputs_are_whole, side_memory_lies,
-    lines_are_no_lines, text_does_nothing_to_a_terminal, words_are_refused, completions_are_whole, *fingerprints.TESTS,
-    *cuts.TESTS,
+    run_takes_anything, run_gets_signals, run_has_bad_rules, run_has_nested, live, command_fails, program_has_changed,
+    program_without_build_id, program_is_gone_at_the_end, symbolizer_fails, cpp_names, copies_have_the_name,
+    results_are_read_again, runs_are_merged, bad_results, suppressions, baseline, sarif, sarif_has_its_schema, junit,
+    code_quality, page_is_safe, page_works, outputs_are_whole, side_memory_lies, lines_are_no_lines,
+    text_does_nothing_to_a_terminal, words_are_refused, completions_are_whole, *fingerprints.TESTS, *cuts.TESTS,
 ]
 
 
