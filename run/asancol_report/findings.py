@@ -170,8 +170,10 @@ def first_own(places: Iterable[Tuple[str, int]]) -> Tuple[int, int]:
 
 
 def own_frames(stack: Stack) -> Stack:
-    """Returns the frames from the one on that stands for the place."""
-    return stack[first_own((frame.file, frame.line) for frame in stack)[0]:]
+    """Returns the frame that stands for the place, and those that it was inlined into."""
+    first = first_own((frame.file, frame.line) for frame in stack)[0]
+    last = next((at for at in range(first, len(stack)) if not stack[at].is_inlined), first)
+    return stack[first:last + 1]
 
 
 def in_words(block: Block, is_freed: bool) -> str:
