@@ -257,7 +257,7 @@ def check_head(suite: Suite, folder: str, program: str) -> None:
     before = time.time()
     peer = one(folder, [program, "behind", "", "some word", "w" * 5000], ASANCOL_WHERE="0")
     side = peer.side()
-    expect((side.header, peer.seals & 7), (b"ASWH\2\0\0\0", 7), "its header and its seals")
+    expect((side.header, peer.seals & 7), (b"ASWH\3\0\0\0", 7), "its header and its seals")
     expect(side.data[72:4072].startswith(f"{program}\0behind\0\0some word\0www".encode()), True, "its words")
     expect(side.data[4069:4072], b"w\0\0", "a word that was cut")
     expect(before - 1 < side.started / 1e9 < time.time() + 1, True, "when it was started")

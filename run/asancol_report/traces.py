@@ -48,7 +48,7 @@ def open_side(trace: str, results: Results) -> Optional[Side]:
         return None
     if not side.is_good:
         side.close()
-        results.notes[f"{path} is no side file of version 2: {trace} was recorded by another release"] = None
+        results.notes[f"{path} is no side file of version 3: {trace} was recorded by another release"] = None
         return None
     return side
 

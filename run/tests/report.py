@@ -91,8 +91,8 @@ def trace_without_side_file(folder: str) -> None:
     expect(ran.status, 1, "status")
     expect_in(ran.text, "heap-use-after-free: load of 4 bytes", "#0 its place was not recorded", "address 0x2000",
               "b.trace.where: No such file or directory: record with ASANCOL_WHERE=1")
-    write_trace(folder, "c.trace", FREED + END, [(0, b"ASWH\1\0\0\0"), (1 << 18, b"\0")])
-    expect_in(report(folder, "--trace", "c.trace").text, "c.trace.where is no side file of version 2")
+    write_trace(folder, "c.trace", FREED + END, [(0, b"ASWH\2\0\0\0"), (1 << 18, b"\0")])
+    expect_in(report(folder, "--trace", "c.trace").text, "c.trace.where is no side file of version 3")
 
 
 def trace_ends(folder: str) -> None:
@@ -737,6 +737,26 @@ def outputs_are_whole(folder: str) -> None:
     expect((ran.returncode, ran.stderr), (4, b"asancol-report: standard output: No space left on device\n"), "the text")
 
 
+def stacks_have_callers(folder: str) -> None:
+    """A stack ends with main, or where no module is. One that is cut, too long or of another place is none."""
+    program = build(folder)
+    use, make, drop = (program.places[name] for name in ("use", "make", "drop"))
+    main, libc = use + 1, 0x700000000000  # an address of main; and one in no module
+    words = [0, 3, make, main, libc, 4, drop, make, main, make, 2, drop, libc, 40, drop, main]
+    for stacks, wanted in (
+        ((10, 1, 0), ["drop", "make", "main"]),  # that of the access ends at once, that of the malloc in main
+        ((5, 0, 0), ["drop", "make", "main", "make"]),  # what has called main is left out
+        ((13, 0, 0), ["drop", "make"]),  # 40 frames
+        ((1, 0, 0), ["drop", "make"]),  # another place's
+        ((99, 1 << 31, 0), ["drop", "make"]),  # past the end
+    ):
+        faults = [fault(drop, 0x2000, 5, make, stacks=stacks)]
+        write_trace(folder, "s.trace", OVERFLOW + END, of_program(program, faults, [0, 1], stacks=words))
+        text = report(folder, "--trace", "s.trace").text
+        frames = re.findall(r"^    #\d 0x[0-9a-f]+ in (\w+) (?!.*\(inlined\))", text, re.M)
+        expect(frames, wanted, f"frames of {stacks}")
+
+
 def side_memory_lies(folder: str) -> None:
     """Whatever stands there, there is a report and no more."""
     program = build(folder)
@@ -837,7 +857,7 @@ ALL: List[Callable[[str], None]] = [
     run_takes_anything, run_gets_signals, run_has_bad_rules, run_has_nested, live, command_fails, program_has_changed,
     program_without_build_id, program_is_gone_at_the_end, symbolizer_fails, cpp_names, copies_have_the_name,
     results_are_read_again, runs_are_merged, bad_results, suppressions, baseline, sarif, sarif_has_its_schema, junit,
-    code_quality, page_is_safe, page_works, outputs_are_whole, side_memory_lies, lines_are_no_lines,
+    code_quality, page_is_safe, page_works, outputs_are_whole, stacks_have_callers, side_memory_lies, lines_are_no_lines,
     text_does_nothing_to_a_terminal, words_are_refused, completions_are_whole, *fingerprints.TESTS, *cuts.TESTS,
 ]
 
