@@ -180,7 +180,7 @@ def check_blocks(suite: Suite, folder: str, program: str) -> None:
                 expect((fault.variable, fault.name), (NO_VARIABLE, ""), name)
                 found.append((address - fault.block, fault.size, lines_of(side, fault)))
         expect(found, wanted, name)
-        expect(side.fault_count, 1, f"faults of {name}")
+        expect(side.fault_count, len({side.stack(it.stack) for it in faults_of(peer)}), f"faults of {name}")
         expect(len(check(suite, folder, peer)[1]), len(wanted), f"reports of {name}")
 
 
