@@ -9,6 +9,7 @@
 #include <stdint.h>
 
 #include "format.h"
+#include "stacks.h"
 
 enum { UNIT = 1 << 16, SMALLEST_SLOT = 2 * REDZONE, SLOTS = UNIT / SMALLEST_SLOT, ALIGNMENT = 16, PAGE = 4096 };
 /* There are 2^38 bytes in units, */
@@ -30,9 +31,9 @@ struct block {
 
 enum block_state { BLOCK_FREE, BLOCK_LIVE, BLOCK_HELD, BLOCK_UNRECORDED };
 
-/* Where a block was allocated and freed: addresses after the calls; 0 if it is not known, or not freed. */
+/* Where a block was allocated and freed; 0 if it is not known, or not freed. */
 struct places {
-    uintptr_t allocated, freed;
+    place_word allocated, freed;
 };
 
 enum unit_kind { UNIT_NEW, UNIT_SLAB, UNIT_RUN, UNIT_RUN_BODY, UNIT_FREE, UNIT_FREE_END };

@@ -29,12 +29,16 @@
 /* The compiler notes its switches in the object, where the link finds what was compiled so (linked.c). */
 #define NOTE_SWITCHES "-frecord-gcc-switches"
 
+/* The recorder follows frame pointers to the callers of a call, as AddressSanitizer does. */
+#define STACKS "-fno-omit-frame-pointer"
+
 /* By default the compilers' own check, inline, and a call if it finds the access bad; with ASANCOL_ALL=1 a call
    before each access. -fsanitize=kernel-address is the form that goes on after that call, and links no runtime. Where
    the shadow begins is said in shadow.h. */
 #define GCC_FLAGS(name, threshold)                                                                                     \
     static const char *const name[] = {                                                                                \
         COMPILED_SO,                                                                                                   \
+        STACKS,                                                                                                        \
         "-fasan-shadow-offset=0x7fff8000",                                                                             \
         "-fsanitize-address-use-after-scope",                                                                          \
         "--param", "asan-instrumentation-with-call-threshold=" threshold,                                              \
@@ -47,6 +51,7 @@
 #define CLANG_FLAGS(name, threshold, experiment)                                                                       \
     static const char *const name[] = {                                                                                \
         COMPILED_SO,                                                                                                   \
+        STACKS,                                                                                                        \
         "-mllvm", "-asan-mapping-offset=0x7fff8000",                                                                   \
         "-Xclang", "-fsanitize-address-use-after-scope",                                                               \
         "-mllvm", "-asan-instrumentation-with-call-threshold=" threshold,                                              \

@@ -2,8 +2,10 @@
 #define _GNU_SOURCE
 #include <dlfcn.h>
 #include <errno.h>
+#include <fcntl.h>
 #include <stdarg.h>
 #include <stdlib.h>
+#include <sys/stat.h>
 #include <unistd.h>
 
 #include "hooks.h"
@@ -18,6 +20,36 @@ _Noreturn void __wrap__exit(int status)
 _Noreturn void __wrap__Exit(int status)
 {
     __wrap__exit(status);
+}
+
+/* Puts /dev/null in the place of the standard streams. */
+static bool leave_streams(void)
+{
+    int null = open("/dev/null", O_RDWR);
+    struct stat seen;
+    if (null < 0)
+        return false;
+    bool is_null = fstat(null, &seen) == 0 && S_ISCHR(seen.st_mode);
+    for (int stream = STDIN_FILENO; is_null && stream <= STDERR_FILENO; stream++)
+        dup2(null, stream);
+    if (null > STDERR_FILENO)
+        close(null);
+    if (!is_null)
+        errno = ENODEV;
+    return is_null;
+}
+
+/* As the C library's, in which the parent ends where nobody sees it. */
+int __wrap_daemon(int keeps_folder, int keeps_streams)
+{
+    pid_t child = fork();
+    if (child > 0)
+        __wrap__exit(EXIT_SUCCESS);
+    if (child < 0 || setsid() < 0)
+        return -1;
+    if (keeps_folder == 0)
+        (void)!chdir("/");
+    return keeps_streams != 0 || leave_streams() ? 0 : -1;
 }
 
 static bool before_exec(void)

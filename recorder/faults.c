@@ -17,7 +17,8 @@ enum { PIECE = 1 << 16, PIECES = SIDE_ROOM / PIECE + 1, PIECE_BITS = 32 };
 
 static struct {
     unsigned char *bytes;
-    _Atomic uint32_t taken; /* entries of the list */
+    _Atomic uint32_t taken;       /* entries of the list */
+    _Atomic uint32_t taken_words; /* of the stacks */
     _Atomic uint32_t backed[PIECES / PIECE_BITS + 1];
 } faults;
 
@@ -47,6 +48,8 @@ void faults_begin(unsigned char *bytes)
         memset((void *)recent, 0, sizeof recent);
     }
     atomic_store(&faults.taken, 0);
+    atomic_store(&faults.taken_words, 1);
+    places_forget_numbers();
     faults.bytes = bytes;
     faults_are_cut();
 }
@@ -64,6 +67,33 @@ static bool back(uint64_t offset, uint64_t length)
         atomic_fetch_or(bits, bit);
     }
     return true;
+}
+
+/* Raises a count that is in the side file. */
+static void raise_to(_Atomic uint32_t *count, uint32_t least)
+{
+    uint32_t before = atomic_load(count);
+    while (before < least && !atomic_compare_exchange_weak(count, &before, least))
+        ;
+}
+
+/* Puts the stack of a place beside the stream, if it is not there yet. Answers its number; 0: it has none, or no room. */
+static uint32_t put_stack(place_word of)
+{
+    const uint64_t *frames;
+    unsigned count = place_frames(of, &frames);
+    uint32_t number = place_number(of), most = SIDE_STACK_WORDS - (MOST_FRAMES + 1);
+    if (count == 0 || number != 0 || atomic_load(&faults.taken_words) > most)
+        return number;
+    number = atomic_fetch_add(&faults.taken_words, count + 1);
+    uint64_t offset = SIDE_STACKS_AT + (uint64_t)number * sizeof(uint64_t);
+    if (number > most || !back(offset, (count + 1) * sizeof(uint64_t)))
+        return 0;
+    uint64_t *words = (uint64_t *)(faults.bytes + offset);
+    words[0] = count;
+    memcpy(words + 1, frames, count * sizeof *frames);
+    raise_to((_Atomic uint32_t *)&((struct side *)faults.bytes)->stack_words, number + count + 1);
+    return place_give_number(of, number);
 }
 
 /* What is nearest. */
@@ -150,8 +180,10 @@ static void describe_block(uint64_t address, struct side_fault *fault)
         return;
     fault->block = block.start;
     fault->block_size = block.size;
-    fault->allocated = block.places.allocated;
-    fault->freed = block.places.freed;
+    fault->allocated = place_address(block.places.allocated);
+    fault->allocated_stack = put_stack(block.places.allocated);
+    fault->freed = place_address(block.places.freed);
+    fault->freed_stack = put_stack(block.places.freed);
 }
 
 /* The first byte that is bad decides what is near. */
@@ -169,10 +201,12 @@ static uint64_t mix(uint64_t hash, uint64_t word)
     return hash ^ hash >> 29;
 }
 
-/* Of what makes one fault: the place, the kind and width, where the block was allocated and freed, and the name. */
+/* Of what makes one fault: the place, the kind and width, where the block was allocated and freed, each with its stack,
+   and the name. */
 static uint64_t hash_of(unsigned code_and_width, const struct side_fault *fault)
 {
     uint64_t hash = mix(mix(mix(mix(1, fault->place), code_and_width), fault->allocated), fault->freed);
+    hash = mix(mix(hash, (uint64_t)fault->stack << 32 | fault->allocated_stack), fault->freed_stack);
     for (size_t i = 0; i < SIDE_NAME && fault->name[i] != 0; i += sizeof(uint64_t)) {
         uint64_t word;
         memcpy(&word, fault->name + i, sizeof word);
@@ -190,7 +224,7 @@ static struct side_fault *entry_of(uint32_t number)
 static uint32_t add_fault(const struct side_fault *fault)
 {
     _Atomic uint32_t *count = (_Atomic uint32_t *)&((struct side *)faults.bytes)->fault_count;
-    uint32_t number = atomic_fetch_add(&faults.taken, 1) + 1, before = atomic_load(count);
+    uint32_t number = atomic_fetch_add(&faults.taken, 1) + 1;
     if (number > SIDE_FAULTS) {
         atomic_fetch_sub(&faults.taken, 1);
         return 0;
@@ -198,8 +232,7 @@ static uint32_t add_fault(const struct side_fault *fault)
     if (!back(SIDE_FAULTS_AT + (number - 1) * sizeof *fault, sizeof *fault))
         return 0;
     *entry_of(number) = *fault;
-    while (before < number && !atomic_compare_exchange_weak(count, &before, number))
-        ;
+    raise_to(count, number);
     return number;
 }
 
@@ -232,7 +265,7 @@ static uint32_t variable_fault(unsigned code_and_width, uint64_t bad, struct sid
 {
     struct frame frame = {0, 0};
     bool has_frame = !globals_may_have(bad) && frame_around(bad, &frame);
-    uint64_t key = mix(mix(mix(fault->place, code_and_width), bad), globals_generation());
+    uint64_t key = mix(mix(mix(mix(fault->place, fault->stack), code_and_width), bad), globals_generation());
     if (has_frame)
         key = mix(mix(key, frame.start), frame.description);
     _Atomic uint64_t *place = &recent[key % RECENT];
@@ -251,11 +284,11 @@ static uint32_t variable_fault(unsigned code_and_width, uint64_t bad, struct sid
 
 uint32_t fault_of(unsigned code_and_width, uint64_t address, uintptr_t caller)
 {
-    struct side_fault fault = {.place = caller};
     uint64_t next = atomic_load(&stream_page.stream.cursor) << 1 >> 33, bad = first_bad(code_and_width >> 8, address);
     /* The event will be one of the next. */
     if (next >= EVENT_LIMIT || !back(SIDE_INDEX + next * SIDE_INDEX_ENTRY, SIDE_INDEX_ENTRY))
         return 0;
+    struct side_fault fault = {.place = caller, .stack = put_stack(place_of(caller))};
     return is_in_arena(bad) ? block_fault(code_and_width, bad, &fault) : variable_fault(code_and_width, bad, &fault);
 }
 

@@ -73,7 +73,7 @@ static inline uint64_t span_bytes(uint64_t size)
 
 /* What stands beside a trace: the memory that a process shares with a hub, or the file TRACE.where. docs/FORMAT.md says
    it in words. */
-#define SIDE_HEADER "ASWH\2\0\0\0"
+#define SIDE_HEADER "ASWH\3\0\0\0"
 
 /* How a process has ended. */
 enum ending { ENDING_NONE, ENDING_EXIT, ENDING_EXEC, ENDING_SIGNAL, ENDING_LOST };
@@ -81,11 +81,14 @@ enum ending { ENDING_NONE, ENDING_EXIT, ENDING_EXEC, ENDING_SIGNAL, ENDING_LOST 
 /* What lies nearest to a bad access, if it is no block. */
 enum variable { VARIABLE_NONE, VARIABLE_STACK, VARIABLE_GLOBAL };
 
-enum { SIDE_WORDS = 4000, SIDE_BUILD_COUNT = 112, SIDE_ID = 23, SIDE_NAME = 136, SIDE_FAULTS = 1 << 16 };
+enum { SIDE_WORDS = 4000, SIDE_BUILD_COUNT = 112, SIDE_ID = 23, SIDE_NAME = 120, SIDE_FAULTS = 1 << 16 };
 /* Where its parts begin, but for the first: */
 enum { SIDE_BUILDS = 4096, SIDE_MAPS = 8192, SIDE_INDEX = 1 << 18, SIDE_INDEX_ENTRY = 4 };
 #define SIDE_FAULTS_AT (SIDE_INDEX + EVENT_LIMIT * SIDE_INDEX_ENTRY)
-#define SIDE_ROOM (SIDE_FAULTS_AT + SIDE_FAULTS * sizeof(struct side_fault))
+#define SIDE_STACKS_AT (SIDE_FAULTS_AT + SIDE_FAULTS * sizeof(struct side_fault))
+/* How many words of 8 bytes the stacks may have. */
+#define SIDE_STACK_WORDS ((uint32_t)1 << 22)
+#define SIDE_ROOM (SIDE_STACKS_AT + SIDE_STACK_WORDS * sizeof(uint64_t))
 
 struct side {
     char header[8];
@@ -98,7 +101,8 @@ struct side {
     uint32_t has_checks;  /* 1: code of asancol-cc is in the program, or in an object that it loaded */
     uint32_t is_at_limit; /* 1: an event found no room */
     uint32_t fault_count; /* how many faults are in the list */
-    uint32_t spare[3];
+    uint32_t stack_words; /* how many words of the stacks are in use, with the first, which is of no stack */
+    uint32_t spare[2];
     char words[SIDE_WORDS]; /* of the command line, each ended by a zero, and a zero after them */
 };
 
@@ -117,6 +121,10 @@ struct side_fault {
     uint64_t allocated, freed; /* the places of the block's malloc and of its free; 0: not known, or not freed */
     uint32_t variable;         /* enum variable */
     uint32_t line;             /* where a variable of a frame is declared; 0: not known */
+    /* The stacks of these three places: the number of the word with how many frames there are. These come after it, the
+       innermost first. 0: only the place is known. */
+    uint32_t stack, allocated_stack, freed_stack;
+    uint32_t spare;
     char name[SIDE_NAME];      /* of the variable: "name", or "name FILE:LINE" of a global */
 };
 

@@ -45,18 +45,25 @@ static struct {
     _Atomic size_t spare_used;
 } heap = {.lock = PTHREAD_MUTEX_INITIALIZER};
 
-static _Thread_local uintptr_t borrowed_caller;
+/* The caller for whom the C library allocates, and the frame of the function that said so. */
+static _Thread_local struct {
+    uintptr_t caller, frame;
+} borrowed;
 
 void heap_called_from(uintptr_t caller)
 {
-    borrowed_caller = caller;
+    borrowed.caller = caller;
+    borrowed.frame = caller != 0 ? *(const uintptr_t *)__builtin_frame_address(0) : 0;
 }
 
 static uintptr_t caller_or(uintptr_t caller)
 {
-    uintptr_t borrowed = borrowed_caller;
-    borrowed_caller = 0;
-    return borrowed != 0 ? borrowed : caller;
+    uintptr_t found = borrowed.caller;
+    borrowed.caller = 0;
+    if (found != 0)
+        return found;
+    borrowed.frame = 0;
+    return caller;
 }
 
 void heap_set_bound(uint64_t bytes)
@@ -272,7 +279,7 @@ static bool free_block(void *pointer, uintptr_t caller)
         return false;
     }
     if (UNLIKELY(arena.places != NULL))
-        arena.places[block - arena.blocks].freed = caller;
+        arena.places[block - arena.blocks].freed = place_from(borrowed.frame, caller);
     record_free((uintptr_t)pointer);
     hold(block);
     return true;
@@ -394,7 +401,7 @@ static void *place_block(size_t size, size_t alignment, uintptr_t caller)
     uintptr_t address = (start + REDZONE + alignment - 1) / alignment * alignment;
     block->offset = (address - start) / ALIGNMENT & LARGEST_OFFSET;
     if (UNLIKELY(arena.places != NULL))
-        arena.places[block - arena.blocks] = (struct places){caller, 0};
+        arena.places[block - arena.blocks] = (struct places){place_from(borrowed.frame, caller), 0};
     if (size <= LARGEST_BLOCK) {
         block->state = BLOCK_LIVE;
         block->size = (uint32_t)size;

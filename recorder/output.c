@@ -196,6 +196,17 @@ const char *output_connect(struct output *output, const char *path, bool has_abs
     return why;
 }
 
+void output_knock(const char *path)
+{
+    struct sockaddr_un address;
+    int descriptor = strlen(path) < sizeof address.sun_path ? socket(AF_UNIX, SOCK_STREAM | SOCK_CLOEXEC, 0) : -1;
+    if (descriptor < 0)
+        return;
+    if (connect(descriptor, (const struct sockaddr *)&address, name_socket(&address, path, false)) != 0)
+        (void)!connect(descriptor, (const struct sockaddr *)&address, name_socket(&address, path, true));
+    close(descriptor);
+}
+
 const char *output_open_memory(struct output *output, uint64_t room)
 {
     clear(output, room);

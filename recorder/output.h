@@ -31,6 +31,8 @@ const char *output_open_file(struct output *output, const char *path, enum namin
                              uint64_t backed);
 /* To a socket: by its path, or else, where `has_abstract`, by the abstract name of the same text. */
 const char *output_connect(struct output *output, const char *path, bool has_abstract, uint64_t room, int patience_ms);
+/* Connects to a hub by either name, as far as it can, and sends nothing. */
+void output_knock(const char *path);
 /* Memory of zeros that another process can map. Nobody can change its size. */
 const char *output_open_memory(struct output *output, uint64_t room);
 /* Sends the first bytes of a socket, and the descriptor of that memory with them, which is closed here. */

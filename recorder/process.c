@@ -8,6 +8,7 @@
 #include "side.h"
 #include "signals.h"
 #include "stream.h"
+#include "unseen.h"
 
 /* Who we are, and what the environment says. Written at the start and in a child after a fork. */
 static struct {
@@ -58,6 +59,7 @@ static bool open_stream(void)
         process.settings.trace = process.name;
         if (!name_of_pattern(process.pattern, process.name, sizeof process.name)) {
             recorder_say("nothing is recorded: ", process.pattern, "the name is too long");
+            unseen_note(process.settings.hub, "the name of its trace is too long");
             return false;
         }
     }
@@ -99,6 +101,7 @@ void recorder_start(void)
     process.process = getpid();
     settings_read(&process.settings);
     process.pattern = process.settings.trace;
+    unseen_note(process.settings.passed_over, "ASANCOL_TRACE is set for it, so its trace is there");
     bool wanted = output_name() != NULL;
     enum halt halt = process.settings.halt;
     heap_lock();
@@ -115,6 +118,7 @@ bool recorder_begin_late(void)
 {
     if (heap_is_entered()) {
         recorder_say("nothing is recorded: ", "a signal handler", "it came in the middle of an allocation");
+        unseen_note(process.settings.hub, "its first fault came in the middle of an allocation");
         return false;
     }
     struct disturbance before;
@@ -128,8 +132,10 @@ bool recorder_begin_late(void)
 
 void recorder_say_child(void)
 {
+    static const char why[] = "it was not made by fork, but by _Fork or clone";
     atomic_store(&recorder_state, STATE_OFF);
-    recorder_say("a child is not recorded: ", output_name(), "it was not made by fork, but by _Fork or clone");
+    recorder_say("a child is not recorded: ", output_name(), why);
+    unseen_note(process.settings.hub, why);
 }
 
 void recorder_finish(enum finish finish)

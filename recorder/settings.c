@@ -204,12 +204,18 @@ static const char *traces_beside(const char *path, struct entry *entry)
     return fits ? entry->text : NULL;
 }
 
+const char *settings_hub(void)
+{
+    return value_of("ASANCOL_HUB");
+}
+
 /* Where the stream goes: the trace comes first, and then the hub. */
 static void read_outputs(struct settings *settings)
 {
     static struct entry trace, beside;
     settings->trace = name_from_root("ASANCOL_TRACE", &trace);
-    settings->hub = settings->trace == NULL ? value_of("ASANCOL_HUB") : NULL;
+    settings->hub = settings->trace == NULL ? settings_hub() : NULL;
+    settings->passed_over = settings->trace != NULL ? settings_hub() : NULL;
     settings->socket = settings->trace == NULL && settings->hub == NULL ? value_of("ASANCOL_SOCKET") : NULL;
     if (settings->hub != NULL)
         settings->trace = traces_beside(settings->hub, &beside);

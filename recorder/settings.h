@@ -18,7 +18,11 @@ struct settings {
     int patience_ms;
     bool with_side; /* what stands beside a trace is wanted too */
     enum halt halt;
+    const char *passed_over; /* the hub that the environment names beside a trace, or null */
 };
+
+/* The hub that the environment names, or null. */
+const char *settings_hub(void);
 
 /* Reads all settings, and says what is none or has a value that is none. In the environment the names of the trace
    and of the log are from the root afterwards, so that a process that this one starts elsewhere finds them. */

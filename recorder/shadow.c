@@ -12,6 +12,9 @@
 enum { SHADOW_PAGE = 4096 };
 
 #ifndef IN_SHARED_OBJECT
+#include "settings.h"
+#include "unseen.h"
+
 extern const struct recorder_hooks asancol_hooks;
 #endif
 
@@ -24,6 +27,9 @@ static _Noreturn void fail(const char *why)
     for (size_t i = 0; i < sizeof pieces / sizeof *pieces; i++)
         if (write(STDERR_FILENO, pieces[i], strlen(pieces[i])) < 0)
             break;
+#ifndef IN_SHARED_OBJECT
+    unseen_note(settings_hub(), why);
+#endif
     _exit(127);
 }
 
@@ -171,19 +177,38 @@ void shadow_unpoison(uint64_t address, uint64_t size)
 
 uint64_t shadow_first_bad(uint64_t address, uint64_t size)
 {
+    enum { STEP = 64 * GRANULE };
     if (!clip(address, &size))
         return address + size;
-    for (uint64_t at = address; at < address + size; at = at / GRANULE * GRANULE + GRANULE) {
+    uint64_t at = address, end = address + size;
+    while (end - at > STEP && shadow_is_clean(at, STEP))
+        at += STEP;
+    for (; at < end; at = at / GRANULE * GRANULE + GRANULE) {
         uint64_t good_end = at / GRANULE * GRANULE + addressable_of(*shadow_of(at));
         uint64_t bad = at > good_end ? at : good_end;
-        if (bad / GRANULE == at / GRANULE && bad < address + size)
+        if (bad / GRANULE == at / GRANULE && bad < end)
             return bad;
     }
-    return address + size;
+    return end;
+}
+
+static void map_early(int count, char **words, char **variables)
+{
+#ifdef IN_SHARED_OBJECT
+    (void)count, (void)words, (void)variables;
+#else
+    /* The C library has not set these two yet: they say who gets word if there is no room for the shadow. */
+    if (environ == NULL)
+        environ = variables;
+    if (count > 0 && program_invocation_name[0] == 0)
+        program_invocation_name = words[0];
+#endif
+    shadow_map();
 }
 
 #ifdef IN_SHARED_OBJECT
-__attribute__((section(".init_array.00000"), used)) void (*const asancol_map_early)(void) = shadow_map;
+__attribute__((section(".init_array.00000"), used))
 #else
-__attribute__((section(".preinit_array"), used)) void (*const asancol_map_early)(void) = shadow_map;
+__attribute__((section(".preinit_array"), used))
 #endif
+void (*const asancol_map_early)(int, char **, char **) = map_early;

@@ -138,7 +138,7 @@ static inline bool shadow_is_clean(uint64_t address, uint64_t size)
    room for them the process ends with status 127 and a line. */
 void shadow_map(void) OWN_NAME(shadow_map);
 /* In an object's first constructor. The link asks for it by its name. */
-extern void (*const asancol_map_early)(void);
+extern void (*const asancol_map_early)(int count, char **words, char **variables);
 
 /* Makes all granules that a region touches addressable. */
 void shadow_clear(uint64_t address, uint64_t size) OWN_NAME(shadow_clear);

@@ -65,6 +65,8 @@ uint64_t side_length(void)
     const struct side *side = side_now();
     if (side == NULL || side->fault_count == 0)
         return SIDE_INDEX;
+    if (side->stack_words != 0)
+        return SIDE_STACKS_AT + side->stack_words * sizeof(uint64_t);
     return SIDE_FAULTS_AT + side->fault_count * sizeof(struct side_fault);
 }
 

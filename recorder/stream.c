@@ -12,6 +12,7 @@
 #include "output.h"
 #include "side.h"
 #include "signals.h"
+#include "unseen.h"
 
 union stream_page stream_page __attribute__((aligned(4096)));
 _Atomic enum state recorder_state;
@@ -466,6 +467,7 @@ bool stream_begin(const struct settings *settings)
     if (why != NULL) {
         const char *of = settings->trace ? settings->trace : settings->hub ? settings->hub : settings->socket;
         recorder_say("nothing is recorded: ", of, why);
+        unseen_note(settings->hub, why);
         return false;
     }
     madvise(&stream_page, sizeof stream_page, MADV_WIPEONFORK);

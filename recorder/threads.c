@@ -49,6 +49,11 @@ static bool is_on_own_stack(uintptr_t frame)
     return frame >= stack.low || (stack.may_grow && stack.top - frame < MOST_STACK);
 }
 
+uintptr_t stack_top(uintptr_t frame)
+{
+    return is_on_own_stack(frame) ? stack.top : 0;
+}
+
 /* Of a stack in a block nothing beyond the block: there are others. */
 static void clear_other_stack(uintptr_t frame)
 {

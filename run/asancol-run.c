@@ -27,7 +27,7 @@
 /* What all processes come to. */
 struct sum {
     uint64_t events, reports;
-    size_t not_whole, with_reports, recorded;
+    size_t not_whole, with_reports, recorded, marks, unchecked;
 };
 
 static struct sum sum_up(void)
@@ -44,6 +44,8 @@ static struct sum sum_up(void)
         sum.with_reports += process->reports > 0;
         sum.not_whole += !process->is_whole;
         sum.recorded += process->has_checks;
+        sum.marks += process->is_mark;
+        sum.unchecked += process->is_unchecked;
     }
     return sum;
 }
@@ -91,9 +93,19 @@ static void say_outcome(const struct outcome *outcome)
         say("asancol: NOT ALL SEEN: %" PRIu64 " fewer than --at-least asks for were recorded", outcome->missing);
     if (outcome->is_running)
         say("asancol: NOT ALL SEEN: processes of the command still run");
+    if (outcome->has_timed_out)
+        say("asancol: NOT ALL SEEN: the command was ended by --timeout");
     if (outcome->lost > 0)
         say("asancol: NOT ALL SEEN: %" PRIu64 " run%s inside this one left no result", outcome->lost,
             plural(outcome->lost, "s"));
+}
+
+/* Whether something was not seen, apart from that nothing was recorded. */
+static bool is_cut_short(const struct sum *sum, const struct outcome *outcome)
+{
+    size_t rest = outcome->nothing ? sum->not_whole - sum->unchecked : sum->not_whole;
+    return rest > 0 || outcome->missing > 0 || outcome->is_running || outcome->has_timed_out
+           || outcome->lost > 0;
 }
 
 /* Ends the feed, and answers what asancol-report says; or says it here if it did not run. */
@@ -102,8 +114,7 @@ static enum answer conclude(const struct options *options, const struct sum *sum
 {
     if (sum->reports > 0 || has_nested || options->has_output)
         report_start();
-    bool is_incomplete = sum->not_whole > 0 || outcome->nothing || outcome->missing > 0 || outcome->is_running
-                         || outcome->lost > 0;
+    bool is_incomplete = is_cut_short(sum, outcome) || outcome->nothing;
     enum answer answer = is_incomplete ? ANSWER_NOT_WHOLE : ANSWER_CLEAN;
     progress_erase();
     say_processes(true, options->verbose);
@@ -134,17 +145,18 @@ static int end_as(int status)
     return 128 + WTERMSIG(status);
 }
 
-/* The first rule that applies. */
+/* The first rule that applies. A command that has failed, or was cut short, is no test without anything to check. */
 static int status_of(const struct options *options, enum answer answer, const struct sum *sum,
                      const struct outcome *outcome, bool is_incomplete)
 {
     bool is_known = answer == ANSWER_CLEAN || answer == ANSWER_REPORTS || answer == ANSWER_NOT_WHOLE;
     bool has_reports = is_known ? answer == ANSWER_REPORTS : sum->reports > 0;
+    is_incomplete |= !is_known || (answer == ANSWER_NOT_WHOLE && !outcome->nothing);
     if (has_reports && options->exitcode != 0)
         return (int)options->exitcode;
-    if (outcome->nothing && options->nothing != 0)
+    if (outcome->nothing && options->nothing != 0 && outcome->status == 0 && !is_incomplete)
         return (int)options->nothing;
-    if ((is_incomplete || answer == ANSWER_NOT_WHOLE || !is_known) && !outcome->nothing && options->incomplete != 0)
+    if ((is_incomplete || (outcome->nothing && options->nothing != 0)) && options->incomplete != 0)
         return (int)options->incomplete;
     return end_as(outcome->status);
 }
@@ -188,14 +200,14 @@ int main(int count, char **words)
     struct outcome outcome = {
         .seconds = now() - started,
         .status = collected.status,
-        .nothing = sum.recorded == 0 && !nested.has_recorded,
+        .nothing = sum.recorded + sum.marks == 0 && !nested.has_recorded,
         .missing = options.at_least > sum.recorded ? options.at_least - sum.recorded : 0,
         .is_running = collected.is_running,
+        .has_timed_out = collected.has_timed_out,
         .lost = nested.lost,
     };
-    bool is_incomplete = sum.not_whole > 0 || outcome.missing > 0 || outcome.is_running || outcome.lost > 0
-                         || collected.has_timed_out;
-    if (!outcome.nothing)
+    bool is_incomplete = is_cut_short(&sum, &outcome);
+    if (!outcome.nothing || is_incomplete)
         nested_note_recorded();
     enum answer answer = conclude(&options, &sum, &outcome, nested.is_there);
     hub_remove();

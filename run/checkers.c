@@ -7,6 +7,7 @@
 #include <stdlib.h>
 #include <string.h>
 #include <sys/mman.h>
+#include <sys/socket.h>
 #include <sys/wait.h>
 #include <unistd.h>
 
@@ -101,9 +102,21 @@ static void start_at_last(struct process *process, int input)
     checker_give_up(process, strerror(EAGAIN));
 }
 
+/* Whether the other end has closed without a byte. Whoever does so says that there was something to see. */
+static bool has_sent_nothing(const struct process *process)
+{
+    char byte;
+    return recv(process->connection, &byte, 1, MSG_PEEK | MSG_DONTWAIT) == 0;
+}
+
 bool checker_start(struct process *process)
 {
     meet(process);
+    if (process->cut == CUT_NONE && has_sent_nothing(process)) {
+        process->is_mark = true;
+        checker_give_up(process, "it was not recorded, or not by this run");
+        return true;
+    }
     if (!checkers.keeps)
         return start(process, process->connection);
     int input = keep_start(process);

@@ -17,6 +17,7 @@
 #include "children.h"
 #include "descendants.h"
 #include "hub.h"
+#include "names.h"
 #include "processes.h"
 #include "report.h"
 #include "say.h"
@@ -29,8 +30,9 @@ enum { MOST_DESCRIPTORS = 65536 };
 enum { FILES_AT_ONCE = 8 };
 
 /* In seconds: between SIGTERM and SIGKILL of --timeout, between looks at what is left, until a shortage is tried
-   again, until what does not end after the last cut is left alone, and until there is a line of progress. */
-static const double GRACE = 5, LOOK = 1, SHORTAGE = 0.05, LAST = 30, PROGRESS = 2;
+   again, until what does not end after the last cut is left alone, until there is a line of progress, and within which
+   two signals are one: the sender's, and that to our process group. */
+static const double GRACE = 5, LOOK = 1, SHORTAGE = 0.05, LAST = 30, PROGRESS = 2, TOGETHER = 0.5;
 
 static struct {
     const struct options *options;
@@ -40,6 +42,7 @@ static struct {
     double wait_from;           /* --wait counts from here */
     double timeout_at, kill_at; /* 0: never */
     double short_until, look_at, progress_at;
+    double signalled; /* when the last signal came */
     bool is_left; /* something that the command has started */
     bool has_timed_out;
     int status;
@@ -151,8 +154,12 @@ static void hurry(void)
 
 static void read_signals(void)
 {
-    if (signals_read(run.signals, run.command) > 0)
-        hurry();
+    bool is_repeated = now() < run.signalled + TOGETHER;
+    if (signals_read(run.signals, run.command) > 0) {
+        if (run.command == 0 && !is_repeated)
+            hurry();
+        run.signalled = now();
+    }
     reap();
 }
 
@@ -312,15 +319,43 @@ static void check_file(const char *name)
         turn(SHORTAGE);
 }
 
+/* A process that was not recorded has left a link, whose text is its program and why. */
+static void take_mark(DIR *folder, const char *name)
+{
+    char text[512];
+    ssize_t length = readlinkat(dirfd(folder), name, text, sizeof text - 1);
+    if (length < 0)
+        return;
+    text[length] = 0;
+    char *why = strrchr(text, '\n');
+    struct process *process = process_add();
+    process->peer = process->own_number = atoi(name);
+    process->is_mark = true;
+    if (why != NULL)
+        *why++ = 0;
+    process_set_name(process, why != NULL && text[0] != 0 ? text : "(unknown)");
+    checker_give_up(process, why != NULL && *why != 0 ? why : "it was not recorded");
+}
+
+/* Traces, marks and results may have been in the folder. */
+static void note_loss_of_folder(void)
+{
+    struct process *process = process_add();
+    process->is_mark = true;
+    checker_give_up(process, "the folder of the run was removed, with all that processes had left in it");
+}
+
 static void check_files(void)
 {
-    static const char end[] = ".trace";
     DIR *entries = hub_folder() != NULL ? opendir(hub_folder()) : NULL;
     struct dirent *entry;
+    if (hub_folder() != NULL && entries == NULL)
+        note_loss_of_folder();
     while (entries != NULL && (entry = readdir(entries)) != NULL) {
-        size_t length = strlen(entry->d_name);
-        if (length > sizeof end && strcmp(entry->d_name + length - (sizeof end - 1), end) == 0)
+        if (ends_with(entry->d_name, ".trace"))
             check_file(entry->d_name);
+        else if (ends_with(entry->d_name, ".unseen"))
+            take_mark(entries, entry->d_name);
     }
     if (entries != NULL)
         closedir(entries);

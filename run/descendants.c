@@ -87,6 +87,21 @@ static bool is_descendant(struct kin *all, size_t count, const struct kin *kin)
     return false;
 }
 
+bool descendants_include(pid_t number)
+{
+    for (int steps = 0; number > 1 && steps < 10000; steps++) {
+        char name[16];
+        struct kin kin;
+        snprintf(name, sizeof name, "%d", number);
+        if (!read_kin(name, &kin))
+            return false;
+        if (kin.parent == getpid())
+            return !child_is_ours(number);
+        number = kin.parent;
+    }
+    return false;
+}
+
 /* Whether it is an asancol-run, as this is. */
 static bool is_run(pid_t number)
 {

@@ -13,6 +13,7 @@
 #include <sys/un.h>
 #include <unistd.h>
 
+#include "descendants.h"
 #include "say.h"
 
 /* A folder's name ends so, and the socket's name follows. */
@@ -24,15 +25,24 @@ enum { ADDRESS_ROOM = 108 };
 static char folder[ADDRESS_ROOM], address[ADDRESS_ROOM + sizeof SOCKET_END];
 static int listeners[HUB_LISTENERS] = {-1, -1};
 
+/* Makes the name of a socket, and answers how long it is; 0: it has no room. */
+static socklen_t name_socket(struct sockaddr_un *name, const char *text, bool is_abstract)
+{
+    size_t length = strlen(text);
+    _Static_assert(sizeof name->sun_path == ADDRESS_ROOM, "an address has this room");
+    *name = (struct sockaddr_un){.sun_family = AF_UNIX};
+    if (length + 1 > ADDRESS_ROOM)
+        return 0;
+    memcpy(name->sun_path + is_abstract, text, length);
+    return (socklen_t)(offsetof(struct sockaddr_un, sun_path) + length + 1);
+}
+
 static bool listen_at(int *listener, bool is_abstract)
 {
-    struct sockaddr_un name = {.sun_family = AF_UNIX};
-    size_t length = strlen(address);
-    _Static_assert(sizeof name.sun_path == ADDRESS_ROOM, "an address has this room");
-    if (length + 1 > ADDRESS_ROOM)
+    struct sockaddr_un name;
+    socklen_t size = name_socket(&name, address, is_abstract);
+    if (size == 0)
         return false;
-    memcpy(name.sun_path + is_abstract, address, length);
-    socklen_t size = (socklen_t)(offsetof(struct sockaddr_un, sun_path) + length + 1);
     int made = socket(AF_UNIX, SOCK_STREAM | SOCK_CLOEXEC | SOCK_NONBLOCK, 0);
     if (made >= 0 && bind(made, (struct sockaddr *)&name, size) == 0 && listen(made, SOMAXCONN) == 0) {
         *listener = made;
@@ -98,10 +108,10 @@ const int *hub_listeners(void)
     return listeners;
 }
 
-/* Root may check others' processes, and a process of ours may have become root's. */
+/* Root may check others' processes, and what the command has started may have become another user's. */
 static bool is_ours(const struct ucred *peer)
 {
-    return peer->uid == getuid() || peer->uid == 0 || getuid() == 0;
+    return peer->uid == getuid() || peer->uid == 0 || getuid() == 0 || descendants_include(peer->pid);
 }
 
 int hub_accept(int listener, pid_t *peer)
@@ -120,6 +130,20 @@ int hub_accept(int listener, pid_t *peer)
         }
         close(connection);
     }
+}
+
+bool hub_knock(const char *of_hub)
+{
+    bool is_there = false;
+    for (int is_abstract = 0; is_abstract < HUB_LISTENERS && !is_there; is_abstract++) {
+        struct sockaddr_un name;
+        socklen_t size = name_socket(&name, of_hub, is_abstract != 0);
+        int made = socket(AF_UNIX, SOCK_STREAM | SOCK_CLOEXEC, 0);
+        is_there = size > 0 && made >= 0 && connect(made, (const struct sockaddr *)&name, size) == 0;
+        if (made >= 0)
+            close(made);
+    }
+    return is_there;
 }
 
 void hub_stop(void)

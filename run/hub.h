@@ -3,6 +3,7 @@
 #ifndef ASANCOL_RUN_HUB_H
 #define ASANCOL_RUN_HUB_H
 
+#include <stdbool.h>
 #include <sys/types.h>
 
 enum { HUB_LISTENERS = 2 };
@@ -16,8 +17,11 @@ const char *hub_folder(void);
 /* Their descriptors; -1 is one that is not there. */
 const int *hub_listeners(void);
 /* The next connection, and the number of the process that made it. -1: there is none, errno says why. Those of other
-   users are refused. */
+   users are refused, unless the command has started them. */
 int hub_accept(int listener, pid_t *peer);
+/* Connects to another hub and sends nothing, so that it knows of a process that it does not see. False: it is not
+   there any more. */
+bool hub_knock(const char *of_hub);
 /* Connections that come from now on fail. */
 void hub_stop(void);
 /* Removes the folder with all that is in it. */

@@ -11,6 +11,12 @@
 
 #include "say.h"
 
+bool ends_with(const char *name, const char *end)
+{
+    size_t length = strlen(name), of_end = strlen(end);
+    return length > of_end && strcmp(name + length - of_end, end) == 0;
+}
+
 /* Writes the value of the mark %q{NAME}, and answers where the mark ends. */
 static const char *expand_variable(FILE *to, const char *option, const char *text)
 {

@@ -8,6 +8,9 @@
    is not set. Of no name, only the option says where it came from. */
 char *name_expanded(const char *option, const char *text);
 
+/* Whether the name is longer than this end, and has it. */
+bool ends_with(const char *name, const char *end);
+
 /* A program of ours: the value of the variable, or beside this one, or in the folder above, or on the path. Null if it
    is not there or cannot be executed. */
 char *find_own_program(const char *name, const char *variable);

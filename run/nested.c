@@ -9,6 +9,8 @@
 #include <string.h>
 #include <unistd.h>
 
+#include "hub.h"
+#include "names.h"
 #include "say.h"
 
 #define FRONT "nested."
@@ -17,11 +19,12 @@
 #define BEGUN ".begun"
 
 static char result[PATH_MAX];
+static const char *outer; /* the socket of the run round this one, or null */
 
 void nested_begin(void)
 {
     char folder[PATH_MAX];
-    const char *outer = getenv("ASANCOL_HUB");
+    outer = getenv("ASANCOL_HUB");
     const char *slash = outer != NULL ? strrchr(outer, '/') : NULL;
     if (slash == NULL || slash == outer || slash - outer > PATH_MAX / 2)
         return;
@@ -43,18 +46,21 @@ static const char *beside_result(const char *end)
     return path;
 }
 
-static void make_beside_result(const char *end)
+static bool make_beside_result(const char *end)
 {
-    if (result[0] == 0)
-        return;
-    int made = open(beside_result(end), O_WRONLY | O_CREAT | O_CLOEXEC, 0600);
+    int made = result[0] != 0 ? open(beside_result(end), O_WRONLY | O_CREAT | O_CLOEXEC, 0600) : -1;
     if (made >= 0)
         close(made);
+    return made >= 0;
 }
 
 void nested_note_begun(void)
 {
-    make_beside_result(BEGUN);
+    if (outer == NULL || make_beside_result(BEGUN))
+        return;
+    result[0] = 0;
+    if (hub_knock(outer))
+        say("asancol-run: the run round this one does not get its result: nothing can be left beside %s", outer);
 }
 
 void nested_take_back(void)
@@ -66,12 +72,6 @@ void nested_take_back(void)
 void nested_note_recorded(void)
 {
     make_beside_result(RECORDED);
-}
-
-static bool ends(const char *word, const char *end)
-{
-    size_t length = strlen(word), count = strlen(end);
-    return length >= count && strcmp(word + length - count, end) == 0;
 }
 
 /* Whether a run that has begun has left a result. */
@@ -89,9 +89,9 @@ struct nested nested_found(const char *folder)
     struct dirent *entry;
     while (entries != NULL && (entry = readdir(entries)) != NULL)
         if (strncmp(entry->d_name, FRONT, strlen(FRONT)) == 0) {
-            found.is_there |= ends(entry->d_name, RESULT);
-            found.has_recorded |= ends(entry->d_name, RECORDED);
-            found.lost += ends(entry->d_name, BEGUN) && !has_result(folder, entry->d_name);
+            found.is_there |= ends_with(entry->d_name, RESULT);
+            found.has_recorded |= ends_with(entry->d_name, RECORDED);
+            found.lost += ends_with(entry->d_name, BEGUN) && !has_result(folder, entry->d_name);
         }
     if (entries != NULL)
         closedir(entries);

@@ -11,7 +11,8 @@
 void nested_begin(void);
 /* Where our result goes, or null. */
 const char *nested_result(void);
-/* Notes there that the command is started, or takes that back if it could not be. */
+/* Notes there that the command is started, or takes that back if it could not be. If nothing can be left there, the
+   outer run has a process that was not seen. */
 void nested_note_begun(void);
 void nested_take_back(void);
 /* Notes there that we have recorded something. */

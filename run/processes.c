@@ -53,7 +53,12 @@ void process_name(struct process *process)
     const struct side *side = process->side;
     process->own_number = side != NULL ? (int)side->process : (int)process->peer;
     process->parent = side != NULL ? (int)side->parent : 0;
-    process->name = must(side != NULL ? strndup(side->words, MOST_OF_NAME) : strdup("(unknown)"));
+    process_set_name(process, side != NULL ? side->words : "(unknown)");
+}
+
+void process_set_name(struct process *process, const char *name)
+{
+    process->name = must(strndup(name, MOST_OF_NAME));
     for (char *at = process->name; *at != 0; at++)
         if ((unsigned char)*at < ' ' || *at == 0x7f)
             *at = '?'; /* it is printed on terminals */

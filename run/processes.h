@@ -28,6 +28,7 @@ struct process {
     pid_t checker, tee;                 /* 0: it does not run */
     int checker_status;                 /* as of waitpid */
     const char *trace;                  /* the file in which its trace is, if it did not reach the hub; or null */
+    bool is_mark;                       /* all that is known is that it was not recorded, and why */
     char *kept;                         /* the file in which its trace is kept, or null */
     enum cut cut;
     char *name;                         /* the first word of its command line */
@@ -35,6 +36,7 @@ struct process {
     char fate[32];
     uint64_t events, reports, left_out;
     bool is_whole, has_checks;
+    bool is_unchecked; /* it is not whole since it has no checks, and for no other reason */
     bool is_settled; /* nothing of it can change any more */
     char why[160];   /* it was not seen whole, or how it ended; or empty */
 };
@@ -49,5 +51,7 @@ size_t process_live_count(void);
 void process_is_done(struct process *process);
 /* Takes its name and numbers from its side memory, if it has one. */
 void process_name(struct process *process);
+/* Its name, as it is printed. */
+void process_set_name(struct process *process, const char *name);
 
 #endif

@@ -347,10 +347,11 @@ void report_finish(const struct outcome *outcome)
     FILE *to = new_message(&message);
     fprintf(to,
             "{\"type\":\"end\",\"seconds\":%.3f,\"status\":%d,\"signal\":%d,\"nothing\":%s,\"missing\":%" PRIu64
-            ",\"running\":%s,\"lost\":%" PRIu64 "}",
+            ",\"running\":%s,\"timed_out\":%s,\"lost\":%" PRIu64 "}",
             outcome->seconds, WIFEXITED(outcome->status) ? WEXITSTATUS(outcome->status) : 0,
             WIFSIGNALED(outcome->status) ? WTERMSIG(outcome->status) : 0, outcome->nothing ? "true" : "false",
-            outcome->missing, outcome->is_running ? "true" : "false", outcome->lost);
+            outcome->missing, outcome->is_running ? "true" : "false", outcome->has_timed_out ? "true" : "false",
+            outcome->lost);
     report.is_over = true;
     enqueue(message, to);
     if (report.socket >= 0)

@@ -16,6 +16,7 @@ struct outcome {
     bool nothing; /* was recorded */
     uint64_t missing;
     bool is_running; /* something of the command */
+    bool has_timed_out;
     uint64_t lost;   /* runs inside this one that left no result */
 };
 

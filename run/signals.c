@@ -17,6 +17,7 @@ static const int passed_on[] = {SIGINT, SIGTERM, SIGHUP, SIGQUIT, SIGUSR1, SIGUS
 static const int others[] = {SIGCHLD, SIGTSTP, SIGCONT};
 
 static sigset_t mask_before;
+static sigset_t ours; /* what is passed on, and was not ignored */
 static struct sigaction child_before;
 
 #define COUNT(array) (sizeof(array) / sizeof *(array))
@@ -28,17 +29,29 @@ static void add_unless_ignored(sigset_t *set, int number)
         sigaddset(set, number);
 }
 
+/* Gives all of ours the same action. While they are blocked they are read all the same. */
+static void set_ours(void (*handler)(int))
+{
+    struct sigaction action = {.sa_handler = handler};
+    for (size_t i = 0; i < COUNT(passed_on); i++)
+        if (sigismember(&ours, passed_on[i]))
+            sigaction(passed_on[i], &action, NULL);
+}
+
 int signals_open(void)
 {
     sigset_t blocked;
     struct sigaction usual = {.sa_handler = SIG_DFL};
     sigaction(SIGCHLD, &usual, &child_before); /* if it is ignored, children vanish without their status */
-    sigemptyset(&blocked);
+    sigemptyset(&ours);
     for (size_t i = 0; i < COUNT(passed_on); i++)
-        add_unless_ignored(&blocked, passed_on[i]);
+        add_unless_ignored(&ours, passed_on[i]);
+    blocked = ours;
     for (size_t i = 0; i < COUNT(others); i++)
         add_unless_ignored(&blocked, others[i]);
     sigprocmask(SIG_BLOCK, &blocked, &mask_before);
+    /* A signal to our process group may come to a checker or the report before that has a group for itself. */
+    set_ours(SIG_IGN);
     int descriptor = signalfd(-1, &blocked, SFD_CLOEXEC | SFD_NONBLOCK);
     if (descriptor < 0)
         fail(OWN_FAILURE, "no descriptor for signals", strerror(errno));
@@ -48,6 +61,7 @@ int signals_open(void)
 void signals_restore(void)
 {
     sigaction(SIGCHLD, &child_before, NULL);
+    set_ours(SIG_DFL);
     sigprocmask(SIG_SETMASK, &mask_before, NULL);
 }
 
@@ -82,7 +96,7 @@ int signals_read(int descriptor, pid_t command)
             kill(command, number);
         if (number == SIGTSTP)
             stop();
-        else if (number != SIGCONT && command == 0)
+        else if (number != SIGCONT)
             count++;
     }
     return count;

@@ -11,8 +11,8 @@ int signals_open(void);
 void signals_restore(void);
 /* A pipe without a reader is an error from now on, and no end. */
 void signals_ignore_pipe(void);
-/* Reads all that have come. Those that are for the command are passed on to it, if it is not 0: then the answer is how
-   many others have come that want an end. */
+/* Reads all that have come, and passes them on to the command, if it is not 0. Answers how many have come that want an
+   end. */
 int signals_read(int descriptor, pid_t command);
 /* Ends this process by a signal, without a core. */
 void signals_end_by(int number);

@@ -85,7 +85,7 @@ static void blame_fate(struct process *process, uint32_t ending)
     else if (ending == ENDING_LOST)
         WHY("its recording ended early");
     else if (ending == ENDING_NONE && is_cut_off)
-        WHY("ended without a word, as by SIGKILL: what came last was not seen");
+        WHY("ended without a word, as by SIGKILL or an _exit in a library: what came last was not seen");
     else
         WHY("its trace ended as %s", process->fate);
 }
@@ -107,8 +107,8 @@ static void judge(struct process *process)
     bool is_at_limit = side != NULL && side->is_at_limit != 0;
     bool was_checked = strcmp(process->fate, "not-checked") != 0;
     process->left_out = side != NULL ? side->left_out : 0;
-    process->has_checks = side == NULL || side->has_checks != 0;
-    process->is_whole = false;
+    process->has_checks = !process->is_mark && (side == NULL || side->has_checks != 0);
+    process->is_whole = process->is_unchecked = false;
     /* What is read from a file does not change any more; what is past the limit may still grow. */
     process->is_settled = side == NULL || process->trace != NULL || (!is_at_limit && ending != ENDING_NONE);
     process->why[0] = 0;
@@ -120,10 +120,11 @@ static void judge(struct process *process)
         blame_limit(process);
     else if (!was_checked || !has_all(process, ending))
         blame_fate(process, ending);
-    else if (!process->has_checks)
-        WHY("no code of it was compiled by asancol-cc");
     else
-        process->is_whole = true;
+        process->is_whole = process->has_checks;
+    process->is_unchecked = !process->is_whole && process->why[0] == 0;
+    if (process->is_unchecked)
+        WHY("no code of it was compiled by asancol-cc");
     if (process->is_whole && ending == ENDING_SIGNAL)
         WHY("ended by %s", signal_name((int)side->signal));
 }

@@ -167,13 +167,14 @@ class Root:
 
 
 def package_finds_a_bug(_: str, folder: str) -> None:
-    """It installs, finds the first bug, and leaves nothing when it is purged, though Python has left something."""
+    """It installs, finds the first bug, and leaves nothing when it is purged; what is installed stays as it is."""
     root = Root(folder)
     before = root.files()
     root.dpkg("--install", package_of(folder))
     programs = f"{root.folder}/usr/bin"
     # As where py3compile is not there, and root runs asancol-report.
     shutil.rmtree(f"{root.folder}/usr/lib/asancol/asancol_report/__pycache__", ignore_errors=True)
+    installed = root.files()
     must([f"{programs}/asancol-cc", "-g", "examples/bug.c", "-o", f"{folder}/bug"])
     ran = run([f"{programs}/asancol-run", "--", f"{folder}/bug", "Alice"])
     expect((ran.status, ran.out), (99, "Alice\n"), ran.err)
@@ -185,6 +186,9 @@ def package_finds_a_bug(_: str, folder: str) -> None:
     expect(run([f"{programs}/asancol-run", "-q", "--", f"{folder}/bug"]).status, 99, "by asancol-c++")
     for name in ("asancol", "asancol-run", "asancol-report"):
         expect(must([f"{programs}/{name}", "--version"]), f"{name} {release()}\n", name)
+    expect(root.files(), installed, "what the programs have left there")
+    # As after an older release of the package, which let Python write there.
+    os.mkdir(f"{root.folder}/usr/lib/asancol/asancol_report/__pycache__")
     root.dpkg("--purge", "asancol")
     expect(root.files(), before, "what is left")
 

@@ -357,7 +357,7 @@ def check_where(suite, folder, compiler, level):
     expect([(it.kind, it.line) for it in said], [("store", "w.c:10")], "the access")
     side = side_of(f"{folder}/w.trace")
     fault = side.fault(said[0].number)
-    expect((side.header, side.words, side.ending), (b"ASWH\2\0\0\0", [b"./w"], EXIT), "the head")
+    expect((side.header, side.words, side.ending), (b"ASWH\3\0\0\0", [b"./w"], EXIT), "the head")
     events = len(Trace(f"{folder}/w.trace").events)
     expect((side.events, side.fault_count, fault.size), (events, 1, 6), "events, faults, and the block")
     places = side.lines([fault.allocated, fault.freed])

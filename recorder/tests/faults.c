@@ -1,6 +1,7 @@
 /* Faults and near misses, one a run: `faults NAME`. `faults --list` says for each what has to be reported, as the
    driver writes it: kind, width, place in the block, the bad byte where it is another, class. Several reports are
-   apart by "; ". After it, what the compiler's own AddressSanitizer says of the first: "same", or "else". */
+   apart by "; ". After it, what the compiler's own AddressSanitizer says of the first: "same", or why it does not. The
+   causes are those of docs/RECORDER.md. */
 #define _GNU_SOURCE
 #include <malloc.h>
 #include <pthread.h>
@@ -87,7 +88,7 @@ FAULT(load_16_past, "load 8 +16 heap-buffer-overflow; load 8 +24 heap-buffer-ove
     sink = (uint64_t)*(unsigned __int128 *)hide(p + 16);
     drop(p);
 }
-TEST(load_16_half_past, "load 8 +24 heap-buffer-overflow", "else")
+TEST(load_16_half_past, "load 8 +24 heap-buffer-overflow", "pieces")
 {
     char *p = block(24);
     sink = (uint64_t)(*(unsigned __int128 *)hide(p + 16) >> 64);
@@ -96,7 +97,7 @@ TEST(load_16_half_past, "load 8 +24 heap-buffer-overflow", "else")
 FAULT(load_before, "load 1 -1 heap-buffer-overflow") { char *p = block(8); LOAD(char, p - 1); drop(p); }
 FAULT(store_before, "store 4 -4 heap-buffer-overflow") { char *p = block(8); STORE(int, p - 4); drop(p); }
 FAULT(store_far_before, "store 8 -16 heap-buffer-overflow") { char *p = block(8); STORE(long, p - 16); drop(p); }
-TEST(load_in_the_redzone, "load 1 +39 heap-buffer-overflow", "else")
+TEST(load_in_the_redzone, "load 1 +39 heap-buffer-overflow", "redzones")
 {
     char *p = block(8);
     LOAD(char, p + 39);
@@ -109,7 +110,7 @@ FAULT(past_a_large_block, "store 1 +100000 heap-buffer-overflow")
     drop(p);
 }
 FAULT(before_a_large_block, "load 8 -8 heap-buffer-overflow") { char *p = block(100000); LOAD(long, p - 8); drop(p); }
-TEST(empty_block, "load 1 +0 heap-buffer-overflow", "else") { char *p = block(0); LOAD(char, p); drop(p); }
+TEST(empty_block, "load 1 +0 heap-buffer-overflow", "empty blocks") { char *p = block(0); LOAD(char, p); drop(p); }
 FAULT(loop_one_too_far, "store 4 +40 heap-buffer-overflow")
 {
     int *p = (int *)block(10 * sizeof *p);
@@ -192,7 +193,7 @@ FAULT(realloc_after_free, "free +0 double-free")
 FAULT(free_inside, "free +8 bad-free") { char *p = block(16); drop(p + 8); drop(p); }
 FAULT(free_of_stack, "free bad-free") { char local[64]; drop(hide((char *)local) + 16); }
 FAULT(free_of_global, "free bad-free") { static char global[64]; drop(hide((char *)global)); }
-TEST(free_of_nonsense, "free bad-free", "else") { drop((void *)(uintptr_t)hide_size(0x123450)); }
+TEST(free_of_nonsense, "free bad-free", "wild frees") { drop((void *)(uintptr_t)hide_size(0x123450)); }
 FAULT(free_past, "free +32 bad-free") { char *p = block(32); drop(p + 32); }
 TEST(goes_on, "store 1 +5 heap-buffer-overflow; load 1 +6 heap-buffer-overflow; free +0 double-free", "same")
 {
@@ -315,7 +316,7 @@ CLEAN(unpoisoned)
 }
 
 /* Up to what is no address, and past it. */
-TEST(poisoned_to_the_end, "", "else")
+TEST(poisoned_to_the_end, "", "end of addresses")
 {
     void *last = (void *)(uintptr_t)hide_size(((size_t)1 << 47) - 64);
     ASAN_POISON_MEMORY_REGION(last, hide_size(SIZE_MAX));
@@ -488,7 +489,7 @@ CLEAN(stack_and_globals)
         hide((int *)global)[i] = hide((int *)local)[i] = (int)i;
     sink = (uint64_t)hide((int *)local)[9];
 }
-TEST(huge_block, "", "else")
+TEST(huge_block, "", "sizes")
 {
     size_t size = ((size_t)1 << 28) + 1;
     char *p = hide((char *)malloc(size));
@@ -501,7 +502,7 @@ TEST(huge_block, "", "else")
     drop(p);
     drop(block(1 << 20));
 }
-TEST(impossible_block, "", "else")
+TEST(impossible_block, "", "sizes")
 {
     char *p = hide((char *)malloc(hide_size(SIZE_MAX / 2)));
     char *q = hide((char *)calloc(hide_size(SIZE_MAX / 2), 4));

@@ -100,6 +100,34 @@ static void loops(void)
         put(p, 8 + i % 8);
 }
 
+/* Stacks: one that ends in main, another one to the same place, a deep one, and one through the C library. */
+
+__attribute__((noinline)) static void inner(void)
+{
+    put(make(24), 24);
+}
+
+__attribute__((noinline)) static void outer(void)
+{
+    inner();
+}
+
+__attribute__((noinline)) static void deep(int depth)
+{
+    if (depth == 0)
+        inner();
+    else
+        deep(depth - 1);
+}
+
+static void calls(void)
+{
+    outer();
+    inner();
+    deep(40);
+    put(hide(strdup("word")), 5);
+}
+
 /* Variables. */
 
 __attribute__((noinline)) static void on_stack(void)
@@ -109,6 +137,7 @@ __attribute__((noinline)) static void on_stack(void)
     first[ten] = 1;
     second[ten + 11] = 1;
     second[ten - 13] = 1;
+    (void)first, (void)second;
 }
 
 __attribute__((noinline)) static void after_scope(void)
@@ -434,7 +463,7 @@ static const struct {
     const char *name;
     void (*run)(void);
 } runs[] = {
-    NAMED(before), NAMED(behind), NAMED(inside_freed), NAMED(twice), NAMED(large), NAMED(inside_free),
+    NAMED(before), NAMED(behind), NAMED(calls), NAMED(inside_freed), NAMED(twice), NAMED(large), NAMED(inside_free),
     NAMED(loops), NAMED(on_stack), NAMED(after_scope), NAMED(globals), NAMED(frees_variables), NAMED(forks),
     NAMED(forks_after_fault), NAMED(forks_and_closes), NAMED(vforks_and_closes), NAMED(execs),
     NAMED(execs_true), NAMED(execs_in_vain), NAMED(execs_in_vain_at_limit), NAMED(execs_at_limit),

@@ -180,7 +180,7 @@ def check_blocks(suite: Suite, folder: str, program: str) -> None:
                 expect((fault.variable, fault.name), (NO_VARIABLE, ""), name)
                 found.append((address - fault.block, fault.size, lines_of(side, fault)))
         expect(found, wanted, name)
-        expect(side.fault_count, 1, f"faults of {name}")
+        expect(side.fault_count, len({side.stack(it.stack) for it in faults_of(peer)}), f"faults of {name}")
         expect(len(check(suite, folder, peer)[1]), len(wanted), f"reports of {name}")
 
 
@@ -257,7 +257,7 @@ def check_head(suite: Suite, folder: str, program: str) -> None:
     before = time.time()
     peer = one(folder, [program, "behind", "", "some word", "w" * 5000], ASANCOL_WHERE="0")
     side = peer.side()
-    expect((side.header, peer.seals & 7), (b"ASWH\2\0\0\0", 7), "its header and its seals")
+    expect((side.header, peer.seals & 7), (b"ASWH\3\0\0\0", 7), "its header and its seals")
     expect(side.data[72:4072].startswith(f"{program}\0behind\0\0some word\0www".encode()), True, "its words")
     expect(side.data[4069:4072], b"w\0\0", "a word that was cut")
     expect(before - 1 < side.started / 1e9 < time.time() + 1, True, "when it was started")
@@ -447,6 +447,44 @@ def check_fallback(suite: Suite, folder: str, program: str) -> None:
     expect((ran.returncode, len(ran.stderr.splitlines())), (0, 2), ran.stderr)
 
 
+def check_stacks(suite: Suite, folder: str, program: str) -> None:
+    """Each place has its callers, also through wrappers of malloc and the C library."""
+    side = one(folder, [program, "calls"]).side()
+    places = [(fault.stack, fault.allocated_stack) for fault in side.faults]
+    found = [[[function for function, _ in side.lines(side.stack(it)[:-1])] for it in pair] for pair in places]
+    wanted = [
+        [["put", "inner", "outer", "calls", "main"], ["make", "inner", "outer", "calls", "main"]],
+        [["put", "inner", "calls", "main"], ["make", "inner", "calls", "main"]],
+        [["put", "inner"] + ["deep"] * 29, ["make", "inner"] + ["deep"] * 29],
+        [["put", "calls", "main"], ["calls", "main"]],
+    ]
+    expect(found, wanted, "stacks")
+
+
+def marks(folder: str) -> List[Tuple[str, str]]:
+    """The programs that have left word that they are not recorded, and why."""
+    paths = [f"{folder}/{name}" for name in os.listdir(folder) if re.fullmatch(r"\d+\.unseen", name)]
+    texts = [os.readlink(path).split("\n") for path in paths]
+    for path in paths:
+        os.unlink(path)
+    return [(program, why) for program, why in texts]
+
+
+def check_word(suite: Suite, folder: str, program: str, lives: str) -> None:
+    """A process that is not recorded leaves word, or connects and sends nothing."""
+    room = "address space is limited (ulimit -v, or vm.overcommit_memory=2)"
+    run_under(folder, ["sh", "-c", f"ulimit -v 1000000; exec {program} behind"], 127)
+    expect(marks(folder), [(program, room)], "without room for the shadow")
+    peers, _ = run_under(folder, [program, "behind"], ASANCOL_TRACE=f"{folder}/elsewhere")
+    expect((peers, [it for it, _ in marks(folder)]), ([], [program]), "with a trace that goes elsewhere")
+    peers, _ = run_under(folder, [lives, "forks_quietly"])
+    expect(marks(folder), [(lives, "it was not made by fork, but by _Fork or clone")], "a fork that nothing announces")
+    hub = Hub("/dev/null/hub" + str(next(NUMBERS)), has_path=False)
+    ran = run([program, "behind"], folder, ASANCOL_HUB=hub.path, ASANCOL_TRACE=f"{folder}/elsewhere")
+    peers = hub.close()
+    expect((ran.returncode, [bytes(it.data) for it in peers]), (0, [b""]), "without a folder for word")
+
+
 def check_files(suite: Suite, folder: str, program: str) -> None:
     """A side file has what a hub gets: also after a kill, after an exec that failed, and of a child."""
     for name, (status, ending, number, _) in ENDINGS.items():
@@ -545,7 +583,9 @@ def process_tests(suite: Suite, compiler: Compiler, folder: str) -> None:
     suite.test(f"{compiler} hub modules", check_modules, program, compiler)
     suite.test(f"{compiler} hub names", check_names, program)
     suite.test(f"{compiler} hub root", check_root, program)
+    suite.test(f"{compiler} hub stacks", check_stacks, program)
     suite.test(f"{compiler} hub fallback", check_fallback, program)
+    suite.test(f"{compiler} hub word", check_word, program, f"{folder}/lives-{compiler}")
     suite.test(f"{compiler} hub files", check_files, program)
     suite.test(f"{compiler} hub small files", check_small_files, program)
     suite.test(f"{compiler} hub closed descriptors", check_closed, program)

@@ -96,9 +96,10 @@ class Trace:
 
 
 # What stands beside a trace, as docs/FORMAT.md lays it out.
-HEAD = struct.Struct("<8sQQIIIIQIII")
+HEAD = struct.Struct("<8sQQIIIIQIIII")
 BUILDS, BUILD, MAPS, INDEX = 4096, struct.Struct("<QB23s"), 8192, 1 << 18
-FAULTS_AT, FAULT = INDEX + (1 << 24) * 4, struct.Struct("<QQQQQQII136s")
+FAULTS_AT, FAULT = INDEX + (1 << 24) * 4, struct.Struct("<QQQQQQIIIIII120s")
+STACKS_AT = FAULTS_AT + (1 << 16) * FAULT.size
 NO_ENDING, EXIT, EXEC, SIGNAL, LOST = range(5)
 NO_VARIABLE, OF_STACK, GLOBAL = range(3)
 
@@ -113,8 +114,8 @@ class Fault:
     def __init__(self, data):
         numbers = FAULT.unpack(data)
         self.event, self.place, self.block, self.size, self.allocated, self.freed = numbers[:6]
-        self.variable, self.line = numbers[6:8]
-        self.name = text_of(numbers[8])
+        self.variable, self.line, self.stack, self.allocated_stack, self.freed_stack = numbers[6:11]
+        self.name = text_of(numbers[12])
 
 
 class Side:
@@ -124,7 +125,7 @@ class Side:
         self.data = data
         head = HEAD.unpack_from(data)
         self.header, self.events, self.left_out, self.ending, self.signal, self.process, self.parent = head[:7]
-        self.started, self.has_checks, self.is_at_limit, self.fault_count = head[7:]
+        self.started, self.has_checks, self.is_at_limit, self.fault_count, self.stack_words = head[7:]
         self.words = data[72:4072].split(b"\0\0")[0].split(b"\0")
         at = [FAULTS_AT + i * FAULT.size for i in range(self.fault_count)]
         self.faults = [Fault(data[it : it + FAULT.size]) for it in at]
@@ -136,6 +137,13 @@ class Side:
         entry = self.data[at : at + 4]
         number = int.from_bytes(entry, "little")
         return self.faults[number - 1] if number else None
+
+    def stack(self, number):
+        """The places of a stack, the innermost first."""
+        at = STACKS_AT + number * 8
+        (count,) = struct.unpack_from("<Q", self.data, at)
+        expect(0 < number and number + count < self.stack_words, True, f"that the stack {number} lies in its part")
+        return struct.unpack_from(f"<{count}Q", self.data, at + 8)
 
     def builds(self):
         """The build ids, by the file of the module."""

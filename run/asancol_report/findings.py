@@ -2,16 +2,19 @@
 
 from __future__ import annotations
 
+import functools
 import hashlib
 import os
 import re
-from typing import Dict, NamedTuple, Optional, Tuple
+from typing import Dict, Iterable, NamedTuple, Optional, Tuple
 
 from .sources import Sources
-from .words import plural
+from .words import plural, stable_path
 
 HEAP, STACK, GLOBAL = "heap", "stack", "global"
 FINGERPRINT_DIGITS = 16
+# A file of the system, whose inlined functions stand in all programs: in an `include` below `/usr`, here or in a copy.
+SYSTEM_HEADER = re.compile(r"(?:^|/)usr/(?:local/)?(?:include/|lib\w*/(?:.+/)?include/)")
 
 
 class Frame(NamedTuple):
@@ -93,12 +96,14 @@ class Finding:
         return next(iter(self.runs.values()))
 
     @property
+    def own_stack(self) -> Stack:
+        """The frames of the access from the one on that stands for it."""
+        return own_frames(self.stack)
+
+    @property
     def top(self) -> Frame:
-        """The frame that a reader wants to see: the first with a line, and else the first."""
-        for frame in self.stack:
-            if frame.line:
-                return frame
-        return self.stack[0] if self.stack else Frame()
+        """The frame that a reader wants to see."""
+        return next(iter(self.own_stack), Frame())
 
     @property
     def what(self) -> str:
@@ -136,12 +141,39 @@ class Finding:
 
     def set_fingerprint(self, sources: Sources) -> None:
         """Names the finding by what stays if lines move."""
-        frame = self.top
-        text = frame.text or sources.line(frame.file, frame.line)
-        words = [self.class_name, self.access, frame.function, os.path.basename(frame.file or frame.module),
-                 text or f"{frame.offset:x}"]
+        words = [self.class_name, self.access]
+        for frame in self.own_stack:
+            words += [frame.function, stable_path(frame.file, sources.root) or os.path.basename(frame.module)]
+            if frame.text:
+                words += [frame.text, str(sources.ordinal(frame.file, frame.line, frame.function))]
+            else:
+                words.append(f"{frame.offset:x}")
         name = "\0".join(words).encode("utf-8", "surrogateescape")
         self.fingerprint = hashlib.sha256(name).hexdigest()[:FINGERPRINT_DIGITS]
+
+
+@functools.lru_cache(maxsize=1 << 12)
+def is_of_system(file: str) -> bool:
+    return SYSTEM_HEADER.search(file) is not None
+
+
+def first_own(places: Iterable[Tuple[str, int]]) -> Tuple[int, int]:
+    """Returns which frame stands for a place, and its line, from the files and lines of all frames: the first with a
+    line that is in no header of the system, or else the first with a line, or else the first."""
+    first = 0, 0
+    for at, (file, line) in enumerate(places):
+        if line and not is_of_system(file):
+            return at, line
+        if line and not first[1]:
+            first = at, line
+    return first
+
+
+def own_frames(stack: Stack) -> Stack:
+    """Returns the frame that stands for the place, and those that it was inlined into."""
+    first = first_own((frame.file, frame.line) for frame in stack)[0]
+    last = next((at for at in range(first, len(stack)) if not stack[at].is_inlined), first)
+    return stack[first:last + 1]
 
 
 def in_words(block: Block, is_freed: bool) -> str:
@@ -181,13 +213,3 @@ def place_text(frame: Frame) -> str:
     if frame.module:
         return f"({frame.module}+0x{frame.offset:x})"
     return frame.note or f"0x{frame.offset:x}"
-
-
-def suppression_of(finding: Finding) -> str:
-    """Returns the line that suppresses a finding, or nothing if its place is not known."""
-    frame = finding.top
-    if frame.function:
-        return f"{finding.class_name}:^{frame.function}$"
-    if frame.module:
-        return f"{finding.class_name}:/{os.path.basename(frame.module)}$"
-    return ""

@@ -19,7 +19,9 @@ from .verdicts import Group, Verdicts
 NO_PLACE = "its place was not recorded"
 NO_ALLOCATION = "before the trace began"
 
-Key = Tuple[str, str, Optional[int], Optional[Place], Optional[Place], Optional[Place], str]
+# The places of calls, the innermost first; none, if nothing is known.
+Calls = Tuple[Place, ...]
+Key = Tuple[str, str, Optional[int], Calls, Calls, Calls, str]
 
 
 class Sighting:
@@ -36,11 +38,11 @@ class Sighting:
 
 
 class Places(NamedTuple):
-    """The places of a fault: of the access, the malloc and the free. None, if one is not known."""
+    """The places of a fault: of the access, the malloc and the free, with their callers."""
 
-    place: Optional[Place]
-    allocated: Optional[Place]
-    freed: Optional[Place]
+    place: Calls = ()
+    allocated: Calls = ()
+    freed: Calls = ()
 
 
 class Gatherer:
@@ -53,7 +55,7 @@ class Gatherer:
         self.symbols = symbols
         self.sources = sources
         self.sightings: Dict[Key, Sighting] = {}
-        self.frames: Dict[Optional[Place], Stack] = {}
+        self.frames: Dict[Place, Stack] = {}
         # The processes of each finding that was seen, by its identity.
         self.seen_in: Dict[int, int] = {}
 
@@ -72,14 +74,17 @@ class Gatherer:
 
     def places_of(self, side: Optional[Side], fault: Optional[Fault]) -> Places:
         if side is None or fault is None:
-            return Places(None, None, None)
-        freed = self.place(side, fault.freed) if fault.freed else None
-        return Places(self.place(side, fault.place), self.place(side, fault.allocated), freed)
+            return Places()
+        return Places(*(self.calls(side, it) for it in (fault.place, fault.allocated, fault.freed)))
 
-    def place(self, side: Side, after_call: int) -> Optional[Place]:
+    def calls(self, side: Side, after_calls: Tuple[int, ...]) -> Calls:
+        """Returns the places of calls, from the addresses after them. Callers that lie in no module are none."""
+        places = [self.place(side, address) for address in after_calls]
+        ends = [number for number, place in enumerate(places) if number > 0 and place.module is None]
+        return tuple(places[:ends[0]] if ends else places)
+
+    def place(self, side: Side, after_call: int) -> Place:
         """Returns the place of a call, from the address after it."""
-        if after_call == 0:
-            return None
         address = after_call - 1
         mapping = side.mapping(address)
         if mapping is None:
@@ -130,20 +135,27 @@ class Gatherer:
         finding.stack = self.stack(sighting.place, NO_PLACE)
         if finding.block is not None and finding.block.kind == HEAP:
             finding.allocated = self.stack(sighting.allocated, NO_ALLOCATION)
-            if sighting.freed is not None:
+            if sighting.freed:
                 finding.freed = self.stack(sighting.freed, "")
         finding.set_fingerprint(self.sources)
         return finding
 
-    def stack(self, place: Optional[Place], note: str) -> Stack:
-        if place is None:
+    def stack(self, calls: Calls, note: str) -> Stack:
+        """Returns the frames of calls. What has called `main` is of no use to a reader."""
+        if not calls:
             return (Frame(note=note),)
-        stack = self.frames.get(place)
-        if stack is None:
-            stack = self.frames[place] = self.read_stack(place)
-        return stack
+        frames: List[Frame] = []
+        end = 0
+        for place in calls:
+            if place not in self.frames:
+                self.frames[place] = self.read_frames(place)
+            frames += self.frames[place]
+            if frames[-1].function == "main":
+                end = len(frames)
+        return tuple(frames[:end] if end else frames)
 
-    def read_stack(self, place: Place) -> Stack:
+    def read_frames(self, place: Place) -> Stack:
+        """Returns the frame of a place, and before it those that the compiler has inlined there."""
         module = place.module
         if module is None:
             return (Frame(offset=place.offset),)

@@ -12,10 +12,11 @@ import time
 from html import escape as html_escape
 from typing import Dict, Iterable, Iterator, List, TextIO
 
-from .findings import Finding, Frame, place_text, Stack, suppression_of
+from .findings import Finding, Frame, own_frames, place_text, Stack
 from .options import Options
 from .results import Process, Results, Run
 from .sources import Sources
+from .suppressions import suppression_of
 from .text import totals_line
 from .verdicts import CLASSES
 from .words import command_line, plural, printable, shown_path
@@ -79,14 +80,15 @@ class Page:
                    "bad" if totals.places else "good")
         yield tile(totals.reports, "report in all" if totals.reports == 1 else "reports in all", "")
         yield tile(totals.processes, ("process in " if totals.processes == 1 else "processes in ")
-                   + plural(len(self.results.runs), "run"), "")
+                   + plural(self.results.run_count, "run"), "")
         yield tile(unseen, "not seen whole", "warn" if unseen else "good")
         hidden = sum(not finding.counts for finding in self.results.places.values())
         if hidden:
             yield tile(hidden, "suppressed or known", "")
 
     def banner(self) -> Iterator[str]:
-        lines = [f"{command_line(run.command)}: {trouble}" for run in self.results.runs for trouble in run.troubles]
+        lines = [f"{command_line(run.command)}: {trouble}" for run in self.results.runs
+                 for trouble in (*run.troubles, run.failure) if trouble]
         count = self.results.totals().not_whole
         if count:
             lines.append(f"{plural(count, 'process')} {'was' if count == 1 else 'were'} not seen whole: the list of "
@@ -138,17 +140,18 @@ class Page:
                 yield tag("h3", title) + self.stack(stack)
 
     def stack(self, stack: Stack) -> str:
-        frames = [tag("li", self.frame(frame, is_first=not at)) for at, frame in enumerate(stack)]
+        own = own_frames(stack)[0]
+        frames = [tag("li", self.frame(frame, is_open=frame is own)) for frame in stack]
         return tag("ol", "".join(frames), start=0)
 
-    def frame(self, frame: Frame, is_first: bool) -> str:
+    def frame(self, frame: Frame, is_open: bool) -> str:
         place = frame.note or shown_path(place_text(frame), self.root) + (" (inlined)" if frame.is_inlined else "")
         line = tag("b", escape(frame.function or "?")) + " " + tag("span", escape(place), class_="dim")
         excerpt = self.excerpt(frame)
         if not excerpt:
             return tag("div", line, class_="frame mono")
         summary = tag("summary", line, class_="mono")
-        return f'<details class="frame"{" open" if is_first else ""}>{summary}{excerpt}</details>'
+        return f'<details class="frame"{" open" if is_open else ""}>{summary}{excerpt}</details>'
 
     def excerpt(self, frame: Frame) -> str:
         """Returns some lines of source. If the file has changed since, only the line that was there is known."""
@@ -166,7 +169,7 @@ class Page:
             parts.append(tag("span", escape("suppressed by " + finding.suppression), class_="pill"))
         if finding.is_known:
             parts.append(tag("span", "known from the baseline", class_="pill"))
-        line = suppression_of(finding)
+        line = suppression_of(finding, self.root)
         if line:
             parts.append("to suppress: " + tag("code", escape(line), class_="pill"))
         parts.append("fingerprint " + tag("code", escape(finding.fingerprint)))

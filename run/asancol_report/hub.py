@@ -9,7 +9,7 @@ from typing import Callable, Dict, List, Optional
 
 from .errors import Broken
 from .gather import Gatherer
-from .json_lines import Commands, end_run, number_of, process_of, read, run_of, text_of, VERSION
+from .json_lines import Commands, end_run, number_of, process_of, run_of, text_of, VERSION
 from .results import Results
 from .side import Side
 
@@ -66,8 +66,6 @@ class Hub:
             self.begin(entry)
         elif kind == "process":
             self.take_process(entry, descriptors)
-        elif kind == "results":
-            read(text_of(entry.get("path")), self.results)
         elif kind == "end":
             end_run(self.results.runs[self.number], entry)
         return kind

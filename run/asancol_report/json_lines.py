@@ -2,16 +2,20 @@
 
 from __future__ import annotations
 
+import functools
 import json
 import sys
-from typing import Any, Dict, Iterable, Iterator, Optional, TextIO, Tuple, Union
+from typing import Any, Callable, Dict, Iterable, Iterator, List, NamedTuple, Optional, TextIO, Tuple, Union
 
 from .errors import Broken, reason
-from .findings import Block, Finding, Frame, GLOBAL, HEAP, STACK, Stack, Tally
+from .findings import Block, Finding, first_own, Frame, GLOBAL, HEAP, STACK, Stack, Tally
 from .results import Process, Results, Run
+from .words import plural
 
 VERSION = 1
 LARGEST_NUMBER = (1 << 64) - 1
+# At most this many commands and other texts of processes are kept encoded.
+MOST_ENCODED = 1 << 14
 
 # A line that begins a run, has a process of it, or a finding.
 Entry = Dict[str, Any]
@@ -19,26 +23,44 @@ Entry = Dict[str, Any]
 Commands = Dict[Tuple[str, ...], Tuple[str, ...]]
 
 
+class Counts(NamedTuple):
+    """How many runs a file has, and how many processes and findings a run has in it. A file that is cut has fewer."""
+
+    runs: int
+    processes: int
+    findings: int
+
+
 # Writing.
 
-def run_entry(run: Run, number: int) -> Entry:
-    return {
+def run_entry(run: Run, number: int, counts: Counts) -> Entry:
+    entry = {
         "type": "run", "version": VERSION, "run": number, "id": run.identity, "command": list(run.command),
         "host": run.host, "directory": run.directory, "time": run.time, "seconds": run.seconds, "status": run.status,
         "signal": run.signal, "ended": run.has_ended, "nothing": run.is_nothing, "missing": run.missing,
-        "running": run.is_running, "lost": run.lost,
+        "running": run.is_running, "timed_out": run.has_timed_out, "lost": run.lost,
+        "runs": counts.runs, "processes": counts.processes, "findings": counts.findings,
     }
-
-
-def process_entry(process: Process, run: int) -> Entry:
-    entry = {
-        "type": "process", "run": run, "n": process.number, "pid": process.pid, "parent": process.parent,
-        "command": list(process.command), "fate": process.fate, "events": process.events, "reports": process.reports,
-        "whole": process.is_whole, "left_out": process.left_out, "why": process.why,
-    }
-    if process.kept:
-        entry["kept"] = process.kept
+    if run.cut:
+        entry["cut"] = run.cut
     return entry
+
+
+# There may be a million processes, and as many findings in runs: their lines are put together here, and what comes again
+# is encoded once.
+
+def process_line(process: Process, run: int, encode: Callable[[object], str]) -> str:
+    kept = f',"kept":{encode(process.kept)}' if process.kept else ""
+    return (f'{{"type":"process","run":{run},"n":{process.number},"pid":{process.pid},"parent":{process.parent},'
+            f'"command":{encode(process.command)},"fate":{encode(process.fate)},"events":{process.events},'
+            f'"reports":{process.reports},"whole":{encode(process.is_whole)},"left_out":{process.left_out},'
+            f'"why":{encode(process.why)}{kept}}}')
+
+
+def finding_line(tally: Tally, run: int, rest: str) -> str:
+    """Returns the line of a finding from what a run has of it, and from the rest, which is the same in all runs."""
+    return (f'{{"type":"finding","run":{run},"count":{tally.times},"processes":{tally.processes},'
+            f'"process":{tally.process},"pid":{tally.pid},"event":{tally.event},{rest[1:]}')
 
 
 def frame_entry(frame: Frame) -> Entry:
@@ -64,13 +86,13 @@ def block_entry(block: Block) -> Entry:
     return entry
 
 
-def finding_entry(finding: Finding, run: int, tally: Tally) -> Entry:
+def finding_entry(finding: Finding) -> Entry:
+    """Returns what is the same of a finding in all runs."""
     entry: Entry = {
-        "type": "finding", "run": run, "fingerprint": finding.fingerprint, "class": finding.class_name,
+        "fingerprint": finding.fingerprint, "class": finding.class_name,
         "access": finding.access, "size": finding.size, "address": f"{finding.address:x}",
         "bad": None if finding.bad is None else f"{finding.bad:x}", "shadow": finding.shadow or None,
-        "count": tally.times, "processes": tally.processes, "process": tally.process, "pid": tally.pid,
-        "event": tally.event, "stack": [frame_entry(frame) for frame in finding.stack],
+        "stack": [frame_entry(frame) for frame in finding.stack],
     }
     if finding.block:
         entry["block"] = block_entry(finding.block)
@@ -85,25 +107,35 @@ def finding_entry(finding: Finding, run: int, tally: Tally) -> Entry:
     return entry
 
 
-def entries_of(results: Results) -> Iterator[Entry]:
-    findings: Dict[int, list[Finding]] = {}
+def lines_of(results: Results) -> Iterator[str]:
+    encode = json.JSONEncoder(separators=(",", ":")).encode
+    encode_again = functools.lru_cache(maxsize=MOST_ENCODED, typed=True)(encode)
+    shared: Dict[int, str] = {}
+
+    def rest_of(finding: Finding) -> str:
+        rest = shared.get(id(finding)) or encode(finding_entry(finding))
+        if len(finding.runs) > 1:
+            shared[id(finding)] = rest
+        return rest
+
+    findings: Dict[int, List[Finding]] = {}
     for finding in results.findings():
         for number in finding.runs:
             findings.setdefault(number, []).append(finding)
     for number, run in enumerate(results.runs):
-        yield run_entry(run, number)
+        mine = findings.get(number, [])
+        yield encode(run_entry(run, number, Counts(len(results.runs), len(run.processes), len(mine))))
         for process in run.processes.values():
-            yield process_entry(process, number)
-        for finding in findings.get(number, ()):
-            yield finding_entry(finding, number, finding.runs[number])
+            yield process_line(process, number, encode_again)
+        for finding in mine:
+            yield finding_line(finding.runs[number], number, rest_of(finding))
     for note in results.notes:
-        yield {"type": "note", "text": note}
+        yield encode({"type": "note", "text": note})
 
 
 def write(results: Results, out: TextIO) -> None:
-    encode = json.JSONEncoder(separators=(",", ":")).encode
-    for entry in entries_of(results):
-        out.write(encode(entry) + "\n")
+    for line in lines_of(results):
+        out.write(line + "\n")
 
 
 # Reading. What has another type than it should is as if it were missing; what is missing has a default.
@@ -141,7 +173,9 @@ def run_of(entry: Entry) -> Run:
     run.directory = text_of(entry.get("directory"))
     run.time = seconds_of(entry.get("time"))
     end_run(run, entry)
-    run.has_ended = entry.get("ended") is not False
+    # What asancol-run leaves by itself has neither, and an end follows.
+    run.has_ended = entry.get("ended", "run" in entry) is not False
+    run.cut = text_of(entry.get("cut"))
     return run
 
 
@@ -154,6 +188,7 @@ def end_run(run: Run, entry: Entry) -> None:
     run.is_nothing = bool(entry.get("nothing"))
     run.missing = number_of(entry.get("missing"))
     run.is_running = bool(entry.get("running"))
+    run.has_timed_out = bool(entry.get("timed_out"))
     run.lost = number_of(entry.get("lost"))
 
 
@@ -219,11 +254,8 @@ def tally_of(entry: Entry) -> Tally:
 def line_of(entry: Entry) -> int:
     """Returns the line of a finding's place: as `Finding.top` finds it."""
     stack = entry.get("stack")
-    for frame in stack if isinstance(stack, list) else ():
-        line = frame.get("line") if isinstance(frame, dict) else 0
-        if line:
-            return number_of(line)
-    return 0
+    frames = [frame for frame in stack if isinstance(frame, dict)] if isinstance(stack, list) else []
+    return first_own((text_of(frame.get("file")), number_of(frame.get("line"))) for frame in frames)[1]
 
 
 class Reader:
@@ -234,9 +266,13 @@ class Reader:
         self.name = name
         self.runs: Dict[int, Optional[int]] = {}  # numbers here; None, if a run is there already
         self.last = 0
+        self.wanted: Dict[int, Counts] = {}  # what the runs say, as far as they do
+        self.found: Dict[int, List[int]] = {}  # the processes and findings that have come
+        self.missing = ""  # what has not come
         self.commands: Commands = {}
 
     def read(self, lines: Iterable[str]) -> None:
+        """Takes in all lines. Broken, if one is no line of a result; those before it are taken."""
         take = {"run": self.take_run, "process": self.take_process, "finding": self.take_finding, "end": self.take_end,
                 "note": self.take_note}
         decode = json.JSONDecoder().raw_decode
@@ -248,11 +284,24 @@ class Reader:
                 entry, end = decode(line)
                 if line[end:].strip():
                     raise ValueError
-                take[entry["type"]](entry)
+                take.get(entry["type"], self.skip)(entry)
         except (ValueError, KeyError, TypeError, AttributeError, RecursionError):
             raise Broken(f"{self.name}:{number}: not a result of asancol-report --json") from None
         if not self.runs:
             raise Broken(f"{self.name}: there is no run in it")
+        self.look_over()
+
+    def skip(self, entry: Entry) -> None:
+        """Takes in a line of a type that a later release has."""
+
+    def look_over(self) -> None:
+        """Compares the runs that have come with what they say themselves, and notes what is missing."""
+        for number, wanted in self.wanted.items():
+            found = Counts(len(self.runs), *self.found[number])
+            for has, should, one in zip(found, wanted, ("run", "process", "finding")):
+                if has < should and not self.missing:
+                    where = "" if one == "run" else f" of run {number}"
+                    self.missing = f"{self.name} is cut: it has {has} of {plural(should, one)}{where}"
 
     def take_run(self, entry: Entry) -> None:
         version = number_of(entry.get("version"))
@@ -260,7 +309,13 @@ class Reader:
             raise Broken(f"{self.name}: version {version} of results is newer than this asancol-report, "
                          f"which knows version {VERSION}")
         self.last = number_of(entry.get("run"))
+        if self.last in self.runs:  # another file comes after the first one
+            self.look_over()
+            self.runs, self.wanted, self.found = {}, {}, {}
         self.runs[self.last] = self.results.add_run(run_of(entry))
+        self.found[self.last] = [0, 0]
+        if "runs" in entry:
+            self.wanted[self.last] = Counts(*(number_of(entry.get(name)) for name in Counts._fields))
 
     def take_end(self, entry: Entry) -> None:
         """Takes in the end of a run that needed no report: asancol-run leaves it to a run round it as it came."""
@@ -269,13 +324,17 @@ class Reader:
             end_run(self.results.runs[run], entry)
 
     def take_process(self, entry: Entry) -> None:
-        run = self.runs[number_of(entry.get("run", self.last))]
+        number = number_of(entry.get("run", self.last))
+        run = self.runs[number]
+        self.found[number][0] += 1
         if run is not None:
             process = process_of(entry, self.commands)
             self.results.runs[run].processes[process.number] = process
 
     def take_finding(self, entry: Entry) -> None:
-        run = self.runs[number_of(entry.get("run"))]
+        number = number_of(entry.get("run"))
+        run = self.runs[number]
+        self.found[number][1] += 1
         if run is None:
             return
         known = self.results.places.get((entry["fingerprint"], line_of(entry)))
@@ -288,12 +347,22 @@ class Reader:
         self.results.notes[text_of(entry.get("text"))] = None
 
 
-def read(path: str, results: Results) -> None:
-    """Reads a file, or standard input for `-`, into results."""
+def read(path: str, results: Results) -> str:
+    """Reads a file, or standard input for `-`, into results. Returns what is missing in it, or nothing. Broken, if it
+    can't be read; what came before is in the results."""
     name = "standard input" if path == "-" else path
     try:
         source: Union[int, str] = 0 if path == "-" else path
         with open(source, encoding="utf-8", errors="surrogateescape", closefd=path != "-") as file:
-            Reader(results, name).read(file)
+            reader = Reader(results, name)
+            reader.read(file)
+            return reader.missing
     except OSError as error:
         raise Broken(f"{name}: {reason(error)}") from None
+
+
+def read_whole(path: str, results: Results) -> None:
+    """Reads a file as `read` does. Broken also if something is missing."""
+    missing = read(path, results)
+    if missing:
+        raise Broken(missing)

@@ -1,10 +1,11 @@
-"""The report as JUnit XML: a test case for each run, which fails if a report counts."""
+"""The report as JUnit XML: a test case for each run. It passes if no report counts, the command did not fail, and all
+was seen whole."""
 
 from __future__ import annotations
 
 import io
 import re
-from typing import List, TextIO
+from typing import List, TextIO, Tuple
 from xml.sax.saxutils import escape
 
 from .findings import Finding, place_text
@@ -28,6 +29,10 @@ def attribute(text: str) -> str:
     return text_of(printable(text)).replace('"', "&quot;")
 
 
+def element(name: str, kind: str, message: str, text: str) -> str:
+    return f'<{name} type="{attribute(kind)}" message="{attribute(message)}">{text_of(text)}</{name}>'
+
+
 def failure(findings: List[Finding], root: str) -> str:
     out = io.StringIO()
     text = Text(out, Colors(False), root, has_suppressions=False)
@@ -36,36 +41,36 @@ def failure(findings: List[Finding], root: str) -> str:
     named = [f"{finding.title} at {shown_path(place_text(finding.top), root)}" for finding in findings[:MOST_NAMED]]
     if len(findings) > MOST_NAMED:
         named.append(f"and {len(findings) - MOST_NAMED} more")
-    return (f'<failure type="{attribute(findings[0].class_name)}" message="{attribute("; ".join(named))}">'
-            f"{text_of(out.getvalue())}</failure>")
+    return element("failure", findings[0].class_name, "; ".join(named), out.getvalue())
 
 
 def unseen(run: Run) -> List[str]:
-    return [Text.process_line(process) for process in run.processes.values() if not process.is_whole] + run.troubles
+    lines = [Text.process_line(process) for process in run.processes.values() if not process.is_whole]
+    return lines + [f"asancol: {trouble}" for trouble in run.troubles]
 
 
-def test_case(run: Run, findings: List[Finding], root: str) -> str:
-    name = attribute(command_line(run.command) or "run")
-    lines = unseen(run)
-    body = failure(findings, root) if findings else ""
-    if lines and findings:
-        body += "<system-err>" + text_of("\n".join(lines)) + "</system-err>"
-    elif lines:
-        body = f'<error type="not seen whole" message="{attribute(lines[0])}">' + text_of("\n".join(lines)) + "</error>"
-    return f'  <testcase classname="asancol" name="{name}" time="{run.seconds:.3f}">{body}</testcase>\n'
+def outcome(run: Run, findings: List[Finding], root: str) -> Tuple[str, str]:
+    """Returns what came of a run, `failure`, `error` or nothing, and the elements that say so."""
+    lines = unseen(run) + ([f"asancol: {run.failure}"] if run.failure else [])
+    said = "\n".join(lines)
+    if findings:
+        return "failure", failure(findings, root) + (f"<system-err>{text_of(said)}</system-err>" if lines else "")
+    if not run.is_whole:
+        return "error", element("error", "not seen whole", lines[0], said)
+    return ("failure", element("failure", "command", run.failure, said)) if run.failure else ("", "")
 
 
 def write(results: Results, out: TextIO, options: Options, sources: Sources) -> None:
-    root = sources.root
     mine: List[List[Finding]] = [[] for _ in results.runs]
     for finding in results.counted():
         for number in finding.runs:
             mine[number].append(finding)
-    failures = sum(bool(findings) for findings in mine)
-    errors = sum(not findings and not run.is_whole for run, findings in zip(results.runs, mine))
+    outcomes = [outcome(run, findings, sources.root) for run, findings in zip(results.runs, mine)]
+    failures, errors = (sum(kind == name for kind, _ in outcomes) for name in ("failure", "error"))
     seconds = sum(run.seconds for run in results.runs)
-    counts = f'tests="{len(results.runs)}" failures="{failures}" errors="{errors}" time="{seconds:.3f}"'
+    counts = f'tests="{len(outcomes)}" failures="{failures}" errors="{errors}" time="{seconds:.3f}"'
     out.write(f'<?xml version="1.0" encoding="UTF-8"?>\n<testsuites {counts}>\n <testsuite name="asancol" {counts}>\n')
-    for run, findings in zip(results.runs, mine):
-        out.write(test_case(run, findings, root))
+    for run, (_, body) in zip(results.runs, outcomes):
+        name = attribute(command_line(run.command) or "run")
+        out.write(f'  <testcase classname="asancol" name="{name}" time="{run.seconds:.3f}">{body}</testcase>\n')
     out.write(" </testsuite>\n</testsuites>\n")

@@ -5,14 +5,14 @@ from __future__ import annotations
 import os
 import signal
 import sys
-from typing import Callable, List, Optional, TextIO
+from typing import Callable, List, Optional, TextIO, Tuple
 
 from . import options as command_line
 from . import RELEASE
 from .errors import Broken, CLEAN, COUNTS, FAILED, NOT_WHOLE, reason, REFUSED, Refused
 from .files import write_file
 from .gather import Gatherer
-from .json_lines import read
+from .json_lines import read_whole
 from .modules import Modules
 from .options import Options
 from .results import Results
@@ -24,6 +24,7 @@ from .text import Colors, Text
 TYPE_CHECKING = False
 if TYPE_CHECKING:
     from .baseline import Baseline
+    from .traces import Traces
 
 Writer = Callable[[Results, TextIO, Options, Sources], None]
 
@@ -50,6 +51,7 @@ class Report:
         self.suppressions = Suppressions()
         self.baseline: Optional[Baseline] = None
         self.has_failed = False
+        self.unread: List[Tuple[str, str]] = []  # files that could not be read to their end, and why
         self.text = Text(sys.stdout, Colors(has_colors(options)), self.root, options.switches["--gen-suppressions"])
 
     @property
@@ -63,6 +65,10 @@ class Report:
     def run(self) -> int:
         self.read_rules()
         self.read_input()
+        if self.unread and not self.results.runs:
+            return FAILED
+        for path, why in self.unread:
+            self.results.add_cut(path, why)
         self.judge()
         self.results.unused = self.suppressions.unused()
         self.results.gone = self.baseline.gone() if self.baseline else None
@@ -72,56 +78,84 @@ class Report:
         return self.status()
 
     def read_rules(self) -> None:
-        """Reads what does not count. In a run that goes on, a mistake there must not lose its reports."""
+        """Reads what does not count. In a run that goes on, a mistake there must not lose its reports: it is said at
+        once, and after the summary."""
+        for path in self.options.suppressions:
+            self.read_rule(self.suppressions.read, path)
+        if self.options.value("--baseline"):
+            self.read_rule(self.read_baseline, self.options.value("--baseline"))
+
+    def read_rule(self, read_it: Callable[[str], None], path: str) -> None:
         try:
-            for path in self.options.suppressions:
-                self.suppressions.read(path)
-            if self.options.value("--baseline"):
-                from .baseline import Baseline
-                self.baseline = Baseline(self.options.value("--baseline"))
+            read_it(path)
         except (OSError, Broken, Refused) as error:
             if not self.options.switches["--run"]:
                 raise
-            self.fail(f"{error.filename}: {reason(error)}" if isinstance(error, OSError) else error)
+            text = f"{path}: {reason(error)}" if isinstance(error, OSError) else str(error)
+            text += "; the rest of the file was not used" if isinstance(error, Refused) else "; it was not used"
+            self.fail(text)
+            self.results.notes[text] = None
+
+    def read_baseline(self, path: str) -> None:
+        from .baseline import Baseline
+        self.baseline = Baseline(path)
 
     def read_input(self) -> None:
         switches, files = self.options.switches, self.options.files
         if switches["--run"]:
             from .hub import Hub
-            signal.signal(signal.SIGINT, signal.SIG_IGN)  # Ctrl-C is for the command, and asancol-run ends this
             Hub(self.results, self.new_gatherer, self.come).read(0)
             self.read_nested(self.options.value("--nested"))
         if switches["--trace"]:
             self.check_traces(files)
         else:
             for path in files:
-                read(path, self.results)
+                self.read_result(path)
+
+    def read_result(self, path: str) -> None:
+        """Reads a result. If that fails, what came before is in the report, and the others are."""
+        try:
+            read_whole(path, self.results)
+        except Broken as error:
+            self.fail_to_read(path, error)
+
+    def fail_to_read(self, path: str, error: Broken) -> None:
+        self.fail(error)
+        self.unread.append((path, str(error)))
 
     def read_nested(self, folder: str) -> None:
-        """Reads what runs inside this one have left in its folder."""
-        for name in sorted(os.listdir(folder)) if folder else ():
+        """Reads what runs inside this one have left in its folder; asancol-run says if that is gone."""
+        for name in sorted(os.listdir(folder)) if os.path.isdir(folder) else ():
             if name.startswith("nested.") and name.endswith(".jsonl"):
-                try:
-                    read(os.path.join(folder, name), self.results)
-                except Broken as error:
-                    self.fail(error)
+                self.read_result(os.path.join(folder, name))
 
     def new_gatherer(self, run: int) -> Gatherer:
         return Gatherer(self.results, run, self.modules, self.symbols, self.sources)
 
     def check_traces(self, files: List[str]) -> None:
-        from .traces import find_asancol, Traces
+        from . import traces as of_traces
         self.results.are_traces = True
-        traces = Traces(find_asancol(self.beside), self.options.check_words, self.results)
+        traces = of_traces.Traces(of_traces.find_asancol(self.beside), self.options.check_words, self.results)
         gatherers = []
         for path in files:
-            run = traces.begin(path)
+            try:
+                run = traces.begin(path)
+            except Broken as error:
+                self.fail_to_read(path, error)
+                continue
             if run is not None:
                 gatherers.append(self.new_gatherer(run))
-                traces.check(path, gatherers[-1])
-                self.come(gatherers[-1])
+                self.check_trace(traces, path, gatherers[-1])
         for gatherer in gatherers:
             gatherer.finish()
+
+    def check_trace(self, traces: Traces, path: str, gatherer: Gatherer) -> None:
+        try:
+            traces.check(path, gatherer)
+        except Broken as error:
+            self.fail(error)
+            self.results.runs[gatherer.run].cut = str(error)
+        self.come(gatherer)
 
     def come(self, gatherer: Gatherer) -> None:
         """Prints what is new, if it is to be printed at once."""
@@ -205,9 +239,19 @@ def has_colors(options: Options) -> bool:
     return sys.stdout.isatty() and not os.environ.get("NO_COLOR") and os.environ.get("TERM") != "dumb"
 
 
+def set_signals(is_fed: bool) -> None:
+    """Ctrl-C ends this program without a word. While asancol-run feeds it, signals to the process group or the session
+    are for the command: it goes on until its input ends, so that no report is lost."""
+    if is_fed:
+        for number in (signal.SIGINT, signal.SIGTERM, signal.SIGHUP, signal.SIGQUIT):
+            signal.signal(number, signal.SIG_IGN)
+    else:
+        signal.signal(signal.SIGINT, signal.SIG_DFL)
+
+
 def main(words: List[str], beside: str) -> int:
     """Runs the program with the words of its command line, and returns its status."""
-    signal.signal(signal.SIGINT, signal.SIG_DFL)
+    set_signals("--run" in words)
     sys.stdout = open(1, "w", encoding="utf-8", errors="surrogateescape", newline="\n", closefd=False)
     try:
         options = command_line.read(words)

@@ -2,13 +2,16 @@
 
 from __future__ import annotations
 
+import os
 from typing import Dict, List, Tuple
 
 from .errors import Refused
 
 HELP = """\
-usage: asancol-report [options] RESULT.jsonl...       merges results of asancol-run --json
-       asancol-report [options] --trace A.trace...    checks traces, and reads A.trace.where
+usage: asancol-report [options] RESULT.jsonl...
+           merges results of asancol-run --json
+       asancol-report [options] --trace A.trace...
+           checks traces, and reads A.trace.where
 
 outputs beside the text:
   --json FILE            JSON lines, which this program reads again
@@ -18,14 +21,14 @@ outputs beside the text:
   --html FILE            a page that needs no other file and no network
                          - is standard output; the text is left out then
 which reports count:
-  --suppressions FILE    not those that match a line of FILE; may be given several times
+  --suppressions FILE    not those that match a line of FILE; may come again
   --gen-suppressions     print with each report the line that suppresses it
-  --baseline FILE        not those that are in FILE, an earlier result in JSON lines
+  --baseline FILE        not those that are in FILE, an earlier --json
 the text:
   --source-root DIR      show files under DIR by their paths from there
   --live                 print the first report of each place when it comes
   --color WHEN           auto, always or never (auto)
-  -q, --quiet            print nothing if no report counts and everything was seen
+  -q, --quiet            print nothing if no report counts and all was seen
 traces:
   --quarantine B, --memory B, --limit L    passed to asancol check
 other:
@@ -33,7 +36,7 @@ other:
   -h, --help, --version
 
 status: 0 no report counts; 1 a report counts; 2 the command line was refused;
-        3 not everything was seen; 4 a file could not be read or written
+        3 not everything was seen; 4 a file was not read to its end, or written
 """
 
 OUTPUTS = ("--json", "--sarif", "--junit", "--codequality", "--html")
@@ -136,3 +139,22 @@ def look_over(options: Options) -> None:
         raise Refused("standard input can be read once")
     if not options.files and not switches["--run"]:
         raise Refused("no file was named; --help says more")
+    if not switches["--run"]:  # there nothing may be lost, and asancol-run has looked at the names
+        look_for_losses(options)
+
+
+def look_for_losses(options: Options) -> None:
+    """Refuses to write over what is read, or what another output writes. A result may be renewed in its own file."""
+    results = [] if options.switches["--trace"] else [*options.files, options.value("--baseline")]
+    others = [*options.suppressions, *options.files, options.value("--baseline")]
+    written: Dict[str, str] = {}
+    for name, path in options.outputs:
+        target = os.path.realpath(path)
+        if path == "-" or (os.path.exists(target) and not os.path.isfile(target)):
+            continue
+        if target in written:
+            raise Refused(f"{written[target]} and {name} both write {path}")
+        written[target] = name
+        is_renewed = name == "--json" and any(os.path.realpath(it) == target for it in results if it)
+        if not is_renewed and any(os.path.realpath(it) == target for it in others if it):
+            raise Refused(f"{name} would write over {path}, which is read")

@@ -5,6 +5,7 @@ from __future__ import annotations
 from typing import Dict, Iterable, List, NamedTuple, Optional, Set, Tuple
 
 from .findings import Finding, Tally
+from .words import signal_name
 
 Place = Tuple[str, int]  # a fingerprint and a line
 
@@ -39,14 +40,23 @@ class Run:
         self.signal = 0
         self.has_ended = True
         self.is_nothing = False  # no process had checks
-        self.missing = 0  # how many processes are wanting
+        self.missing = 0  # how many processes fewer than were asked for
         self.is_running = False  # something of it runs on
+        self.has_timed_out = False  # asancol-run has ended the command
         self.lost = 0  # how many runs inside this one left no result
+        self.cut = ""  # it stands for a file that could not be read to its end: why
         self.processes: Dict[int, Process] = {}
 
     @property
     def is_whole(self) -> bool:
         return not self.troubles and all(process.is_whole for process in self.processes.values())
+
+    @property
+    def failure(self) -> str:
+        """How the command has failed, in words; empty if it has not, or if nobody knows."""
+        if self.signal:
+            return f"the command was ended by {signal_name(self.signal)}"
+        return f"the command ended with status {self.status}" if self.status else ""
 
     @property
     def troubles(self) -> List[str]:
@@ -60,9 +70,13 @@ class Run:
             troubles.append(f"NOT ALL SEEN: {self.missing} fewer than --at-least asks for were recorded")
         if self.is_running:
             troubles.append("NOT ALL SEEN: processes of the command still run")
+        if self.has_timed_out:
+            troubles.append("NOT ALL SEEN: the command was ended by --timeout")
         if self.lost:
             runs = "run" if self.lost == 1 else "runs"
             troubles.append(f"NOT ALL SEEN: {self.lost} {runs} inside this one left no result")
+        if self.cut:
+            troubles.append(f"NOT ALL SEEN: {self.cut}")
         return troubles
 
 
@@ -100,6 +114,12 @@ class Results:
         self.runs.append(run)
         return len(self.runs) - 1
 
+    def add_cut(self, path: str, why: str) -> None:
+        """Adds a run that stands for what could not be read of a file."""
+        run = Run([path], f"cut: {why}")
+        run.cut = why
+        self.add_run(run)
+
     def add(self, finding: Finding, run: int, tally: Tally) -> Finding:
         """Adds what a run has of a finding, and returns what stands for it."""
         place = (finding.fingerprint, finding.top.line)
@@ -129,6 +149,11 @@ class Results:
 
     def is_whole(self) -> bool:
         return bool(self.runs) and all(run.is_whole for run in self.runs)
+
+    @property
+    def run_count(self) -> int:
+        """How many runs there are, without those that stand for a file."""
+        return sum(not run.cut for run in self.runs)
 
     def totals(self) -> Totals:
         reports = places = suppressed = known = 0

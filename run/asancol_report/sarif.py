@@ -9,12 +9,12 @@ from typing import Any, Dict, List, TextIO, Tuple
 from urllib.parse import quote
 
 from . import RELEASE
-from .findings import Finding, Frame, place_text, Stack
+from .findings import Finding, Frame, own_frames, place_text, Stack
 from .options import Options
 from .results import Results, Run
 from .sources import Sources
 from .verdicts import CLASSES
-from .words import command_line, shown_path, whole_characters
+from .words import command_line, shown_path, signal_name, whole_characters
 
 SCHEMA = "https://json.schemastore.org/sarif-2.1.0.json"
 ROOT = "SRCROOT"
@@ -64,10 +64,6 @@ def stack(title: str, frames: Stack, root: str) -> Part:
                        if frame.module else {"location": location(frame, root)} for frame in frames]}
 
 
-def top(frames: Stack) -> Frame:
-    return next((frame for frame in frames if frame.line), frames[0])
-
-
 def steps_of(finding: Finding) -> List[Tuple[str, Stack]]:
     """Returns what happened, in the order of time."""
     steps = [("block allocated here", finding.allocated), ("block freed here", finding.freed),
@@ -89,9 +85,9 @@ def result(finding: Finding, rule: int, ordinal: int, root: str) -> Part:
                                 "primaryLocationLineHash": f"{finding.fingerprint}:{ordinal}"},
         "occurrenceCount": finding.count,
         "stacks": [stack(title, frames, root) for title, frames in reversed(steps)],
-        "relatedLocations": [dict(location(top(frames), root, title), id=number)
+        "relatedLocations": [dict(location(own_frames(frames)[0], root, title), id=number)
                              for number, (title, frames) in enumerate(steps[:-1], 1)],
-        "codeFlows": [{"threadFlows": [{"locations": [{"location": location(top(frames), root, title)}
+        "codeFlows": [{"threadFlows": [{"locations": [{"location": location(own_frames(frames)[0], root, title)}
                                                       for title, frames in steps]}]}],
         "properties": {"processes": finding.processes},
     }
@@ -126,16 +122,19 @@ def invocation(run: Run) -> Part:
              for process in run.processes.values() if not process.is_whole] + run.troubles
     made: Part = {
         "commandLine": whole_characters(command_line(run.command)),
-        "executionSuccessful": not texts,
-        "exitCode": run.status,
+        "executionSuccessful": not texts and not run.failure,
         "toolExecutionNotifications": [{"level": "error", "message": message(text)} for text in texts],
     }
     if run.host:
         made["machine"] = whole_characters(run.host)
     if run.directory:
         made["workingDirectory"] = {"uri": "file://" + uri(run.directory)}
+    if run.failure:
+        made["exitCodeDescription"] = run.failure
     if run.signal:
-        made["exitSignalNumber"] = run.signal
+        made.update(exitSignalNumber=run.signal, exitSignalName=signal_name(run.signal))
+    elif run.has_ended:
+        made["exitCode"] = run.status
     if run.time:
         made["startTimeUtc"] = stamp(run.time)
         made["endTimeUtc"] = stamp(run.time + run.seconds)

@@ -14,8 +14,8 @@ from typing import Dict, List, NamedTuple, Optional, Tuple
 
 from .reading import is_regular, open_regular, read_at
 
-HEADER = b"ASWH\2\0\0\0"
-HEAD = struct.Struct("<8sQQIIIIQIII")
+HEADER = b"ASWH\3\0\0\0"
+HEAD = struct.Struct("<8sQQIIIIQIIII")
 WORDS_AT, WORDS_ROOM = 72, 4000
 BUILDS_AT = 4096
 BUILD = struct.Struct("<QB23s")
@@ -24,8 +24,12 @@ INDEX_AT = 1 << 18
 ENTRY_BYTES = 4
 EVENT_LIMIT = 1 << 24
 FAULTS_AT = INDEX_AT + EVENT_LIMIT * ENTRY_BYTES
-FAULT = struct.Struct("<QQQQQQII136s")
+FAULT = struct.Struct("<QQQQQQIIIIII120s")
 MOST_FAULTS = 1 << 16
+STACKS_AT = FAULTS_AT + MOST_FAULTS * FAULT.size
+WORD = struct.Struct("<Q")
+MOST_STACK_WORDS = 1 << 22
+MOST_FRAMES = 32
 
 # How a process ended, as it says itself.
 ENDING_NONE, ENDING_EXIT, ENDING_EXEC, ENDING_SIGNAL, ENDING_LOST = range(5)
@@ -48,14 +52,18 @@ class Mapping(NamedTuple):
     build: str  # the module's build id; empty if it is not known
 
 
+# The addresses after calls, the innermost first; none, if nothing is known.
+Calls = Tuple[int, ...]
+
+
 class Fault(NamedTuple):
     """What the recorder saw when an access or a free was bad."""
 
-    place: int  # the address after the call
+    place: Calls
     block: int  # 0: none is near
     block_size: int
-    allocated: int  # places; 0: not known, or not freed
-    freed: int
+    allocated: Calls
+    freed: Calls
     variable: int
     line: int  # where a variable on the stack is declared; 0: not known
     name: str
@@ -76,10 +84,12 @@ class Side:
         self.descriptor = descriptor
         head = read_at(descriptor, 0, HEAD.size) if is_regular(descriptor) else b""
         self.is_good = len(head) == HEAD.size and head.startswith(HEADER)
-        fields = HEAD.unpack(head) if self.is_good else (b"",) + (0,) * 10
+        fields = HEAD.unpack(head) if self.is_good else (b"",) + (0,) * 11
         _, self.events, self.left_out, self.ending, self.signal, self.process, self.parent = fields[:7]
-        self.started, self.has_checks, self.is_at_limit, fault_count = fields[7:]
+        self.started, self.has_checks, self.is_at_limit, fault_count, stack_words = fields[7:]
         self.fault_count = min(fault_count, MOST_FAULTS)
+        self.stack_words = min(stack_words, MOST_STACK_WORDS)
+        self.stacks: Dict[int, Calls] = {}
         self.maps = self.read_maps() if self.is_good else []
         self.lows = [mapping.low for mapping in self.maps]
         self.part: Tuple[int, ...] = ()
@@ -159,7 +169,25 @@ class Side:
         text = read_at(self.descriptor, FAULTS_AT + (number - 1) * FAULT.size, FAULT.size)
         if len(text) < FAULT.size:
             return None
-        _, place, block, size, allocated, freed, variable, line, name = FAULT.unpack(text)
+        _, place, block, size, allocated, freed, variable, line, *stacks, _, name = FAULT.unpack(text)
         if variable > VARIABLE_GLOBAL:
             variable = VARIABLE_NONE
-        return Fault(place, block, size, allocated, freed, variable, line, os.fsdecode(name.split(b"\0")[0]))
+        calls = [self.calls(*it) for it in zip((place, allocated, freed), stacks)]
+        return Fault(calls[0], block, size, calls[1], calls[2], variable, line, os.fsdecode(name.split(b"\0")[0]))
+
+    def calls(self, place: int, number: int) -> Calls:
+        """Returns the stack of a place, or the place alone."""
+        if place == 0:
+            return ()
+        if number not in self.stacks:
+            self.stacks[number] = self.read_stack(number)
+        stack = self.stacks[number]
+        return stack if stack[:1] == (place,) else (place,)
+
+    def read_stack(self, number: int) -> Calls:
+        if not 0 < number < self.stack_words:
+            return ()
+        text = read_at(self.descriptor, STACKS_AT + number * WORD.size, (1 + MOST_FRAMES) * WORD.size)
+        words = [word for word, in WORD.iter_unpack(text[: len(text) // WORD.size * WORD.size])]
+        count = words[0] if words else 0
+        return tuple(words[1:count + 1]) if count <= MOST_FRAMES else ()

@@ -3,6 +3,8 @@
 from __future__ import annotations
 
 import os
+import re
+from bisect import bisect_left, bisect_right
 from typing import Dict, List, Tuple
 
 from .reading import open_regular, read_at
@@ -12,6 +14,9 @@ LARGEST_FILE = 16 << 20
 MOST_FILES = 256
 # A line is cut here.
 LONGEST_LINE = 400
+# A word of C or C++. A destructor's name begins with a tilde.
+WORD = re.compile(r"~?[\w$]+")
+TEMPLATE = re.compile("<[^<>]*>")
 
 
 class Sources:
@@ -20,6 +25,7 @@ class Sources:
     def __init__(self, root: str) -> None:
         self.root = root
         self.files: Dict[str, List[str]] = {}
+        self.numbers: Dict[str, Dict[str, List[int]]] = {}  # of a file, the lines that have a text
 
     def lines(self, path: str) -> List[str]:
         """Returns the lines of a file; none if it can't be read."""
@@ -27,6 +33,7 @@ class Sources:
         if lines is None:
             if len(self.files) >= MOST_FILES:
                 self.files.clear()
+                self.numbers.clear()
             lines = self.files[path] = self.read(os.path.join(self.root, path)) if path else []
         return lines
 
@@ -46,7 +53,30 @@ class Sources:
     def line(self, path: str, number: int) -> str:
         """Returns the text of a line, without the blanks around and between its words."""
         lines = self.lines(path)
-        return " ".join(lines[number - 1][:LONGEST_LINE].split()) if 0 < number <= len(lines) else ""
+        return without_blanks(lines[number - 1]) if 0 < number <= len(lines) else ""
+
+    def ordinal(self, path: str, number: int, function: str) -> int:
+        """Returns which of the lines with the same text a line is, from 1 on, counted from where its function begins.
+        If that is not seen, the count is from the front of the file."""
+        text = self.line(path, number)
+        if path not in self.numbers:
+            numbers = self.numbers[path] = {}
+            for at, line in enumerate(self.lines(path), 1):
+                numbers.setdefault(without_blanks(line), []).append(at)
+        same = self.numbers[path].get(text, [])
+        return bisect_right(same, number) - bisect_left(same, self.first_of(path, number, function))
+
+    def first_of(self, path: str, number: int, function: str) -> int:
+        """Returns the line at which a function that has this line begins: the last one up to it that is not indented,
+        has the function's name, and is no statement. 1, if there is none."""
+        name = short_name(function)
+        lines = self.lines(path)
+        for at in range(min(number, len(lines)), 0, -1) if name else ():
+            line = lines[at - 1]
+            is_outside = name in line and not line[0].isspace() and not line.rstrip().endswith(";")
+            if is_outside and name in WORD.findall(line):
+                return at
+        return 1
 
     def around(self, path: str, number: int, distance: int) -> List[Tuple[int, str]]:
         """Returns a line with some before and after it, and their numbers."""
@@ -56,3 +86,17 @@ class Sources:
         last = min(len(lines), number + distance)
         return [(n, lines[n - 1].rstrip("\r").expandtabs(4)[:LONGEST_LINE])
                 for n in range(max(1, number - distance), last + 1)]
+
+
+def without_blanks(line: str) -> str:
+    """Returns a line as it is compared: without the blanks around its words, and with one between them."""
+    return " ".join(line[:LONGEST_LINE].split())
+
+
+def short_name(function: str) -> str:
+    """Returns a function's name as its definition has it: without scopes, templates and parameters."""
+    name = function.replace("(anonymous namespace)", "").partition("(")[0]
+    while TEMPLATE.search(name):
+        name = TEMPLATE.sub("", name)
+    words = WORD.findall(name)
+    return words[-1] if words else ""

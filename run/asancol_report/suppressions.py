@@ -2,26 +2,31 @@
 
 from __future__ import annotations
 
-from typing import Iterable, List, Tuple
+import re
+from typing import Iterable, List, Tuple, Union
 
 from .errors import Refused
 from .findings import Finding, Frame
-from .patterns import pattern
+from .patterns import path_pattern, pattern, whole_pattern
 from .verdicts import CLASSES
+from .words import printable, stable_path, UNPRINTABLE
 
 # What a pattern is compared with.
 FUNCTION, SOURCE, OBJECT = "fun", "src", "obj"
 ANY_CLASS = "*"
+# A line that names the place of a report, frame by frame.
+PLACE = "at"
+FORMS = "CLASS:PATTERN, *:PATTERN, fun:PATTERN, src:PATTERN, obj:PATTERN or at:CLASS:FUNCTION@FILE"
 
 
 class Rule:
-    """A line of a file of suppressions."""
+    """A line of a file of suppressions: a class or what is looked at, and a pattern. It matches if any frame does."""
 
     def __init__(self, line: str) -> None:
         self.line = line
         self.kind, colon, text = line.partition(":")
         if not colon or self.kind not in (*CLASSES, ANY_CLASS, FUNCTION, SOURCE, OBJECT):
-            raise ValueError("not CLASS:PATTERN, *:PATTERN, fun:PATTERN, src:PATTERN or obj:PATTERN")
+            raise ValueError(f"not {FORMS}")
         if not text:
             raise ValueError("the pattern is empty")
         self.search = pattern(text).search
@@ -43,11 +48,55 @@ class Rule:
         return any(word and self.search(word) for frame in frames for word in self.words(frame))
 
 
+class PlaceRule:
+    """A line that matches frame by frame, from the one that stands for the access outwards."""
+
+    def __init__(self, line: str) -> None:
+        self.line = line
+        self.class_name, _, text = line[len(PLACE) + 1:].partition(":")
+        if self.class_name not in (*CLASSES, ANY_CLASS):
+            raise ValueError(f"not {FORMS}: there is no class {self.class_name}")
+        self.patterns = [self.read(frame.strip()) for frame in text.split(";")]
+        self.is_used = False
+
+    @staticmethod
+    def read(frame: str) -> Tuple[re.Pattern[str], re.Pattern[str]]:
+        """Reads FUNCTION@FILE, in which one of both may be missing."""
+        function, _, file = frame.rpartition("@") if "@" in frame else (frame, "", "")
+        if not function and not file:
+            raise ValueError("a frame names neither a function nor a file")
+        return whole_pattern(function or "*"), path_pattern(file or "*")
+
+    def matches(self, finding: Finding) -> bool:
+        frames = finding.own_stack
+        if self.class_name not in (ANY_CLASS, finding.class_name) or len(frames) < len(self.patterns):
+            return False
+        return all(function.match(frame.function) and file.match(frame.file or frame.module)
+                   for (function, file), frame in zip(self.patterns, frames))
+
+
+def rule_of(line: str) -> Union[Rule, PlaceRule]:
+    """Reads a line. ValueError, if it has no form that is known."""
+    return PlaceRule(line) if line.startswith(PLACE + ":") else Rule(line)
+
+
+def suppression_of(finding: Finding, root: str) -> str:
+    """Returns the line that suppresses a finding and no others, or nothing if its place is not known."""
+    frames = [frame_text(frame.function) + "@" + frame_text(stable_path(frame.file or frame.module, root))
+              for frame in finding.own_stack if frame.function or frame.module]
+    return f"{PLACE}:{finding.class_name}:{';'.join(frames)}" if frames else ""
+
+
+def frame_text(word: str) -> str:
+    """Returns a name as it can stand in a line: what would end it there is replaced by a star."""
+    return re.sub("[;@]", "*", UNPRINTABLE.sub("*", word))
+
+
 class Suppressions:
     """All rules of some files."""
 
     def __init__(self) -> None:
-        self.rules: List[Rule] = []
+        self.rules: List[Union[Rule, PlaceRule]] = []
 
     def read(self, path: str) -> None:
         """Reads a file. OSError, or Refused if a line is of another form."""
@@ -57,9 +106,9 @@ class Suppressions:
                 if not text or text.startswith("#"):
                     continue
                 try:
-                    self.rules.append(Rule(text))
+                    self.rules.append(rule_of(text))
                 except ValueError as error:
-                    raise Refused(f"{path}:{number}: {error}") from None
+                    raise Refused(f"{path}:{number}: {printable(text)}: {error}") from None
 
     def apply(self, findings: Iterable[Finding]) -> None:
         for finding in findings:

@@ -8,6 +8,7 @@ from __future__ import annotations
 
 import json
 import os
+import re
 from typing import Dict, Iterator, List, Optional, Tuple
 
 from .modules import Module, Modules, Name
@@ -22,6 +23,8 @@ MOST_TOOLS = 4
 PATIENCE = 300
 # A name or a file from the tool is cut here.
 LONGEST_WORD = 4096
+# What compilers add to the name of a copy of a function, as in `f.constprop.0` and `f(int) [clone .cold]`.
+CLONE = re.compile(r"(?: \[clone [^]]*\]| \(\.[^)]*\)|\.(?:constprop|isra|part|cold|lto_priv|llvm)(?:\.\d+)*)+\Z")
 
 
 def on_path(name: str) -> Optional[str]:
@@ -38,13 +41,13 @@ def find_tool() -> Tuple[Optional[str], str]:
     """Returns the path of a symbolizer, or none and what is missing."""
     named = os.environ.get("ASANCOL_SYMBOLIZER")
     if named:
-        return on_path(named), f"{named}, which ASANCOL_SYMBOLIZER names,"
+        return on_path(named), f"{named}, which ASANCOL_SYMBOLIZER names, was not found"
     versions = [f"{LLVM}-{version}" for version in range(NEWEST_LLVM, OLDEST_LLVM - 1, -1)]
     for name in [LLVM, *versions, "addr2line"]:
         path = on_path(name)
         if path:
             return path, ""
-    return None, "neither llvm-symbolizer nor addr2line"
+    return None, "neither llvm-symbolizer nor addr2line was found"
 
 
 def is_llvm(tool: str) -> bool:
@@ -54,7 +57,7 @@ def is_llvm(tool: str) -> bool:
 def name_of(function: object, file: object, line: object, column: object) -> Name:
     """Returns a name of what a tool has answered. What is missing there is empty or 0."""
     return Name(
-        function[:LONGEST_WORD] if isinstance(function, str) and function != "??" else "",
+        CLONE.sub("", function[:LONGEST_WORD]) if isinstance(function, str) and function != "??" else "",
         tidy(file[:LONGEST_WORD]) if isinstance(file, str) and file != "??" else "",
         line if isinstance(line, int) and line > 0 else 0,
         column if isinstance(column, int) and column > 0 else 0,
@@ -140,7 +143,7 @@ class Symbols:
         """Looks up all that is wanted, and lets the modules go."""
         wanted = self.modules.wanted()
         if wanted and self.tool is None:
-            self.notes[f"{self.missing} was not found: places have no lines"] = None
+            self.notes[f"{self.missing}: places have no lines"] = None
         elif wanted:
             found = self.ask(wanted)
             if not found and self.style == "JSON":

@@ -4,8 +4,9 @@ from __future__ import annotations
 
 from typing import Iterator, TextIO
 
-from .findings import Finding, Frame, place_text, Stack, suppression_of
+from .findings import Finding, Frame, place_text, Stack
 from .results import Process, Results, Run
+from .suppressions import suppression_of
 from .words import plural, printable, shown_path
 
 
@@ -53,7 +54,7 @@ class Text:
                 yield f"  {title}"
                 yield from self.stack(stack)
         if self.has_suppressions:
-            line = suppression_of(finding)
+            line = suppression_of(finding, self.root)
             yield f"  suppression: {printable(line)}" if line else "  suppression: none, since its place is not known"
         yield ""
 
@@ -80,7 +81,7 @@ class Text:
             yield self.process_line(process)
         for run in results.runs:
             for trouble in run.troubles:
-                yield f"asancol: {self.run_name(run, results)}{trouble}"
+                yield f"asancol: {self.run_name(run, results)}{printable(trouble)}"
         yield f"{self.colors.bold}{totals_line(results)}{self.colors.off}"
         for rule in results.unused:
             yield f"asancol: a suppression matched nothing: {printable(rule)}"
@@ -110,8 +111,8 @@ def totals_line(results: Results) -> str:
     if totals.known:
         reports += f", {plural(totals.known, 'place')} known from the baseline"
     processes = plural(totals.processes, "process")
-    if len(results.runs) > 1 and not results.are_traces:
-        processes += f" in {plural(len(results.runs), 'run')}"
+    if results.run_count > 1 and not results.are_traces:
+        processes += f" in {plural(results.run_count, 'run')}"
     if totals.not_whole:
         whole = f"{totals.not_whole} NOT SEEN WHOLE"
     elif totals.troubles or not results.runs:

@@ -5,7 +5,6 @@ from __future__ import annotations
 import hashlib
 import os
 import re
-import signal
 from typing import BinaryIO, List, Optional
 
 from .errors import Broken, reason
@@ -15,6 +14,7 @@ from .running import in_memory, start, wait
 from .side import ENDING_EXEC, ENDING_LOST, ENDING_SIGNAL, Side
 from .symbols import on_path
 from .verdicts import End
+from .words import signal_name
 
 CLOSED, NO_CLOSE, TOO_MANY = "closed", "no-close", "too-many"
 # What asancol answers if it has printed its verdicts.
@@ -48,16 +48,9 @@ def open_side(trace: str, results: Results) -> Optional[Side]:
         return None
     if not side.is_good:
         side.close()
-        results.notes[f"{path} is no side file of version 2: {trace} was recorded by another release"] = None
+        results.notes[f"{path} is no side file of version 3: {trace} was recorded by another release"] = None
         return None
     return side
-
-
-def signal_name(number: int) -> str:
-    try:
-        return signal.Signals(number).name
-    except ValueError:
-        return f"signal {number}"
 
 
 def why_not_whole(end: End, side: Optional[Side]) -> str:
@@ -123,7 +116,7 @@ class Traces:
                 lines = gatherer.take(0, pid, verdicts.fileno(), side)
             end = lines.end or End("not checked", 0, 0)
             why = why_not_whole(end, side)
-            ended_by = side.signal if side and is_ended_otherwise(end, side) else 0
+            run.signal = ended_by = side.signal if side and is_ended_otherwise(end, side) else 0
             said = why or (f"ended by {signal_name(ended_by)}" if ended_by else "")
             parent, left_out = (side.parent, side.left_out) if side else (0, 0)
             run.processes[0] = Process(0, pid, parent, tuple(command), end.fate, end.events, end.reports, not why,

@@ -4,6 +4,7 @@ from __future__ import annotations
 
 import os
 import re
+import signal
 from typing import Sequence
 
 # Control characters, lone surrogates (bytes that are no UTF-8), and what turns the direction of text.
@@ -41,11 +42,25 @@ def command_line(words: Sequence[str]) -> str:
                     for word in words)
 
 
+def signal_name(number: int) -> str:
+    try:
+        return signal.Signals(number).name
+    except ValueError:
+        return f"signal {number}"
+
+
 def shown_path(path: str, root: str) -> str:
     """Returns a path as seen from a folder, if it is below this folder, and else as it is."""
     if root and path.startswith(root.rstrip("/") + "/"):
         return path[len(root.rstrip("/")) + 1:]
     return path
+
+
+def stable_path(path: str, root: str) -> str:
+    """Returns the end of a path that is the same wherever the sources lie: what comes after the folder `root`, if there
+    is one and the path lies below, and else the last two names."""
+    shown = shown_path(path, root)
+    return shown if root and not shown.startswith("/") else "/".join(path.split("/")[-2:])
 
 
 def tidy(path: str) -> str:

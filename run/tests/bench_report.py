@@ -112,7 +112,7 @@ ROWS = [
     Row("2,000 places, with symbols", many_places, ["--trace"], 1, 100),
     Row("2,000 places, without", many_places, ["--trace"], 1, 100, "/nonexistent"),
     Row("a million JSON lines", results, [], 30, 500),
-    Row("a million JSON lines, to a file", results, ["--json", "/dev/null"], 60, 600),
+    Row("a million JSON lines, to a file", results, ["--json", "/dev/null"], 30, 500),
 ]
 
 

@@ -167,7 +167,7 @@ def check_keep(suite: Suite, folder: str) -> None:
     checked = suite.run_words([suite.asancol, "check", past])
     expect(checked.status, 1, checked.out)
     with open(past + ".where", "rb") as where:
-        expect(where.read(5), b"ASWH\2", "side memory")
+        expect(where.read(5), b"ASWH\3", "side memory")
     seen = os.stat(past + ".where")
     if seen.st_blocks * 512 > seen.st_size // 2:
         raise Failure("the side memory is no sparse file")

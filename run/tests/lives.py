@@ -39,6 +39,14 @@ def check_hurry(suite: Suite, folder: str) -> None:
     expect_ran(finish(started), 98, "still ran at the end")
 
 
+def check_group_signal(suite: Suite, folder: str) -> None:
+    """Sent to the process and to its group, as `timeout` does, it is one: what was found is still reported."""
+    words = ["timeout", "-s", "TERM", "0.7", RUN, "--", suite.program, "past_and_sleeps", "30"]
+    for _ in range(3):
+        ran = suite.run_words(words, folder, FAKE="1")
+        expect((ran.status, "the report" in ran.err), (124, True), ran.err)
+
+
 def check_killed_beside_others(suite: Suite, folder: str) -> None:
     line = f"{suite.program} sleeps 30 & sleep 0.3; kill -9 $!; {suite.program} sound"
     expect_ran(suite.run("--", "sh", "-c", line), 98, "1 NOT SEEN WHOLE", "2 processes")
@@ -289,6 +297,7 @@ def tests(suite: Suite) -> None:
     suite.test("orphan for too long", check_orphan_for_too_long)
     suite.test("cut process runs on", check_cut_process_runs_on)
     suite.test("signal ends the waiting", check_hurry)
+    suite.test("signal to the group too", check_group_signal)
     suite.test("kill -9 beside others", check_killed_beside_others)
     suite.test("checker is killed", check_killed_checker)
     suite.test("SIGTERM with a report", check_term_during_report)

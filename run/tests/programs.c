@@ -1,4 +1,5 @@
 /* What the tests record: each name is a way to live. */
+#define _GNU_SOURCE
 #include <fcntl.h>
 #include <signal.h>
 #include <stdio.h>
@@ -60,6 +61,19 @@ static int aborts(char **words)
         abort();
     waitpid(made, &status, 0);
     return !WIFSIGNALED(status);
+}
+
+/* The recorder does not see it made. */
+static int forks_unseen(char **words)
+{
+    (void)words;
+    pid_t made = _Fork();
+    if (made == 0) {
+        free((void *)block);
+        _exit(0);
+    }
+    waitpid(made, NULL, 0);
+    return 0;
 }
 
 static int execs(char **words)
@@ -159,7 +173,8 @@ static const struct {
     const char *name;
     int (*run)(char **words);
 } ways[] = {
-    {"sound", sound}, {"past", past}, {"child", child}, {"aborts", aborts}, {"execs", execs}, {"many", many},
+    {"sound", sound}, {"past", past}, {"child", child}, {"forks_unseen", forks_unseen},
+    {"aborts", aborts}, {"execs", execs}, {"many", many},
     {"sleeps", sleeps}, {"past_and_sleeps", past_and_sleeps}, {"orphan", orphan}, {"daemon", becomes_daemon},
     {"handles", handles}, {"ignores", ignores}, {"kills_itself", kills_itself}, {"open_ones", open_ones},
 };

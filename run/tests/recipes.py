@@ -36,6 +36,20 @@ def check_ctest(suite: Suite, folder: str) -> None:
     expect("1 tests failed out of 2" in ran.out and "1 - good" not in ran.out.split("FAILED:")[1], True, ran.out)
 
 
+def check_hidden(suite: Suite, folder: str) -> None:
+    """What WILL_FAIL and PASS_REGULAR_EXPRESSION hide from ctest, a run round it has seen."""
+    write_cmake(suite, folder, f"-DCMAKE_CROSSCOMPILING_EMULATOR={RUN};-q;--")
+    with open(f"{folder}/CMakeLists.txt", "a", encoding="utf-8") as file:
+        file.write("set_tests_properties(bad PROPERTIES WILL_FAIL TRUE)\n")
+        file.write("add_test(NAME prints COMMAND bad)\n")
+        file.write("set_tests_properties(prints PROPERTIES PASS_REGULAR_EXPRESSION report)\n")
+    made = suite.run_words(["cmake", "--build", "build"], cwd=folder)
+    expect(made.status, 0, made.out)
+    ran = suite.run("--", "ctest", cwd=f"{folder}/build", ASANCOL_REPORT=REPORT)
+    expect_ran(ran, 99, "2 reports at 1 place")
+    expect("100% tests passed" in ran.out, True, ran.out)
+
+
 def check_memcheck(suite: Suite, folder: str) -> None:
     """ctest -T memcheck shows no status, but what is printed is in its logs."""
     words = [f"-DMEMORYCHECK_COMMAND={RUN}", "-DMEMORYCHECK_TYPE=Valgrind", "-DMEMORYCHECK_COMMAND_OPTIONS=-q"]
@@ -69,13 +83,18 @@ def check_automake(suite: Suite, folder: str) -> None:
         file.write("AC_INIT([sample], [1])\nAM_INIT_AUTOMAKE([foreign])\nAC_PROG_CC\n")
         file.write("AC_CONFIG_FILES([Makefile])\nAC_OUTPUT\n")
     with open(f"{folder}/Makefile.am", "w", encoding="utf-8") as file:
-        file.write("check_PROGRAMS = good bad\nTESTS = good bad\ngood_SOURCES = good.c\nbad_SOURCES = bad.c\n")
+        file.write("check_PROGRAMS = good bad\nTESTS = good bad script.sh\n")
+        file.write("TEST_EXTENSIONS = .sh\n")
+        file.write("good_SOURCES = good.c\nbad_SOURCES = bad.c\n")
+    with open(f"{folder}/script.sh", "w", encoding="utf-8") as file:
+        file.write("./bad\n")
     for words in (["autoreconf", "-i"], ["./configure", f"CC={CC}"]):
         made = suite.run_words(words, cwd=folder)
         expect(made.status, 0, made.out + made.err)
-    words = ["make", "check", f"LOG_COMPILER={RUN}", "AM_LOG_FLAGS=-q --"]
+    words = ["make", "check", f"LOG_COMPILER={RUN}", "AM_LOG_FLAGS=-q --", f"SH_LOG_COMPILER={RUN} -q -- sh"]
     ran = suite.run_words(words, cwd=folder)
-    expect(("PASS: good" in ran.out, "ERROR: bad" in ran.out), (True, True), ran.out + ran.err)
+    seen = [it in ran.out for it in ("PASS: good", "ERROR: bad", "ERROR: script.sh")]
+    expect(seen, [True] * 3, ran.out + ran.err)
 
 
 def check_slurm(suite: Suite, folder: str) -> None:
@@ -138,6 +157,7 @@ def tests(suite: Suite) -> None:
     for tool, name, run_it in (
         ("make", "make -j", check_make),
         ("ctest", "ctest", check_ctest),
+        ("ctest", "ctest that hides a report", check_hidden),
         ("ctest", "ctest -T memcheck", check_memcheck),
         ("meson", "meson", check_meson),
         ("autoreconf", "automake", check_automake),

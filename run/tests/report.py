@@ -13,9 +13,11 @@ import os
 import random
 import re
 import shutil
+import signal
 import subprocess
 import sys
 import tempfile
+import time
 import xml.dom.minidom
 from typing import Callable, List, Optional, Set, Tuple
 
@@ -23,33 +25,15 @@ TESTS = os.path.dirname(os.path.abspath(__file__))
 sys.path.insert(0, TESTS)
 
 import browser  # noqa: E402
+import cuts  # noqa: E402
+import fingerprints  # noqa: E402
 import sides  # noqa: E402
 from sides import build, fault, Feed, of_program, Program, report, side, write_trace  # noqa: E402
+from support import expect, expect_in, expect_not_in, wait_until  # noqa: E402
 
 OVERFLOW = "p0 #2 store 1 at 000000002005 bad 000000002005 heap-buffer-overflow shadow 05\n"
 FREED = "p0 #5 load 4 at 000000002000 bad 000000002000 heap-use-after-free shadow fd\n"
 END = "p0 end closed events 9 offset 99 reports 1\n"
-
-
-class Failure(Exception):
-    """What a test saw and did not expect."""
-
-
-def expect(seen: object, wanted: object, what: str = "") -> None:
-    if seen != wanted:
-        raise Failure(f"{what}: saw {seen!r}, wanted {wanted!r}")
-
-
-def expect_in(text: str, *parts: str) -> None:
-    for part in parts:
-        if part not in text:
-            raise Failure(f"{part!r} is not in {text!r}")
-
-
-def expect_not_in(text: str, *parts: str) -> None:
-    for part in parts:
-        if part in text:
-            raise Failure(f"{part!r} is in {text!r}")
 
 
 def freed_block(program: Program, **more: int) -> bytes:
@@ -107,8 +91,8 @@ def trace_without_side_file(folder: str) -> None:
     expect(ran.status, 1, "status")
     expect_in(ran.text, "heap-use-after-free: load of 4 bytes", "#0 its place was not recorded", "address 0x2000",
               "b.trace.where: No such file or directory: record with ASANCOL_WHERE=1")
-    write_trace(folder, "c.trace", FREED + END, [(0, b"ASWH\1\0\0\0"), (1 << 18, b"\0")])
-    expect_in(report(folder, "--trace", "c.trace").text, "c.trace.where is no side file of version 2")
+    write_trace(folder, "c.trace", FREED + END, [(0, b"ASWH\2\0\0\0"), (1 << 18, b"\0")])
+    expect_in(report(folder, "--trace", "c.trace").text, "c.trace.where is no side file of version 3")
 
 
 def trace_ends(folder: str) -> None:
@@ -199,6 +183,7 @@ def run_ends(folder: str) -> None:
         ({"nothing": True}, 3, "asancol: NOTHING WAS RECORDED"),
         ({"missing": 2}, 3, "asancol: NOT ALL SEEN: 2 fewer than --at-least"),
         ({"running": True}, 3, "asancol: NOT ALL SEEN: processes of the command still run"),
+        ({"timed_out": True}, 3, "asancol: NOT ALL SEEN: the command was ended by --timeout"),
     ):
         feed = Feed(folder)
         feed.begin()
@@ -216,6 +201,42 @@ def run_ends(folder: str) -> None:
     ran = feed.finish()
     expect(ran.status, 1, "a hub that dies")
     expect_in(ran.text, "asancol-run ended before the run did", "load of 4 bytes")
+
+
+def command_fails(folder: str) -> None:
+    """A test case passes only if its command ended with 0, and all was seen whole."""
+    for number, (more, status, kind, text, code) in enumerate((
+        ({}, 0, "", "", 0),
+        ({"status": 7}, 0, "failure", "the command ended with status 7", 7),
+        ({"signal": 15}, 0, "failure", "the command was ended by SIGTERM", None),
+        ({"signal": 15, "timed_out": True}, 3, "error", "NOT ALL SEEN: the command was ended by --timeout", None),
+        ({"status": 7, "reports": 1}, 1, "failure", "heap-use-after-free: load of 4 bytes", 7),
+    )):
+        feed = Feed(folder, "--json", f"{number}.jsonl")
+        feed.begin(f"run-{number}")
+        feed.process(0, (FREED + END) if "reports" in more else "")
+        expect(feed.end(**more).status, status, str(more))
+        # And the same from its JSON lines.
+        ran = report(folder, f"{number}.jsonl", "--junit", "out.xml", "--sarif", "out.sarif", "--html", "out.html")
+        expect(ran.status, status, str(more))
+        (case,) = xml.dom.minidom.parse(f"{folder}/out.xml").getElementsByTagName("testcase")
+        seen = [(it.tagName, it.getAttribute("message")) for it in case.childNodes[:1]]
+        expect(bool(seen), bool(kind), str(more))
+        if kind:
+            expect(seen[0][0], kind, str(more))
+            expect_in(seen[0][1], text)
+        with open(f"{folder}/out.sarif", encoding="utf-8") as file:
+            (invocation,) = json.load(file)["runs"][0]["invocations"]
+        expect((invocation["executionSuccessful"], invocation.get("exitCode")), (not more, code), str(more))
+        expect(invocation.get("exitSignalName"), "SIGTERM" if "signal" in more else None, str(more))
+        with open(f"{folder}/out.html", encoding="utf-8") as file:
+            expect("the command" in file.read(), bool(more), "the page")
+    write_trace(folder, "a.trace", "p0 end no-close events 9 offset 99 reports 0\n", side(ending=3, signal=6, events=9))
+    expect_in(report(folder, "--trace", "a.trace", "--junit", "-").text, 'message="the command was ended by SIGABRT"')
+    report(folder, *(f"{number}.jsonl" for number in range(5)), "--junit", "out.xml")
+    (suite,) = xml.dom.minidom.parse(f"{folder}/out.xml").getElementsByTagName("testsuite")
+    expect([suite.getAttribute(it) for it in ("tests", "failures", "errors")], ["5", "3", "1"], "counts")
+    expect_in(suite.getElementsByTagName("system-err")[0].firstChild.data, "the command ended with status 7")
 
 
 def run_takes_anything(folder: str) -> None:
@@ -242,6 +263,61 @@ def run_takes_anything(folder: str) -> None:
     expect(ran.status, 4, "suppressions that are not there")
     expect_in(ran.text, "load of 4 bytes")
     expect_in(ran.errors, "missing: No such file or directory")
+
+
+def ignored_by(process: int) -> int:
+    with open(f"/proc/{process}/status", encoding="utf-8") as file:
+        return int(re.findall(r"^SigIgn:\s*(\w+)", file.read(), re.M)[0], 16)
+
+
+def run_gets_signals(folder: str) -> None:
+    """A signal to the process group or the session costs no report, whenever it comes."""
+    numbers = (signal.SIGINT, signal.SIGTERM, signal.SIGHUP, signal.SIGQUIT)
+    everything = sum(1 << number - 1 for number in numbers)
+    program = build(folder)
+    for words in (["--live"], ["--json", "out.jsonl"]):
+        feed = Feed(folder, *words)
+        wait_until(lambda feed=feed: ignored_by(feed.child.pid) & everything == everything, "that signals are ignored")
+        for turn in range(30):
+            for number in numbers:
+                feed.child.send_signal(number)
+            time.sleep(0.01)
+            if turn == 10:
+                feed.begin()
+                feed.process(0, FREED + END, of_program(program, [freed_block(program)], [0, 0, 0, 0, 1]))
+        ran = feed.end()
+        expect((ran.status, ran.errors), (1, ""), ran.text)
+        expect_in(ran.text, "load of 4 bytes", "in use ", "all seen whole")
+    feed = Feed(folder)
+    feed.begin()
+    expect(feed.finish().status, 3, "when its input ends")
+
+
+def run_has_bad_rules(folder: str) -> None:
+    """A mistake there is said at once and after the summary, and what can be used of the files is used."""
+    feed = Feed(folder, "--json", "known.jsonl")
+    feed.begin()
+    feed.process(0, FREED + END)
+    feed.end()
+    with open(f"{folder}/first", "w", encoding="utf-8") as file:
+        file.write("# one\ndouble-free:x\nnon\x1bsense\nheap-use-after-free:*\n")
+    with open(f"{folder}/second", "w", encoding="utf-8") as file:
+        file.write("bad-free:y\n")
+    feed = Feed(folder, "--suppressions", "first", "--suppressions", "none", "--suppressions", "second",
+                "--baseline", "known.jsonl")
+    feed.begin("run-2")
+    feed.process(0, FREED + END)
+    feed.process(1, FREED.replace("load", "store") + END)
+    ran = feed.end()
+    expect(ran.status, 4, ran.text)
+    lines = [
+        "first:3: non\\x1bsense: not CLASS:PATTERN, *:PATTERN, fun:PATTERN, src:PATTERN, obj:PATTERN or "
+        "at:CLASS:FUNCTION@FILE; the rest of the file was not used",
+        "none: No such file or directory; it was not used",
+    ]
+    expect(ran.errors, "".join(f"asancol-report: {line}\n" for line in lines), "at once")
+    summary = ran.text.partition("asancol: 1 report at 1 place, 1 place known from the baseline")[2]
+    expect_in(summary, *(f"\nasancol: {line}\n" for line in lines), "nothing: double-free:x", "nothing: bad-free:y")
 
 
 def run_has_nested(folder: str) -> None:
@@ -333,12 +409,15 @@ def symbolizer_fails(folder: str) -> None:
     with open(f"{folder}/llvm-symbolizer-silent", "w", encoding="utf-8") as file:
         file.write("#!/bin/sh\nexit 0\n")
     os.chmod(f"{folder}/llvm-symbolizer-silent", 0o755)
+    os.symlink("/bin/cat", f"{folder}/cat")
     for tool, text in (
         ("/nonexistent/tool", "/nonexistent/tool, which ASANCOL_SYMBOLIZER names, was not found: places have no lines"),
         ("./llvm-symbolizer-silent", "gives no lines"),
         ("/bin/cat", "gives no lines"),
+        ("", "asancol: neither llvm-symbolizer nor addr2line was found: places have no lines"),
     ):
-        ran = report(folder, "--trace", "a.trace", ASANCOL_SYMBOLIZER=tool)
+        path = os.environ["PATH"] if tool else folder
+        ran = report(folder, "--trace", "a.trace", ASANCOL_SYMBOLIZER=tool, PATH=path)
         expect(ran.status, 1, tool)
         expect(ran.text.count(text), 1, ran.text)
         expect_in(ran.text, f"({folder}/program+0x")
@@ -363,6 +442,22 @@ def cpp_names(folder: str) -> None:
         if shutil.which(tool):
             text = report(folder, "--trace", "a.trace", ASANCOL_SYMBOLIZER=tool).text
             expect_in(text, "in some::Thing<int>::make(int) ")
+
+
+def copies_have_the_name(folder: str) -> None:
+    """A copy of a function, which the compiler has made, is called as the function is."""
+    program = build(folder)
+    write_trace(folder, "a.trace", FREED + END, of_program(program, [freed_block(program)], [0, 0, 0, 0, 1]))
+    tool = f"{folder}/addr2line"
+    for name, wanted in (
+        ("f.constprop.0", "f"), ("f.isra.0.part.12.cold", "f"),
+        ("a::f(int) [clone .isra.0] [clone .cold]", "a::f(int)"),
+        ("f(int) (.llvm.123)", "f(int)"), ("file.part", "file"), ("f.other", "f.other"), ("f.cold.1.x", "f.cold.1.x"),
+    ):
+        with open(tool, "w", encoding="utf-8") as file:
+            file.write(f"#!/bin/sh\nwhile read address; do echo $address; echo '{name}'; echo /x/a.c:3; done\n")
+        os.chmod(tool, 0o755)
+        expect_in(report(folder, "--trace", "a.trace", ASANCOL_SYMBOLIZER=tool).text, f" in {wanted} /x/a.c:3\n")
 
 
 def results_are_read_again(folder: str) -> None:
@@ -402,7 +497,7 @@ def bad_results(folder: str) -> None:
         (run + "nothing\n", "bad.jsonl:2: not a result of asancol-report --json"),
         (run + '{"type":"process","run":4}\n', "bad.jsonl:2: not a result"),
         (run + '{"type":"finding"}\n', "bad.jsonl:2: not a result"),
-        (run + '{"type":"other"}\n', "bad.jsonl:2: not a result"),
+        (run + '{"kind":"other"}\n', "bad.jsonl:2: not a result"),
         (run + "[" * 100000 + "\n", "bad.jsonl:2: not a result"),
         ("", "bad.jsonl: there is no run in it"),
         ("\0\xff\n", "bad.jsonl:1: not a result"),
@@ -410,8 +505,12 @@ def bad_results(folder: str) -> None:
         with open(f"{folder}/bad.jsonl", "w", encoding="latin-1") as file:
             file.write(text)
         ran = report(folder, "bad.jsonl")
-        expect((ran.status, ran.text), (4, ""), message)
+        expect(ran.status, 4, message)
         expect_in(ran.errors, message)
+        if text.startswith(run):
+            expect_in(ran.text, "asancol: bad.jsonl: NOT ALL SEEN: bad.jsonl:2: not a", "; NOT SEEN WHOLE\n")
+        else:
+            expect(ran.text, "", message)
     expect_in(report(folder, "missing.jsonl").errors, "asancol-report: missing.jsonl: No such file or directory\n")
     odd = {"type": "finding", "run": 0, "fingerprint": "f", "class": 3, "access": None, "size": "x", "address": [],
            "stack": [3, {"line": "x", "file": 4, "offset": "zz"}], "count": -1, "block": 4, "freed": {}}
@@ -426,7 +525,9 @@ def suppressions(folder: str) -> None:
     one_trace(folder)
     report(folder, "--trace", "a.trace", "--json", "a.jsonl")
     generated = re.findall("suppression: (.*)", report(folder, "a.jsonl", "--gen-suppressions").text)
-    expect(generated, ["heap-buffer-overflow:^drop$", "heap-use-after-free:^use$"], "generated")
+    file = f"{os.path.basename(folder)}/program.c"
+    expect(generated, [f"at:heap-buffer-overflow:drop@{file}", f"at:heap-use-after-free:use@{file};main@{file}"],
+           "generated")
     for rules, status, text in (
         ("\n".join(generated), 0, "no reports, 4 suppressed;"),
         ("# a comment\n\nheap-use-after-free:use\n", 1, "1 report at 1 place, 3 suppressed;"),
@@ -438,18 +539,29 @@ def suppressions(folder: str) -> None:
         ("*:^us\n", 1, "3 suppressed"),
         ("double-free:use\n", 1, "a suppression matched nothing: double-free:use"),
         ("fun:^.$\n", 1, "4 reports at 2 places"),
+        # The frames of the access, from the innermost on. Others do not count.
+        ("at:heap-use-after-free:use@program.c\n", 1, "3 suppressed"),
+        ("at:heap-use-after-free:use\n", 1, "3 suppressed"),
+        ("at:*:u*;@program.c\n", 1, "3 suppressed"),
+        ("at:*:*@*/program.c\n", 0, "4 suppressed"),
+        ("at:*:us@program.c\n", 1, "4 reports at 2 places"),
+        ("at:*:use@gram.c\n", 1, "4 reports at 2 places"),
+        ("at:*:main@program.c\n", 1, "4 reports at 2 places"),
+        ("at:*:use;main;main\n", 1, "4 reports at 2 places"),
+        ("at:*:make@program.c\n", 1, "4 reports at 2 places"),
+        ("at:heap-buffer-overflow:use@program.c\n", 1, "4 reports at 2 places"),
     ):
         with open(f"{folder}/rules", "w", encoding="utf-8") as file:
             file.write(rules)
         ran = report(folder, "a.jsonl", "--suppressions", "rules")
         expect(ran.status, status, rules)
         expect_in(ran.text, text)
-    for rule in ("heap:x", "nothing", "fun:", "memory-leak:x"):
+    for rule in ("heap:x", "nothing", "fun:", "memory-leak:x", "at:", "at:*:", "at:heap:f@x.c", "at:*:f;;g", "at:*:@"):
         with open(f"{folder}/rules", "w", encoding="utf-8") as file:
             file.write("# one\n" + rule + "\n")
         ran = report(folder, "a.jsonl", "--suppressions=rules")
         expect((ran.status, ran.text), (2, ""), rule)
-        expect_in(ran.errors, "asancol-report: rules:2: ")
+        expect_in(ran.errors, f"asancol-report: rules:2: {rule}: ")
     expect(report(folder, "a.jsonl", "--suppressions", "missing").status, 4, "missing")
 
 
@@ -625,6 +737,26 @@ def outputs_are_whole(folder: str) -> None:
     expect((ran.returncode, ran.stderr), (4, b"asancol-report: standard output: No space left on device\n"), "the text")
 
 
+def stacks_have_callers(folder: str) -> None:
+    """A stack ends with main, or where no module is. One that is cut, too long or of another place is none."""
+    program = build(folder)
+    use, make, drop = (program.places[name] for name in ("use", "make", "drop"))
+    main, libc = use + 1, 0x700000000000  # an address of main; and one in no module
+    words = [0, 3, make, main, libc, 4, drop, make, main, make, 2, drop, libc, 40, drop, main]
+    for stacks, wanted in (
+        ((10, 1, 0), ["drop", "make", "main"]),  # that of the access ends at once, that of the malloc in main
+        ((5, 0, 0), ["drop", "make", "main", "make"]),  # what has called main is left out
+        ((13, 0, 0), ["drop", "make"]),  # 40 frames
+        ((1, 0, 0), ["drop", "make"]),  # another place's
+        ((99, 1 << 31, 0), ["drop", "make"]),  # past the end
+    ):
+        faults = [fault(drop, 0x2000, 5, make, stacks=stacks)]
+        write_trace(folder, "s.trace", OVERFLOW + END, of_program(program, faults, [0, 1], stacks=words))
+        text = report(folder, "--trace", "s.trace").text
+        frames = re.findall(r"^    #\d 0x[0-9a-f]+ in (\w+) (?!.*\(inlined\))", text, re.M)
+        expect(frames, wanted, f"frames of {stacks}")
+
+
 def side_memory_lies(folder: str) -> None:
     """Whatever stands there, there is a report and no more."""
     program = build(folder)
@@ -682,6 +814,12 @@ def words_are_refused(folder: str) -> None:
         (["a.jsonl", "--limit", "3"], "--limit is for --trace"),
         (["-", "-"], "standard input can be read once"),
         (["--trace", "-"], "a trace on standard input has no side file"),
+        (["a.jsonl", "--json", "x", "--html", "./x"], "--json and --html both write ./x"),
+        (["a.jsonl", "--json", "x", "--json", "x"], "--json and --json both write x"),
+        (["a.jsonl", "--html", "a.jsonl"], "--html would write over a.jsonl, which is read"),
+        (["--trace", "a.trace", "--json", "a.trace"], "--json would write over a.trace, which is read"),
+        (["a.jsonl", "--baseline", "b.jsonl", "--sarif=b.jsonl"], "--sarif would write over b.jsonl, which is read"),
+        (["a.jsonl", "--suppressions", "b", "--json", "b"], "--json would write over b, which is read"),
     ):
         ran = report(folder, *words)
         expect((ran.status, ran.text), (2, ""), str(words))
@@ -690,7 +828,7 @@ def words_are_refused(folder: str) -> None:
         ran = report(folder, *words)
         expect((ran.status, ran.errors), (0, ""), str(words))
     lines = report(folder, "--help").text.splitlines()
-    expect(len(lines) <= 40 and max(map(len, lines)) <= 100, True, "one screen")
+    expect(len(lines) <= 40 and max(map(len, lines)) <= 80, True, "one screen")
 
 
 def completions_are_whole(folder: str) -> None:
@@ -716,10 +854,11 @@ def completions_are_whole(folder: str) -> None:
 
 ALL: List[Callable[[str], None]] = [
     trace_has_lines, trace_without_side_file, trace_ends, trace_has_failures, variables, run_is_fed, run_ends,
-    run_takes_anything, run_has_nested, live, program_has_changed, program_without_build_id, program_is_gone_at_the_end,
-    symbolizer_fails, cpp_names, results_are_read_again, runs_are_merged, bad_results, suppressions, baseline, sarif,
-    sarif_has_its_schema, junit, code_quality, page_is_safe, page_works, outputs_are_whole, side_memory_lies,
-    lines_are_no_lines, text_does_nothing_to_a_terminal, words_are_refused, completions_are_whole,
+    run_takes_anything, run_gets_signals, run_has_bad_rules, run_has_nested, live, command_fails, program_has_changed,
+    program_without_build_id, program_is_gone_at_the_end, symbolizer_fails, cpp_names, copies_have_the_name,
+    results_are_read_again, runs_are_merged, bad_results, suppressions, baseline, sarif, sarif_has_its_schema, junit,
+    code_quality, page_is_safe, page_works, outputs_are_whole, stacks_have_callers, side_memory_lies, lines_are_no_lines,
+    text_does_nothing_to_a_terminal, words_are_refused, completions_are_whole, *fingerprints.TESTS, *cuts.TESTS,
 ]
 
 

@@ -118,6 +118,13 @@ def check_nested_lost(suite: Suite, folder: str) -> None:
     expect_ran(suite.run(*nested(suite, "RUN -q -- /nonexistent; PROGRAM sound")), 0, "all seen whole")
 
 
+def check_nested_without_folder(suite: Suite, folder: str) -> None:
+    """An inner run that can leave no result is a process that was not seen."""
+    line = "rm -r ${ASANCOL_HUB%/hub}; RUN -q -- PROGRAM sound"
+    ran = suite.run(*nested(suite, line))
+    expect_ran(ran, 98, "does not get its result", "(unknown): NOT SEEN WHOLE: it was not recorded, or not by this run")
+
+
 def check_nested_result(suite: Suite, folder: str) -> None:
     """What a clean inner run leaves are JSON lines, and the report of the outer one is given their folder."""
     copy = f"{folder}/copy"
@@ -140,6 +147,7 @@ def tests(suite: Suite) -> None:
     suite.test("another folder", check_other_folder)
     suite.test("nested", check_nested)
     suite.test("nested run that is killed", check_nested_lost)
+    suite.test("nested run without a folder", check_nested_without_folder)
     suite.test("nested result", check_nested_result)
     alone = suite.run_words(["unshare", "-rmn", "true"]).status == 0
     if alone:

@@ -14,6 +14,7 @@ REPORT = os.path.join(os.path.dirname(TESTS), "asancol-report")
 # The layout, as recorder/format.h has it.
 MAPS_AT, INDEX_AT = 8192, 1 << 18
 FAULTS_AT = INDEX_AT + 4 * (1 << 24)
+STACKS_AT = FAULTS_AT + 192 * (1 << 16)
 
 PLACES_C = r"""
 #include <stdio.h>
@@ -83,20 +84,23 @@ def start_of(program: Program) -> int:
 
 
 def fault(place: int = 0, block: int = 0, size: int = 0, allocated: int = 0, freed: int = 0, variable: int = 0,
-          line: int = 0, name: str = "") -> bytes:
-    return struct.pack("<QQQQQQII136s", 1, place, block, size, allocated, freed, variable, line, name.encode()[:136])
+          line: int = 0, name: str = "", stacks: Tuple[int, int, int] = (0, 0, 0)) -> bytes:
+    return struct.pack("<QQQQQQIIIIII120s", 1, place, block, size, allocated, freed, variable, line, *stacks, 0,
+                       name.encode()[:120])
 
 
 def side(maps: str = "", builds: Sequence[Tuple[int, str]] = (), faults: Sequence[bytes] = (),
          index: Sequence[int] = (), process: int = 7, ending: int = 1, signal: int = 0, events: int = 0,
-         left_out: int = 0, started: int = (1 << 63) - 1, words: Sequence[str] = ("./program",)) -> Parts:
-    """Returns a side memory."""
-    head = struct.pack("<8sQQIIIIQIII", b"ASWH\2\0\0\0", events, left_out, ending, signal, process, 1, started, 1, 0,
-                       len(faults))
+         left_out: int = 0, started: int = (1 << 63) - 1, words: Sequence[str] = ("./program",),
+         stacks: Sequence[int] = ()) -> Parts:
+    """Returns a side memory. The first word of the stacks is of none."""
+    head = struct.pack("<8sQQIIIIQIIII", b"ASWH\3\0\0\0", events, left_out, ending, signal, process, 1, started, 1, 0,
+                       len(faults), len(stacks))
     names = b"".join(word.encode("utf-8", "surrogateescape") + b"\0" for word in words) + b"\0"
     ids = b"".join(struct.pack("<QB23s", start, len(text) // 2, bytes.fromhex(text)) for start, text in builds)
     return [(0, head), (72, names), (4096, ids), (MAPS_AT, maps.encode() + b"\0"),
-            (INDEX_AT, struct.pack(f"<{len(index)}I", *index)), (FAULTS_AT, b"".join(faults))]
+            (INDEX_AT, struct.pack(f"<{len(index)}I", *index)), (FAULTS_AT, b"".join(faults)),
+            (STACKS_AT, struct.pack(f"<{len(stacks)}Q", *stacks))]
 
 
 def of_program(program: Program, faults: Sequence[bytes], index: Sequence[int], **more: Any) -> Parts:

@@ -29,6 +29,19 @@ RUNS: Dict[str, Tuple[str, int, List[str]]] = {
     "nothing, and quiet": ("-q -- true", 98, ["NOTHING WAS RECORDED"]),
     "nothing-exitcode": ("--nothing-exitcode 77 -- true", 77, ["NOTHING WAS RECORDED"]),
     "nothing-exitcode 0": ("--nothing-exitcode 0 -- sh -c 'exit 4'", 4, ["NOTHING WAS RECORDED"]),
+    "nothing of a failure is no test skipped": ("--nothing-exitcode 77 -- false", 98, ["NOTHING WAS RECORDED"]),
+    "nothing by a signal": ("--nothing-exitcode 77 -- sh -c 'kill -TERM $$'", 98, ["NOTHING WAS RECORDED"]),
+    "nothing of a failure, and incomplete-exitcode 0": (
+        "--nothing-exitcode 77 --incomplete-exitcode 0 -- sh -c 'exit 4'", 4, ["NOTHING WAS RECORDED"]
+    ),
+    "nothing, and at-least": ("--nothing-exitcode 77 --at-least 1 -- true", 98, ["NOTHING WAS RECORDED"]),
+    "nothing-exitcode 0, and at-least": ("--nothing-exitcode 0 --at-least 1 -- true", 98, []),
+    "nothing, and timeout": ("--nothing-exitcode 77 --timeout 0.2 -- sleep 9", 98, ["was ended by --timeout"]),
+    "timeout": ("--timeout 0.2 -- sh -c 'PROGRAM sound; sleep 9'", 98, [
+        "the command is ended by --timeout, after 0.2 seconds",
+        "asancol: NOT ALL SEEN: the command was ended by --timeout",
+        "1 event; NOT SEEN WHOLE",
+    ]),
     "no checks": ("-- UNCHECKED sound", 98, ["NOTHING WAS RECORDED"]),
     "no checks beside checks": ("-- sh -c 'PROGRAM sound; UNCHECKED sound'", 98, ["no code of it was compiled"]),
     "no checks as skipped": ("--nothing-exitcode 77 -- UNCHECKED sound", 77, []),
@@ -43,6 +56,19 @@ RUNS: Dict[str, Tuple[str, int, List[str]]] = {
     "command ends by a signal": ("-- sh -c 'PROGRAM sound; kill -TERM $$'", -15, ["all seen whole"]),
     "program ends by a signal": ("-- PROGRAM kills_itself 11", -11, ["all seen whole"]),
     "killed": ("-- PROGRAM kills_itself 9", 98, ["NOT SEEN WHOLE: ended without a word, as by SIGKILL"]),
+    "no shadow": ("-- sh -c 'ulimit -v 1000000; PROGRAM sound || true'", 98, [
+        "programs: NOT SEEN WHOLE: address space is limited", "!NOTHING WAS RECORDED"
+    ]),
+    "no shadow, and nothing-exitcode": (
+        "--nothing-exitcode 77 -- sh -c 'ulimit -v 1000000; PROGRAM sound || true'", 98, []
+    ),
+    "a trace elsewhere": ("-- sh -c 'ASANCOL_TRACE=/dev/null PROGRAM sound; PROGRAM sound'", 98, [
+        "programs: NOT SEEN WHOLE: ASANCOL_TRACE is set for it", "1 NOT SEEN WHOLE"
+    ]),
+    "an unknown fork": ("-- PROGRAM forks_unseen", 98, ["NOT SEEN WHOLE: it was not made by fork, but by _Fork"]),
+    "folder removed": ("-- sh -c 'PROGRAM sound; rm -r ${ASANCOL_HUB%/hub}; PROGRAM sound'", 98, [
+        "3 processes, 2 events", "(unknown): NOT SEEN WHOLE: the folder of the run was removed"
+    ]),
     "not found": ("-- no-such-command", 127, ["asancol-run: no-such-command: No such file or directory"]),
     "not executable": ("-- /etc/passwd", 126, ["asancol-run: /etc/passwd: Permission denied"]),
     "a folder": ("-- /usr", 126, []),

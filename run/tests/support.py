@@ -30,6 +30,18 @@ def expect(seen: Any, wanted: Any, what: str = "") -> None:
         raise Failure(f"{what}: saw {seen!r}, wanted {wanted!r}")
 
 
+def expect_in(text: str, *parts: str) -> None:
+    for part in parts:
+        if part not in text:
+            raise Failure(f"{part!r} is not in {text!r}")
+
+
+def expect_not_in(text: str, *parts: str) -> None:
+    for part in parts:
+        if part in text:
+            raise Failure(f"{part!r} is in {text!r}")
+
+
 class Ran(NamedTuple):
     """A run that has ended. A status below 0 is a signal."""
 

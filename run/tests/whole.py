@@ -31,6 +31,35 @@ def check_report(suite: Suite, folder: str) -> None:
     expect_ran(ran, 99, FREED, "in load_freed", "freed at", "2 processes")
 
 
+VARIABLES = """
+#include <string.h>
+static int table[4];
+__attribute__((noinline)) void fill(int size) {
+    char buffer[10];
+    memset(buffer, 1, size);
+    __asm__ volatile("" : : "r"(buffer) : "memory");
+}
+int main(int count, char **words) {
+    fill(10 + count);
+    table[3 + count] = words != 0;
+    return table[0];
+}
+"""
+
+
+def check_variables(suite: Suite, folder: str) -> None:
+    """A report has the name of the variable, and where it is declared."""
+    with open(f"{folder}/variables.c", "w", encoding="utf-8") as file:
+        file.write(VARIABLES)
+    subprocess.run([CC, "-g", "variables.c", "-o", "variables"], cwd=folder, check=True)
+    ran = run_real(suite, "--json", f"{folder}/x", "--", f"{folder}/variables")
+    expect_ran(ran, 99, " in fill ", " 0 bytes past the end of 'buffer' (10 bytes) on the stack, declared in line 5\n",
+               " 0 bytes past the end of 'table' (16 bytes), a global variable, declared at variables.c:3\n")
+    blocks = [it["block"] for it in read_lines(f"{folder}/x") if it["type"] == "finding"]
+    expect(sorted((it["kind"], it["name"], it["line"]) for it in blocks),
+           [("global", "table", 3), ("stack", "buffer", 5)], "blocks")
+
+
 def check_colors(suite: Suite, folder: str) -> None:
     """Colors go to a terminal only, and not if somebody asks for none."""
     red = "\033[1;31m=="
@@ -115,6 +144,12 @@ def check_nested(suite: Suite, folder: str) -> None:
     expect_ran(run_real(suite, "--", "sh", "-c", f"{RUN} -q -- {suite.program} past 2>/dev/null; true"), 99, PAST)
 
 
+def check_folder_removed(suite: Suite, folder: str) -> None:
+    """A test that clears the folder for what passes loses no report."""
+    line = f'rm -rf "$TMPDIR"/*; exec {suite.program} past'
+    expect_ran(run_real(suite, "--", "sh", "-c", line, TMPDIR=folder), 99, PAST, "1 NOT SEEN WHOLE")
+
+
 def check_kept(suite: Suite, folder: str) -> None:
     """The same report can be made again from the traces."""
     run_real(suite, "--keep", f"{folder}/kept", "--", suite.program, "past", "3")
@@ -170,14 +205,21 @@ def check_first_steps(suite: Suite, folder: str) -> None:
     )
     expect_ran(Ran(ran.returncode, ran.stdout, ran.stderr), 99, "heap-buffer-overflow", "bug.c:6", "bug.c:5")
     expect(ran.stdout, "Alice\n", "what it prints")
+    modules = f"{where}/lib/asancol/asancol_report"
+    expect(os.path.isdir(f"{modules}/__pycache__"), True, "that the modules are compiled")
+    shutil.rmtree(f"{modules}/__pycache__")
+    expect(subprocess.run([f"{where}/bin/asancol-report", "--version"], env=environment, check=True,
+                          stdout=subprocess.PIPE).stdout.split()[0], b"asancol-report", "its name")
+    expect(os.path.exists(f"{modules}/__pycache__"), False, "that something was written where it is installed")
 
 
 def tests(suite: Suite) -> None:
     expect(os.access(CC, os.X_OK), True, "the recorder is built")
     for name, run_it in (
         ("report", check_report), ("colors", check_colors), ("summaries", check_summaries_are_the_same),
-        ("suppressions", check_suppressed),
+        ("suppressions", check_suppressed), ("variables", check_variables),
         ("baseline", check_baseline), ("outputs", check_outputs), ("nested", check_nested), ("kept", check_kept),
+        ("folder removed", check_folder_removed),
         ("live", check_live), ("without Python", check_without_python), ("many", check_many),
         ("first steps", check_first_steps),
     ):

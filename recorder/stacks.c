@@ -1,0 +1,161 @@
+#include "stacks.h"
+
+#include <stdatomic.h>
+#include <stdbool.h>
+#include <string.h>
+
+#include "recorder.h"
+
+/* A stack is a word and then its frames. The word has its number in the lower half, and over it for which recording
+   that was given, and how many frames there are. */
+enum { COUNT_SHIFT = 56, RECORDING_SHIFT = 32 };
+#define RECORDING_MASK UINT32_C(0xffffff)
+
+/* What tells a stack from an address: no address has this bit. The rest is the number of its first word. */
+#define IS_STACK (UINT64_C(1) << 63)
+
+#define STACK_WORDS ((uint32_t)1 << 22)
+#define STACKS ((uint64_t)1 << 18)
+/* So many places of the table stay free, so that a search ends soon. */
+#define SPARE_STACKS (STACKS / 4)
+#define WORD_MASK ((uint64_t)STACK_WORDS - 1)
+
+static struct {
+    _Atomic uint32_t taken; /* words; the first is of no stack */
+    _Atomic uint32_t count; /* stacks */
+    _Atomic uint32_t recording;
+} stacks = {.taken = 1};
+
+static uint64_t words[STACK_WORDS];
+/* The upper bits of a hash, and the number of the first word. */
+static _Atomic uint64_t known[STACKS];
+
+/* Our own frames lie between here and the call that is looked for. */
+enum { OWN_FRAMES = 24 };
+
+/* Follows frame pointers: each points to the one before it, with the address after the call beside it. What
+   lies on the thread's own stack above this frame can be read, whatever it is. */
+static unsigned walk(uintptr_t frame, uintptr_t caller, uint64_t *frames)
+{
+    uintptr_t top = stack_top(frame);
+    unsigned count = 0;
+    for (unsigned steps = 0; count < MOST_FRAMES && (count > 0 || steps < OWN_FRAMES); steps++) {
+        if (frame % sizeof(uintptr_t) != 0 || top < 2 * sizeof(uintptr_t) || frame > top - 2 * sizeof(uintptr_t))
+            break;
+        const uintptr_t *at = (const uintptr_t *)frame;
+        if (count > 0 && at[1] == 0)
+            break;
+        if (count > 0 || at[1] == caller)
+            frames[count++] = at[1];
+        if (at[0] <= frame)
+            break;
+        frame = at[0];
+    }
+    return count;
+}
+
+static uint64_t hash_of(const uint64_t *frames, unsigned count)
+{
+    uint64_t hash = count;
+    for (unsigned i = 0; i < count; i++) {
+        hash = (hash ^ frames[i]) * UINT64_C(0x9e3779b97f4a7c15);
+        hash ^= hash >> 29;
+    }
+    return hash;
+}
+
+static bool is_stack_at(uint64_t first, const uint64_t *frames, unsigned count)
+{
+    return words[first] >> COUNT_SHIFT == count && memcmp(&words[first + 1], frames, count * sizeof *frames) == 0;
+}
+
+/* Keeps a new one. Answers its first word; 0: there is no room. */
+static uint32_t keep(const uint64_t *frames, unsigned count)
+{
+    if (atomic_load(&stacks.taken) > STACK_WORDS - (MOST_FRAMES + 1)
+        || atomic_load(&stacks.count) >= STACKS - SPARE_STACKS)
+        return 0;
+    uint32_t first = atomic_fetch_add(&stacks.taken, count + 1);
+    if (first > STACK_WORDS - (MOST_FRAMES + 1))
+        return 0;
+    atomic_fetch_add(&stacks.count, 1);
+    words[first] = (uint64_t)count << COUNT_SHIFT;
+    memcpy(&words[first + 1], frames, count * sizeof *frames);
+    return first;
+}
+
+/* The first word of the stack that has these frames; 0: there is no room for it. */
+static uint32_t find_or_keep(const uint64_t *frames, unsigned count)
+{
+    uint64_t hash = hash_of(frames, count), tag = hash & ~WORD_MASK;
+    uint32_t kept = 0;
+    for (uint64_t at = hash >> 24;; at++) {
+        _Atomic uint64_t *entry = &known[at % STACKS];
+        uint64_t seen = atomic_load_explicit(entry, memory_order_acquire);
+        if (seen == 0) {
+            if (kept == 0 && (kept = keep(frames, count)) == 0)
+                return 0;
+            if (atomic_compare_exchange_strong(entry, &seen, tag | kept))
+                return kept;
+        }
+        if ((seen & ~WORD_MASK) == tag && is_stack_at(seen & WORD_MASK, frames, count))
+            return (uint32_t)(seen & WORD_MASK);
+    }
+}
+
+place_word place_of(uintptr_t caller)
+{
+    return place_from(0, caller);
+}
+
+place_word place_from(uintptr_t frame, uintptr_t caller)
+{
+    uint64_t frames[MOST_FRAMES];
+    unsigned count = walk(frame != 0 ? frame : (uintptr_t)__builtin_frame_address(0), caller, frames);
+    uint32_t first = count > 1 ? find_or_keep(frames, count) : 0;
+    return first != 0 ? IS_STACK | first : caller;
+}
+
+uintptr_t place_address(place_word of)
+{
+    return of & IS_STACK ? words[(of & WORD_MASK) + 1] : of;
+}
+
+unsigned place_frames(place_word of, const uint64_t **frames)
+{
+    uint64_t first = of & WORD_MASK;
+    if (!(of & IS_STACK))
+        return 0;
+    *frames = &words[first + 1];
+    return (unsigned)(words[first] >> COUNT_SHIFT);
+}
+
+/* The upper half of a stack's word, if its number is one of this recording. */
+static uint64_t upper_half(uint64_t word)
+{
+    uint64_t recording = atomic_load(&stacks.recording) & RECORDING_MASK;
+    return word >> COUNT_SHIFT << COUNT_SHIFT | recording << RECORDING_SHIFT;
+}
+
+uint32_t place_number(place_word of)
+{
+    uint64_t word = of & IS_STACK ? atomic_load((_Atomic uint64_t *)&words[of & WORD_MASK]) : 0;
+    return word >> RECORDING_SHIFT == upper_half(word) >> RECORDING_SHIFT ? (uint32_t)word : 0;
+}
+
+uint32_t place_give_number(place_word of, uint32_t number)
+{
+    _Atomic uint64_t *word = (_Atomic uint64_t *)&words[of & WORD_MASK];
+    uint64_t seen = atomic_load(word);
+    for (;;) {
+        if (place_number(of) != 0)
+            return place_number(of);
+        if (atomic_compare_exchange_strong(word, &seen, upper_half(seen) | number))
+            return number;
+    }
+}
+
+void places_forget_numbers(void)
+{
+    atomic_fetch_add(&stacks.recording, 1);
+}
