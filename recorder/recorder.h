@@ -277,6 +277,7 @@ struct recorder_hooks {
     void (*on_death)(void (*callback)(void));
     bool (*is_first_crash)(void);
     void (*globals)(const struct global *table, uint64_t count, bool is_there);
+    void (*aborts)(uintptr_t caller);
 };
 
 #endif
