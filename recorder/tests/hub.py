@@ -548,7 +548,7 @@ def check_gone(suite: Suite, folder: str, program: str) -> None:
     hub = Hub(f"{folder}/hub")
     words = [program, "many_faults"]
     with subprocess.Popen(words, env=environment(ASANCOL_HUB=hub.path), stderr=subprocess.PIPE) as process:
-        while not hub.peers:
+        while not (hub.peers and hub.peers[0].memory):
             time.sleep(0.01)
         hub.peers[0].connection.shutdown(socket.SHUT_RD)
         said = process.communicate(timeout=PATIENCE)[1]
