@@ -1,5 +1,6 @@
 /* The ways out of a process that run none of its exit handlers, and those into another program. */
 #define _GNU_SOURCE
+#include <assert.h>
 #include <dlfcn.h>
 #include <errno.h>
 #include <fcntl.h>
@@ -20,6 +21,18 @@ _Noreturn void __wrap__exit(int status)
 _Noreturn void __wrap__Exit(int status)
 {
     __wrap__exit(status);
+}
+
+_Noreturn void __wrap_abort(void)
+{
+    note_abort(CALLER());
+    abort();
+}
+
+_Noreturn void __wrap___assert_fail(const char *assertion, const char *file, unsigned line, const char *function)
+{
+    note_abort(CALLER());
+    __assert_fail(assertion, file, line, function);
 }
 
 /* Puts /dev/null in the place of the standard streams. */

@@ -77,8 +77,7 @@ static void raise_to(_Atomic uint32_t *count, uint32_t least)
         ;
 }
 
-/* Puts the stack of a place beside the stream, if it is not there yet. Answers its number; 0: it has none, or no room. */
-static uint32_t put_stack(place_word of)
+uint32_t fault_put_stack(place_word of)
 {
     const uint64_t *frames;
     unsigned count = place_frames(of, &frames);
@@ -181,9 +180,9 @@ static void describe_block(uint64_t address, struct side_fault *fault)
     fault->block = block.start;
     fault->block_size = block.size;
     fault->allocated = place_address(block.places.allocated);
-    fault->allocated_stack = put_stack(block.places.allocated);
+    fault->allocated_stack = fault_put_stack(block.places.allocated);
     fault->freed = place_address(block.places.freed);
-    fault->freed_stack = put_stack(block.places.freed);
+    fault->freed_stack = fault_put_stack(block.places.freed);
 }
 
 /* The first byte that is bad decides what is near. */
@@ -288,7 +287,7 @@ uint32_t fault_of(unsigned code_and_width, uint64_t address, uintptr_t caller)
     /* The event will be one of the next. */
     if (next >= EVENT_LIMIT || !back(SIDE_INDEX + next * SIDE_INDEX_ENTRY, SIDE_INDEX_ENTRY))
         return 0;
-    struct side_fault fault = {.place = caller, .stack = put_stack(place_of(caller))};
+    struct side_fault fault = {.place = caller, .stack = fault_put_stack(place_of(caller))};
     return is_in_arena(bad) ? block_fault(code_and_width, bad, &fault) : variable_fault(code_and_width, bad, &fault);
 }
 

@@ -6,10 +6,14 @@
 
 #include <stdint.h>
 
+#include "stacks.h"
+
 /* Faults are noted in these bytes from now on (side.h); or nowhere, if they are null. */
 void faults_begin(unsigned char *bytes);
 /* The side file was cut after what it has. */
 void faults_are_cut(void);
+/* Puts the stack of a place beside the stream, if it is not there yet. Answers its number; 0: it has none, or no room. */
+uint32_t fault_put_stack(place_word of);
 /* The number of a fault, from 1; 0 if there is no room for it. It is found before its event has its place in the
    stream, for which other threads may wait. At any time, and in a signal handler too. */
 uint32_t fault_of(unsigned code_and_width, uint64_t address, uintptr_t caller);

@@ -104,6 +104,11 @@ struct side {
     uint32_t stack_words; /* how many words of the stacks are in use, with the first, which is of no stack */
     uint32_t spare[2];
     char words[SIDE_WORDS]; /* of the command line, each ended by a zero, and a zero after them */
+    /* Of the signal that has ended it: */
+    uint64_t last;          /* one more than the address of the last instruction; 0: not known */
+    uint64_t wrong_address; /* which that could not access */
+    uint32_t last_stack;    /* as of a fault */
+    uint32_t has_address;   /* 1: the one that could not be accessed is known */
 };
 
 /* The build id of a module. */
@@ -128,7 +133,7 @@ struct side_fault {
     char name[SIDE_NAME];      /* of the variable: "name", or "name FILE:LINE" of a global */
 };
 
-_Static_assert(sizeof(struct side) == 4072 && sizeof(struct side) <= SIDE_BUILDS, "the head fits");
+_Static_assert(sizeof(struct side) == SIDE_BUILDS, "the head fits");
 _Static_assert(sizeof(struct side_build) == 32, "a build id has no padding");
 _Static_assert(SIDE_BUILDS + SIDE_BUILD_COUNT * sizeof(struct side_build) <= SIDE_MAPS, "the build ids fit");
 _Static_assert(sizeof(struct side_fault) == 192, "a fault has no padding");

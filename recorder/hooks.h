@@ -60,6 +60,12 @@ static inline void note_called_from(uintptr_t caller)
         asancol_hooks.called_from(caller);
 }
 
+static inline void note_abort(uintptr_t caller)
+{
+    if (HAS_HOOK(aborts))
+        asancol_hooks.aborts(caller);
+}
+
 static inline void note_death_callback(void (*callback)(void))
 {
     if (HAS_HOOK(on_death))
@@ -115,6 +121,11 @@ static inline void note_globals(const struct global *table, uint64_t count, bool
 static inline void note_called_from(uintptr_t caller)
 {
     asancol_hooks.called_from(caller);
+}
+
+static inline void note_abort(uintptr_t caller)
+{
+    asancol_hooks.aborts(caller);
 }
 
 static inline void note_death_callback(void (*callback)(void))

@@ -28,4 +28,5 @@ const struct recorder_hooks asancol_hooks = {
     .on_death = halt_on_death,
     .is_first_crash = halt_is_first_crash,
     .globals = globals_note,
+    .aborts = signals_note_abort,
 };

@@ -32,7 +32,7 @@
 
 struct stream {
     _Atomic uint64_t cursor; /* CURSOR_ON, the number of events, the offset; or without CURSOR_ON: off */
-    uint64_t events_end;     /* the limit of events, as a part of the cursor */
+    uint64_t events_end;     /* the next event that is unusual, as a part of the cursor: mostly that at the limit */
     _Atomic uint64_t ready;  /* below this offset bytes can be stored */
     unsigned char *bytes;    /* room for LARGEST_STREAM bytes, backed up to `ready` */
     uint64_t unused;         /* shared objects know where the next one lies */
@@ -277,6 +277,7 @@ struct recorder_hooks {
     void (*on_death)(void (*callback)(void));
     bool (*is_first_crash)(void);
     void (*globals)(const struct global *table, uint64_t count, bool is_there);
+    void (*aborts)(uintptr_t caller);
 };
 
 #endif

@@ -15,7 +15,7 @@
 static const char *const names[] = {
     "ASANCOL_TRACE",    "ASANCOL_HUB",      "ASANCOL_SOCKET", "ASANCOL_WHERE", "ASANCOL_QUARANTINE",
     "ASANCOL_LIMIT",    "ASANCOL_PATIENCE", "ASANCOL_LOG",    "ASANCOL_ALL",   "ASANCOL_CC",
-    "ASANCOL_CXX",      "ASANCOL_HALT",     "ASANCOL_REPORT", "ASANCOL_SYMBOLIZER",
+    "ASANCOL_CXX",      "ASANCOL_HALT",     "ASANCOL_STOP",   "ASANCOL_REPORT", "ASANCOL_SYMBOLIZER",
 };
 
 enum { NAMES = sizeof names / sizeof *names, LONGEST_NAME = 32 };
@@ -228,6 +228,7 @@ void settings_read(struct settings *settings)
     if (getauxval(AT_SECURE) == 0)
         look_for_unknown();
     read_outputs(settings);
+    settings->stop = number_of("ASANCOL_STOP", 1, EVENT_LIMIT, 0);
     settings->limit = number_of("ASANCOL_LIMIT", 1, EVENT_LIMIT, EVENT_LIMIT);
     settings->quarantine = number_of("ASANCOL_QUARANTINE", 0, (uint64_t)1 << 40, QUARANTINE_BOUND);
     settings->patience_ms = (int)number_of("ASANCOL_PATIENCE", 0, 86400, 60) * 1000;

@@ -14,6 +14,7 @@ struct settings {
                            can't be reached */
     const char *socket; /* or null */
     uint64_t limit;
+    uint64_t stop; /* the event at which the process stops; 0: none */
     uint64_t quarantine;
     int patience_ms;
     bool with_side; /* what stands beside a trace is wanted too */

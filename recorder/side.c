@@ -63,11 +63,11 @@ void side_begin(unsigned char *bytes)
 uint64_t side_length(void)
 {
     const struct side *side = side_now();
-    if (side == NULL || side->fault_count == 0)
-        return SIDE_INDEX;
-    if (side->stack_words != 0)
+    if (side != NULL && side->stack_words != 0)
         return SIDE_STACKS_AT + side->stack_words * sizeof(uint64_t);
-    return SIDE_FAULTS_AT + side->fault_count * sizeof(struct side_fault);
+    if (side != NULL && side->fault_count != 0)
+        return SIDE_FAULTS_AT + side->fault_count * sizeof(struct side_fault);
+    return SIDE_INDEX;
 }
 
 /* Modules. */
@@ -265,6 +265,17 @@ void side_note_ending(enum ending ending, int number, uint64_t events)
         return;
     side->events = events;
     write_ending(side, ending, number);
+}
+
+void side_note_last(place_word last, const uint64_t *address)
+{
+    struct side *side = side_now();
+    if (side == NULL)
+        return;
+    side->last = place_address(last);
+    side->last_stack = fault_put_stack(last);
+    side->has_address = address != NULL;
+    side->wrong_address = address != NULL ? *address : 0;
 }
 
 void side_note_late_signal(int number)

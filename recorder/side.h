@@ -6,6 +6,7 @@
 #include <stdbool.h>
 
 #include "format.h"
+#include "stacks.h"
 
 /* Begins a new one in these bytes, which are zeros, with who the process is; or forgets it, if they are null. */
 void side_begin(unsigned char *bytes);
@@ -18,6 +19,8 @@ void side_note_checks(void);
 void side_note_left_out(void);
 /* How the process ends, with so many events in the stream: ENDING_NONE takes an exec back. What is lost stays lost. */
 void side_note_ending(enum ending ending, int number, uint64_t events);
+/* Where a signal has met it, and the address that could not be accessed, or null. */
+void side_note_last(place_word last, const uint64_t *address);
 /* A signal after the stream has ended. */
 void side_note_late_signal(int number);
 

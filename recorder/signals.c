@@ -3,9 +3,12 @@
 
 #include <errno.h>
 #include <pthread.h>
+#include <signal.h>
 #include <sys/syscall.h>
+#include <ucontext.h>
 #include <unistd.h>
 
+#include "side.h"
 #include "stream.h"
 
 void undisturbed_begin(struct disturbance *before)
@@ -49,14 +52,37 @@ static bool ends_process(int number)
     return true;
 }
 
+/* Where this thread has called abort, or 0. */
+static _Thread_local place_word aborting;
+
+void signals_note_abort(uintptr_t caller)
+{
+    aborting = place_of(caller);
+}
+
+/* Notes where the process was. The kernel says of a wild address that is none, as it has no number for it. */
+static void note_last(int number, const siginfo_t *info, const ucontext_t *context)
+{
+    const greg_t *registers = context->uc_mcontext.gregs;
+    uintptr_t instruction = (uintptr_t)registers[REG_RIP], stack = (uintptr_t)registers[REG_RSP];
+    uint64_t address = (uintptr_t)info->si_addr;
+    bool has_address = (number == SIGSEGV || number == SIGBUS) && info->si_code > 0 && info->si_code != SI_KERNEL;
+    /* A call to where no code is: what lies on top of the stack leads to it. */
+    if (has_address && address == instruction && stack_top(stack) != 0)
+        instruction = *(const uintptr_t *)stack - 1;
+    place_word last = place_at(instruction, (uintptr_t)registers[REG_RBP]);
+    side_note_last(number == SIGABRT && aborting != 0 ? aborting : last, has_address ? &address : NULL);
+}
+
 static void on_ending(int number, siginfo_t *info, void *context)
 {
-    (void)context;
     int before = errno;
     if (number == SIGBUS && info->si_code > 0 && stream_has_lost(info->si_addr)) {
         errno = before;
         return;
     }
+    if (recorder_is_own_process())
+        note_last(number, info, context);
     recorder_finish_in_handler(number);
     struct sigaction none = {.sa_handler = SIG_DFL};
     sigaction(number, &none, NULL);
@@ -74,10 +100,20 @@ static struct sigaction ending_action(void)
     return action;
 }
 
+/* Gives the first thread a stack for handlers if it has none: that of its frames may be used up. */
+static void give_stack(void)
+{
+    static _Alignas(16) char room[1 << 17];
+    stack_t stack = {.ss_sp = room, .ss_size = sizeof room}, seen;
+    if (sigaltstack(NULL, &seen) == 0 && (seen.ss_flags & SS_DISABLE))
+        sigaltstack(&stack, NULL);
+}
+
 void signals_handle(void)
 {
     struct sigaction ours = ending_action(), seen;
     int before = errno;
+    give_stack();
     for (int number = 1; number <= SIGRTMAX; number++)
         if (ends_process(number) && sigaction(number, NULL, &seen) == 0 && !(seen.sa_flags & SA_SIGINFO)
             && seen.sa_handler == SIG_DFL)

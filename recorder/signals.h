@@ -3,6 +3,7 @@
 #define ASANCOL_SIGNALS_H
 
 #include <signal.h>
+#include <stdint.h>
 
 /* What a thread was like before. */
 struct disturbance {
@@ -19,6 +20,8 @@ void undisturbed_end(const struct disturbance *before);
 void signal_take_away(int number);
 /* Handles the signals that end the process, where the program has not. */
 void signals_handle(void);
+/* This thread calls abort from here: the signal comes inside the C library, where nothing leads to its caller. */
+void signals_note_abort(uintptr_t caller);
 /* As sigaction, to a program that must not see the handlers above. */
 int signals_set_action(int number, const struct sigaction *action, struct sigaction *old);
 

@@ -34,11 +34,11 @@ static _Atomic uint64_t known[STACKS];
 enum { OWN_FRAMES = 24 };
 
 /* Follows frame pointers: each points to the one before it, with the address after the call beside it. What
-   lies on the thread's own stack above this frame can be read, whatever it is. */
-static unsigned walk(uintptr_t frame, uintptr_t caller, uint64_t *frames)
+   lies on the thread's own stack above this frame can be read, whatever it is. Of the frames there are some already, or
+   they begin with the call from which we came to `caller`. */
+static unsigned walk(uintptr_t frame, uintptr_t caller, uint64_t *frames, unsigned count)
 {
     uintptr_t top = stack_top(frame);
-    unsigned count = 0;
     for (unsigned steps = 0; count < MOST_FRAMES && (count > 0 || steps < OWN_FRAMES); steps++) {
         if (frame % sizeof(uintptr_t) != 0 || top < 2 * sizeof(uintptr_t) || frame > top - 2 * sizeof(uintptr_t))
             break;
@@ -108,12 +108,23 @@ place_word place_of(uintptr_t caller)
     return place_from(0, caller);
 }
 
+/* The place of a stack; or only its innermost address, if there is no more of it, or no room. */
+static place_word place_of_frames(const uint64_t *frames, unsigned count)
+{
+    uint32_t first = count > 1 ? find_or_keep(frames, count) : 0;
+    return first != 0 ? IS_STACK | first : frames[0];
+}
+
 place_word place_from(uintptr_t frame, uintptr_t caller)
 {
-    uint64_t frames[MOST_FRAMES];
-    unsigned count = walk(frame != 0 ? frame : (uintptr_t)__builtin_frame_address(0), caller, frames);
-    uint32_t first = count > 1 ? find_or_keep(frames, count) : 0;
-    return first != 0 ? IS_STACK | first : caller;
+    uint64_t frames[MOST_FRAMES] = {caller};
+    return place_of_frames(frames, walk(frame != 0 ? frame : (uintptr_t)__builtin_frame_address(0), caller, frames, 0));
+}
+
+place_word place_at(uintptr_t instruction, uintptr_t frame)
+{
+    uint64_t frames[MOST_FRAMES] = {instruction + 1};
+    return place_of_frames(frames, walk(frame, 0, frames, 1));
 }
 
 uintptr_t place_address(place_word of)

@@ -16,6 +16,8 @@ typedef uint64_t place_word;
 place_word place_of(uintptr_t caller);
 /* Likewise, if between here and that call lies code without frame pointers: from a frame beyond that, or 0. */
 place_word place_from(uintptr_t frame, uintptr_t caller);
+/* The place of an instruction, which the calls have come to that a frame pointer leads to. */
+place_word place_at(uintptr_t instruction, uintptr_t frame);
 /* The address after the innermost call. */
 uintptr_t place_address(place_word of);
 /* Its frames, the innermost first, and how many there are; 0: it has no stack. They stay. */

@@ -3,6 +3,7 @@
 
 #include <pthread.h>
 #include <sched.h>
+#include <signal.h>
 #include <string.h>
 #include <sys/mman.h>
 #include <time.h>
@@ -36,6 +37,8 @@ static struct {
     _Atomic uint64_t sent_at;      /* nanoseconds of the coarse clock: when a socket was given what there was */
     _Atomic unsigned sent_at_once; /* how often, since then */
     int patience_ms;
+    uint64_t limit;        /* of events */
+    _Atomic uint64_t stop; /* the event to stop at; 0: none, or no more */
     uint64_t checked;      /* up to here the records were seen to be whole */
     uint64_t checked_events;
     bool said_unseen; /* that it gets no close, since nothing was seen */
@@ -105,7 +108,24 @@ static bool has_room(uint64_t end)
 
 static uint64_t limit_of_stream(void)
 {
-    return STREAM->events_end >> 32;
+    return keeper.limit;
+}
+
+/* The fast path looks at one number: that of the event to stop at, as long as the process has not come there. */
+static void set_events_end(uint64_t stop)
+{
+    uint64_t end = stop != 0 && stop <= keeper.limit ? stop - 1 : keeper.limit;
+    STREAM->events_end = end << 32;
+}
+
+/* Stops for a debugger, once, before the event is written that comes after so many others. */
+static void stop_at(uint64_t count)
+{
+    uint64_t stop = atomic_load(&keeper.stop);
+    if (stop == 0 || count + 1 < stop || !atomic_compare_exchange_strong(&keeper.stop, &stop, 0))
+        return;
+    set_events_end(0);
+    raise(SIGTRAP);
 }
 
 static unsigned char code_at(uint64_t offset)
@@ -348,6 +368,7 @@ static bool make_room(uint64_t place, unsigned length)
         leave_out();
         return false;
     }
+    stop_at(count);
     /* Who has the lock may be waiting for this record, and has made room for it. */
     for (int looks = 0; !has_room(end) && is_on(); looks++) {
         if (looks >= LOOKS)
@@ -482,7 +503,9 @@ bool stream_begin(const struct settings *settings)
     atomic_store(&keeper.sent_at, coarse_clock());
     atomic_store(&keeper.sent_at_once, 0);
     STREAM->bytes = keeper.trace.bytes;
-    STREAM->events_end = settings->limit << 32;
+    keeper.limit = settings->limit;
+    atomic_store(&keeper.stop, settings->stop);
+    set_events_end(settings->stop);
     memcpy(STREAM->bytes, HEADER, HEADER_LENGTH);
     if (keeper.has_side && keeper.side.is_mapped)
         side_begin(keeper.side.bytes);

@@ -35,6 +35,8 @@ struct process {
     /* What is known once it is done: */
     char fate[32];
     uint64_t events, reports, left_out;
+    unsigned signal; /* that has ended it, as the recorder saw; or 0 */
+    bool is_crash;   /* and it is one of a mistake */
     bool is_whole, has_checks;
     bool is_unchecked; /* it is not whole since it has no checks, and for no other reason */
     bool is_settled; /* nothing of it can change any more */

@@ -41,6 +41,7 @@ static struct {
     int socket; /* -1: not started, or gone */
     pid_t child;
     bool was_started, had_child, is_broken, has_ended, is_over;
+    bool shows_crashes; /* what shows nothing if all is clean needs no report for them */
     int status;
 } report = {.socket = -1};
 
@@ -101,6 +102,7 @@ void report_begin(const struct options *options)
     report.words = options->report;
     if (options->quiet)
         words_add(&report.words, "--quiet");
+    report.shows_crashes = !options->quiet || options->has_output;
     gethostname(host, sizeof host - 1);
     clock_gettime(CLOCK_REALTIME, &time);
     FILE *to = new_message(&message);
@@ -139,9 +141,9 @@ static void put_process(FILE *to, const struct process *process)
 {
     fprintf(to,
             "{\"type\":\"process\",\"n\":%zu,\"pid\":%d,\"parent\":%d,\"fate\":\"%s\",\"events\":%" PRIu64
-            ",\"reports\":%" PRIu64 ",\"whole\":%s,\"left_out\":%" PRIu64 ",\"why\":",
+            ",\"reports\":%" PRIu64 ",\"whole\":%s,\"left_out\":%" PRIu64 ",\"signal\":%u,\"why\":",
             process->number, process->own_number, process->parent, process->fate, process->events, process->reports,
-            process->is_whole ? "true" : "false", process->left_out);
+            process->is_whole ? "true" : "false", process->left_out, process->signal);
     json_text(to, process->why);
     fputs(",\"command\":", to);
     put_words(to, process->side);
@@ -182,8 +184,9 @@ void report_process(struct process *process)
     struct message *message;
     FILE *to = new_message(&message);
     put_process(to, process);
-    if (process->reports > 0) {
+    if (process->reports > 0)
         keep_raw(process);
+    if (process->reports > 0 || (process->is_crash && report.shows_crashes && process->verdicts >= 0)) {
         lseek(process->verdicts, 0, SEEK_SET);
         message->descriptors[message->count++] = process->verdicts;
         process->verdicts = -1;

@@ -100,6 +100,16 @@ static bool has_all(const struct process *process, uint32_t ending)
     return is_open && is_end && process->side->events == process->events;
 }
 
+/* Whether the process itself has raised it, by a mistake. */
+static bool is_crash(unsigned number)
+{
+    static const unsigned crashes[] = {SIGSEGV, SIGBUS, SIGILL, SIGFPE, SIGABRT, SIGSYS};
+    for (size_t i = 0; i < sizeof crashes / sizeof *crashes; i++)
+        if (crashes[i] == number)
+            return true;
+    return false;
+}
+
 static void judge(struct process *process)
 {
     const struct side *side = process->side;
@@ -109,6 +119,8 @@ static void judge(struct process *process)
     process->left_out = side != NULL ? side->left_out : 0;
     process->has_checks = !process->is_mark && (side == NULL || side->has_checks != 0);
     process->is_whole = process->is_unchecked = false;
+    process->signal = ending == ENDING_SIGNAL ? side->signal : 0;
+    process->is_crash = is_crash(process->signal);
     /* What is read from a file does not change any more; what is past the limit may still grow. */
     process->is_settled = side == NULL || process->trace != NULL || (!is_at_limit && ending != ENDING_NONE);
     process->why[0] = 0;

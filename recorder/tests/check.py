@@ -254,6 +254,31 @@ def check_little_memory(suite, folder, program):
         expect(os.path.exists(f"{folder}/u.trace"), False, "a file")
 
 
+def check_stop(suite, folder, program):
+    """The process gets SIGTRAP before an event, once. What it has recorded stands, and the event's place is filled."""
+    ran = run([program, "ends_normally"], folder, ASANCOL_TRACE="t.trace")
+    count = len(Trace(f"{folder}/t.trace").events)
+    for stop in (1, count, count + 1):
+        ran = run([program, "ends_normally"], folder, ASANCOL_TRACE=f"{stop}.trace", ASANCOL_STOP=str(stop))
+        trace = Trace(f"{folder}/{stop}.trace")
+        if stop > count:
+            expect((ran.returncode, len(trace.events), trace.is_closed), (0, count, True), "past the end")
+        else:
+            expect((ran.returncode, len(trace.events)), (-signal.SIGTRAP, stop), f"stop at {stop}")
+    ran = run(["sh", "-c", f"trap '' TRAP; exec {program} ends_normally"], folder, ASANCOL_TRACE="i.trace", ASANCOL_STOP="2")
+    expect((ran.returncode, len(Trace(f"{folder}/i.trace").events)), (0, count), "it goes on")
+
+
+def check_debugger(suite, folder, compiler):
+    """The commands of docs/RECORDER.md: a debugger stands at the access of the report."""
+    build([CC, "-g", f"{RECORDER}/../examples/bug.c", "-o", "bug"], folder, ASANCOL_CC=compiler.name)
+    words = ["gdb", "-nx", "-batch", "-ex", "run", "-ex", "backtrace", "-ex", "continue", "--args", "./bug", "Alice"]
+    text = run(words, folder, ASANCOL_TRACE="/dev/null", ASANCOL_STOP="2").stdout.decode()
+    expect(re.search(r"received signal SIGTRAP", text) is not None, True, text)
+    expect(re.search(r"in main .*bug\.c:6\n", text) is not None, True, text)
+    expect("exited normally" in text, True, text)
+
+
 def serve(suite, folder, count):
     ready = f"{folder}/ready"
     words = [suite.asancol, "serve", "--count", str(count), "--ready", ready, "t.sock"]
@@ -440,6 +465,11 @@ def life_tests(suite, compiler, folder):
     suite.test(f"{compiler} a socket that nobody reads", check_silent_reader, every, True)
     suite.test(f"{compiler} a pipe that nobody reads", check_silent_reader, every, False)
     suite.test(f"{compiler} pipe", check_pipe, program)
+    suite.test(f"{compiler} stop", check_stop, program)
+    if shutil.which("gdb"):
+        suite.test(f"{compiler} debugger", check_debugger, compiler)
+    else:
+        print("left out: gdb is not there")
     for level in ("-O0", "-O2"):
         suite.test(f"{compiler} where {level}", check_where, compiler, level)
     suite.test(f"{compiler} where, many", check_many_places, compiler)

@@ -1,5 +1,6 @@
 /* Faults of every sort, and processes that end in every way, one a run: `hub NAME`. */
 #define _GNU_SOURCE
+#include <assert.h>
 #include <dlfcn.h>
 #include <errno.h>
 #include <fcntl.h>
@@ -290,6 +291,28 @@ static void segfaults(void)
     *(volatile int *)hide((void *)16) = 1;
 }
 
+static void calls_nothing(void)
+{
+    ((void (*)(void))hide((void *)16))();
+}
+
+static void asserts(void)
+{
+    assert(hide(NULL) != NULL);
+}
+
+__attribute__((noinline)) static int uses_up(int depth)
+{
+    volatile char room[4000];
+    room[0] = (char)depth;
+    return uses_up(depth + 1) + room[0];
+}
+
+static void uses_up_stack(void)
+{
+    uses_up(0);
+}
+
 static void ends_by__exit(void)
 {
     put(make(8), 8);
@@ -467,7 +490,7 @@ static const struct {
     NAMED(loops), NAMED(on_stack), NAMED(after_scope), NAMED(globals), NAMED(frees_variables), NAMED(forks),
     NAMED(forks_after_fault), NAMED(forks_and_closes), NAMED(vforks_and_closes), NAMED(execs),
     NAMED(execs_true), NAMED(execs_in_vain), NAMED(execs_in_vain_at_limit), NAMED(execs_at_limit),
-    NAMED(terminates), NAMED(aborts), NAMED(segfaults), NAMED(ends_by__exit), NAMED(many),
+    NAMED(terminates), NAMED(aborts), NAMED(segfaults), NAMED(calls_nothing), NAMED(asserts), NAMED(uses_up_stack), NAMED(ends_by__exit), NAMED(many),
     NAMED(is_killed_after_fault), NAMED(is_killed_after_a_while), NAMED(many_faults), NAMED(closes_all),
     NAMED(keeps_descriptors), NAMED(keeps_errno), NAMED(sleeps), NAMED(threads), NAMED(handlers),
     NAMED(loads), NAMED(closes_library), NAMED(changes_root),

@@ -461,6 +461,29 @@ def check_stacks(suite: Suite, folder: str, program: str) -> None:
     expect(found, wanted, "stacks")
 
 
+# The status, the address that could not be accessed, and the functions.
+LAST: Dict[str, Tuple[int, Optional[int], List[str]]] = {
+    "segfaults": (-11, 16, ["segfaults", "main"]),
+    "calls_nothing": (-11, 16, ["calls_nothing", "main"]),
+    "asserts": (-6, None, ["asserts", "main"]),
+    "aborts": (-6, None, ["aborts", "main"]),
+}
+
+
+def check_last(suite: Suite, folder: str, program: str) -> None:
+    """Where a signal has met a process, also on a stack that is used up."""
+    for name, (status, address, functions) in LAST.items():
+        side = run_under(folder, [program, name], status)[0][0].side()
+        expect((side.wrong_address, side.stack(side.last_stack)[0]), (address, side.last), name)
+        expect([it for it, _ in side.lines(side.stack(side.last_stack)[:-1])], functions, f"functions of {name}")
+    side = one(folder, [program, "uses_up_stack"], -11).side()
+    expect({it for it, _ in side.lines(side.stack(side.last_stack))}, {"uses_up"}, "a stack that is used up")
+    ran = run([program, "segfaults"], folder, ASANCOL_TRACE="t.trace", ASANCOL_WHERE="1")
+    side = side_of(f"{folder}/t.trace")
+    expect((ran.returncode, side.wrong_address, len(side.stack(side.last_stack))), (-11, 16, 3), "in a file")
+    expect(one(folder, [program, "terminates"], -15).side().wrong_address, None, "a signal of another process")
+
+
 def marks(folder: str) -> List[Tuple[str, str]]:
     """The programs that have left word that they are not recorded, and why."""
     paths = [f"{folder}/{name}" for name in os.listdir(folder) if re.fullmatch(r"\d+\.unseen", name)]
@@ -525,7 +548,7 @@ def check_gone(suite: Suite, folder: str, program: str) -> None:
     hub = Hub(f"{folder}/hub")
     words = [program, "many_faults"]
     with subprocess.Popen(words, env=environment(ASANCOL_HUB=hub.path), stderr=subprocess.PIPE) as process:
-        while not hub.peers:
+        while not (hub.peers and hub.peers[0].memory):
             time.sleep(0.01)
         hub.peers[0].connection.shutdown(socket.SHUT_RD)
         said = process.communicate(timeout=PATIENCE)[1]
@@ -584,6 +607,7 @@ def process_tests(suite: Suite, compiler: Compiler, folder: str) -> None:
     suite.test(f"{compiler} hub names", check_names, program)
     suite.test(f"{compiler} hub root", check_root, program)
     suite.test(f"{compiler} hub stacks", check_stacks, program)
+    suite.test(f"{compiler} hub last", check_last, program)
     suite.test(f"{compiler} hub fallback", check_fallback, program)
     suite.test(f"{compiler} hub word", check_word, program, f"{folder}/lives-{compiler}")
     suite.test(f"{compiler} hub files", check_files, program)

@@ -97,6 +97,7 @@ class Trace:
 
 # What stands beside a trace, as docs/FORMAT.md lays it out.
 HEAD = struct.Struct("<8sQQIIIIQIIII")
+LAST = struct.Struct("<QQII")
 BUILDS, BUILD, MAPS, INDEX = 4096, struct.Struct("<QB23s"), 8192, 1 << 18
 FAULTS_AT, FAULT = INDEX + (1 << 24) * 4, struct.Struct("<QQQQQQIIIIII120s")
 STACKS_AT = FAULTS_AT + (1 << 16) * FAULT.size
@@ -127,6 +128,8 @@ class Side:
         self.header, self.events, self.left_out, self.ending, self.signal, self.process, self.parent = head[:7]
         self.started, self.has_checks, self.is_at_limit, self.fault_count, self.stack_words = head[7:]
         self.words = data[72:4072].split(b"\0\0")[0].split(b"\0")
+        self.last, address, self.last_stack, has_address = LAST.unpack_from(data, 4072)
+        self.wrong_address = address if has_address else None
         at = [FAULTS_AT + i * FAULT.size for i in range(self.fault_count)]
         self.faults = [Fault(data[it : it + FAULT.size]) for it in at]
         self.maps = [line.split(None, 5) for line in text_of(data[MAPS:INDEX]).splitlines()]

@@ -11,7 +11,7 @@ from typing import Dict, List, NamedTuple, Optional, Tuple
 from .findings import Block, declaration_of, Finding, Frame, GLOBAL, HEAP, STACK, Stack, Tally
 from .modules import Modules, Place
 from .results import Results
-from .side import Fault, Side, VARIABLE_NONE, VARIABLE_STACK
+from .side import ENDING_SIGNAL, Fault, Side, VARIABLE_NONE, VARIABLE_STACK
 from .sources import Sources
 from .symbols import Symbols
 from .verdicts import Group, Verdicts
@@ -56,6 +56,8 @@ class Gatherer:
         self.sources = sources
         self.sightings: Dict[Key, Sighting] = {}
         self.frames: Dict[Place, Stack] = {}
+        # Where each process was that a signal has ended, by its number.
+        self.last: Dict[int, Tuple[Calls, Optional[int]]] = {}
         # The processes of each finding that was seen, by its identity.
         self.seen_in: Dict[int, int] = {}
 
@@ -68,6 +70,9 @@ class Gatherer:
             self.sight(group, fault, places, process, pid)
             if self.modules.is_full():
                 self.symbols.look_up()
+        if side is not None and side.ending == ENDING_SIGNAL:
+            after_calls, address = side.last()
+            self.last[process] = self.calls(side, after_calls), address
         if lines.strange:
             self.results.notes[f"process {pid}: {lines.strange} lines of asancol were not understood"] = None
         return lines
@@ -127,7 +132,16 @@ class Gatherer:
             first = sighting.first._replace(times=sighting.count, processes=added)
             self.results.add(finding, self.run, first)
         self.sightings.clear()
+        self.note_last()
         return new
+
+    def note_last(self) -> None:
+        """Gives the processes that a signal has ended their stacks."""
+        processes = self.results.runs[self.run].processes
+        for number, (calls, address) in self.last.items():
+            if calls and number in processes:
+                processes[number] = processes[number]._replace(stack=self.stack(calls, ""), address=address)
+        self.last.clear()
 
     def complete(self, sighting: Sighting) -> Finding:
         """Gives a finding its stacks and its fingerprint."""

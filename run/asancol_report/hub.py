@@ -83,7 +83,10 @@ class Hub:
     def take_process(self, entry: Dict[str, object], descriptors: List[int]) -> None:
         process = process_of(entry, self.commands)
         processes = self.results.runs[self.number].processes
-        is_first = process.number not in processes
+        before = processes.get(process.number)
+        is_first = before is None
+        if before is not None:
+            process = process._replace(address=before.address, stack=before.stack)
         if process.reports and is_first and not descriptors:
             process = process._replace(is_whole=False, why="its reports did not arrive")
         processes[process.number] = process

@@ -46,11 +46,19 @@ def run_entry(run: Run, number: int, counts: Counts) -> Entry:
     return entry
 
 
+SHORT = (",", ":")
+
 # There may be a million processes, and as many findings in runs: their lines are put together here, and what comes again
 # is encoded once.
 
 def process_line(process: Process, run: int, encode: Callable[[object], str]) -> str:
     kept = f',"kept":{encode(process.kept)}' if process.kept else ""
+    if process.signal:
+        kept += f',"signal":{process.signal}'
+    if process.address is not None:
+        kept += f',"address":"{process.address:x}"'
+    if process.stack:
+        kept += f',"stack":{json.dumps([frame_entry(frame) for frame in process.stack], separators=SHORT)}'
     return (f'{{"type":"process","run":{run},"n":{process.number},"pid":{process.pid},"parent":{process.parent},'
             f'"command":{encode(process.command)},"fate":{encode(process.fate)},"events":{process.events},'
             f'"reports":{process.reports},"whole":{encode(process.is_whole)},"left_out":{process.left_out},'
@@ -108,7 +116,7 @@ def finding_entry(finding: Finding) -> Entry:
 
 
 def lines_of(results: Results) -> Iterator[str]:
-    encode = json.JSONEncoder(separators=(",", ":")).encode
+    encode = json.JSONEncoder(separators=SHORT).encode
     encode_again = functools.lru_cache(maxsize=MOST_ENCODED, typed=True)(encode)
     shared: Dict[int, str] = {}
 
@@ -208,7 +216,8 @@ def process_of(entry: Entry, commands: Commands) -> Process:
     return Process(number_of(get("n")), number_of(get("pid")), number_of(get("parent")),
                    command_of(get("command"), commands), sys.intern(text_of(get("fate"))), number_of(get("events")),
                    number_of(get("reports")), get("whole") is True, number_of(get("left_out")),
-                   sys.intern(text_of(get("why"))), text_of(get("kept")))
+                   sys.intern(text_of(get("why"))), text_of(get("kept")), number_of(get("signal")),
+                   address_of(get("address")) if "address" in entry else None, stack_of(get("stack")))
 
 
 def frame_of(entry: object) -> Frame:

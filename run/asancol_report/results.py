@@ -2,12 +2,16 @@
 
 from __future__ import annotations
 
+import signal
 from typing import Dict, Iterable, List, NamedTuple, Optional, Set, Tuple
 
-from .findings import Finding, Tally
+from .findings import Finding, Stack, Tally
 from .words import signal_name
 
 Place = Tuple[str, int]  # a fingerprint and a line
+
+# Signals that a process raises itself, by a mistake.
+CRASHES = (signal.SIGSEGV, signal.SIGBUS, signal.SIGILL, signal.SIGFPE, signal.SIGABRT, signal.SIGSYS)
 
 
 class Process(NamedTuple):
@@ -24,6 +28,14 @@ class Process(NamedTuple):
     left_out: int
     why: str
     kept: str = ""  # where its trace was kept
+    signal: int = 0  # that has ended it, as the recorder saw
+    address: Optional[int] = None  # which it could not access then
+    stack: Stack = ()  # where it was then
+
+    @property
+    def is_crash(self) -> bool:
+        """Whether a signal has ended it that stands for a mistake, and it is known where."""
+        return self.signal in CRASHES and bool(self.stack)
 
 
 class Run:
@@ -146,6 +158,9 @@ class Results:
 
     def not_whole(self) -> List[Tuple[Run, Process]]:
         return [(run, process) for run in self.runs for process in run.processes.values() if not process.is_whole]
+
+    def crashes(self) -> List[Process]:
+        return [process for run in self.runs for process in run.processes.values() if process.is_crash]
 
     def is_whole(self) -> bool:
         return bool(self.runs) and all(run.is_whole for run in self.runs)

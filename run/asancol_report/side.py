@@ -17,6 +17,7 @@ from .reading import is_regular, open_regular, read_at
 HEADER = b"ASWH\3\0\0\0"
 HEAD = struct.Struct("<8sQQIIIIQIIII")
 WORDS_AT, WORDS_ROOM = 72, 4000
+LAST_AT, LAST = 4072, struct.Struct("<QQII")
 BUILDS_AT = 4096
 BUILD = struct.Struct("<QB23s")
 MAPS_AT = 8192
@@ -102,6 +103,14 @@ class Side:
 
     def close(self) -> None:
         os.close(self.descriptor)
+
+    def last(self) -> Tuple[Calls, Optional[int]]:
+        """Returns where a signal has met the process, and the address that could not be accessed, if that is known."""
+        text = read_at(self.descriptor, LAST_AT, LAST.size) if self.is_good else b""
+        if len(text) < LAST.size:
+            return (), None
+        place, address, stack, has_address = LAST.unpack(text)
+        return self.calls(place, stack), address if has_address else None
 
     def words(self) -> List[str]:
         """Returns the command line, as far as it was kept."""

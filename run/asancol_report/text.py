@@ -7,7 +7,7 @@ from typing import Iterator, TextIO
 from .findings import Finding, Frame, place_text, Stack
 from .results import Process, Results, Run
 from .suppressions import suppression_of
-from .words import plural, printable, shown_path
+from .words import plural, printable, shown_path, signal_name
 
 
 class Colors:
@@ -77,6 +77,8 @@ class Text:
         return f"asancol: {finding.class_name}{printable(function)} {printable(place)}: {times}"
 
     def summary(self, results: Results) -> Iterator[str]:
+        for process in results.crashes():
+            yield from self.crash(process)
         for _, process in results.not_whole():
             yield self.process_line(process)
         for run in results.runs:
@@ -89,6 +91,13 @@ class Text:
             yield f"asancol: {plural(results.gone, 'place')} of the baseline did not come up"
         for note in results.notes:
             yield f"asancol: {printable(note)}"
+
+    def crash(self, process: Process) -> Iterator[str]:
+        """Where a process was when a signal ended it. It is no report."""
+        command = printable(process.command[0]) + ": " if process.command else ""
+        at = "" if process.address is None else f", at address 0x{process.address:x}"
+        yield f"asancol: process {process.pid} {command}ended by {signal_name(process.signal)}{at}"
+        yield from self.stack(process.stack)
 
     @staticmethod
     def process_line(process: Process) -> str:

@@ -120,7 +120,7 @@ class Traces:
             said = why or (f"ended by {signal_name(ended_by)}" if ended_by else "")
             parent, left_out = (side.parent, side.left_out) if side else (0, 0)
             run.processes[0] = Process(0, pid, parent, tuple(command), end.fate, end.events, end.reports, not why,
-                                       left_out, said, os.path.abspath(trace))
+                                       left_out, said, os.path.abspath(trace), ended_by)
         finally:
             if side is not None:
                 side.close()

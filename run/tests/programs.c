@@ -154,6 +154,13 @@ static int ignores(char **words)
     return 0;
 }
 
+static int crashes(char **words)
+{
+    (void)words;
+    *(volatile int *)16 = 1;
+    return 0;
+}
+
 static int kills_itself(char **words)
 {
     return raise(atoi(words[0]));
@@ -176,7 +183,8 @@ static const struct {
     {"sound", sound}, {"past", past}, {"child", child}, {"forks_unseen", forks_unseen},
     {"aborts", aborts}, {"execs", execs}, {"many", many},
     {"sleeps", sleeps}, {"past_and_sleeps", past_and_sleeps}, {"orphan", orphan}, {"daemon", becomes_daemon},
-    {"handles", handles}, {"ignores", ignores}, {"kills_itself", kills_itself}, {"open_ones", open_ones},
+    {"handles", handles}, {"ignores", ignores}, {"kills_itself", kills_itself},
+    {"crashes", crashes}, {"open_ones", open_ones},
 };
 
 int main(int count, char **words)

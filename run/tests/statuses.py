@@ -21,7 +21,7 @@ RUNS: Dict[str, Tuple[str, int, List[str]]] = {
     "exitcode 0": ("--exitcode=0 -- sh -c 'PROGRAM past; exit 7'", 7, []),
     "last one counts": ("--exitcode 5 --exitcode 8 -- PROGRAM past", 8, []),
     "forked child": ("-- PROGRAM child", 99, []),
-    "death is whole": ("-v -- PROGRAM aborts", 0, ["seen whole: ended by SIGABRT", "2 processes"]),
+    "death is whole": ("-v -- PROGRAM aborts", 0, ["seen whole: ended by SIGABRT"]),
     "exec": ("-- PROGRAM execs PROGRAM past", 99, []),
     "exec is whole": ("-- PROGRAM execs PROGRAM sound", 0, ["2 processes, 2 events; all seen whole"]),
     "failed exec": ("-- PROGRAM execs /nonexistent", 127, ["1 process, 1 event; all seen whole"]),
@@ -54,7 +54,9 @@ RUNS: Dict[str, Tuple[str, int, List[str]]] = {
     "incomplete-exitcode": ("--incomplete-exitcode 3 --at-least 2 -- PROGRAM sound", 3, []),
     "incomplete-exitcode 0": ("--incomplete-exitcode 0 --at-least 2 -- sh -c 'PROGRAM sound; exit 9'", 9, []),
     "command ends by a signal": ("-- sh -c 'PROGRAM sound; kill -TERM $$'", -15, ["all seen whole"]),
-    "program ends by a signal": ("-- PROGRAM kills_itself 11", -11, ["all seen whole"]),
+    "program ends by a signal": ("-- PROGRAM kills_itself 11", -11, ["the report"]),
+    "program ends by a signal, and quiet": ("-q -- PROGRAM kills_itself 11", -11, ["!asancol"]),
+    "program is terminated": ("-- PROGRAM kills_itself 15", -15, ["all seen whole"]),
     "killed": ("-- PROGRAM kills_itself 9", 98, ["NOT SEEN WHOLE: ended without a word, as by SIGKILL"]),
     "no shadow": ("-- sh -c 'ulimit -v 1000000; PROGRAM sound || true'", 98, [
         "programs: NOT SEEN WHOLE: address space is limited", "!NOTHING WAS RECORDED"

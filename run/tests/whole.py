@@ -150,6 +150,19 @@ def check_folder_removed(suite: Suite, folder: str) -> None:
     expect_ran(run_real(suite, "--", "sh", "-c", line, TMPDIR=folder), 99, PAST, "1 NOT SEEN WHOLE")
 
 
+def check_crash(suite: Suite, folder: str) -> None:
+    """Where a process crashed is shown. It is no report, and with --quiet there is nothing."""
+    line = f"{suite.program} crashes || true"
+    ran = run_real(suite, "--json", f"{folder}/x", "--", "sh", "-c", line)
+    expect_ran(ran, 0, f"{suite.program}: ended by SIGSEGV, at address 0x10\n    #0 0x", "in crashes", "no reports;")
+    crashed = [it for it in read_lines(f"{folder}/x") if it["type"] == "process"]
+    process = crashed[0]
+    expect((process["signal"], process["address"], process["stack"][0]["function"]), (11, "10", "crashes"), "JSON lines")
+    merged = suite.run_words([REPORT, f"{folder}/x"])
+    expect((merged.status, "ended by SIGSEGV, at address 0x10" in merged.out), (0, True), merged.out)
+    expect_ran(run_real(suite, "-q", "--", "sh", "-c", line), 0, absent=["asancol"])
+
+
 def check_kept(suite: Suite, folder: str) -> None:
     """The same report can be made again from the traces."""
     run_real(suite, "--keep", f"{folder}/kept", "--", suite.program, "past", "3")
@@ -219,7 +232,7 @@ def tests(suite: Suite) -> None:
         ("report", check_report), ("colors", check_colors), ("summaries", check_summaries_are_the_same),
         ("suppressions", check_suppressed), ("variables", check_variables),
         ("baseline", check_baseline), ("outputs", check_outputs), ("nested", check_nested), ("kept", check_kept),
-        ("folder removed", check_folder_removed),
+        ("folder removed", check_folder_removed), ("crash", check_crash),
         ("live", check_live), ("without Python", check_without_python), ("many", check_many),
         ("first steps", check_first_steps),
     ):
