@@ -1007,6 +1007,59 @@ def live_files(program):
     same(words, (status, lines_of_each(output)["p1"]), (3, past_the_end(1)))
 
 
+def without_threads():
+    """No thread can be started from now on: all that the user may have are there."""
+    resource.setrlimit(resource.RLIMIT_NPROC, (0, 0))
+
+
+def one_file_on_one_thread(program):
+    """One trace is read, checked and printed on one thread, whatever the options: with the lines
+    and the status of two such traces over threads."""
+    frees = closed(*[free(0x2000)] * 3000)
+    stray = closed(b"\x09")
+    bound = ["--memory", str(1 << 20)]
+    choices = [[], bound, ["--live"], ["--live", *bound], ["--ring", "1"], ["--workers", "64"]]
+    far = put("far", FAR_APART)
+    pairs = [
+        (put(f"trace{place}", trace), words)
+        for place, trace in enumerate([PAST_THE_END, SOUND, CUT, b"", frees, stray])
+        for words in choices
+    ]
+    for name, words in [*pairs, (far, bound), (far, ["--live", *bound])]:
+        status, output, faults = program.run(["check", *words, name, name])
+        wanted = (status, lines_of_each(output)["p0"].encode(), faults)
+        words = ["check", *words]
+        same(words, program.run([*words, name]), wanted)
+        same(words, program.run([*words, name], before=without_threads), wanted)
+        with open(name, "rb") as trace:
+            same(words, program.run([*words, "-"], stdin=trace, before=without_threads), wanted)
+    two = program.run(["check", far, far], before=without_threads)
+    same("no threads", two, (3, b"p0 end not-started\np1 end not-started\n", b""))
+
+
+def one_pipe_on_one_thread(program):
+    """There is one thread while a trace comes through a pipe. With --live a report is read while
+    its process still runs."""
+    os.mkfifo("pipe")
+    report, end = past_the_end().encode().splitlines(keepends=True)
+    for options in [["--memory", str(1 << 20)], ["--live"]]:
+        words = ["check", *options, "pipe"]
+        running = subprocess.Popen(
+            [program.path, *words], preexec_fn=prepared(), stdout=subprocess.PIPE
+        )
+        Served.running.append(running)
+        with open("pipe", "wb", buffering=0) as pipe:
+            pipe.write(PAST_THE_END[:-1])
+            if "--live" in words:
+                same(words, running.stdout.readline(), report)
+            same(words, os.listdir(f"/proc/{running.pid}/task"), [str(running.pid)])
+            pipe.write(CLOSE)
+        output, _ = running.communicate(timeout=PATIENCE)
+        Served.running.remove(running)
+        wanted = end if "--live" in words else report + end
+        same(words, (running.returncode, output), (1, wanted))
+
+
 def live_output_that_waits(program):
     """Nothing is lost where the reader of the output is slow."""
     frees = put("frees", closed(*[free(0x2000)] * 9000))
@@ -1076,6 +1129,8 @@ CASES = [
     paths_that_cannot_be_served,
     file_that_says_ready,
     live_files,
+    one_file_on_one_thread,
+    one_pipe_on_one_thread,
     live_output_that_waits,
     live_peers,
 ]

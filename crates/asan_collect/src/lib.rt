@@ -1,6 +1,8 @@
-//! Many senders at once: each is read and checked over threads.
+//! Many senders at once: each is read and checked over threads, or the only one on the calling
+//! thread.
 #![tactic(auto)]
 
+mod arrivals;
 mod at_work;
 mod checker_threads;
 mod closing;
@@ -9,6 +11,7 @@ mod crew;
 mod live;
 mod printing;
 mod reader_threads;
+mod rooms;
 mod threads;
 
 pub use asan_print::{Why, WriteFault};
@@ -20,6 +23,6 @@ pub use asan_stream::{
     OpenGate, Options, Outcome, ReaderDone, Turn, bytes_spell_one_end, check_feed, outcomes_agree,
     run_checker, run_reader, settle,
 };
-pub use collector::{collect, collect_within};
-pub use live::{collect_live, collect_live_within};
+pub use collector::{collect, collect_openly, collect_within};
+pub use live::{collect_live, collect_live_openly, collect_live_within};
 pub use std::alloc::AllocError as NoMemory;

@@ -194,6 +194,18 @@ module _ {A : Type 0} where
     others = λ j n. lines_of-other i j a.more l n ∙ a.others j n;
   }
 
+  -- what is held back was written
+  pub adds_flushed : (start now next : Option (List ℕ)) (p q : LivePrinter A) (i : ℕ) (lines : List (List ℕ))
+      (log : List Line)
+      → ((log : List Line) → Printed start now p log → Printed start next q log)
+      → Adds start now p i lines log → Adds start next q i lines log
+  adds_flushed start now next p q i lines log flushed a = record {
+    more = a.more;
+    printed = flushed a.more a.printed;
+    own = a.own;
+    others = a.others;
+  }
+
   pub adds_report : (start now next : Option (List ℕ)) (p q : LivePrinter A) (i : ℕ) (x : Report) (xs ys : List Report)
       (log : List Line)
       → ys ≡ xs ++ x ∷ []

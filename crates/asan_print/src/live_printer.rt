@@ -164,6 +164,34 @@ impl<A: Allocator + Copy> LivePrinter<A> {
         true
     }
 
+    /// Prints the lines of some reports of a process.
+    fn report_all<W: Write>(&mut self, w: &mut W, process: u32, reports: &[Report])
+        ensures adds { (start : Option (List ℕ)) (log : List Line) (lines : List (List ℕ)) →
+            Printed start (W.contents w.old) self.old log → lines_of process log ≡ lines →
+            Adds start (W.contents w.new) self.new process
+            (lines ++ report_lines process reports.now) log }
+        ensures broken { fault_of self.old ≢ None → w.new ≡ w.old }
+        ensures stays { fault_of self.old ≢ None → self.new ≡ self.old }
+    {
+        for report in reports {
+            self.report(w, process, report);
+        }
+    }
+
+    /// Prints the lines of some reports of a process, and then writes what is held back.
+    pub fn show<W: Write>(&mut self, w: &mut W, process: u32, reports: &[Report])
+        ensures adds { (start : Option (List ℕ)) (log : List Line) (lines : List (List ℕ)) →
+            Printed start (W.contents w.old) self.old log → lines_of process log ≡ lines →
+            Adds start (W.contents w.new) self.new process
+            (lines ++ report_lines process reports.now) log }
+        ensures sent { fault_of self.new ≡ None → held_by self.new ≡ [] }
+        ensures broken { fault_of self.old ≢ None → w.new ≡ w.old }
+        ensures stays { fault_of self.old ≢ None → self.new ≡ self.old }
+    {
+        self.report_all(w, process, reports);
+        self.flush(w);
+    }
+
     /// Prints the last lines of a process: those of the reports that were not printed yet, and the
     /// line of its end.
     pub fn close<W: Write>(&mut self, w: &mut W, process: u32, rest: &[Report], ending: &Ending)
@@ -174,9 +202,7 @@ impl<A: Allocator + Copy> LivePrinter<A> {
         ensures broken { fault_of self.old ≢ None → w.new ≡ w.old }
         ensures stays { fault_of self.old ≢ None → self.new ≡ self.old }
     {
-        for report in rest {
-            self.report(w, process, report);
-        }
+        self.report_all(w, process, rest);
         self.end(w, process, ending);
     }
 

@@ -16,18 +16,15 @@ use Rattle.asan_senders.proofs.Counting.{all_counted}
 use Rattle.asan_senders.proofs.Rights.{all_few}
 use Rattle.asan_senders.proofs.Senders.{pairs_back, pairs_fit}
 
-pub collected : {F A : Type 0} (seen : F → FeedState) (options : Options) (old new : DoorState F)
-    (arrivals : List (Arrival F))
-    (xs ys zs : List (Sender F A)) (outcomes : List (Outcome F A))
+-- the answers to all that arrived are what is collected
+pub collected_by_answers : {F A : Type 0} (seen : F → FeedState) (options : Options) (old new : DoorState F)
+    (arrivals : List (Arrival F)) (outcomes : List (Outcome F A))
     → Arrived old.to_arrive new.to_arrive arrivals → IsTrue new.is_shut ⊎ (length arrivals ≡ most_senders)
     → new.refusals ≡ refused_among arrivals + old.refusals → IsAllThatCame old.left (length arrivals)
     → length arrivals ≤ most_senders
-    → Pairwise (Came seen options) arrivals xs → Each (Becomes seen options.limit) xs ys
-    → Each (Rejoins seen options.quarantine) ys zs → Pairwise (Gets seen) zs outcomes
+    → Pairwise (IsAnswerTo seen options) arrivals outcomes
     → AreCollected seen options old new outcomes
-collected seen options old new arrivals xs ys zs outcomes arrived all refusals count few came read back gets =
-    let fit : Pairwise (IsAnswerTo seen options) arrivals outcomes =
-    pairs_fit seen options arrivals zs outcomes (pairs_back seen options arrivals xs ys zs came read back) gets in
+collected_by_answers seen options old new arrivals outcomes arrived all refusals count few fit =
     record {
       answers = (arrivals, arrived, all, fit);
       count = rw fit.same_length count;
@@ -35,3 +32,12 @@ collected seen options old new arrivals xs ys zs outcomes arrived all refusals c
       few = (let same = fit.same_length in omega arith);
       few_reports = all_few seen options arrivals outcomes fit;
     }
+
+-- senders that were read, checked, placed and settled have such answers
+pub answered : {F A : Type 0} (seen : F → FeedState) (options : Options) (arrivals : List (Arrival F))
+    (xs ys zs : List (Sender F A)) (outcomes : List (Outcome F A))
+    → Pairwise (Came seen options) arrivals xs → Each (Becomes seen options.limit) xs ys
+    → Each (Rejoins seen options.quarantine) ys zs → Pairwise (Gets seen) zs outcomes
+    → Pairwise (IsAnswerTo seen options) arrivals outcomes
+answered seen options arrivals xs ys zs outcomes came read back gets =
+    pairs_fit seen options arrivals zs outcomes (pairs_back seen options arrivals xs ys zs came read back) gets

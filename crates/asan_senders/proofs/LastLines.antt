@@ -30,7 +30,7 @@ lines_append process [] ys = refl
 lines_append process (x ∷ xs) ys = ap (λ lines. report_line process x ∷ lines) (lines_append process xs ys)
 
 -- the reports that were printed, and then the rest
-lines_whole : (process count : ℕ) (printed reports : List Report) → take count reports ≡ printed
+pub lines_whole : (process count : ℕ) (printed reports : List Report) → take count reports ≡ printed
     → report_lines process printed ++ report_lines process (drop count reports) ≡ report_lines process reports
 lines_whole process count printed reports front =
     sym (lines_append process printed (drop count reports))

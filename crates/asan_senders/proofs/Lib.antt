@@ -1,3 +1,4 @@
+mod Only
 pub mod Senders
 pub mod Dealing
 pub mod ReportLanes

@@ -2,6 +2,7 @@
 //! its own. Then the text of all outcomes, and the status.
 #![tactic(auto)]
 
+mod alone;
 mod arrivals;
 mod checker_thread;
 mod closing;
@@ -16,6 +17,7 @@ mod sender;
 mod status;
 mod write;
 
+pub use alone::{check_alone, check_alone_live, only_feed};
 pub use arrivals::{MOST_SENDERS, ask};
 pub use checker_thread::{CheckerThread, Checking, give_up_senders};
 pub use closing::close;

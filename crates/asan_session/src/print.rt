@@ -15,7 +15,7 @@ ghost use Rattle.asan_session.specs.Printed.{BoundedMemory, CheckersMemory};
 use crate::memory::bounded_heaps;
 use asan_check::end_text;
 use asan_collect::{
-    Live, OpenGate, Options, Outcome, WriteFault, check_feed, collect_live_within, collect_within,
+    Live, Options, Outcome, WriteFault, check_feed, collect_live_openly, collect_openly,
     exit_status, write_outcomes,
 };
 use refusing_allocator::RefusingAllocator;
@@ -49,8 +49,9 @@ pub fn report_feed<F: Feed + Drop, W: Write>(
 
 /// Checks the feeds of the senders that come through a door, which are read side by side, prints
 /// what became of all of them, and gives the status to end with. Reading starts once the door is
-/// over or has given 256 other answers. Where it is live, each report is printed when it is found,
-/// and else all that is printed is printed at the end.
+/// over or has given 256 other answers. The feed of a sender that came alone is read and checked on
+/// the calling thread. Where it is live, each report is printed when it is found, and else all that
+/// is printed is printed at the end.
 ///
 /// Where the options bound the memory of the checkers, each checker has an allocator of its own
 /// with that bound. Where the senders have names, what became of each of them is then said on
@@ -198,12 +199,12 @@ where
     ensures err { OnErr result (output.new ≡ output.old) }
 {
     if is_live {
-        let live = collect_live_within(rt, alloc, own, door, &OpenGate, options, output)?;
+        let live = collect_live_openly(rt, alloc, own, door, options, output)?;
         let Live { outcomes, wrote } = live;
         let status = flush(output, &outcomes, wrote);
         return Ok(Reported { outcomes, status });
     }
-    let outcomes = collect_within(rt, alloc, own, door, &OpenGate, options)?;
+    let outcomes = collect_openly(rt, alloc, own, door, options)?;
     let status = print(alloc, output, &outcomes);
     Ok(Reported { outcomes, status })
 }

@@ -1,14 +1,11 @@
 -- How long a text can become before something ends it, and how far a read goes past its end.
-use Rattle.std.proofs.Common.{◌≡◌, ℕ, ◌+◌, ◌-◌, ◌*◌, ◌<◌, List, ◌++◌, length, ap, ◌∙◌, inl, inr, arith, length-append}
+use Rattle.std.proofs.Common.{◌≡◌, ℕ, ◌+◌, ◌<◌, List, ◌++◌, length, ap, ◌∙◌, inl, inr, arith, length-append}
 use Rattle.trace_record.specs.declared.event.Event.{Event}
 use Rattle.trace_record.specs.Spelling.{header, spellings}
 use Rattle.trace_record.specs.Standing.{Standing, StandsAt}
+use Rattle.asan_stream.specs.Sources.{read_of, left_of}
 use Rattle.trace_record.proofs.Lengths.{open_short}
 use Rattle.trace_record.proofs.Steps.{in_header_offset, made_offset}
-
--- how many bytes a decoder has read
-abbrev pub read_of : Standing → ℕ
-read_of d = d.offset + length d.rest
 
 all_read : (d : Standing) (text : List ℕ) (events : List Event) → StandsAt d text events → read_of d ≡ length text
 all_read d text events at =
@@ -27,10 +24,6 @@ all_read d text events at =
             length-append (header r.version) (spellings r.version events),
           )
     ]
-
--- how many bytes more decide a stream at the latest
-abbrev pub left_of : Standing → ℕ
-left_of d = (18 * d.limit + 9) - read_of d
 
 -- a read that gives a byte leaves fewer of them
 pub fewer_left : (d new : Standing) (text piece : List ℕ) (events later : List Event) → new.limit ≡ d.limit

@@ -2,6 +2,7 @@ mod Stepping
 mod Sending
 mod Fates
 mod Reading
+mod Replays
 pub mod Readers
 pub mod Consequences
 mod Checking

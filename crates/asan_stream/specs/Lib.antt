@@ -6,6 +6,7 @@ pub mod Items
 pub mod Pieces
 pub mod Decoding
 pub mod Sources
+pub mod Replays
 pub mod Readers
 pub mod Outboxes
 pub mod Checking

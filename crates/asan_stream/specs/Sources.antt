@@ -1,14 +1,23 @@
 -- What was read of a feed: the text that was decoded, and the events that it gave.
-use Rattle.std.specs.Prelude.{◌≡◌, ℕ, ◌<◌, ◌⊎◌, Bool, true, false, List, ◌++◌, length, Some}
+use Rattle.std.specs.Prelude.{◌≡◌, ℕ, ◌+◌, ◌-◌, ◌*◌, ◌<◌, ◌⊎◌, Bool, true, false, List, ◌++◌, length}
+use Rattle.std.specs.Prelude.{Some}
 use Rattle.std.specs.Io.KnownBytes.{Consumes, IsAtEnd}
 use Rattle.trace_record.specs.declared.event.Event.{Event}
 use Rattle.trace_record.specs.declared.end.End.{End}
 use Rattle.trace_record.specs.Stream.{IsDecidedFate}
-use Rattle.trace_record.specs.Standing.{StandsAt}
+use Rattle.trace_record.specs.Standing.{Standing, StandsAt}
 use Rattle.trace_feed.specs.Feeds.{FeedState}
 use Rattle.asan_stream.specs.declared.source.Source.{Source}
 use Rattle.asan_stream.specs.Pieces.{rest_of}
 use Rattle.asan_stream.specs.Outcomes.{IsSpelled, IsDecidedSoon}
+
+-- how many bytes a decoder has read
+abbrev pub read_of : Standing → ℕ
+read_of d = d.offset + length d.rest
+
+-- how many bytes more decide its stream at the latest
+abbrev pub left_of : Standing → ℕ
+left_of d = (18 * d.limit + 9) - read_of d
 
 -- The function says what is seen of a feed. The feed was `first` before it was read.
 module _

@@ -1,8 +1,9 @@
 //! One sender's stream: its bytes are read and checked, and its outcome says what became of it.
 //!
-//! On one thread that is [`check_feed`]. Over two threads a reader, [`run_reader`], puts the events
-//! into a lane, a checker, [`run_checker`], takes them at a [`Bench`], and [`settle`] makes the
-//! outcome when the reader is done.
+//! On one thread that is [`check_feed`], or a [`Replay`] where the reports are seen as they are
+//! found. Over two threads a reader, [`run_reader`], puts the events into a lane, a checker,
+//! [`run_checker`], takes them at a [`Bench`], and [`settle`] makes the outcome when the reader is
+//! done.
 #![tactic(auto)]
 
 mod bench;
@@ -34,5 +35,5 @@ pub use options::{
 pub use outcome::Outcome;
 pub use pause::Pause;
 pub use reader::{ReaderDone, run_reader};
-pub use replay::check_feed;
+pub use replay::{Replay, check_feed};
 pub use settlement::settle;

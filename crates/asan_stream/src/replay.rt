@@ -12,9 +12,9 @@ ghost use Rattle.asan_stream.specs.Outcomes.{reports_of};
 
 use crate::options::Options;
 use crate::outcome::Outcome;
-use crate::source::{Source, batch_room};
-use asan_check::Checker;
-use std::alloc::Allocator;
+use crate::source::{BATCH_SIZE, Source, batch_room};
+use asan_check::{Checker, Report};
+use std::alloc::{Allocator, Global};
 use trace_feed::Feed;
 use trace_record::{End, Event};
 
@@ -35,17 +35,81 @@ pub fn check_feed<F: Feed, A: Allocator + Copy>(
     ensures soon { StopsSoon F.seen options feed result }
     ensures few { length (reports_of result) ≤ most_reports }
 {
-    let mut checker = Checker::new(alloc, options.quarantine).unwrap();
-    let mut source = Source::new(feed, options.limit);
-    let mut events = batch_room();
-    loop {
-        let batch = source.next_batch(&mut events);
-        check_each(&mut checker, &events[..batch.count]);
-        if batch.is_last {
-            let (feed, end) = source.into_end();
-            let events = end.events;
-            return outcome_of(feed, end, checker, events);
+    let mut replay = Replay::new(alloc, feed, options);
+    while replay.check_more() {}
+    replay.into_outcome()
+}
+
+/// A feed that is read and checked on the calling thread, a batch of events at a time. Between two
+/// batches its reports so far can be seen.
+#[derive(Drop)]
+pub struct Replay<F, A: Allocator + Copy = Global> {
+    source: Source<F>,
+    checker: Checker<A>,
+    /// Room for the next batch.
+    events: [Event; BATCH_SIZE],
+}
+
+impl<F: Feed, A: Allocator + Copy> Replay<F, A> {
+    ghost use Rattle.std.specs.Prelude.{[]};
+    ghost use Rattle.asan_stream.specs.declared.options.Options.{Options as AnOptions};
+    ghost use Rattle.asan_stream.specs.Replays.{IsThen, IsThrough, IsUnderWay, found_by, left_in};
+
+    /// A feed of which nothing is read yet. Its checker takes its memory from `alloc`. No read of
+    /// the feed may have failed before.
+    pub fn new(alloc: A, feed: F, options: Options) -> Replay<F, A>
+        requires fresh { (F.seen feed).faults ≡ 0 }
+        ensures under_way { IsUnderWay F.seen options feed result }
+        ensures none { found_by result ≡ [] }
+    {
+        Replay {
+            source: Source::new(feed, options.limit),
+            checker: Checker::new(alloc, options.quarantine).unwrap(),
+            events: batch_room(),
         }
+    }
+
+    /// Reads and checks the next batch, and answers whether there is more to check. The feed is
+    /// asked once at most. After the last batch this is not to be called again.
+    ///
+    /// A checker that has failed stays so: the feed is read to the end of its stream all the same.
+    pub fn check_more(&mut self) -> bool
+        requires under_way { (options : AnOptions) × (first : F)
+            × IsUnderWay F.seen options first self.old }
+        ensures then { (options : AnOptions) (first : F) →
+            IsUnderWay F.seen options first self.old → IsThen F.seen options first result self.new }
+        ensures front { IsFront (found_by self.old) (found_by self.new) }
+        ensures less { IsTrue result → left_in self.new < left_in self.old }
+    {
+        let batch = self.source.next_batch(&mut self.events);
+        check_each(&mut self.checker, &self.events[..batch.count]);
+        !batch.is_last
+    }
+
+    /// The reports so far, in the order of their events.
+    pub fn reports(&self) -> &[Report]
+        ensures { result.now ≡ found_by self.now }
+    {
+        self.checker.reports()
+    }
+
+    /// What became of the feed. It has no meaning before the last batch.
+    pub fn into_outcome(self) -> Outcome<F, A>
+        ensures outcome { (options : AnOptions) (first : F) →
+            IsThrough F.seen options first self → IsOutcomeOf F.seen options first result }
+        ensures soon { (options : AnOptions) (first : F) →
+            IsThrough F.seen options first self → StopsSoon F.seen options first result }
+        ensures reports { reports_of result ≡ found_by self }
+        ensures read { IsTrue (is_read result) }
+    {
+        let Replay {
+            source,
+            checker,
+            ..
+        } = self;
+        let (feed, end) = source.into_end();
+        let events = end.events;
+        outcome_of(feed, end, checker, events)
     }
 }
 

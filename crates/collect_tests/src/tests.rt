@@ -6,6 +6,7 @@ ghost use Rattle.asan_stream.specs.Outcomes.{reports_of};
 ghost use Rattle.asan_stream.specs.Ranges.{most_reports};
 ghost use Rattle.asan_senders.specs.Ranges.{most_senders};
 
+mod alone;
 mod bench;
 mod checker_refusals;
 mod collect;

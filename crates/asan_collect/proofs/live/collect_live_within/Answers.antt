@@ -1,76 +1,9 @@
-use Rattle.std.proofs.Common.{arith, rules}
-use Rattle.asan_senders.specs.Senders.{Becomes}
-use Rattle.asan_senders.proofs.Rights.{pairs_joined}
-use Rattle.asan_senders.proofs.Dealing.{shares_back, shares_kept}
-use Rattle.asan_senders.specs.ReportLanes.{lanes_of}
-use Rattle.asan_senders.proofs.LastLines.{follows_start}
-use Rattle.asan_senders.proofs.ReportLanes.{fit_read, fit_same, have_back}
-use Rattle.asan_senders.proofs.Senders.{becomes_keeps, pairs_back}
-use Rattle.asan_senders.proofs.Collected.{collected}
+use Rattle.asan_senders.proofs.Collected.{collected_by_answers}
 use Rattle.asan_collect.proofs.live.collect_live_within.Goals as goal
 
 pub returns-clause-collected : goal.returns-clause-collected
 returns-clause-collected g c =
-    let asked = c.ask-arrivals.ensures in
-    collected g.D.Feed.Feed.seen c.args.options (g.D.Door.seen c.args.door.now) (g.D.Door.seen c.ask-arrivals.new.door)
-    c.ask-arrivals.result.items c.open_all-opened.result.senders.items c.run_printing-back.result.0.senders.items
-    c.place_all.new.senders.items c.close_all.result.outcomes.items
-    asked.arrived asked.all asked.refused asked.count asked.few c.open_all-opened.ensures.came
-    c.run_printing-back.ensures.senders c.place_all.ensures.rejoins c.close_all.ensures.outcomes
-
-pub place_all-requires : goal.place_all-requires
-place_all-requires g c =
-    let seen = g.D.Feed.Feed.seen in
-    let limit = c.args.options.limit in
-    let opened = c.open_all-opened.result in
-    let back = c.run_printing-back.result.0 in
-    shares_kept (Becomes seen limit) (becomes_keeps seen limit) c.args.options.quarantine opened.senders.items
-    back.senders.items back.shares.items c.run_printing-back.ensures.senders
-    (shares_back c.args.options.quarantine opened.senders.items opened.shares.items back.shares.items
-    c.run_printing-back.ensures.shares c.open_all-opened.ensures.shares)
-
-pub close_all-requires-clause-room : goal.close_all-requires-clause-room
-close_all-requires-clause-room g c =
-    let a = c.open_all-opened.ensures.came.same_length in
-    let few = c.ask-arrivals.ensures.few in
-    let b = c.run_printing-back.ensures.senders.same_length in
-    let d = c.place_all.ensures.rejoins.same_length in
-    let room = c.in_ok-outcome_room.ensures.capacity in
-    search rules
-
-pub close_all-requires-clause-joined : goal.close_all-requires-clause-joined
-close_all-requires-clause-joined g c =
-    let seen = g.D.Feed.Feed.seen in
-    pairs_joined seen c.args.options c.ask-arrivals.result.items c.place_all.new.senders.items
-    (pairs_back seen c.args.options c.ask-arrivals.result.items c.open_all-opened.result.senders.items
-    c.run_printing-back.result.0.senders.items c.place_all.new.senders.items
-    c.open_all-opened.ensures.came c.run_printing-back.ensures.senders c.place_all.ensures.rejoins)
-
-pub ask-arrivals-requires-clause-empty : goal.ask-arrivals-requires-clause-empty
-ask-arrivals-requires-clause-empty g c = c.in_ok-arrival_room.ensures.items
-
-pub ask-arrivals-requires-clause-room : goal.ask-arrivals-requires-clause-room
-ask-arrivals-requires-clause-room g c = c.in_ok-arrival_room.ensures.capacity
-
-pub close_all-requires-clause-fits : goal.close_all-requires-clause-fits
-close_all-requires-clause-fits g c =
-    let seen = g.D.Feed.Feed.seen in
-    let opened = c.open_all-opened.result in
-    let back = c.run_printing-back.result in
-    let lanes = lanes_of opened.ports.items in
-    let a = c.open_all-opened.ensures.ports in
-    let b = c.run_printing-back.ensures.senders.same_length in
-    let d = c.place_all.ensures.rejoins.same_length in
-    fit_same opened.ports.items back.1.ports.items c.place_all.new.senders.items (omega arith)
-    c.run_printing-back.ensures.printed.lanes
-    (c.place_all.ensures.fit lanes (fit_read seen c.args.options.limit lanes opened.senders.items back.0.senders.items
-    c.run_printing-back.ensures.senders c.open_all-opened.ensures.fits)
-    (have_back lanes opened.shares.items back.0.shares.items c.run_printing-back.ensures.shares
-    c.open_all-opened.ensures.have))
-
-pub returns-clause-printed : goal.returns-clause-printed
-returns-clause-printed g c =
-    let start = g.W.Write.contents c.args.w.now in
-    c.close_all.ensures.printed start (c.run_printing-back.ensures.printed.lines start
-    (follows_start start c.new-printer.result c.open_all-opened.result.ports.items (c.new-printer.ensures start)
-    c.open_all-opened.ensures.untaken))
+    let came = c.in_ok-arrivals.ensures.came in
+    collected_by_answers g.D.Feed.Feed.seen c.args.options (g.D.Door.seen c.args.door.now)
+    (g.D.Door.seen c.let_in.new.door) c.in_ok-arrivals.arrivals.items c.check_all_live.result.outcomes.items
+    came.arrived came.all came.refused came.count came.few c.check_all_live.ensures.answers

@@ -3,8 +3,7 @@ use Rattle.trace_record.specs.declared.event.Event.{Event}
 use Rattle.trace_lane.specs.Lanes.{in_lane, put_list}
 use Rattle.asan_stream.specs.Items.{event_items}
 use Rattle.asan_stream.specs.Ranges.{batch_size}
-use Rattle.asan_stream.specs.Sources.{HasRead}
-use Rattle.asan_stream.proofs.Lengths.{left_of}
+use Rattle.asan_stream.specs.Sources.{HasRead, left_of}
 use Rattle.asan_stream.proofs.reader.run_reader.Given as goal
 
 abbrev pub invariant-loop-events : goal.invariant-loop-events

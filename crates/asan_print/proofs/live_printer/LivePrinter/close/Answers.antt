@@ -1,40 +1,15 @@
-use Rattle.std.proofs.Common.{◌≡◌, take, refl, sym, ◌∙◌, arith, false}
-use Rattle.std.proofs.lemmas.List.{take_all, append-nil}
-use Rattle.asan_check.specs.declared.report.Report.{Report}
-use Rattle.asan_check.specs.declared.report.Class.TheVariants as class
-use Rattle.asan_check.specs.declared.report.Fault.TheVariants as fault
-use Rattle.asan_print.proofs.Logging.{adds_start, adds_line, rest_further, still_on}
+use Rattle.asan_print.proofs.Logging.{adds_line, still_on}
 use Rattle.asan_print.proofs.live_printer.LivePrinter.close.Goals as goal
-
-abbrev none : Report
-none = record { number = 0; fault = fault.Access false 0 0 0 class.HeapBufferOverflow 0 }
-
-pub loop-report-init : goal.loop-report-init
-loop-report-init g c = record {
-  adds = λ start log lines r own. adds_start start _ _ _ _ log r (own ∙ sym (append-nil lines));
-  still = λ broken. (refl, refl);
-}
-
-pub loop-report-preserved : goal.loop-report-preserved
-loop-report-preserved g c = record {
-  adds = λ start log lines r own.
-      rw (rest_further c.args.process c.loop-report.report-index none lines c.args.rest.now c.loop-report-test.true)
-      (adds_line start _ _ _ _ c.args.process _ _ log (c.report.ensures.prints start)
-      (c.loop-report.invariant.adds start log lines r own));
-  still = still_on _ _ _ _ _ _ c.report.ensures.broken c.report.ensures.stays c.loop-report.invariant.still;
-}
 
 pub returns-clause-adds : goal.returns-clause-adds
 returns-clause-adds g c = λ start log lines r own.
-    let all : take c.loop-report.report-index c.args.rest.now ≡ c.args.rest.now =
-    take_all _ c.args.rest.now (omega arith) in
     adds_line start _ _ _ _ c.args.process _ _ log (c.end.ensures.prints start)
-    (rw all at c.loop-report.invariant.adds start log lines r own)
+    (c.report_all.ensures.adds start log lines r own)
 
 pub returns-clause-broken : goal.returns-clause-broken
 returns-clause-broken g c = λ broken. (still_on _ _ _ _ _ _ c.end.ensures.broken c.end.ensures.stays
-    c.loop-report.invariant.still broken).0
+    (λ b. (c.report_all.ensures.broken b, c.report_all.ensures.stays b)) broken).0
 
 pub returns-clause-stays : goal.returns-clause-stays
 returns-clause-stays g c = λ broken. (still_on _ _ _ _ _ _ c.end.ensures.broken c.end.ensures.stays
-    c.loop-report.invariant.still broken).1
+    (λ b. (c.report_all.ensures.broken b, c.report_all.ensures.stays b)) broken).1
