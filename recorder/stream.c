@@ -3,7 +3,6 @@
 
 #include <pthread.h>
 #include <sched.h>
-#include <signal.h>
 #include <string.h>
 #include <sys/mman.h>
 #include <time.h>
@@ -125,7 +124,7 @@ static void stop_at(uint64_t count)
     if (stop == 0 || count + 1 < stop || !atomic_compare_exchange_strong(&keeper.stop, &stop, 0))
         return;
     set_events_end(0);
-    raise(SIGTRAP);
+    __asm__ volatile("int3"); /* also if SIGTRAP is blocked */
 }
 
 static unsigned char code_at(uint64_t offset)
