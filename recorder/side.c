@@ -41,7 +41,7 @@ static void read_words(struct side *side)
         strncpy(side->words, program_invocation_name, SIDE_WORDS - 2);
 }
 
-void side_begin(unsigned char *bytes)
+void side_begin(unsigned char *bytes, uint64_t quarantine)
 {
     struct side *side = (struct side *)bytes;
     struct timespec now;
@@ -54,6 +54,7 @@ void side_begin(unsigned char *bytes)
     side->parent = (uint32_t)getppid();
     side->started = (uint64_t)now.tv_sec * 1000000000 + (uint64_t)now.tv_nsec;
     side->has_checks = recorder_has_checks();
+    side->quarantine = quarantine;
     read_words(side);
     memcpy(side->header, SIDE_HEADER, sizeof side->header);
     atomic_store_explicit(&current, side, memory_order_release);

@@ -15,7 +15,7 @@ from typing import Dict, List, NamedTuple, Optional, Tuple
 from .reading import is_regular, open_regular, read_at
 
 HEADER = b"ASWH\3\0\0\0"
-HEAD = struct.Struct("<8sQQIIIIQIIII")
+HEAD = struct.Struct("<8sQQIIIIQIIIIQ")
 WORDS_AT, WORDS_ROOM = 72, 4000
 LAST_AT, LAST = 4072, struct.Struct("<QQII")
 BUILDS_AT = 4096
@@ -97,9 +97,9 @@ class Side:
         self.descriptor = descriptor
         head = read_at(descriptor, 0, HEAD.size) if is_regular(descriptor) else b""
         self.is_good = len(head) == HEAD.size and head.startswith(HEADER)
-        fields = HEAD.unpack(head) if self.is_good else (b"",) + (0,) * 11
+        fields = HEAD.unpack(head) if self.is_good else (b"",) + (0,) * 12
         _, self.events, self.left_out, self.ending, self.signal, self.process, self.parent = fields[:7]
-        self.started, self.has_checks, self.is_at_limit, fault_count, stack_words = fields[7:]
+        self.started, self.has_checks, self.is_at_limit, fault_count, stack_words, self.quarantine = fields[7:]
         self.fault_count = min(fault_count, MOST_FAULTS)
         self.stack_words = min(stack_words, MOST_STACK_WORDS)
         self.stacks: Dict[int, Calls] = {}
