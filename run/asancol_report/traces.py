@@ -19,8 +19,6 @@ from .words import signal_name
 CLOSED, NO_CLOSE, TOO_MANY = "closed", "no-close", "too-many"
 # What asancol answers if it has printed its verdicts.
 STATUSES_WITH_VERDICTS = (0, 1, 3)
-
-
 # How many bytes of freed blocks asancol holds if no option says otherwise.
 USUAL_QUARANTINE = 1 << 28
 
