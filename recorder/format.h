@@ -102,7 +102,7 @@ struct side {
     uint32_t is_at_limit; /* 1: an event found no room */
     uint32_t fault_count; /* how many faults are in the list */
     uint32_t stack_words; /* how many words of the stacks are in use, with the first, which is of no stack */
-    uint32_t spare[2];
+    uint64_t quarantine;  /* how many bytes of freed blocks are held */
     char words[SIDE_WORDS]; /* of the command line, each ended by a zero, and a zero after them */
     /* Of the signal that has ended it: */
     uint64_t last;          /* one more than the address of the last instruction; 0: not known */

@@ -334,8 +334,10 @@ const char *output_send(struct output *output, uint64_t length, bool all, int pa
         size_t rest = length - output->sent;
         ssize_t count = output->is_socket ? send(output->descriptor, next, rest, MSG_NOSIGNAL | MSG_DONTWAIT)
                                           : write(output->descriptor, next, rest);
-        if (count >= 0) {
+        if (count > 0) {
             output->sent += (uint64_t)count;
+        } else if (count == 0) {
+            why = "it takes nothing, and says no error";
         } else if (errno == EAGAIN) {
             struct pollfd wait = {output->descriptor, POLLOUT, 0};
             if (!all)

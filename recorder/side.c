@@ -41,7 +41,7 @@ static void read_words(struct side *side)
         strncpy(side->words, program_invocation_name, SIDE_WORDS - 2);
 }
 
-void side_begin(unsigned char *bytes)
+void side_begin(unsigned char *bytes, uint64_t quarantine)
 {
     struct side *side = (struct side *)bytes;
     struct timespec now;
@@ -54,6 +54,7 @@ void side_begin(unsigned char *bytes)
     side->parent = (uint32_t)getppid();
     side->started = (uint64_t)now.tv_sec * 1000000000 + (uint64_t)now.tv_nsec;
     side->has_checks = recorder_has_checks();
+    side->quarantine = quarantine;
     read_words(side);
     memcpy(side->header, SIDE_HEADER, sizeof side->header);
     atomic_store_explicit(&current, side, memory_order_release);
@@ -137,6 +138,7 @@ static uint64_t take_number(const char **at)
 /* A line of the map of modules. */
 struct line {
     const char *text, *next;
+    const char *file; /* its device, number and name; or null */
     uint64_t start, end;
     bool has_file, is_first; /* and whether it is the first part of that */
 };
@@ -156,16 +158,25 @@ static bool take_line(const char *text, struct line *line)
     if (line->has_file && offset != NULL) {
         offset++;
         line->is_first = take_number(&offset) == 0;
+        line->file = offset;
     }
     return true;
 }
 
-/* Whether something lies now where a line says that a file was. */
+/* Whether two lines are of one file: from the device on they have the same text. */
+static bool is_same_file(const struct line *one, const struct line *other)
+{
+    size_t length = (size_t)(one->next - one->file);
+    return length == (size_t)(other->next - other->file) && memcmp(one->file, other->file, length) == 0;
+}
+
+/* Whether the line of a file need not be kept: the file, or memory of no file, lies there now. If another file does, who
+   reads both lines sees that nobody knows which of them an address meant. */
 static bool is_taken(const char *maps, const struct line *old)
 {
     struct line line;
     for (const char *at = maps; take_line(at, &line); at = line.next)
-        if (line.start < old->end && old->start < line.end)
+        if (line.start < old->end && old->start < line.end && (!line.has_file || is_same_file(&line, old)))
             return true;
     return false;
 }

@@ -8,8 +8,9 @@
 #include "format.h"
 #include "stacks.h"
 
-/* Begins a new one in these bytes, which are zeros, with who the process is; or forgets it, if they are null. */
-void side_begin(unsigned char *bytes);
+/* Begins a new one in these bytes, which are zeros, with who the process is and how many bytes of freed blocks it holds;
+   or forgets it, if they are null. */
+void side_begin(unsigned char *bytes, uint64_t quarantine);
 /* Up to where it has something. */
 uint64_t side_length(void);
 /* Copies the map of modules from the system, with the build id of each. */

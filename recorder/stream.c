@@ -3,7 +3,6 @@
 
 #include <pthread.h>
 #include <sched.h>
-#include <signal.h>
 #include <string.h>
 #include <sys/mman.h>
 #include <time.h>
@@ -125,7 +124,7 @@ static void stop_at(uint64_t count)
     if (stop == 0 || count + 1 < stop || !atomic_compare_exchange_strong(&keeper.stop, &stop, 0))
         return;
     set_events_end(0);
-    raise(SIGTRAP);
+    __asm__ volatile("int3"); /* also if SIGTRAP is blocked */
 }
 
 static unsigned char code_at(uint64_t offset)
@@ -447,7 +446,7 @@ static const char *open_hub(const struct settings *settings)
         return output_send(&keeper.trace, HEADER_LENGTH, true, settings->patience_ms);
     }
     keeper.has_side = true;
-    side_begin(keeper.side.bytes);
+    side_begin(keeper.side.bytes, settings->quarantine);
     return output_send_first(&keeper.trace, HEADER_LENGTH, &keeper.side, settings->patience_ms);
 }
 
@@ -460,7 +459,7 @@ static const char *open_output(const struct settings *settings)
         why = open_hub(settings);
         if (why == NULL || settings->trace == NULL)
             return why;
-        side_begin(NULL);
+        side_begin(NULL, 0);
         output_close(&keeper.trace);
         output_close(&keeper.side);
         keeper.has_side = false;
@@ -508,7 +507,7 @@ bool stream_begin(const struct settings *settings)
     set_events_end(settings->stop);
     memcpy(STREAM->bytes, HEADER, HEADER_LENGTH);
     if (keeper.has_side && keeper.side.is_mapped)
-        side_begin(keeper.side.bytes);
+        side_begin(keeper.side.bytes, settings->quarantine);
     STREAM->has_side = keeper.has_side;
     STREAM->is_watched = keeper.has_side || keeper.trace.is_socket;
     atomic_store(&STREAM->ready, keeper.trace.is_mapped ? FILE_STEP : PIECES_STEP);
@@ -582,7 +581,7 @@ bool stream_resume(void)
 void stream_forget(void)
 {
     atomic_store(&STREAM->cursor, 0);
-    side_begin(NULL);
+    side_begin(NULL, 0);
     output_drop(&keeper.trace);
     output_drop(&keeper.side);
     keeper.has_side = false;

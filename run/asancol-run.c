@@ -112,7 +112,7 @@ static bool is_cut_short(const struct sum *sum, const struct outcome *outcome)
 static enum answer conclude(const struct options *options, const struct sum *sum, const struct outcome *outcome,
                             bool has_nested)
 {
-    if (sum->reports > 0 || has_nested || options->has_output)
+    if (sum->reports > 0 || has_nested || options->has_output || options->has_rules)
         report_start();
     bool is_incomplete = is_cut_short(sum, outcome) || outcome->nothing;
     enum answer answer = is_incomplete ? ANSWER_NOT_WHOLE : ANSWER_CLEAN;

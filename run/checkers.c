@@ -3,6 +3,7 @@
 
 #include <errno.h>
 #include <fcntl.h>
+#include <inttypes.h>
 #include <stdio.h>
 #include <stdlib.h>
 #include <string.h>
@@ -20,9 +21,35 @@
 
 static struct {
     char *program;
-    struct words words;
+    struct words options; /* of asancol check */
+    uint64_t quarantine;  /* that they say */
     bool keeps;
 } checkers;
+
+/* What a checker runs as, with as much held as the process holds: else it would report what is sound. */
+static struct words words_for(const struct process *process)
+{
+    static const char option[] = "--quarantine";
+    static char bytes[24];
+    struct words words = {0};
+    bool is_other = process->side != NULL && process->side->quarantine != checkers.quarantine;
+    words_add(&words, "asancol");
+    if (checkers.options.count == 0 && !is_other)
+        return words;
+    words_add(&words, "check");
+    for (size_t i = 0; i < checkers.options.count; i += 2)
+        if (!is_other || strcmp(checkers.options.words[i], option) != 0) {
+            words_add(&words, checkers.options.words[i]);
+            words_add(&words, checkers.options.words[i + 1]);
+        }
+    if (is_other) {
+        snprintf(bytes, sizeof bytes, "%" PRIu64, process->side->quarantine);
+        words_add(&words, option);
+        words_add(&words, bytes);
+    }
+    words_add(&words, "-");
+    return words;
+}
 
 void checkers_begin(const struct options *options)
 {
@@ -32,13 +59,11 @@ void checkers_begin(const struct options *options)
         fail(OWN_FAILURE, named != NULL && *named != 0 ? named : "asancol",
              "the program that checks is not there, or cannot be executed; the variable ASANCOL may name it");
     }
-    words_add(&checkers.words, "asancol");
-    if (options->check.count > 0) {
-        words_add(&checkers.words, "check");
-        for (size_t i = 0; i < options->check.count; i++)
-            words_add(&checkers.words, options->check.words[i]);
-        words_add(&checkers.words, "-");
-    }
+    checkers.options = options->check;
+    checkers.quarantine = QUARANTINE_BOUND;
+    for (size_t i = 0; i < options->check.count; i += 2)
+        if (strcmp(options->check.words[i], "--quarantine") == 0)
+            checkers.quarantine = strtoull(options->check.words[i + 1], NULL, 10);
     checkers.keeps = options->keep != NULL;
     if (checkers.keeps)
         keep_begin(options->keep);
@@ -62,9 +87,11 @@ static bool start(struct process *process, int input)
 {
     if (process->verdicts < 0)
         process->verdicts = memfd_create("verdicts", MFD_CLOEXEC);
-    if (process->verdicts >= 0)
-        process->checker = child_start(ROLE_CHECKER, process, checkers.program, checkers.words.words, input,
-                                       process->verdicts);
+    if (process->verdicts >= 0) {
+        struct words words = words_for(process);
+        process->checker = child_start(ROLE_CHECKER, process, checkers.program, words.words, input, process->verdicts);
+        free(words.words);
+    }
     if (process->checker != 0) {
         process->stage = STAGE_CHECKED;
         return true;

@@ -319,6 +319,15 @@ static void check_file(const char *name)
         turn(SHORTAGE);
 }
 
+/* The process of this number that has connected and sent nothing, or null. */
+static struct process *mark_of(pid_t number)
+{
+    for (size_t i = 0; i < process_count(); i++)
+        if (process_at(i)->is_mark && process_at(i)->peer == number)
+            return process_at(i);
+    return NULL;
+}
+
 /* A process that was not recorded has left a link, whose text is its program and why. */
 static void take_mark(DIR *folder, const char *name)
 {
@@ -328,13 +337,22 @@ static void take_mark(DIR *folder, const char *name)
         return;
     text[length] = 0;
     char *why = strrchr(text, '\n');
-    struct process *process = process_add();
-    process->peer = process->own_number = atoi(name);
-    process->is_mark = true;
     if (why != NULL)
         *why++ = 0;
+    struct process *process = mark_of(atoi(name));
+    bool is_known = process != NULL;
+    if (!is_known)
+        process = process_add();
+    process->peer = process->own_number = atoi(name);
+    process->is_mark = true;
     process_set_name(process, why != NULL && text[0] != 0 ? text : "(unknown)");
-    checker_give_up(process, why != NULL && *why != 0 ? why : "it was not recorded");
+    why = why != NULL && *why != 0 ? why : "it was not recorded";
+    if (!is_known) {
+        checker_give_up(process, why);
+        return;
+    }
+    snprintf(process->why, sizeof process->why, "%s", why);
+    report_again(process);
 }
 
 /* Traces, marks and results may have been in the folder. */

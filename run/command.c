@@ -17,6 +17,7 @@ static void set_environment(const struct options *options, const char *hub)
     setenv("ASANCOL_HUB", hub, 1);
     unsetenv("ASANCOL_TRACE");
     unsetenv("ASANCOL_SOCKET");
+    unsetenv("ASANCOL_STOP"); /* a debugger is run by itself */
     if (options->quarantine != NULL)
         setenv("ASANCOL_QUARANTINE", options->quarantine, 1);
 }

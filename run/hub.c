@@ -10,6 +10,7 @@
 #include <string.h>
 #include <sys/random.h>
 #include <sys/socket.h>
+#include <sys/stat.h>
 #include <sys/un.h>
 #include <unistd.h>
 
@@ -62,9 +63,13 @@ static bool try_folder(const char *base)
     snprintf(folder, sizeof folder, "%s" FOLDER_END, base);
     if (mkdtemp(folder) == NULL)
         return false;
+    /* What the command has started may be another user's, and have no network of ours: the path is its only way. */
+    chmod(folder, 0711);
     snprintf(address, sizeof address, "%s" SOCKET_END, folder);
-    if (listen_at(&listeners[0], false))
+    if (listen_at(&listeners[0], false)) {
+        chmod(address, 0777);
         return true;
+    }
     rmdir(folder);
     return false;
 }

@@ -239,6 +239,35 @@ static void demand_output(const char *dashed, const char *path)
     exit(OWN_FAILURE);
 }
 
+/* Files that are written. */
+static struct {
+    const char *option;
+    struct stat seen; /* of its folder */
+    char *name;       /* in it */
+} outputs[8];
+static size_t output_count;
+
+/* Fails if another option has this file too: one of them would be lost. */
+static void demand_alone(const char *dashed, const char *path)
+{
+    struct stat seen, folder;
+    const char *slash = strrchr(path, '/');
+    char *of = must(strndup(path, slash == path ? 1 : (size_t)(slash - path)));
+    bool is_other = (stat(path, &seen) == 0 && !S_ISREG(seen.st_mode)) || stat(of, &folder) != 0;
+    free(of);
+    for (size_t i = 0; i < output_count && !is_other; i++)
+        if (strcmp(outputs[i].option, dashed) != 0 && strcmp(outputs[i].name, slash + 1) == 0
+            && outputs[i].seen.st_dev == folder.st_dev && outputs[i].seen.st_ino == folder.st_ino) {
+            fprintf(stderr, "asancol-run: %s: %s is the file of %s too\n", dashed, path, outputs[i].option);
+            exit(OWN_FAILURE);
+        }
+    if (is_other || output_count == COUNT(outputs))
+        return;
+    outputs[output_count].option = dashed;
+    outputs[output_count].seen = folder;
+    outputs[output_count++].name = must(strdup(slash + 1));
+}
+
 static void demand(const char *dashed, const char *path, bool is_folder)
 {
     struct stat seen;
@@ -265,12 +294,15 @@ static void pass_name(struct options *options, enum action action, const char *d
     if (strcmp(value, "-") == 0)
         fail(OWN_FAILURE, dashed, "- is no file: standard input and output are the command's");
     const char *name = name_expanded(dashed, value);
-    if (action == PASS_OUTPUT)
+    if (action == PASS_OUTPUT) {
         demand_output(dashed, name);
-    else
+        demand_alone(dashed, name);
+    } else {
         demand(dashed, name, action == PASS_FOLDER);
+    }
     pass(options, dashed, name);
     options->has_output |= action == PASS_OUTPUT;
+    options->has_rules |= action == PASS_INPUT;
 }
 
 static void pass_when(struct options *options, const char *dashed, const char *value)
@@ -330,6 +362,8 @@ static void take_value(struct options *options, const struct option *option, con
     case SET_FILE:
     case SET_FOLDER:
         *(const char **)field = name_expanded(dashed, value);
+        if (option->action == SET_FILE)
+            demand_alone(dashed, *(const char **)field);
         break;
     case PASS_CHECK:
         pass_check(options, option, dashed, value);

@@ -22,6 +22,7 @@ struct options {
     const char *keep;       /* a folder, or null */
     const char *quarantine; /* as text, or null */
     bool has_output;        /* a file is wanted that asancol-report writes */
+    bool has_rules;         /* it has to read a file of what counts */
     struct words check;     /* for asancol check */
     struct words report;    /* for asancol-report */
     char **command;

@@ -120,13 +120,15 @@ void report_begin(const struct options *options)
     enqueue(message, to);
 }
 
-/* The words of the process's command line. */
-static void put_words(FILE *to, const struct side *side)
+/* The words of the process's command line, or its name if that is all that is known. */
+static void put_words(FILE *to, const struct process *process)
 {
     char words[SIDE_WORDS + 1], *list[MOST_WORDS + 1];
     size_t count = 0;
+    const struct side *side = process->side;
     if (side == NULL) {
-        fputs("[]", to);
+        char *only[] = {process->name, NULL};
+        json_list(to, only, MOST_PROCESS_WORDS);
         return;
     }
     memcpy(words, side->words, SIDE_WORDS); /* once: the process may write there */
@@ -146,7 +148,7 @@ static void put_process(FILE *to, const struct process *process)
             process->is_whole ? "true" : "false", process->left_out, process->signal);
     json_text(to, process->why);
     fputs(",\"command\":", to);
-    put_words(to, process->side);
+    put_words(to, process);
     if (process->trace != NULL) {
         fputs(",\"trace\":", to);
         json_text(to, process->trace);

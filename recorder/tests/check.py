@@ -266,7 +266,7 @@ def check_stop(suite, folder, program):
         else:
             expect((ran.returncode, len(trace.events)), (-signal.SIGTRAP, stop), f"stop at {stop}")
     ran = run(["sh", "-c", f"trap '' TRAP; exec {program} ends_normally"], folder, ASANCOL_TRACE="i.trace", ASANCOL_STOP="2")
-    expect((ran.returncode, len(Trace(f"{folder}/i.trace").events)), (0, count), "it goes on")
+    expect(ran.returncode, -signal.SIGTRAP, "if it is ignored")
 
 
 def check_debugger(suite, folder, compiler):

@@ -147,7 +147,7 @@ class Finding:
             if frame.text:
                 words += [frame.text, str(sources.ordinal(frame.file, frame.line, frame.function))]
             else:
-                words.append(f"{frame.offset:x}")
+                words.append(f"{frame.build}+{frame.offset:x}")
         name = "\0".join(words).encode("utf-8", "surrogateescape")
         self.fingerprint = hashlib.sha256(name).hexdigest()[:FINGERPRINT_DIGITS]
 

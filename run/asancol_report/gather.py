@@ -83,10 +83,15 @@ class Gatherer:
         return Places(*(self.calls(side, it) for it in (fault.place, fault.allocated, fault.freed)))
 
     def calls(self, side: Side, after_calls: Tuple[int, ...]) -> Calls:
-        """Returns the places of calls, from the addresses after them. Callers that lie in no module are none."""
-        places = [self.place(side, address) for address in after_calls]
-        ends = [number for number, place in enumerate(places) if number > 0 and place.module is None]
-        return tuple(places[:ends[0]] if ends else places)
+        """Returns the places of calls, from the addresses after them. What is no call is no caller, and ends them: code
+        without frame pointers may have led there."""
+        places: List[Place] = []
+        for address in after_calls:
+            place = self.place(side, address)
+            if places and (place.module is None or not place.module.is_after_call(place.in_file)):
+                break
+            places.append(place)
+        return tuple(places)
 
     def place(self, side: Side, after_call: int) -> Place:
         """Returns the place of a call, from the address after it."""

@@ -308,9 +308,13 @@ class Reader:
         for number, wanted in self.wanted.items():
             found = Counts(len(self.runs), *self.found[number])
             for has, should, one in zip(found, wanted, ("run", "process", "finding")):
-                if has < should and not self.missing:
+                if has < should:
                     where = "" if one == "run" else f" of run {number}"
-                    self.missing = f"{self.name} is cut: it has {has} of {plural(should, one)}{where}"
+                    text = f"{self.name} is cut: it has {has} of {plural(should, one)}{where}"
+                    self.missing = self.missing or text
+                    run = self.runs.get(number)
+                    if one != "run" and run is not None:
+                        self.results.runs[run].cut = text
 
     def take_run(self, entry: Entry) -> None:
         version = number_of(entry.get("version"))

@@ -68,7 +68,8 @@ class Report:
         if self.unread and not self.results.runs:
             return FAILED
         for path, why in self.unread:
-            self.results.add_cut(path, why)
+            if all(run.cut != why for run in self.results.runs):
+                self.results.add_cut(path, why)
         self.judge()
         self.results.unused = self.suppressions.unused()
         self.results.gone = self.baseline.gone() if self.baseline else None

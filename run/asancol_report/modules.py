@@ -10,11 +10,25 @@ import os
 from typing import Dict, List, NamedTuple, Optional, Tuple
 
 from .elf import Elf
-from .reading import open_regular
+from .reading import open_regular, read_at
 from .running import GIVEN
 from .side import Mapping
 
 Identity = Tuple[int, int]
+
+
+# mov $15, %rax; syscall: sigreturn.
+RETURN_FROM_HANDLER = b"\x48\xc7\xc0\x0f\0\0\0\x0f\x05"
+LONGEST_CALL = 7
+# How many bytes a call by a register or memory may have, without its prefix.
+INDIRECT_CALLS = (2, 3, 4, 6, 7)
+
+
+def is_call(code: bytes) -> bool:
+    """Whether the last bytes of code are a call: e8 and a distance, or ff /2."""
+    if code[-5:-4] == b"\xe8":
+        return True
+    return any(code[-n:-n + 1] == b"\xff" and code[-n + 1] >> 3 & 7 == 2 for n in INDIRECT_CALLS if n <= len(code))
 
 
 class Name(NamedTuple):
@@ -38,6 +52,7 @@ class Module:
         self.changed_at = 0
         self.elf: Optional[Elf] = None
         self.wanted: Dict[int, None] = {}  # addresses, in the order in which they came
+        self.calls: Dict[int, bool] = {}  # by the offset of a call's last byte in the file, whether it is one
         self.names: Dict[int, List[Name]] = {}  # of each address that was looked up; inner ones first
 
     def open(self) -> None:
@@ -59,6 +74,16 @@ class Module:
 
     def set_changed(self) -> None:
         self.trouble = f"{self.path} has changed since it ran: its places have no lines"
+
+    def is_after_call(self, in_file: int) -> bool:
+        """Whether a call ends with the byte at this offset, or a signal handler returns to the next one. If the file can't
+        be read, nobody knows better."""
+        if self.descriptor < 0:
+            return True
+        if in_file not in self.calls:
+            code = read_at(self.descriptor, max(in_file + 1 - LONGEST_CALL, 0), LONGEST_CALL + len(RETURN_FROM_HANDLER))
+            self.calls[in_file] = is_call(code[:LONGEST_CALL]) or code[LONGEST_CALL:] == RETURN_FROM_HANDLER
+        return self.calls[in_file]
 
     def close(self) -> None:
         if self.descriptor >= 0:

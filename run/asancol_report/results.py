@@ -118,13 +118,24 @@ class Results:
         self.are_traces = False
 
     def add_run(self, run: Run) -> Optional[int]:
-        """Adds a run and returns its number. None, if it is there already."""
-        if run.identity and run.identity in self.identities:
-            return None
+        """Adds a run and returns its number. None, if it is there already. One that was cut gives way to its whole."""
+        known = self.identities.get(run.identity) if run.identity else None
+        if known is not None:
+            if not self.runs[known].cut:
+                return None
+            self.forget(known)
+            self.runs[known] = run
+            return known
         if run.identity:
             self.identities[run.identity] = len(self.runs)
         self.runs.append(run)
         return len(self.runs) - 1
+
+    def forget(self, run: int) -> None:
+        """Takes away what a run has of findings."""
+        for place, finding in list(self.places.items()):
+            if finding.runs.pop(run, None) is not None and not finding.runs:
+                del self.places[place]
 
     def add_cut(self, path: str, why: str) -> None:
         """Adds a run that stands for what could not be read of a file."""

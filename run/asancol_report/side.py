@@ -15,7 +15,7 @@ from typing import Dict, List, NamedTuple, Optional, Tuple
 from .reading import is_regular, open_regular, read_at
 
 HEADER = b"ASWH\3\0\0\0"
-HEAD = struct.Struct("<8sQQIIIIQIIII")
+HEAD = struct.Struct("<8sQQIIIIQIIIIQ")
 WORDS_AT, WORDS_ROOM = 72, 4000
 LAST_AT, LAST = 4072, struct.Struct("<QQII")
 BUILDS_AT = 4096
@@ -78,6 +78,18 @@ def path_of(text: bytes) -> str:
     return os.fsdecode(path)
 
 
+def ranges_shared(maps: List[Mapping]) -> List[Tuple[int, int]]:
+    """Returns where modules lay that are not the same, of parts in the order of their addresses."""
+    shared: List[Tuple[int, int]] = []
+    before: List[Mapping] = []
+    for mapping in maps:
+        before = [it for it in before if it.high > mapping.low]
+        shared += [(mapping.low, min(it.high, mapping.high)) for it in before
+                   if (it.path, it.inode) != (mapping.path, mapping.inode)]
+        before.append(mapping)
+    return shared
+
+
 class Side:
     """The side memory behind a descriptor. Whoever makes one closes it."""
 
@@ -85,14 +97,15 @@ class Side:
         self.descriptor = descriptor
         head = read_at(descriptor, 0, HEAD.size) if is_regular(descriptor) else b""
         self.is_good = len(head) == HEAD.size and head.startswith(HEADER)
-        fields = HEAD.unpack(head) if self.is_good else (b"",) + (0,) * 11
+        fields = HEAD.unpack(head) if self.is_good else (b"",) + (0,) * 12
         _, self.events, self.left_out, self.ending, self.signal, self.process, self.parent = fields[:7]
-        self.started, self.has_checks, self.is_at_limit, fault_count, stack_words = fields[7:]
+        self.started, self.has_checks, self.is_at_limit, fault_count, stack_words, self.quarantine = fields[7:]
         self.fault_count = min(fault_count, MOST_FAULTS)
         self.stack_words = min(stack_words, MOST_STACK_WORDS)
         self.stacks: Dict[int, Calls] = {}
         self.maps = self.read_maps() if self.is_good else []
         self.lows = [mapping.low for mapping in self.maps]
+        self.shared = ranges_shared(self.maps)
         self.part: Tuple[int, ...] = ()
         self.part_number = -1
 
@@ -148,9 +161,10 @@ class Side:
         return sorted(maps)
 
     def mapping(self, address: int) -> Optional[Mapping]:
-        """Returns the part of a module that has an address."""
+        """Returns the part of a module that has an address. None too, if another module had it before or after: nobody
+        knows then which of them is meant."""
         at = bisect_right(self.lows, address) - 1
-        if at < 0 or address >= self.maps[at].high:
+        if at < 0 or address >= self.maps[at].high or any(low <= address < high for low, high in self.shared):
             return None
         return self.maps[at]
 

@@ -19,6 +19,8 @@ from .words import signal_name
 CLOSED, NO_CLOSE, TOO_MANY = "closed", "no-close", "too-many"
 # What asancol answers if it has printed its verdicts.
 STATUSES_WITH_VERDICTS = (0, 1, 3)
+# How many bytes of freed blocks asancol holds if no option says otherwise.
+USUAL_QUARANTINE = 1 << 28
 
 
 def find_asancol(beside: str) -> str:
@@ -112,7 +114,7 @@ class Traces:
             command = (side.words() if side else []) or [trace]
             pid = side.process if side and side.process else number_in(trace)
             with in_memory() as verdicts:
-                self.run_checker(trace, verdicts)
+                self.run_checker(trace, verdicts, self.words_of(side))
                 lines = gatherer.take(0, pid, verdicts.fileno(), side)
             end = lines.end or End("not checked", 0, 0)
             why = why_not_whole(end, side)
@@ -125,12 +127,19 @@ class Traces:
             if side is not None:
                 side.close()
 
-    def run_checker(self, trace: str, verdicts: BinaryIO) -> None:
+    def words_of(self, side: Optional[Side]) -> List[str]:
+        """Returns the options of the checker. It holds as many bytes of freed blocks as the process has held."""
+        held = side.quarantine if side else 0
+        if held in (0, USUAL_QUARANTINE) or "--quarantine" in self.options:
+            return self.options
+        return [*self.options, "--quarantine", str(held)]
+
+    def run_checker(self, trace: str, verdicts: BinaryIO, options: List[str]) -> None:
         # `./-` is a file of this name, and `-` would be standard input.
         name = trace if trace.startswith("/") else os.path.join(".", trace)
         try:
             with open(os.devnull, "rb") as nothing:
-                words = [self.asancol, "check", *self.options, name]
+                words = [self.asancol, "check", *options, name]
                 status = wait(start(words, nothing.fileno(), verdicts.fileno()))
         except OSError as error:
             raise Broken(f"{self.asancol} can't be run: {reason(error)}") from None

@@ -738,15 +738,16 @@ def outputs_are_whole(folder: str) -> None:
 
 
 def stacks_have_callers(folder: str) -> None:
-    """A stack ends with main, or where no module is. One that is cut, too long or of another place is none."""
+    """A stack ends with main, or where no call is. One that is cut, too long or of another place is none."""
     program = build(folder)
     use, make, drop = (program.places[name] for name in ("use", "make", "drop"))
-    main, libc = use + 1, 0x700000000000  # an address of main; and one in no module
-    words = [0, 3, make, main, libc, 4, drop, make, main, make, 2, drop, libc, 40, drop, main]
+    main, libc = use, 0x700000000000  # in main, which has inlined use; and one in no module
+    words = [0, 3, make, main, libc, 4, drop, make, main, make, 2, drop, libc, 40, drop, main, 3, drop, main + 1, make]
     for stacks, wanted in (
         ((10, 1, 0), ["drop", "make", "main"]),  # that of the access ends at once, that of the malloc in main
         ((5, 0, 0), ["drop", "make", "main", "make"]),  # what has called main is left out
         ((13, 0, 0), ["drop", "make"]),  # 40 frames
+        ((16, 0, 0), ["drop", "make"]),  # after no call
         ((1, 0, 0), ["drop", "make"]),  # another place's
         ((99, 1 << 31, 0), ["drop", "make"]),  # past the end
     ):

@@ -77,6 +77,7 @@ RUNS: Dict[str, Tuple[str, int, List[str]]] = {
     "checker's limit": ("--limit 100 -- PROGRAM many 200", 98, ["reached the event limit of its checker, after 100"]),
     "checker's memory": ("--memory 1048576 -- PROGRAM sound", 0, []),
     "quarantine": ("--quarantine 0 -- sh -c 'PROGRAM many 9 && test $ASANCOL_QUARANTINE = 0'", 0, []),
+    "quarantine of the command": ("-- env ASANCOL_QUARANTINE=100 PROGRAM many 500", 0, ["all seen whole"]),
     "environment": (
         "-- sh -c 'PROGRAM sound; test -n \"$ASANCOL_HUB\" -a -z \"${ASANCOL_QUARANTINE+x}\"'", 0, []
     ),
@@ -116,6 +117,8 @@ REFUSED: Dict[str, Tuple[str, str]] = {
     "output is a folder": ("--html /usr true", "/usr: Is a directory"),
     "output is standard output": ("--json - true", "--json: - is no file"),
     "no folder for the log": ("--log-file /nonexistent/x true", "/nonexistent/x: No such file or directory"),
+    "one file for two outputs": ("--json x --sarif ./x true", "x is the file of --json too"),
+    "one file for an output and the log": ("--log-file x --json x true", "x is the file of --log-file too"),
     "keep is a file": ("--keep /etc/passwd true", "/etc/passwd: Not a directory"),
     "keep has no parent": ("--keep /nonexistent/x true", "/nonexistent/x: No such file or directory"),
     "mark": ("--log-file %x true", "after a % comes p, q{NAME} or another %"),

@@ -150,6 +150,15 @@ def check_folder_removed(suite: Suite, folder: str) -> None:
     expect_ran(run_real(suite, "--", "sh", "-c", line, TMPDIR=folder), 99, PAST, "1 NOT SEEN WHOLE")
 
 
+def check_bad_rules(suite: Suite, folder: str) -> None:
+    """A bad file of suppressions or baseline is named also if there is no report."""
+    for option in ("--suppressions", "--baseline"):
+        path = f"{folder}/rules"
+        with open(path, "w", encoding="utf-8") as file:
+            file.write("nonsense\n")
+        expect_ran(run_real(suite, option, path, "--", suite.program, "sound"), 98, f"{path}:1: ", "not used")
+
+
 def check_crash(suite: Suite, folder: str) -> None:
     """Where a process crashed is shown. It is no report, and with --quiet there is nothing."""
     line = f"{suite.program} crashes || true"
@@ -233,6 +242,7 @@ def tests(suite: Suite) -> None:
         ("suppressions", check_suppressed), ("variables", check_variables),
         ("baseline", check_baseline), ("outputs", check_outputs), ("nested", check_nested), ("kept", check_kept),
         ("folder removed", check_folder_removed), ("crash", check_crash),
+        ("bad rules", check_bad_rules),
         ("live", check_live), ("without Python", check_without_python), ("many", check_many),
         ("first steps", check_first_steps),
     ):
