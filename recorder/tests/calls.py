@@ -4,7 +4,7 @@ import os
 import re
 from typing import Dict, List, NamedTuple, Sequence, Tuple, Union
 
-from support import CC, RECORDER, TESTS, Compiler, Suite, Trace, build, expect, placed, reports, run, write
+from support import RECORDER, TESTS, Compiler, Suite, Trace, expect, placed, reports, run, side_of, write
 
 ROW = re.compile(r"^(CALL|NO_RESULT|PRINT|SCAN)\((.*?)\)(?=\n(?! )|\Z)", re.M | re.S)
 
@@ -35,15 +35,19 @@ def split(text: str) -> List[str]:
     return [" ".join(part.split()) for part in parts]
 
 
-def rows(path: str) -> List[Row]:
+def rows(text: str) -> List[Row]:
     """The rows of a table, as it is written or as calls.awk leaves it."""
-    with open(path, encoding="ascii") as file:
-        text = re.sub(r"/\*.*?\*/", "", file.read(), flags=re.S)
+    text = re.sub(r"/\*.*?\*/", "", text, flags=re.S)
     found = []
     for match in ROW.finditer(text):
         names, *rest = split(match.group(2))
         found.append(Row(match.group(1), names.split(), rest))
     return found
+
+
+def table(name: str = "calls.def") -> List[Row]:
+    with open(f"{RECORDER}/{name}", encoding="ascii") as file:
+        return rows(file.read())
 
 
 def wide(text: str) -> bytes:
@@ -476,8 +480,8 @@ def uses_of(row: Row, name: str) -> Sequence[Use]:
 
 def source_of(names: Sequence[str]) -> Tuple[str, Dict[str, str]]:
     """A program that tries each use of these names, and what each of its lines is."""
-    lines, table, tried = [HEAD.strip()], [], {}
-    by_name = {name: row for row in rows(f"{RECORDER}/calls.def") for name in row.names}
+    lines, entries, tried = [HEAD.strip()], [], {}
+    by_name = {name: row for row in table() for name in row.names}
     for name in names:
         row = by_name[name]
         has_list = row.word in ("PRINT", "SCAN")
@@ -490,14 +494,14 @@ def source_of(names: Sequence[str]) -> Tuple[str, Dict[str, str]]:
                 number = len(lines) + 1
                 shared = with_list(row, form) if form.startswith("list_") else ""
                 lines.append(f"{shared}static void use_{number}(char *p) {{ {apart(number)} {form}({use[1]}); }}")
-                table.append(f"    {{use_{number}, {quoted(holds(use))}, {len(holds(use))}}},")
+                entries.append(f"    {{use_{number}, {quoted(holds(use))}, {len(holds(use))}}},")
                 tried[f"calls.c:{number}"] = f"{row.rest[0] if shared else name}({use[1]})"
-    return "\n".join(lines) + MAIN % "\n".join(table), tried
+    return "\n".join(lines) + MAIN % "\n".join(entries), tried
 
 
 def names_there() -> List[str]:
     """The names that the C library has, by what the recorder was made with."""
-    return [name for row in rows(f"{RECORDER}/out/calls.def") for name in row.names]
+    return [name for row in table("out/calls.def") for name in row.names]
 
 
 def check_rows(suite: Suite, folder: str, compiler: Compiler, level: str) -> None:
@@ -521,13 +525,133 @@ def check_rows(suite: Suite, folder: str, compiler: Compiler, level: str) -> Non
 
 def check_all_tried(suite: Suite, folder: str) -> None:
     """Each row has a use, or stands in the list of those without."""
-    first = [row.names[0] for row in rows(f"{RECORDER}/calls.def")]
+    first = [row.names[0] for row in table()]
     expect([name for name in first if not USES.get(name) and name not in NOT_TRIED], [], "rows without a use")
-    names = {name for row in rows(f"{RECORDER}/calls.def") for name in row.names}
+    names = {name for row in table() for name in row.names}
     expect([name for name in [*USES, *NOT_TRIED] if name not in names], [], "uses without a row")
+
+
+BUG = re.compile(r"^static void bug_(\w+)\(void\)", re.M)
+
+
+def lines_of(path: str) -> List[str]:
+    """The lines of the program at which faults are, beside those of the headers' inline functions that they are in."""
+    found = []
+    side = side_of(path)
+    for fault in side.faults:
+        module, base = side.module(fault.place)
+        said = run(["addr2line", "-i", "-e", module, hex(fault.place - 1 - base)], ".").stdout.decode().split("\n")
+        found.append(os.path.basename(said[-2].split(" (")[0]))
+    return found
+
+
+def check_common_bugs(suite: Suite, folder: str, compiler: Compiler, flags: Sequence[str]) -> None:
+    """Each is found at its line."""
+    source = f"{TESTS}/common_bugs.c"
+    with open(source, encoding="ascii") as file:
+        text = file.read()
+    # A call that ends a function would have its caller's place.
+    kept = ["-w", "-fno-optimize-sibling-calls", *flags]
+    compiler.c(folder, [source], f"{folder}/bugs", *kept)
+    for match in BUG.finditer(text):
+        trace = f"{folder}/{match.group(1)}.trace"
+        ran = run(["./bugs", match.group(1)], folder, ASANCOL_TRACE=trace, ASANCOL_WHERE="1")
+        line = text.count("\n", 0, match.start()) + 1
+        expect((ran.returncode, reports(suite.asancol, trace)[0]), (0, 1), match.group(1))
+        expect(set(lines_of(trace)), {f"common_bugs.c:{line}"}, match.group(1))
+
+
+def check_good_calls(suite: Suite, folder: str, compiler: Compiler, flags: Sequence[str]) -> None:
+    """What the caller sees is as without the recorder, and nothing is reported."""
+    source = f"{TESTS}/library_calls.c"
+    compiler.c(folder, [source], f"{folder}/plain", "-w", "-pthread", *flags, native=True)
+    compiler.c(folder, [source], f"{folder}/good", "-w", "-pthread", *flags)
+    plain = run(["./plain"], folder)
+    for settings in ({}, {"ASANCOL_TRACE": "good.trace"}, {"ASANCOL_HALT": "1"}):
+        ran = run(["./good"], folder, **settings)
+        expect((ran.returncode, ran.stderr, ran.stdout), (0, b"", plain.stdout), f"with {settings}")
+    _, texts, end = reports(suite.asancol, f"{folder}/good.trace")
+    expect((texts, end.split()[0]), ([], "closed"))
+
+
+def check_own_names(suite: Suite, folder: str, compiler: Compiler) -> None:
+    """Functions and variables of a program that have names of the C library's, in one object and in a shared one."""
+    source = f"{TESTS}/own_calls.c"
+    wanted = b"5 8 abc 16 3.5 1 2 3 4 5 6 7 8 9\n"
+    for flags in ([], ["-s"], ["-fvisibility=hidden"], ["-O2"], ["-no-pie", "-fno-pie"]):
+        compiler.c(folder, ["-c", source], f"{folder}/own.o", "-w", "-DOWN", "-fno-builtin", *flags[:1])
+        compiler.c(folder, [source, "own.o"], f"{folder}/own", "-w", "-fno-builtin", *flags)
+        ran = run(["./own"], folder, ASANCOL_TRACE="own.trace")
+        expect((ran.returncode, ran.stdout, ran.stderr), (0, wanted, b""), f"{flags}")
+        os.unlink(f"{folder}/own.trace")
+
+
+OBJECT = """
+#include <stdio.h>
+#include <stdlib.h>
+#include <string.h>
+#include <unistd.h>
+int use(char *p, size_t n)
+{
+    int length = snprintf(p, n, "%s", "12345678");
+    return length + (int)strlen(p);
+}
+"""
+PROGRAM = """
+#include <dlfcn.h>
+#include <stdlib.h>
+int use(char *, size_t);
+int main(int count, char **words)
+{
+    volatile size_t size = 9;
+    char *p = malloc(count > 1 ? 9 : 8);
+#ifdef OPENS
+    void *library = dlopen("./libused.so", RTLD_NOW);
+    int (*use)(char *, size_t) = library ? (int (*)(char *, size_t))dlsym(library, "use") : NULL;
+#endif
+    int length = use(p, size);
+    free(p);
+    return length - 16;
+}
+"""
+
+
+def check_objects(suite: Suite, folder: str, compiler: Compiler) -> None:
+    """Calls of a shared object, linked or opened; also in a program that has no recorder."""
+    write(folder, used_c=OBJECT, uses_c=PROGRAM)
+    compiler.c(folder, ["used.c"], f"{folder}/libused.so", "-fPIC", "-shared", "-w", "-Wl,-z,defs")
+    for flags in (["-L.", "-lused", "-Wl,-rpath,$ORIGIN"], ["-DOPENS", "-ldl"]):
+        compiler.c(folder, ["uses.c", *flags], f"{folder}/uses", "-w")
+        for words, wanted in (([], ["used.c:8", "used.c:9"]), (["good"], [])):
+            ran = run(["./uses", *words], folder, ASANCOL_TRACE="u.trace", ASANCOL_WHERE="1")
+            expect((ran.returncode, ran.stderr), (0, b""))
+            said = {it.line for it in placed(suite.asancol, f"{folder}/u.trace")[0]}
+            expect(sorted(said), wanted, f"{flags} {words}")
+            os.unlink(f"{folder}/u.trace")
+        expect(run(["./uses"], folder).returncode, 0, "off")
+        expect(run(["./uses"], folder, ASANCOL_HALT="1").returncode, -6, "to end at the first fault")
+        compiler.c(folder, ["uses.c", *flags], f"{folder}/plain", "-w", native=True)
+        expect(run(["./plain"], folder).returncode, 0, "in a program that has no recorder")
+
+
+def check_page(suite: Suite, folder: str) -> None:
+    """The page is what the rows say."""
+    made = run([f"{TESTS}/calls_page.py"], folder)
+    with open(f"{RECORDER}/../docs/CALLS.md", "rb") as file:
+        expect((made.returncode, made.stdout == file.read()), (0, True), "docs/CALLS.md, by calls_page.py")
+
+
+FORTIFIED = ["-O2", "-D_FORTIFY_SOURCE=2"]
 
 
 def tests(suite: Suite, compiler: Compiler) -> None:
     for level in ("-O0", "-O2"):
         suite.test(f"{compiler} calls, each row {level}", check_rows, compiler, level)
     suite.test(f"{compiler} calls, all rows tried", check_all_tried)
+    for flags in (["-O0"], ["-O2"], FORTIFIED):
+        suite.test(f"{compiler} calls, common bugs {' '.join(flags)}", check_common_bugs, compiler, flags)
+    for flags in (["-O0"], ["-O2"], FORTIFIED, ["-no-pie", "-fno-pie"], ["-static"]):
+        suite.test(f"{compiler} calls, good ones {' '.join(flags)}", check_good_calls, compiler, flags)
+    suite.test(f"{compiler} calls, own names", check_own_names, compiler)
+    suite.test(f"{compiler} calls, shared objects", check_objects, compiler)
+    suite.test(f"{compiler} calls, the page", check_page)
