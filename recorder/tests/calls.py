@@ -243,6 +243,9 @@ USES: Dict[str, Sequence[Use]] = {
     "fmemopen": [("r", "room, 8, p")],
     "open_memstream": [(8, "(char **)p, (size_t *)room"), (8, "(char **)room, (size_t *)p")],
     "open_wmemstream": [(8, "(wchar_t **)p, (size_t *)room")],
+    "setbuf": [(8192, "fdopen(dup(null), \"r\"), p")],
+    "setbuffer": [(64, "fdopen(dup(null), \"r\"), p, 64")],
+    "setvbuf": [(64, "fdopen(dup(null), \"r\"), p, _IOFBF, 64")],
     # Files and directories.
     "open": [("/dev/null", "p, 0, 0")],
     "__open_2": [("/dev/null", "p, 0")],
@@ -360,6 +363,8 @@ USES: Dict[str, Sequence[Use]] = {
     "getgrgid_r": [(32, "0, (struct group *)p, room + 99, 999, (struct group **)room")],
     "getgrent_r": [(32, "(struct group *)p, room + 99, 999, (struct group **)room")],
     "fgetgrent_r": [(32, 'fopen("/etc/group", "r"), (struct group *)p, room + 99, 999, (struct group **)room')],
+    "pthread_setname_np": [("name", "pthread_self(), p")],
+    "pthread_getname_np": [("name", "pthread_self(), p, 16")],
     # Hosts and networks.
     "inet_ntop": [(4, "AF_INET, p, room, 99"), (16, "AF_INET6, p, room, 99"), ("0.0.0.0", "AF_INET, clear(room), p, 99")],
     "inet_pton": [("1.2.3.4", "AF_INET, p, room"), (4, 'AF_INET, "1.2.3.4", p'), (16, 'AF_INET6, "::1", p')],
@@ -412,6 +417,7 @@ NOT_TRIED = {
     "process_vm_readv", "tcgetattr", "msgrcv", "ttyname_r", "__ttyname_r_chk", "flistxattr", "if_indextoname",
     "gethostname", "__gethostname_chk", "getgroups", "__getgroups_chk", "gethostbyaddr", "regfree", "scanf",
     "__isoc99_scanf", "__isoc23_scanf", "accept", "accept4", "putenv", "initgroups",
+    "getpass",
 }
 
 HEAD = f'#include "{TESTS}/calls.h"\n'
