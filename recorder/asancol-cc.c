@@ -6,15 +6,18 @@
 #define _GNU_SOURCE
 #include <errno.h>
 #include <limits.h>
+#include <signal.h>
 #include <stdbool.h>
 #include <stddef.h>
 #include <stdio.h>
 #include <stdlib.h>
 #include <string.h>
 #include <sys/stat.h>
+#include <sys/wait.h>
 #include <unistd.h>
 
 #include "linked.h"
+#include "own_data.h"
 
 #ifdef FOR_CXX
 #define NAME "asancol-c++"
@@ -65,9 +68,11 @@ GCC_FLAGS(gcc_all_flags, "0");
 CLANG_FLAGS(clang_flags, "1000000000", "1");
 CLANG_FLAGS(clang_all_flags, "0", "0");
 
-#define WRAP(name) "-Wl,--wrap=" #name,
+/* The functions that the linker wraps. */
+#define WRAP(name) #name,
 static const char *const wraps[] = {
 #include "wrapped.def"
+#include "out/calls.list"
 #ifdef FOR_CXX
 #include "new.def"
 #endif
@@ -85,6 +90,9 @@ static const char *const program_flags[] = {
 
 #define COUNT(array) (sizeof(array) / sizeof *(array))
 
+/* Which of `wraps` are left alone: the program has a variable of that name, whose uses would be wrapped too. */
+static bool is_own[COUNT(wraps)];
+
 /* What the arguments say. */
 struct wish {
     bool has_input;
@@ -100,6 +108,8 @@ struct wish {
     bool is_static;     /* with the C library inside, whose own calls would be wrapped too */
     bool finds_static;  /* after its last word of this kind the linker looks for static libraries alone */
     bool has_libc;      /* named by itself */
+    bool is_stripped;   /* what is linked has no table of symbols */
+    const char *output; /* null if it is not named */
     char **folders;     /* in which libraries are looked for */
     size_t folder_count;
     char *foreign;      /* a word for another sanitizer, which brings its own runtime, or another machine; or null */
@@ -182,6 +192,8 @@ static void take_linker_word(struct wish *wish, const char *word, size_t length)
         wish->finds_static = true;
     else if (strcmp(path, "-Bdynamic") == 0 || strcmp(path, "-dy") == 0)
         wish->finds_static = false;
+    else if (strcmp(path, "-s") == 0 || strcmp(path, "--strip-all") == 0)
+        wish->is_stripped = true;
     else if (path[0] != '-' && path[0] != 0 && linked_takes(path))
         linked_look_at(&wish->linked, path);
 }
@@ -283,7 +295,7 @@ static const struct {
     SAYS(is_static, "-static"), SAYS(is_static, "-static-pie"), SAYS(is_static, "--static"),
     SAYS(is_bare, "-nostdlib"), SAYS(is_bare, "-nodefaultlibs"), SAYS(is_bare, "-nolibc"),
     SAYS(is_bare, "-ffreestanding"),
-    SAYS(is_shared, "-shared"), SAYS(is_shared, "--shared"),
+    SAYS(is_shared, "-shared"), SAYS(is_shared, "--shared"), SAYS(is_stripped, "-s"),
 };
 
 static const char *const other_machines[] = {"-m32", "-mx32", "-m16"};
@@ -351,6 +363,8 @@ static void look_at(struct wish *wish, const char *word)
             take_folder(wish, word);
         else if (strcmp(option, "-Xlinker") == 0)
             take_linker_word(wish, word, strlen(word));
+        else if (strcmp(option, "-o") == 0 || strcmp(option, "--output") == 0)
+            wish->output = must(strdup(word));
     } else if (word[0] == '@') {
         take_response_file(wish, word);
     } else if (begins(word, "-l") && word[2] != 0) {
@@ -370,6 +384,8 @@ static void look_at(struct wish *wish, const char *word)
         wish->option = option;
     } else if (begins(word, "-x")) {
         take_language(wish, word + 2);
+    } else if (begins(word, "-o") || begins(word, "--output=")) {
+        wish->output = must(strdup(word + strlen(word[1] == 'o' ? "-o" : "--output=")));
     } else if (begins(word, "-print-") || begins(word, "--print-") || begins(word, "--help=")) {
         wish->stops_early = true;
     } else if (begins(word, sanitize)) {
@@ -512,6 +528,22 @@ static void add_all(struct line *line, const char *const *words, size_t count)
         add(line, words[i]);
 }
 
+/* One word for all of them. What calls a function that is left alone by its other name still finds it. */
+static void add_wraps(struct line *line)
+{
+    static const char front[] = "-Wl", wrap[] = ",--wrap=", other[] = ",--defsym=__real_";
+    size_t length = sizeof front;
+    for (size_t i = 0; i < COUNT(wraps); i++)
+        length += sizeof other + 2 * strlen(wraps[i]) + 1;
+    char *word = must(malloc(length)), *end = stpcpy(word, front);
+    for (size_t i = 0; i < COUNT(wraps); i++) {
+        end = stpcpy(stpcpy(end, is_own[i] ? other : wrap), wraps[i]);
+        if (is_own[i])
+            end = stpcpy(stpcpy(end, "="), wraps[i]);
+    }
+    add(line, word);
+}
+
 static void add_link(struct line *line, const struct wish *wish, const char *self)
 {
     /* What was compiled here, or so before, has checks, also if it has no access. */
@@ -524,7 +556,7 @@ static void add_link(struct line *line, const struct wish *wish, const char *sel
         add(line, own_file(self, "no-second-allocator.ld"));
         return;
     }
-    add_all(line, wraps, COUNT(wraps));
+    add_wraps(line);
     if (wish->is_shared) {
         add(line, "-Wl,--undefined=asancol_map_early");
         add(line, own_file(self, "libasancol_shared.a"));
@@ -568,11 +600,57 @@ static void add_checks(struct line *line, const struct wish *wish, const struct 
     add_all(line, all ? gcc_all_flags : gcc_flags, COUNT(gcc_flags));
 }
 
+/* Whether the linker wraps functions. */
+static bool wraps_functions(const struct wish *wish)
+{
+    return wish->is_shared || !(wish->is_static || wish->finds_static);
+}
+
+/* Whether the compiler gets this word when the link is only tried. */
+static bool keeps_symbols(const char *word)
+{
+    return strcmp(word, "-s") != 0 && strcmp(word, "-Wl,-s") != 0 && strcmp(word, "-Wl,--strip-all") != 0;
+}
+
+/* What is run: the compiler with its caller's words and ours. */
+static struct line make_line(const struct wish *wish, const struct command *command, char **words, bool links,
+                             bool is_try, const char *self)
+{
+    struct line line = {0};
+    bool takes_part = wish->has_input && wish->foreign == NULL;
+    add_all(&line, (const char *const *)command->words, command->count);
+    if (takes_part)
+        add_checks(&line, wish, command);
+    for (char **word = words + 1; *word != NULL; word++)
+        if (!is_try || keeps_symbols(*word))
+            add(&line, *word);
+    if (takes_part && wish->has_source && wish->refusal == NULL)
+        add(&line, NOTE_SWITCHES); /* whatever the caller's words say of it */
+    if (takes_part && links)
+        add_link(&line, wish, self);
+    return line;
+}
+
+/* Runs it to its end, and returns its status, or ends as it has ended. */
+static int run(const char *program, const struct line *line)
+{
+    int status = 0;
+    pid_t child = fork();
+    if (child == 0) {
+        execv(program, (char *const *)line->words);
+        fail(strerror(errno), program);
+    }
+    if (child < 0 || waitpid(child, &status, 0) != child)
+        fail(strerror(errno), program);
+    if (WIFSIGNALED(status))
+        raise(WTERMSIG(status));
+    return WIFEXITED(status) ? WEXITSTATUS(status) : 1;
+}
+
 int main(int count, char **words)
 {
     char self[PATH_MAX] = "", found[PATH_MAX];
     struct wish wish = {0};
-    struct line line = {0};
     struct command command = compiler();
     ssize_t length = readlink("/proc/self/exe", self, sizeof self - 1);
     self[length < 0 ? 0 : length] = 0;
@@ -581,18 +659,19 @@ int main(int count, char **words)
     if (!find_program(command.words[0], self, found))
         fail("there is no such compiler", command.words[0]);
     command.words[0] = found;
-    add_all(&line, (const char *const *)command.words, command.count);
-    bool takes_part = wish.has_input && wish.foreign == NULL;
     bool links = wish.has_linked && !wish.stops_early && !wish.is_partial;
     if (wish.has_input)
         warn(&wish, links);
-    if (takes_part)
-        add_checks(&line, &wish, &command);
-    add_all(&line, (const char *const *)words + 1, (size_t)count - 1);
-    if (takes_part && wish.has_source && wish.refusal == NULL)
-        add(&line, NOTE_SWITCHES); /* whatever the caller's words say of it */
-    if (takes_part && links)
-        add_link(&line, &wish, self);
+    /* What was linked shows which names the program has for variables. Few have one: then it is linked again. */
+    if (wish.has_input && wish.foreign == NULL && links && wraps_functions(&wish)) {
+        struct line line = make_line(&wish, &command, words, links, true, self);
+        const char *output = wish.output != NULL ? wish.output : "a.out";
+        int status = run(found, &line);
+        bool is_done = !own_data_find(output, wraps, COUNT(wraps), is_own) && !wish.is_stripped;
+        if (status != 0 || is_done)
+            return status;
+    }
+    struct line line = make_line(&wish, &command, words, links, false, self);
     execv(found, (char *const *)line.words);
     fail(strerror(errno), found);
 }

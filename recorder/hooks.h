@@ -7,7 +7,7 @@
 
 #ifdef IN_SHARED_OBJECT
 
-#define asancol_hooks (**(const struct recorder_hooks *const *)MEETING_START)
+#define asancol_hooks (*((const struct meeting *)MEETING_START)->hooks)
 #define HAS_HOOKS (&asancol_hooks != NULL)
 /* Whether the table of the program, which may be older, has this one. */
 #define HAS_HOOK(name) (HAS_HOOKS && asancol_hooks.size > offsetof(struct recorder_hooks, name))

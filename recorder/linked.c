@@ -2,12 +2,10 @@
 #include "linked.h"
 
 #include <elf.h>
-#include <fcntl.h>
 #include <stdio.h>
 #include <string.h>
-#include <sys/mman.h>
-#include <sys/stat.h>
-#include <unistd.h>
+
+#include "view.h"
 
 /* How the files begin: an object; what Clang makes with -flto, in two forms; an archive. */
 #define OBJECT ELFMAG
@@ -20,11 +18,6 @@
 
 /* The sections in which GCC keeps what it compiles at the link. */
 #define GCC_LTO ".gnu.lto_"
-
-struct view {
-    const char *bytes;
-    size_t size;
-};
 
 static bool begins_with(struct view view, const char *front)
 {
@@ -53,34 +46,11 @@ static bool is_object(struct view view)
     return begins_with(view, BITCODE) || begins_with(view, WRAPPED_BITCODE);
 }
 
-/* A file that is mapped to read; no bytes where it can't be: the compiler says so. */
-static struct view map_file(const char *path)
-{
-    struct view view = {NULL, 0};
-    struct stat seen;
-    int descriptor = open(path, O_RDONLY | O_CLOEXEC);
-    if (descriptor < 0)
-        return view;
-    if (fstat(descriptor, &seen) == 0 && S_ISREG(seen.st_mode) && seen.st_size > 0) {
-        void *bytes = mmap(NULL, (size_t)seen.st_size, PROT_READ, MAP_PRIVATE, descriptor, 0);
-        if (bytes != MAP_FAILED)
-            view = (struct view){bytes, (size_t)seen.st_size};
-    }
-    close(descriptor);
-    return view;
-}
-
-static void unmap(struct view view)
-{
-    if (view.bytes != NULL)
-        munmap((void *)view.bytes, view.size);
-}
-
 bool linked_takes(const char *path)
 {
-    struct view view = map_file(path);
+    struct view view = view_map(path);
     bool takes = begins_with(view, OBJECT) || is_object(view) || begins_with(view, ARCHIVE);
-    unmap(view);
+    view_unmap(view);
     return takes;
 }
 
@@ -104,10 +74,10 @@ static void look_at(struct linked *linked, const char *path, struct view view)
 
 void linked_look_at(struct linked *linked, const char *path)
 {
-    struct view view = map_file(path);
+    struct view view = view_map(path);
     if (view.bytes != NULL)
         look_at(linked, path, view);
-    unmap(view);
+    view_unmap(view);
 }
 
 void linked_warn(const struct linked *linked, const char *program)

@@ -5,6 +5,7 @@
 #include <stdlib.h>
 #include <unistd.h>
 
+#include "library.h"
 #include "side.h"
 #include "signals.h"
 #include "stream.h"
@@ -85,6 +86,7 @@ static void be_idle(void)
     if (process.settings.halt == HALT_NEVER) {
         heap_set_bound(0);
         heap_paint(false);
+        library_leave_unchecked();
         atomic_store(&stream_page.stream.is_idle, true);
     } else {
         heap_set_bound(process.settings.quarantine);

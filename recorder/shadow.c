@@ -12,6 +12,7 @@
 enum { SHADOW_PAGE = 4096 };
 
 #ifndef IN_SHARED_OBJECT
+#include "library.h"
 #include "settings.h"
 #include "unseen.h"
 
@@ -71,7 +72,8 @@ static void map_meeting(void)
     if (page != at)
         fail("something else has its addresses");
 #ifndef IN_SHARED_OBJECT
-    *(const struct recorder_hooks **)page = &asancol_hooks;
+    library_find(page);
+    ((struct meeting *)page)->hooks = &asancol_hooks;
 #endif
     mprotect(page, SHADOW_PAGE, PROT_READ);
 }

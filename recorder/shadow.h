@@ -37,9 +37,21 @@
 /* and `stated` is from 2^46 up to 5 * 2^44. */
 #define STATED_START ((uint64_t)1 << 46)
 
-/* After them comes a page with the address of the program's hooks (hooks.h), or zeros if it has no recorder. No
-   symbol has to be exported or found for it. */
-#define MEETING_START (STATED_START + SHADOW_BYTES)
+/* After them comes a page that every object of the process finds: no symbol has to be exported or found for it. In the
+   assembly of stubs.h it is a number. */
+#define MEETING_START 0x500000000000
+_Static_assert((uint64_t)MEETING_START == STATED_START + SHADOW_BYTES, "it follows the maps");
+
+struct recorder_hooks;
+
+struct meeting {
+    const struct recorder_hooks *hooks; /* of the program (hooks.h), or null if it has no recorder */
+    /* The code whose functions are checked when they are called: the C library's, and what the system has of it
+       (library.c). Zeros if no call is checked. */
+    struct code_range {
+        uintptr_t start, size;
+    } library, system;
+};
 
 /* The codes of granules without an addressable byte. Which of them it is matters to nobody but for the kind of the
    poison that the stream gets. */

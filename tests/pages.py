@@ -24,7 +24,12 @@ ELSEWHERE = {
     "malloc.h",
     "__SANITIZE_ADDRESS__",
     "RTLD_DEEPBIND",
-    "posix_spawn",
+    "LD_PRELOAD",
+    "ether_aton_r",
+    "getmntent_r",
+    "getprotoent_r",
+    "random_r",
+    "strict_string_checks",
 }
 
 SPAN = re.compile(r"`([^`]+)`")
@@ -60,7 +65,7 @@ class Tree:
         # The functions that a page may name after another one: those that are public, and tests.
         self.named: Set[str] = set()
         for path in files:
-            if path.endswith((".rt", ".antt", ".py", ".c", ".h", ".txt", "Makefile")):
+            if path.endswith((".rt", ".antt", ".py", ".c", ".h", ".def", ".txt", "Makefile")):
                 self.read(path)
         self.stems = {os.path.splitext(os.path.basename(it))[0] for it in files}
 

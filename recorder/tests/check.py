@@ -18,6 +18,7 @@ import sys
 import tempfile
 import time
 
+import calls
 import fuzzing
 import hub
 import inline
@@ -599,7 +600,7 @@ def check_by_itself(suite, folder, compiler):
     copy = f"{folder}/recorder"
     os.mkdir(copy)
     for name in os.listdir(RECORDER):
-        if name == "Makefile" or name.endswith((".c", ".h", ".def", ".ld")):
+        if name == "Makefile" or name.endswith((".c", ".h", ".def", ".awk", ".ld")):
             shutil.copy(f"{RECORDER}/{name}", copy)
     for name in ("install.mk", "VERSION"):
         shutil.copy(f"{RECORDER}/../{name}", folder)
@@ -768,6 +769,7 @@ def main():
             life_tests(suite, compiler, folder)
             seen_whole.tests(suite, compiler, folder)
             inline.tests(suite, compiler)
+            calls.tests(suite, compiler)
             fuzzing.tests(suite, compiler, folder)
             hub.tests(suite, compiler, folder)
         return suite.finish()

@@ -1,0 +1,30 @@
+# Writes each row of calls.def once for each name, without those that the C library does not have. The first file lists
+# the library's names. `wraps` is the file for the names that are left.
+
+FNR == NR { has[$1] = 1; next }
+/^[A-Z_]+\(/ { put(); row = $0; next }
+/^ / && row != "" { row = row "\n" $0; next }
+{ put() }
+END { put() }
+
+function put(    word, rest, count, names, other, i)
+{
+    if (row == "")
+        return
+    word = substr(row, 1, index(row, "("))
+    rest = substr(row, index(row, ","))
+    count = split(substr(row, length(word) + 1, index(row, ",") - length(word) - 1), names, " ")
+    other = ""
+    if (word == "PRINT(" || word == "SCAN(") {
+        other = substr(rest, 3)
+        other = substr(other, 1, index(other, ",") - 1)
+    }
+    for (i = 1; i <= count; i++)
+        if (names[i] in has && (other == "" || other in has)) {
+            print word names[i] rest
+            print "WRAP(" names[i] ")" > wraps
+            if (other != "")
+                print "WRAP(" other ")" > wraps
+        }
+    row = ""
+}

@@ -1,0 +1,310 @@
+/* Calls of the C library, as the accesses that they make. The functions are the rows of calls.def, which says what the
+   words here mean. A call that is clean leaves no record, and errno is as the function leaves it. */
+#define _GNU_SOURCE
+#include <arpa/inet.h>
+#include <dirent.h>
+#include <errno.h>
+#include <glob.h>
+#include <grp.h>
+#include <ifaddrs.h>
+#include <limits.h>
+#include <netdb.h>
+#include <poll.h>
+#include <pthread.h>
+#include <pwd.h>
+#include <regex.h>
+#include <signal.h>
+#include <stdarg.h>
+#include <stdio.h>
+#include <stdlib.h>
+#include <sys/epoll.h>
+#include <sys/resource.h>
+#include <sys/select.h>
+#include <sys/sem.h>
+#include <sys/socket.h>
+#include <sys/stat.h>
+#include <sys/statfs.h>
+#include <sys/statvfs.h>
+#include <sys/sysinfo.h>
+#include <sys/time.h>
+#include <sys/times.h>
+#include <sys/utsname.h>
+#include <sys/wait.h>
+#include <termios.h>
+#include <time.h>
+#include <utime.h>
+#include <wordexp.h>
+
+#include "calls.h"
+#include "stubs.h"
+
+__attribute__((noinline, cold)) void call_is_bad(enum code code, uintptr_t start, size_t size, uintptr_t caller)
+{
+    int before = errno;
+    note_bad_range(code, start, size, caller);
+    errno = before;
+}
+
+/* The words of the rows. */
+
+#define READS(start, size) call_checks(CODE_LOAD, start, (size_t)(size), caller)
+#define WRITES(start, size) call_checks(CODE_STORE, start, (size_t)(size), caller)
+#define READS_FIRST(start) READS(start, 1)
+#define READS_ARRAY(start, count, size) call_checks_array(CODE_LOAD, start, (size_t)(count), size, caller)
+#define WRITES_ARRAY(start, count, size) call_checks_array(CODE_STORE, start, (size_t)(count), size, caller)
+#define READS_STRING(text) call_checks_string(CODE_LOAD, text, caller)
+#define WRITES_STRING(text) call_checks_string(CODE_STORE, text, caller)
+#define READS_WIDE(text) call_checks_wide(CODE_LOAD, text, caller)
+#define WRITES_WIDE(text) call_checks_wide(CODE_STORE, text, caller)
+
+#define READS_HEADS(pieces, count) READS_ARRAY(pieces, LEAST(count, IOV_MAX), sizeof *(pieces))
+#define WRITES_PIECES(pieces, count, size) pieces_check(CODE_STORE, pieces, (size_t)(count), 0, (size_t)(size), caller)
+#define SENDS(start, size) size_t good = good_length(start, size)
+#define SENT(start, size)                                                                                              \
+    if (UNLIKELY((size_t)(size) > good) && GOT)                                                                        \
+        READS((const char *)(start) + good, (size_t)(size) - good)
+#define SENDS_PIECES(pieces, count) size_t good = good_pieces(pieces, (size_t)(count))
+#define SENT_PIECES(pieces, count, size)                                                                               \
+    if (UNLIKELY((size_t)(size) > good) && GOT)                                                                        \
+        pieces_check(CODE_LOAD, pieces, (size_t)(count), good, (size_t)(size), caller)
+
+#define GOT (result > 0)
+#define DONE (result == 0)
+#define LEAST(one, other) least((size_t)(one), (size_t)(other))
+#define ALLOCATES note_called_from(caller)
+#define ALLOCATED note_called_from(0)
+
+#define SIZE_TO(start, end, otherwise)                                                                                 \
+    ((end) != NULL ? (size_t)((const char *)(end) - (const char *)(start)) : (size_t)(otherwise))
+#define LENGTH_WITHIN(text, most) length_within(text, most)
+#define WIDE_LENGTH_WITHIN(text, most) wide_length_within(text, most)
+
+/* A string that is put after another one. */
+
+static void appends(const char *to, const char *from, size_t most, uintptr_t caller)
+{
+    size_t length = strlen(to), read = most == SIZE_MAX ? strlen(from) + 1 : length_within(from, most);
+    READS(to, length + 1);
+    READS(from, read);
+    WRITES(to + length, read == 0 || from[read - 1] != 0 ? read + 1 : read);
+}
+
+static void wide_appends(const wchar_t *to, const wchar_t *from, size_t most, uintptr_t caller)
+{
+    size_t length = wcslen(to), read = most == SIZE_MAX ? wcslen(from) + 1 : wide_length_within(from, most);
+    READS_ARRAY(to, length + 1, sizeof *to);
+    READS_ARRAY(from, read, sizeof *from);
+    WRITES_ARRAY(to + length, read == 0 || from[read - 1] != 0 ? read + 1 : read, sizeof *to);
+}
+
+#define APPENDS(to, from, most) appends(to, from, most, caller)
+#define WIDE_APPENDS(to, from, most) wide_appends(to, from, most, caller)
+
+/* Both strings are read up to the first difference or the end. */
+
+static int as_it_is(int byte)
+{
+    return byte;
+}
+
+static int lowered(int byte)
+{
+    return byte >= 'A' && byte <= 'Z' ? byte + ('a' - 'A') : byte;
+}
+
+static inline void compares(const char *one, const char *other, size_t most, int fold(int), uintptr_t caller)
+{
+    size_t read = 0;
+    while (read < most) {
+        unsigned char first = (unsigned char)one[read], second = (unsigned char)other[read];
+        read++;
+        if (first == 0 || fold(first) != fold(second))
+            break;
+    }
+    READS(one, read);
+    READS(other, read);
+}
+
+static void wide_compares(const wchar_t *one, const wchar_t *other, size_t most, uintptr_t caller)
+{
+    size_t read = 0;
+    while (read < most) {
+        wchar_t first = one[read], second = other[read];
+        read++;
+        if (first == 0 || first != second)
+            break;
+    }
+    READS_ARRAY(one, read, sizeof *one);
+    READS_ARRAY(other, read, sizeof *other);
+}
+
+#define COMPARES(one, other, most) compares(one, other, most, as_it_is, caller)
+#define COMPARES_FOLDED(one, other, most) compares(one, other, most, lowered, caller)
+#define WIDE_COMPARES(one, other, most) wide_compares(one, other, most, caller)
+
+/* Numbers. Where there is none, blanks and a sign are read all the same. */
+
+static bool is_blank(wchar_t letter)
+{
+    return letter == ' ' || (letter >= '\t' && letter <= '\r');
+}
+
+#define DEFINE_NUMBER_READ(name, type)                                                                                 \
+    static size_t name(const type *text, const type *end)                                                              \
+    {                                                                                                                  \
+        if (end == NULL || end == text) {                                                                              \
+            for (end = text; is_blank(*end);)                                                                          \
+                end++;                                                                                                 \
+            end += *end == '-' || *end == '+';                                                                         \
+        }                                                                                                              \
+        return ((size_t)(end - text) + 1) * sizeof *text;                                                              \
+    }
+
+DEFINE_NUMBER_READ(number_read, char)
+DEFINE_NUMBER_READ(wide_number_read, wchar_t)
+
+static void reads_digits(const char *text, uintptr_t caller)
+{
+    size_t read = number_read(text, text) - 1;
+    while (text[read] >= '0' && text[read] <= '9')
+        read++;
+    READS(text, read + 1);
+}
+
+static void reads_real(const char *text, uintptr_t caller)
+{
+    char *end;
+    int before = errno;
+    strtod(text, &end);
+    errno = before;
+    READS(text, number_read(text, end));
+}
+
+/* `end` is null where the base is none: then nothing was read. */
+#define GIVES_END(text, end, rest, read)                                                                               \
+    if (end != NULL)                                                                                                   \
+        READS(text, read(text, end));                                                                                  \
+    if (end != NULL && rest != NULL) {                                                                                 \
+        WRITES(rest, sizeof *rest);                                                                                    \
+        *rest = end;                                                                                                   \
+    }
+#define READS_NUMBER(text, end, rest) GIVES_END(text, end, rest, number_read)
+#define READS_WIDE_NUMBER(text, end, rest) GIVES_END(text, end, rest, wide_number_read)
+#define READS_DIGITS(text) reads_digits(text, caller)
+#define READS_REAL(text) reads_real(text, caller)
+
+/* Addresses and messages of sockets, sets of files. */
+
+#define ROOM(length)                                                                                                   \
+    READS(length, sizeof *length);                                                                                     \
+    socklen_t room = length != NULL ? *length : 0
+#define WRITES_ADDRESS(address, length) WRITES(address, LEAST(*length, room))
+
+static void reads_message(const struct msghdr *message, uintptr_t caller)
+{
+    READS(message, sizeof *message);
+    READS_HEADS(message->msg_iov, message->msg_iovlen);
+    READS(message->msg_name, message->msg_namelen);
+    READS(message->msg_control, message->msg_controllen);
+}
+
+static void writes_message(const struct msghdr *message, size_t room, size_t size, uintptr_t caller)
+{
+    WRITES_PIECES(message->msg_iov, message->msg_iovlen, size);
+    WRITES(message->msg_name, LEAST(message->msg_namelen, room));
+    WRITES(message->msg_control, message->msg_controllen);
+}
+
+#define READS_MESSAGE(message) reads_message(message, caller)
+#define WRITES_MESSAGE(message, room, size) writes_message(message, room, (size_t)(size), caller)
+
+/* The system reads whole words of a set. A count may be greater than what the set has room for. */
+static void reads_set(const void *set, int count, uintptr_t caller)
+{
+    enum { WORD = NFDBITS };
+    if (count > 0)
+        READS(set, (LEAST(count, FD_SETSIZE) + WORD - 1) / WORD * (WORD / CHAR_BIT));
+}
+
+#define READS_SET(set, count) reads_set(set, count, caller)
+
+#define WRITES_FOUND(to, found)                                                                                        \
+    {                                                                                                                  \
+        WRITES(found, sizeof *found);                                                                                  \
+        if (*found != NULL)                                                                                            \
+            WRITES(to, sizeof *to);                                                                                    \
+    }
+
+/* The rows. `real_` and a name is the function itself, apart from what a header declares. */
+
+#define CALL(name, type, parameters, arguments, before, after)                                                         \
+    extern type real_##name parameters __asm__(#name);                                                                 \
+    STUB(name)                                                                                                         \
+    CHECK type checked_##name parameters                                                                               \
+    {                                                                                                                  \
+        uintptr_t caller = CALLER();                                                                                   \
+        before;                                                                                                        \
+        type result = real_##name arguments;                                                                           \
+        after;                                                                                                         \
+        (void)caller;                                                                                                  \
+        return result;                                                                                                 \
+    }
+
+#define NO_RESULT(name, parameters, arguments, before, after)                                                          \
+    extern void real_##name parameters __asm__(#name);                                                                 \
+    STUB(name)                                                                                                         \
+    CHECK void checked_##name parameters                                                                               \
+    {                                                                                                                  \
+        uintptr_t caller = CALLER();                                                                                   \
+        before;                                                                                                        \
+        real_##name arguments;                                                                                         \
+        after;                                                                                                         \
+        (void)caller;                                                                                                  \
+    }
+
+#define UNPACKED(...) __VA_ARGS__
+
+/* Both functions of a format: `with_` and a name is what they share. */
+#define FORMATTED(name, listed, parameters, arguments, format)                                                         \
+    STUB_OF_TWO(name, listed)                                                                                          \
+    STUB(listed)                                                                                                       \
+    CHECK int checked_##listed(UNPACKED parameters, va_list values)                                                    \
+    {                                                                                                                  \
+        return with_##name(UNPACKED arguments, values, CALLER());                                                      \
+    }                                                                                                                  \
+    CHECK int checked_##name(UNPACKED parameters, ...)                                                                 \
+    {                                                                                                                  \
+        va_list values;                                                                                                \
+        va_start(values, format);                                                                                      \
+        int result = with_##name(UNPACKED arguments, values, CALLER());                                                \
+        va_end(values);                                                                                                \
+        return result;                                                                                                 \
+    }
+
+#define PRINT(name, listed, parameters, arguments, format, before, after)                                              \
+    extern int real_##listed(UNPACKED parameters, va_list) __asm__(#listed);                                           \
+    static int with_##name(UNPACKED parameters, va_list values, uintptr_t caller)                                      \
+    {                                                                                                                  \
+        format_checks_print(format, values, caller);                                                                   \
+        before;                                                                                                        \
+        int result = real_##listed(UNPACKED arguments, values);                                                        \
+        after;                                                                                                         \
+        return result;                                                                                                 \
+    }                                                                                                                  \
+    FORMATTED(name, listed, parameters, arguments, format)
+
+#define SCAN(name, listed, parameters, arguments, format, before)                                                      \
+    extern int real_##listed(UNPACKED parameters, va_list) __asm__(#listed);                                           \
+    static int with_##name(UNPACKED parameters, va_list values, uintptr_t caller)                                      \
+    {                                                                                                                  \
+        va_list again;                                                                                                 \
+        va_copy(again, values);                                                                                        \
+        before;                                                                                                        \
+        int result = real_##listed(UNPACKED arguments, values);                                                        \
+        format_checks_scan(format, again, result, caller);                                                             \
+        va_end(again);                                                                                                 \
+        return result;                                                                                                 \
+    }                                                                                                                  \
+    FORMATTED(name, listed, parameters, arguments, format)
+
+#include "out/calls.def"

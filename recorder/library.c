@@ -1,0 +1,63 @@
+#define _GNU_SOURCE
+#include "library.h"
+
+#ifdef IS_STATIC
+
+void library_find(struct meeting *meeting)
+{
+    (void)meeting;
+}
+
+void library_leave_unchecked(void)
+{
+}
+
+#else
+
+#include <gnu/libc-version.h>
+#include <link.h>
+#include <sys/auxv.h>
+#include <sys/mman.h>
+
+static struct code_range range_of(const struct dl_phdr_info *module)
+{
+    uintptr_t size = 0;
+    for (int i = 0; i < module->dlpi_phnum; i++)
+        if (module->dlpi_phdr[i].p_type == PT_LOAD)
+            size = module->dlpi_phdr[i].p_vaddr + module->dlpi_phdr[i].p_memsz;
+    return (struct code_range){module->dlpi_addr, size};
+}
+
+static bool has(struct code_range range, uintptr_t address)
+{
+    return address - range.start < range.size;
+}
+
+/* Some functions of time are those that the system maps into the process. */
+static int look_at(struct dl_phdr_info *module, size_t size, void *of)
+{
+    struct meeting *meeting = of;
+    struct code_range range = range_of(module);
+    (void)size;
+    if (has(range, (uintptr_t)&gnu_get_libc_version))
+        meeting->library = range;
+    if (has(range, getauxval(AT_SYSINFO_EHDR)))
+        meeting->system = range;
+    return 0;
+}
+
+void library_find(struct meeting *meeting)
+{
+    dl_iterate_phdr(look_at, meeting);
+}
+
+void library_leave_unchecked(void)
+{
+    struct meeting *meeting = (struct meeting *)MEETING_START;
+    if (mprotect(meeting, sizeof *meeting, PROT_READ | PROT_WRITE) != 0)
+        return;
+    meeting->library.size = meeting->system.size = 0;
+    mprotect(meeting, sizeof *meeting, PROT_READ);
+}
+
+#endif

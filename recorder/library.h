@@ -1,0 +1,12 @@
+/* The code of the C library, whose functions are checked when they are called. */
+#ifndef ASANCOL_LIBRARY_H
+#define ASANCOL_LIBRARY_H
+
+#include "shadow.h"
+
+/* Says where it is. Where the library is a part of the program, nothing is wrapped, and it stays unsaid. */
+void library_find(struct meeting *meeting);
+/* From now on no call is checked. */
+void library_leave_unchecked(void);
+
+#endif

@@ -1,0 +1,200 @@
+/* What the programs of calls.py share: files, sockets and memory that calls get beside the block that is tried. */
+#define _GNU_SOURCE
+#include <arpa/inet.h>
+#include <dirent.h>
+#include <errno.h>
+#include <fcntl.h>
+#include <glob.h>
+#include <grp.h>
+#include <iconv.h>
+#include <ifaddrs.h>
+#include <limits.h>
+#include <locale.h>
+#include <netdb.h>
+#include <poll.h>
+#include <pthread.h>
+#include <pwd.h>
+#include <regex.h>
+#include <signal.h>
+#include <stdarg.h>
+#include <stdint.h>
+#include <stdio.h>
+#include <stdlib.h>
+#include <string.h>
+#include <sys/epoll.h>
+#include <sys/eventfd.h>
+#include <sys/resource.h>
+#include <sys/sem.h>
+#include <sys/socket.h>
+#include <sys/stat.h>
+#include <sys/statfs.h>
+#include <sys/statvfs.h>
+#include <sys/sysinfo.h>
+#include <sys/time.h>
+#include <sys/timerfd.h>
+#include <sys/times.h>
+#include <sys/uio.h>
+#include <sys/un.h>
+#include <sys/utsname.h>
+#include <sys/wait.h>
+#include <termios.h>
+#include <time.h>
+#include <unistd.h>
+#include <utime.h>
+#include <wchar.h>
+#include <wordexp.h>
+
+#define ANY ((size_t)-1)
+#define WIDE(p) ((wchar_t *)(void *)(p))
+
+static char room[1 << 16];
+static char text[] = "abcdefghijklmnopqrstuvwxyz";
+static char *nothing[] = {NULL};
+static int zero, null, hello, pair[2];
+static FILE *nowhere, *wide_nowhere;
+
+static void *clear(void *at)
+{
+    volatile char *first = at;
+    *first = first[1] = first[2] = first[3] = 0;
+    return at;
+}
+
+static void *zeros(void)
+{
+    static char bytes[256];
+    return memset(bytes, 0, sizeof bytes);
+}
+
+static void *copy(const char *of)
+{
+    static char copied[64];
+    for (int i = 0; i < 27; i++)
+        copied[i] = of[i];
+    return copied;
+}
+
+static void *address_of(const void *it)
+{
+    static const void *addresses[8];
+    static size_t next;
+    const void **address = &addresses[next++ % 8];
+    *address = it;
+    return address;
+}
+
+static void *size_of(size_t it)
+{
+    static size_t sizes[8], next;
+    size_t *size = &sizes[next++ % 8];
+    *size = it;
+    return size;
+}
+
+static void *state(void)
+{
+    static mbstate_t states[999];
+    static int next;
+    return &states[next++];
+}
+
+static FILE *stream(const char *of)
+{
+    FILE *made = tmpfile();
+    for (; *of != 0; of++)
+        putc(*of, made);
+    rewind(made);
+    return fdopen(dup(fileno(made)), "r"); /* it may be one of wide characters too */
+}
+
+/* Two pieces with one byte in the first. */
+static struct iovec *pieces(char *p, size_t size)
+{
+    static struct iovec made[2];
+    made[0] = (struct iovec){p, 1};
+    made[1] = (struct iovec){p + 1, size - 1};
+    return made;
+}
+
+static void *messages(char *p, size_t size)
+{
+    static struct mmsghdr made;
+    made.msg_hdr = (struct msghdr){.msg_iov = pieces(p, size), .msg_iovlen = 2};
+    return &made;
+}
+
+static void *message(char *p, size_t size)
+{
+    return &((struct mmsghdr *)messages(p, size))->msg_hdr;
+}
+
+/* A socket at which something waits. */
+static int filled(void)
+{
+    int made[2];
+    if (socketpair(AF_UNIX, SOCK_DGRAM, 0, made) != 0 || send(made[0], text, 26, 0) != 26)
+        exit(9);
+    return made[1];
+}
+
+static int epoll_of(int file)
+{
+    int made = epoll_create1(0);
+    struct epoll_event event = {.events = EPOLLOUT};
+    epoll_ctl(made, EPOLL_CTL_ADD, file, &event);
+    return made;
+}
+
+static iconv_t latin(void)
+{
+    return iconv_open("LATIN1", "UTF-8");
+}
+
+static void *in_root(void *p)
+{
+    return chdir("/") == 0 ? p : NULL;
+}
+
+/* A child that has ended. */
+static pid_t ended(void)
+{
+    pid_t child = vfork();
+    if (child == 0)
+        _exit(3);
+    return child;
+}
+
+/* A signal that waits, in its set. */
+static sigset_t *waiting(void)
+{
+    static sigset_t set;
+    sigemptyset(&set);
+    sigaddset(&set, SIGUSR1);
+    sigprocmask(SIG_BLOCK, &set, NULL);
+    raise(SIGUSR1);
+    return &set;
+}
+
+static regex_t *pattern(void)
+{
+    static regex_t made;
+    regcomp(&made, "a*", 0);
+    return &made;
+}
+
+static int same(const void *one, const void *other)
+{
+    (void)one, (void)other;
+    return 0;
+}
+
+static void prepare(void)
+{
+    zero = open("/dev/zero", O_RDONLY);
+    null = open("/dev/null", O_RDWR);
+    hello = open("/dev/zero", O_RDONLY);
+    nowhere = fopen("/dev/null", "w");
+    wide_nowhere = fopen("/dev/null", "w");
+    if (zero < 0 || null < 0 || nowhere == NULL || wide_nowhere == NULL || socketpair(AF_UNIX, SOCK_STREAM, 0, pair) != 0)
+        exit(9);
+}

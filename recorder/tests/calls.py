@@ -1,0 +1,663 @@
+"""Tests of calls of the C library: each row of calls.def used well and with a block that is one byte too short."""
+
+import os
+import re
+from typing import Dict, List, NamedTuple, Sequence, Tuple, Union
+
+from support import RECORDER, TESTS, Compiler, Suite, Trace, expect, placed, reports, run, side_of, write
+
+ROW = re.compile(r"^(CALL|NO_RESULT|PRINT|SCAN)\((.*?)\)(?=\n(?! )|\Z)", re.M | re.S)
+
+
+class Row(NamedTuple):
+    """A row of calls.def: its word, its names, and what stands between its commas."""
+
+    word: str
+    names: List[str]
+    rest: List[str]
+
+    def parameters(self) -> str:
+        return self.rest[0] if self.word == "NO_RESULT" else self.rest[1]
+
+    def result(self) -> str:
+        return {"CALL": self.rest[0], "NO_RESULT": "void"}.get(self.word, "int")
+
+
+def split(text: str) -> List[str]:
+    """What stands between the commas outside of parentheses and braces."""
+    parts, depth = [""], 0
+    for letter in text:
+        depth += (letter in "({[") - (letter in ")}]")
+        if letter == "," and depth == 0:
+            parts.append("")
+        else:
+            parts[-1] += letter
+    return [" ".join(part.split()) for part in parts]
+
+
+def rows(text: str) -> List[Row]:
+    """The rows of a table, as it is written or as calls.awk leaves it."""
+    text = re.sub(r"/\*.*?\*/", "", text, flags=re.S)
+    found = []
+    for match in ROW.finditer(text):
+        names, *rest = split(match.group(2))
+        found.append(Row(match.group(1), names.split(), rest))
+    return found
+
+
+def table(name: str = "calls.def") -> List[Row]:
+    with open(f"{RECORDER}/{name}", encoding="ascii") as file:
+        return rows(file.read())
+
+
+def wide(text: str) -> bytes:
+    return (text + "\0").encode("utf-32-le")
+
+
+# How rows are tried, by their first names: what a block `p` holds, or how many bytes of zeros, and the arguments. With
+# one byte less the call must be found, and its line. Text has its end, a zero.
+Use = Tuple[Union[str, bytes, int], str]
+
+ADDRESS = "(struct sockaddr *)p"
+USES: Dict[str, Sequence[Use]] = {
+    # Memory.
+    "memcpy": [(8, "p, text, 8"), (8, "room, p, 8")],
+    "__memcpy_chk": [(8, "p, text, 8, ANY"), (8, "room, p, 8, ANY")],
+    "memccpy": [(8, "p, text, 'h', 20"), ("abcdefg", "room, p, 0, 20")],
+    "memset": [(8, "p, 1, 8")],
+    "__memset_chk": [(8, "p, 1, 8, ANY")],
+    "bzero": [(8, "p, 8")],
+    "__explicit_bzero_chk": [(8, "p, 8, ANY")],
+    "bcopy": [(8, "p, room, 8"), (8, "text, p, 8")],
+    "swab": [(8, "p, room, 9"), (8, "text, p, 9")],
+    "memcmp": [("abcdefg", "p, text, 8"), ("abcdefg", "text, p, 8")],
+    "memchr": [(8, "p, 'a', 8"), ("abcdefg", "p, 0, 20")],
+    "memrchr": [(8, "p, 'a', 8")],
+    "rawmemchr": [("abcdefg", "p, 0")],
+    "memmem": [(8, "p, 8, text, 2"), (8, "room, 20, p, 8")],
+    # Strings.
+    "strlen": [("abcdefg", "p")],
+    "strnlen": [("abcdefg", "p, 20"), ("abcdefgh", "p, 9")],
+    "strcpy": [("abcdefg", "room, p"), (8, 'p, "abcdefg"')],
+    "__strcpy_chk": [("abcdefg", "room, p, ANY"), (8, 'p, "abcdefg", ANY')],
+    "strncpy": [("abcdefg", "room, p, 20"), (8, 'p, "a", 8')],
+    "__strncpy_chk": [("abcdefg", "room, p, 20, ANY"), (8, 'p, "a", 8, ANY')],
+    "strlcpy": [("abcdefg", "room, p, 3"), (4, "p, text, 4")],
+    "__strlcpy_chk": [("abcdefg", "room, p, 3, ANY"), (4, "p, text, 4, ANY")],
+    "strlcat": [("abcdefg", "clear(room), p, 3"), (4, "clear(p), text, 4")],
+    "__strlcat_chk": [("abcdefg", "clear(room), p, 3, ANY"), (4, "clear(p), text, 4, ANY")],
+    "strcat": [("abcdefg", "clear(room), p"), (8, 'clear(p), "abcdefg"')],
+    "__strcat_chk": [("abcdefg", "clear(room), p, ANY"), (8, 'clear(p), "abcdefg", ANY')],
+    "strncat": [("abcdefg", "clear(room), p, 20"), (8, "clear(p), text, 7")],
+    "__strncat_chk": [("abcdefg", "clear(room), p, 20, ANY"), (8, "clear(p), text, 7, ANY")],
+    "strcmp": [("abcdefg", 'p, "abcdefg"'), ("abcdefg", '"abcdefg", p')],
+    "strncmp": [("abcdefg", 'p, "abcdefg", 20'), ("abcdefg", '"abcdefg", p, 8')],
+    "strcasecmp": [("abcdefg", 'p, "ABCDEFG"'), ("abcdefg", '"ABCDEFG", p')],
+    "strncasecmp": [("abcdefg", 'p, "ABCDEFG", 20'), ("abcdefg", '"ABCDEFG", p, 8')],
+    "strcoll": [("abcdefg", "p, text"), ("abcdefg", "text, p")],
+    "strxfrm": [("abcdefg", "room, p, 20"), (8, 'p, "abcdefg", 8')],
+    "strchr": [("abcdefg", "p, 'z'"), ("abcdefg", "p, 0")],
+    "strrchr": [("abcdefg", "p, 'a'")],
+    "strchrnul": [("abcdefg", "p, 'z'")],
+    "strstr": [("abcdefg", 'p, "z"'), ("abc", "text, p")],
+    "strspn": [("aaaaaaa", 'p, "a"'), ("abcdefg", "text, p")],
+    "strcspn": [("aaaaaaa", 'p, "z"'), ("xyz", "text, p")],
+    "strpbrk": [("abcdefg", 'p, "z"'), ("xyz", "text, p")],
+    "strtok": [("abcdefg", 'p, ","'), ("xyz", "copy(text), p")],
+    "strtok_r": [("abcdefg", 'p, ",", (char **)room'), ("xyz", "copy(text), p, (char **)room"),
+                 (8, 'copy(text), ",", (char **)p')],
+    "strsep": [("abcdefg", '&p, ","'), ("xyz", "address_of(copy(text)), p")],
+    "strdup": [("abcdefg", "p")],
+    "strndup": [("abcdefg", "p, 20")],
+    "strerror_r": [(8, "12345, p, 8")],
+    "__xpg_strerror_r": [("No such file or directory", "ENOENT, p, 26")],
+    # Numbers.
+    "strtol": [("1234567", "p, NULL, 10"), (8, '"12", (char **)p, 10'), ("  -", "p, NULL, 10")],
+    "strtoul": [("1234567", "p, NULL, 10"), (8, '"12", (char **)p, 10')],
+    "strtod": [("1234.67", "p, NULL"), (8, '"12", (char **)p')],
+    "strtof": [("1234.67", "p, NULL"), (8, '"12", (char **)p')],
+    "strtold": [("1234.67", "p, NULL"), (8, '"12", (char **)p')],
+    "atoi": [("1234567", "p"), (" +", "p")],
+    "atol": [("1234567", "p")],
+    "atof": [("1234.67", "p")],
+    # Wide strings, and those of several bytes a character.
+    "wcslen": [(wide("abc"), "WIDE(p)")],
+    "wcsnlen": [(wide("abc"), "WIDE(p), 20")],
+    "wcscpy": [(wide("abc"), "WIDE(room), WIDE(p)"), (16, 'WIDE(p), L"abc"')],
+    "__wcscpy_chk": [(wide("abc"), "WIDE(room), WIDE(p), ANY"), (16, 'WIDE(p), L"abc", ANY')],
+    "wcsncpy": [(wide("abc"), "WIDE(room), WIDE(p), 20"), (16, 'WIDE(p), L"a", 4')],
+    "__wcsncpy_chk": [(wide("abc"), "WIDE(room), WIDE(p), 20, ANY"), (16, 'WIDE(p), L"a", 4, ANY')],
+    "wcscat": [(wide("abc"), "WIDE(clear(room)), WIDE(p)"), (16, 'WIDE(clear(p)), L"abc"')],
+    "__wcscat_chk": [(wide("abc"), "WIDE(clear(room)), WIDE(p), ANY"), (16, 'WIDE(clear(p)), L"abc", ANY')],
+    "wcsncat": [(wide("abc"), "WIDE(clear(room)), WIDE(p), 20"), (16, 'WIDE(clear(p)), L"abcdef", 3')],
+    "__wcsncat_chk": [(wide("abc"), "WIDE(clear(room)), WIDE(p), 20, ANY"), (16, 'WIDE(clear(p)), L"abcdef", 3, ANY')],
+    "wcscmp": [(wide("abc"), 'WIDE(p), L"abc"'), (wide("abc"), 'L"abc", WIDE(p)')],
+    "wcsncmp": [(wide("abc"), 'WIDE(p), L"abc", 20'), (wide("abc"), 'L"abc", WIDE(p), 4')],
+    "wcschr": [(wide("abc"), "WIDE(p), 'z'")],
+    "wcsrchr": [(wide("abc"), "WIDE(p), 'a'")],
+    "wcsstr": [(wide("abc"), 'WIDE(p), L"z"'), (wide("abc"), 'L"abcdef", WIDE(p)')],
+    "wcsspn": [(wide("aaa"), 'WIDE(p), L"a"'), (wide("abc"), 'L"xyz", WIDE(p)')],
+    "wcscspn": [(wide("aaa"), 'WIDE(p), L"z"'), (wide("abc"), 'L"xyz", WIDE(p)')],
+    "wcspbrk": [(wide("abc"), 'WIDE(p), L"z"'), (wide("abc"), 'L"xyz", WIDE(p)')],
+    "wcsdup": [(wide("abc"), "WIDE(p)")],
+    "wcsxfrm": [(wide("abc"), "WIDE(room), WIDE(p), 20"), (16, 'WIDE(p), L"abc", 4')],
+    "wmemcpy": [(16, "WIDE(room), WIDE(p), 4"), (16, "WIDE(p), WIDE(room), 4")],
+    "__wmemcpy_chk": [(16, "WIDE(room), WIDE(p), 4, ANY"), (16, "WIDE(p), WIDE(room), 4, ANY")],
+    "wmemset": [(16, "WIDE(p), 'a', 4")],
+    "__wmemset_chk": [(16, "WIDE(p), 'a', 4, ANY")],
+    "wmemcmp": [(16, "WIDE(p), WIDE(room), 4"), (16, "WIDE(room), WIDE(p), 4")],
+    "wmemchr": [(16, "WIDE(p), 'z', 4")],
+    "wcstol": [(wide("123"), "WIDE(p), NULL, 10"), (8, 'L"12", (wchar_t **)p, 10')],
+    "wcstoul": [(wide("123"), "WIDE(p), NULL, 10"), (8, 'L"12", (wchar_t **)p, 10')],
+    "wcstod": [(wide("123"), "WIDE(p), NULL"), (8, 'L"12", (wchar_t **)p')],
+    "mbstowcs": [(16, 'WIDE(p), "abc", 20')],
+    "__mbstowcs_chk": [(16, 'WIDE(p), "abc", 20, ANY')],
+    "wcstombs": [(4, 'p, L"abc", 20')],
+    "__wcstombs_chk": [(4, 'p, L"abc", 20, ANY')],
+    "mbsrtowcs": [(16, "WIDE(p), (const char **)address_of(\"abc\"), 20, state()")],
+    "__mbsrtowcs_chk": [(16, "WIDE(p), (const char **)address_of(\"abc\"), 20, state(), ANY")],
+    "wcsrtombs": [(4, "p, (const wchar_t **)address_of(L\"abc\"), 20, state()")],
+    "__wcsrtombs_chk": [(4, "p, (const wchar_t **)address_of(L\"abc\"), 20, state(), ANY")],
+    "mbsnrtowcs": [(16, "WIDE(p), (const char **)address_of(\"abc\"), 20, 20, state()")],
+    "__mbsnrtowcs_chk": [(16, "WIDE(p), (const char **)address_of(\"abc\"), 20, 20, state(), ANY")],
+    "wcsnrtombs": [(4, "p, (const wchar_t **)address_of(L\"abc\"), 20, 20, state()")],
+    "__wcsnrtombs_chk": [(4, "p, (const wchar_t **)address_of(L\"abc\"), 20, 20, state(), ANY")],
+    "mbtowc": [(4, 'WIDE(p), "abc", 3')],
+    "mbrtowc": [(4, 'WIDE(p), "abc", 3, state()')],
+    "wctomb": [(2, "p + 1, 'a'")],
+    "__wctomb_chk": [(2, "p + 1, 'a', ANY")],
+    "wcrtomb": [(2, "p + 1, 'a', state()")],
+    "__wcrtomb_chk": [(2, "p + 1, 'a', state(), ANY")],
+    "iconv": [(8, "latin(), address_of(text), size_of(8), address_of(p), size_of(8)"),
+              ("abcdefgh", "latin(), address_of(p), size_of(9), address_of(room), size_of(20)")],
+    # Descriptors.
+    "read": [(8, "zero, p, 8")],
+    "__read_chk": [(8, "zero, p, 8, ANY")],
+    "pread": [(8, "hello, p, 8, 0")],
+    "__pread_chk": [(8, "hello, p, 8, 0, ANY")],
+    "readv": [(8, "zero, pieces(p, 8), 2")],
+    "preadv": [(8, "hello, pieces(p, 8), 2, 0")],
+    "preadv2": [(8, "hello, pieces(p, 8), 2, 0, 0")],
+    "write": [(8, "null, p, 8")],
+    "pwrite": [(8, "null, p, 8, 0")],
+    "writev": [(8, "null, pieces(p, 8), 2")],
+    "pwritev": [(8, "null, pieces(p, 8), 2, 0")],
+    "pwritev2": [(8, "null, pieces(p, 8), 2, 0, 0")],
+    "getrandom": [(8, "p, 8, 0")],
+    "getentropy": [(8, "p, 8")],
+    "pipe": [(8, "(int *)p")],
+    "pipe2": [(8, "(int *)p, 0")],
+    "poll": [(8, "(struct pollfd *)p, 1, 0")],
+    "__poll_chk": [(8, "(struct pollfd *)p, 1, 0, ANY")],
+    "ppoll": [(8, "(struct pollfd *)p, 1, zeros(), NULL"), (16, "NULL, 0, (struct timespec *)p, NULL")],
+    "__ppoll_chk": [(8, "(struct pollfd *)p, 1, zeros(), NULL, ANY")],
+    "select": [(8, "3, p, NULL, NULL, zeros()"), (16, "0, NULL, NULL, NULL, (struct timeval *)p")],
+    "pselect": [(8, "3, p, NULL, NULL, zeros(), NULL")],
+    "epoll_ctl": [(12, "epoll_create1(0), EPOLL_CTL_ADD, pair[0], (struct epoll_event *)p")],
+    "epoll_wait": [(12, "epoll_of(pair[1]), (struct epoll_event *)p, 1, 0")],
+    "epoll_pwait": [(12, "epoll_of(pair[1]), (struct epoll_event *)p, 1, 0, NULL")],
+    "eventfd_read": [(8, "eventfd(1, 0), (uint64_t *)p")],
+    "timerfd_settime": [(32, "timerfd_create(CLOCK_MONOTONIC, 0), 0, (struct itimerspec *)p, NULL"),
+                        (32, "timerfd_create(CLOCK_MONOTONIC, 0), 0, zeros(), "
+                             "(struct itimerspec *)p")],
+    "timerfd_gettime": [(32, "timerfd_create(CLOCK_MONOTONIC, 0), (struct itimerspec *)p")],
+    "tcsetattr": [(60, "null, 0, (struct termios *)p")],
+    # Sockets and messages.
+    "recv": [(8, "filled(), p, 8, 0")],
+    "__recv_chk": [(8, "filled(), p, 8, ANY, 0")],
+    "recvfrom": [(8, "filled(), p, 8, 0, NULL, NULL")],
+    "__recvfrom_chk": [(8, "filled(), p, 8, ANY, 0, NULL, NULL")],
+    "recvmsg": [(8, "filled(), message(p, 8), 0")],
+    "recvmmsg": [(8, "filled(), messages(p, 8), 1, 0, NULL")],
+    "send": [(8, "filled(), p, 8, 0")],
+    "sendto": [(8, "filled(), p, 8, 0, NULL, 0")],
+    "sendmsg": [(8, "filled(), message(p, 8), 0")],
+    "sendmmsg": [(64, "filled(), (struct mmsghdr *)p, 1, 0")],
+    "bind": [(110, f"pair[0], {ADDRESS}, 110")],
+    "accept": [],  # below, with a name of its own
+    "accept4": [],
+    "socketpair": [(8, "AF_UNIX, SOCK_STREAM, 0, (int *)p")],
+    "setsockopt": [(4, "pair[0], SOL_SOCKET, SO_REUSEADDR, p, 4")],
+    "getsockopt": [(4, "pair[0], SOL_SOCKET, SO_TYPE, p, (socklen_t *)size_of(4)"),
+                   (4, "pair[0], SOL_SOCKET, SO_TYPE, room, (socklen_t *)memset(p, 1, 3)")],
+    "msgsnd": [(16, "-1, p, 8, 0")],
+    "semop": [(6, "-1, (struct sembuf *)p, 1")],
+    # Streams.
+    "fread": [(8, "p, 1, 8, stream(text)"), (8, "p, 4, 2, stream(text)")],
+    "__fread_chk": [(8, "p, ANY, 1, 8, stream(text)")],
+    "fwrite": [(8, "p, 1, 8, nowhere"), (8, "p, 4, 2, nowhere")],
+    "fgets": [(8, 'p, 20, stream("abcdefg")'), (8, "p, 8, stream(text)")],
+    "__fgets_chk": [(8, 'p, ANY, 20, stream("abcdefg")')],
+    "fgetws": [(16, 'WIDE(p), 20, stream("abc")')],
+    "__fgetws_chk": [(16, 'WIDE(p), ANY, 20, stream("abc")')],
+    "fputs": [("abcdefg", "p, nowhere")],
+    "fputws": [(wide("abc"), "WIDE(p), wide_nowhere")],
+    "puts": [("abcdefg", "p")],
+    "perror": [("abcdefg", "p")],
+    "getline": [(8, "(char **)p, size_of(0), stream(text)"), (8, "address_of(NULL), (size_t *)p, stream(text)")],
+    "getdelim": [(8, "(char **)p, size_of(0), '\\n', stream(text)")],
+    "fopen": [("/dev/null", 'p, "r"'), ("r", '"/dev/null", p')],
+    "freopen": [("/dev/null", 'p, "r", stream(text)'), ("r", '"/dev/null", p, stream(text)')],
+    "fdopen": [("r", "dup(null), p")],
+    "popen": [("true", 'p, "r"'), ("r", '"true", p')],
+    "fmemopen": [("r", "room, 8, p")],
+    "open_memstream": [(8, "(char **)p, (size_t *)room"), (8, "(char **)room, (size_t *)p")],
+    "open_wmemstream": [(8, "(wchar_t **)p, (size_t *)room")],
+    "setbuf": [(8192, "fdopen(dup(null), \"r\"), p")],
+    "setbuffer": [(64, "fdopen(dup(null), \"r\"), p, 64")],
+    "setvbuf": [(64, "fdopen(dup(null), \"r\"), p, _IOFBF, 64")],
+    # Files and directories.
+    "open": [("/dev/null", "p, 0, 0")],
+    "__open_2": [("/dev/null", "p, 0")],
+    "openat": [("/dev/null", "0, p, 0, 0")],
+    "__openat_2": [("/dev/null", "0, p, 0")],
+    "creat": [("/no/such", "p, 0")],
+    "mkdirat": [("/no/such", "0, p, 0")],
+    "fchmodat": [("/no/such", "0, p, 0, 0")],
+    "chown": [("/no/such", "p, 0, 0")],
+    "truncate": [("/no/such", "p, 0")],
+    "access": [("/dev/null", "p, 0")],
+    "faccessat": [("/dev/null", "0, p, 0, 0")],
+    "chdir": [("/no/such", "p")],
+    "unlinkat": [("/no/such", "0, p, 0")],
+    "rename": [("/no/such", 'p, "/no/such"'), ("/no/such", '"/no/such", p')],
+    "renameat": [("/no/such", '0, p, 0, "/no/such"')],
+    "symlinkat": [("/no/such", 'p, 0, "/no/such/folder"')],
+    "readlink": [("/proc/self/cwd", "p, room, 99"), (13, '"/dev/fd", p, 99')],
+    "__readlink_chk": [("/proc/self/cwd", "p, room, 99, ANY")],
+    "readlinkat": [("/proc/self/cwd", "0, p, room, 99")],
+    "__readlinkat_chk": [("/proc/self/cwd", "0, p, room, 99, ANY")],
+    "realpath": [("/dev", "p, NULL"), (5, '"/dev", p')],
+    "__realpath_chk": [("/dev", "p, room, ANY")],
+    "canonicalize_file_name": [("/dev", "p")],
+    "getcwd": [(2, "in_root(p), 20")],
+    "__getcwd_chk": [(2, "in_root(p), 20, ANY")],
+    "stat": [("/dev", "p, (struct stat *)room"), (144, '"/dev", (struct stat *)p')],
+    "fstat": [(144, "null, (struct stat *)p")],
+    "fstatat": [("/dev", "0, p, (struct stat *)room, 0"), (144, '0, "/dev", (struct stat *)p, 0')],
+    "__xstat": [("/dev", "1, p, (struct stat *)room"), (144, '1, "/dev", (struct stat *)p')],
+    "__fxstat": [(144, "1, null, (struct stat *)p")],
+    "statx": [("/dev", "0, p, 0, 0, (struct statx *)room"), (256, '0, "/dev", 0, 0, (struct statx *)p')],
+    "statfs": [("/dev", "p, (struct statfs *)room"), (120, '"/dev", (struct statfs *)p')],
+    "fstatfs": [(120, "null, (struct statfs *)p")],
+    "statvfs": [("/dev", "p, (struct statvfs *)room"), (112, '"/dev", (struct statvfs *)p')],
+    "fstatvfs": [(112, "null, (struct statvfs *)p")],
+    "utime": [("/no/such", "p, NULL"), (16, '"/no/such", (struct utimbuf *)p')],
+    "utimes": [("/no/such", "p, NULL"), (32, '"/no/such", (struct timeval *)p')],
+    "utimensat": [("/no/such", "0, p, NULL, 0"), (32, '0, "/no/such", (struct timespec *)p, 0')],
+    "futimens": [(32, "-1, (struct timespec *)p")],
+    "opendir": [("/dev", "p")],
+    "readdir_r": [(8, 'opendir("/"), (struct dirent *)room, (struct dirent **)p')],
+    "scandir": [("/no/such", "p, (struct dirent ***)room, NULL, NULL")],
+    "glob": [("/no/such", "p, 0, NULL, (glob_t *)room"), (72, '"/", 0, NULL, (glob_t *)p')],
+    "fnmatch": [("abc", 'p, "abc", 0'), ("abc", '"*", p, 0')],
+    "mkstemp": [("/no/such/XXXXXX", "p")],
+    "mkostemp": [("/no/such/XXXXXX", "p, 0")],
+    "mkdtemp": [("/no/such/XXXXXX", "p")],
+    "ctermid": [("/dev/tty", "p")],
+    "getxattr": [("/dev", 'p, "user.a", room, 9'), ("user.a", '"/dev", p, room, 9')],
+    "fgetxattr": [("user.a", "null, p, room, 9")],
+    "listxattr": [("/dev", "p, room, 9")],
+    "setxattr": [("/no", 'p, "user.a", room, 9, 0'), ("user.a", '"/no", p, room, 9, 0'), (9, '"/no", "user.a", p, 9, 0')],
+    "fsetxattr": [("user.a", "-1, p, room, 9, 0"), (9, '-1, "user.a", p, 9, 0')],
+    # Time.
+    "time": [(8, "(time_t *)p")],
+    "gettimeofday": [(16, "(struct timeval *)p, NULL")],
+    "clock_gettime": [(16, "CLOCK_MONOTONIC, (struct timespec *)p")],
+    "clock_settime": [(16, "-1, (struct timespec *)p")],
+    "nanosleep": [(16, "(struct timespec *)p, NULL")],
+    "clock_nanosleep": [(16, "CLOCK_MONOTONIC, 0, (struct timespec *)p, NULL")],
+    "getitimer": [(32, "ITIMER_REAL, (struct itimerval *)p")],
+    "setitimer": [(32, "ITIMER_REAL, (struct itimerval *)p, NULL"),
+                  (32, "ITIMER_REAL, zeros(), (struct itimerval *)p")],
+    "times": [(32, "(struct tms *)p")],
+    "gmtime_r": [(8, "(time_t *)p, (struct tm *)room"), (56, "zeros(), (struct tm *)p")],
+    "gmtime": [(8, "(time_t *)p")],
+    "ctime": [(8, "(time_t *)p")],
+    "ctime_r": [(8, "(time_t *)p, room"), ("Thu Jan  1 00:00:00 1970\n", "zeros(), p")],
+    "asctime": [(56, "(struct tm *)p")],
+    "asctime_r": [(56, "(struct tm *)p, room")],
+    "mktime": [(56, "(struct tm *)p")],
+    "strftime": [("%Y", "room, 20, p, zeros()"), (56, 'room, 20, "%Y", (struct tm *)p'),
+                 (5, 'p, 20, "%Y", zeros()')],
+    "wcsftime": [(wide("%Y"), "WIDE(room), 20, WIDE(p), zeros()")],
+    "strptime": [("%Y", '"2000", p, (struct tm *)room'), (56, '"2000", "%Y", (struct tm *)p')],
+    # Processes, users and the system.
+    "wait": [(4, "(ended(), (int *)p)")],
+    "waitpid": [(4, "ended(), (int *)p, 0")],
+    "wait3": [(4, "(ended(), (int *)p), 0, NULL"), (144, "(ended(), NULL), 0, (struct rusage *)p")],
+    "wait4": [(4, "ended(), (int *)p, 0, NULL"), (144, "ended(), NULL, 0, (struct rusage *)p")],
+    "waitid": [(128, "P_PID, (id_t)ended(), (siginfo_t *)p, WEXITED")],
+    "sigwait": [(4, "waiting(), (int *)p")],
+    "sigwaitinfo": [(128, "waiting(), (siginfo_t *)p")],
+    "sigtimedwait": [(128, "waiting(), (siginfo_t *)p, NULL"), (16, "waiting(), NULL, (struct timespec *)p")],
+    "sigaltstack": [(24, "NULL, (stack_t *)p")],
+    "system": [("true", "p")],
+    "posix_spawn": [("/no", "(pid_t *)room, p, NULL, NULL, nothing, nothing"),
+                    (4, '(pid_t *)p, "/bin/true", NULL, NULL, nothing, nothing')],
+    "getenv": [("HOME", "p")],
+    "setenv": [("HOME", 'p, "/", 0'), ("/", '"HOME", p, 0')],
+    "unsetenv": [("NOTHING", "p")],
+    "putenv": [],  # keeps what it is given
+    "setlocale": [("C", "LC_ALL, p")],
+    "uname": [(390, "(struct utsname *)p")],
+    "sysinfo": [(112, "(struct sysinfo *)p")],
+    "getrusage": [(144, "RUSAGE_SELF, (struct rusage *)p")],
+    "getrlimit": [(16, "RLIMIT_CORE, (struct rlimit *)p")],
+    "setrlimit": [(16, "RLIMIT_CORE, (struct rlimit *)p")],
+    "getloadavg": [(24, "(double *)p, 3")],
+    "confstr": [("/bin:/usr/bin", "_CS_PATH, p, 99")],
+    "__confstr_chk": [("/bin:/usr/bin", "_CS_PATH, p, 99, ANY")],
+    "getresuid": [(4, "(uid_t *)p, (uid_t *)room, (uid_t *)room"), (4, "(uid_t *)room, (uid_t *)room, (uid_t *)p")],
+    "getgrouplist": [("root", "p, 0, (gid_t *)room, (int *)size_of(9)"), (4, '"root", 0, (gid_t *)p, (int *)size_of(1)')],
+    "initgroups": [],  # changes what the test may do
+    "getpwnam": [("root", "p")],
+    "getgrnam": [("root", "p")],
+    "getpwnam_r": [("root", "p, (struct passwd *)room, room + 99, 999, (struct passwd **)room"),
+                   (48, '"root", (struct passwd *)p, room + 99, 999, (struct passwd **)room'),
+                   (8, '"root", (struct passwd *)room, room + 99, 999, (struct passwd **)p')],
+    "getpwuid_r": [(48, "0, (struct passwd *)p, room + 99, 999, (struct passwd **)room")],
+    "getpwent_r": [(48, "(struct passwd *)p, room + 99, 999, (struct passwd **)room")],
+    "fgetpwent_r": [(48, 'fopen("/etc/passwd", "r"), (struct passwd *)p, room + 99, 999, (struct passwd **)room')],
+    "getgrnam_r": [("root", "p, (struct group *)room, room + 99, 999, (struct group **)room")],
+    "getgrgid_r": [(32, "0, (struct group *)p, room + 99, 999, (struct group **)room")],
+    "getgrent_r": [(32, "(struct group *)p, room + 99, 999, (struct group **)room")],
+    "fgetgrent_r": [(32, 'fopen("/etc/group", "r"), (struct group *)p, room + 99, 999, (struct group **)room')],
+    "pthread_setname_np": [("name", "pthread_self(), p")],
+    "pthread_getname_np": [("name", "pthread_self(), p, 16")],
+    # Hosts and networks.
+    "inet_ntop": [(4, "AF_INET, p, room, 99"), (16, "AF_INET6, p, room, 99"), ("0.0.0.0", "AF_INET, clear(room), p, 99")],
+    "inet_pton": [("1.2.3.4", "AF_INET, p, room"), (4, 'AF_INET, "1.2.3.4", p'), (16, 'AF_INET6, "::1", p')],
+    "inet_aton": [("1.2.3.4", "p, (struct in_addr *)room"), (4, '"1.2.3.4", (struct in_addr *)p')],
+    "inet_addr": [("1.2.3.4", "p")],
+    "getaddrinfo": [("127.0.0.1", "p, NULL, NULL, (struct addrinfo **)room"),
+                    (8, '"127.0.0.1", NULL, NULL, (struct addrinfo **)p')],
+    "getnameinfo": [(16, f"{ADDRESS}, 16, room, 99, NULL, 0, NI_NUMERICHOST")],
+    "gethostbyname": [("127.0.0.1", "p")],
+    "gethostbyname2": [("127.0.0.1", "p, AF_INET")],
+    "gethostbyname_r": [("127.0.0.1", "p, (struct hostent *)room, room + 99, 999, (struct hostent **)room, (int *)room"),
+                        (32, '"127.0.0.1", (struct hostent *)p, room + 99, 999, (struct hostent **)room, (int *)room')],
+    "gethostbyname2_r": [("127.0.0.1", "p, AF_INET, (struct hostent *)room, room + 99, 999, (struct hostent **)room, "
+                                       "(int *)room")],
+    "getprotobyname": [("tcp", "p")],
+    "getservbyname": [("http", 'p, "tcp"'), ("tcp", '"http", p')],
+    "if_nametoindex": [("lo", "p")],
+    "getifaddrs": [(8, "(struct ifaddrs **)p")],
+    # Patterns and arrays.
+    "regcomp": [("a*", "(regex_t *)room, p, 0"), (64, '(regex_t *)p, "a*", 0')],
+    "regexec": [("abc", "pattern(), p, 0, NULL, 0"), (16, 'pattern(), "abc", 2, (regmatch_t *)p, 0')],
+    "regerror": [(5, "1, NULL, p, 5")],
+    "wordexp": [("abc", "p, (wordexp_t *)room, 0"), (24, '"abc", (wordexp_t *)p, 0')],
+    "qsort": [(8, "p, 2, 4, same")],
+    "qsort_r": [(8, "p, 2, 4, (void *)same, NULL")],
+    # Formats.
+    "printf": [("abc", '"%d%s", 1, p'), ("abc", '"%Lf%5.*s", 1.0L, 9, p'), ("abc", "p"), (wide("abc"), '"%ls", p')],
+    "fprintf": [("abc", 'nowhere, "%s%n", p, (int *)room'), (4, 'nowhere, "abc%n", p')],
+    "dprintf": [("abc", 'null, "%g%s", 1.0, p')],
+    "sprintf": [("abc", 'room, "%s", p'), (4, 'p, "%d", 123')],
+    "snprintf": [("abc", 'room, 99, "%s", p'), (4, 'p, 99, "%d", 123'), (4, 'p, 4, "%d", 1234567')],
+    "asprintf": [("abc", '(char **)room, "%s", p'), (8, '(char **)p, "%d", 123')],
+    "__printf_chk": [("abc", '1, "%s", p')],
+    "__fprintf_chk": [("abc", 'nowhere, 1, "%s", p')],
+    "__dprintf_chk": [("abc", 'null, 1, "%s", p')],
+    "__sprintf_chk": [("abc", 'room, 1, 99, "%s", p'), (4, 'p, 1, 99, "%d", 123')],
+    "__snprintf_chk": [("abc", 'room, 99, 1, 99, "%s", p'), (4, 'p, 99, 1, 99, "%d", 123')],
+    "__asprintf_chk": [("abc", '(char **)room, 1, "%s", p')],
+    "fscanf": [(4, 'stream("12"), "%d", p'), (8, 'stream("12"), "%ld", p'), (4, 'stream("abc d"), "%s", p'),
+               (2, 'stream("12"), "%hd", p'), (8, 'stream("1.5"), "%lf", p'), (4, 'stream("7 abc"), "%*d %[a-c]", p'),
+               (3, 'stream("abcdef"), "%3c", p'), (16, 'stream("abc"), "%ls", p'), (8, 'stream("abc"), "%ms", p')],
+    "sscanf": [("12 ", 'p, "%d", (int *)room'), (4, '"12", "%d", p'), (4, '"1 abc 3", "%d %s %d", room, p, room + 9')],
+}
+for name in ("fscanf", "sscanf"):
+    USES[f"__isoc99_{name}"] = USES[f"__isoc23_{name}"] = USES[name]
+
+# What is not tried here: it needs a system that is not at hand everywhere, or a second process, or stands in programs
+# of its own below.
+NOT_TRIED = {
+    "process_vm_readv", "tcgetattr", "msgrcv", "ttyname_r", "__ttyname_r_chk", "flistxattr", "if_indextoname",
+    "gethostname", "__gethostname_chk", "getgroups", "__getgroups_chk", "gethostbyaddr", "regfree", "scanf",
+    "__isoc99_scanf", "__isoc23_scanf", "accept", "accept4", "putenv", "initgroups",
+    "getpass",
+}
+
+HEAD = f'#include "{TESTS}/calls.h"\n'
+MAIN = """
+struct use {
+    void (*run)(char *p);
+    const char *holds;
+    size_t size;
+};
+static const struct use uses[] = {
+%s
+};
+int main(int count, char **words)
+{
+    size_t less = count > 1;
+    prepare();
+    for (size_t i = 0; i < sizeof uses / sizeof *uses; i++) {
+        size_t size = uses[i].size - less;
+        char *p = malloc(size);
+        for (size_t j = 0; j < size; j++)
+            ((volatile char *)p)[j] = uses[i].holds[j];
+        uses[i].run(p);
+        fflush(stdout);
+    }
+    return 0;
+}
+"""
+
+
+def quoted(data: bytes) -> str:
+    return '"' + "".join(f"\\{byte:03o}" for byte in data) + '"'
+
+
+def holds(use: Use) -> bytes:
+    held = use[0]
+    if isinstance(held, int):
+        return bytes(held)
+    return held if isinstance(held, bytes) else held.encode() + b"\0"
+
+
+def declared(result: str, name: str, parameters: str) -> str:
+    """A function under a name apart from what a header says of it, and called so that no compiler leaves it out."""
+    return (
+        f'extern {result} real_{name}{parameters} __asm__("{name}"); '
+        f"static {result} (*volatile call_{name}){parameters} = real_{name};"
+    )
+
+
+def apart(name: Union[str, int]) -> str:
+    """What keeps a compiler from making one of two functions that do the same."""
+    return f'__asm__("# {name}");'
+
+
+def with_list(row: Row, name: str) -> str:
+    """A function of this name that calls the form of a format that has a va_list."""
+    parameters, arguments, last = row.parameters()[:-1], row.rest[2][:-1], row.rest[3]
+    return (
+        f"static int {name}{parameters}, ...) {{ va_list list; {apart(name)} va_start(list, {last}); "
+        f"int result = call_{row.rest[0]}{arguments}, list); va_end(list); return result; }} "
+    )
+
+
+def uses_of(row: Row, name: str) -> Sequence[Use]:
+    return USES.get(name, USES.get(row.names[0], ()))
+
+
+def source_of(names: Sequence[str]) -> Tuple[str, Dict[str, str]]:
+    """A program that tries each use of these names, and what each of its lines is."""
+    lines, entries, tried = [HEAD.strip()], [], {}
+    by_name = {name: row for row in table() for name in row.names}
+    for name in names:
+        row = by_name[name]
+        has_list = row.word in ("PRINT", "SCAN")
+        parameters = row.parameters()[:-1] + ", ...)" if has_list else row.parameters()
+        lines.append(declared(row.result(), name, parameters))
+        if has_list:
+            lines.append(declared("int", row.rest[0], row.parameters()[:-1] + ", va_list)"))
+        for use in uses_of(row, name):
+            for form in [f"call_{name}"] + [f"list_{len(lines) + 2}"] * has_list:
+                number = len(lines) + 1
+                shared = with_list(row, form) if form.startswith("list_") else ""
+                lines.append(f"{shared}static void use_{number}(char *p) {{ {apart(number)} {form}({use[1]}); }}")
+                entries.append(f"    {{use_{number}, {quoted(holds(use))}, {len(holds(use))}}},")
+                tried[f"calls.c:{number}"] = f"{row.rest[0] if shared else name}({use[1]})"
+    return "\n".join(lines) + MAIN % "\n".join(entries), tried
+
+
+def names_there() -> List[str]:
+    """The names that the C library has, by what the recorder was made with."""
+    return [name for row in table("out/calls.def") for name in row.names]
+
+
+def check_rows(suite: Suite, folder: str, compiler: Compiler, level: str) -> None:
+    """Each use is silent with a block that has room, and found at its line with one byte less."""
+    source, tried = source_of(names_there())
+    write(folder, calls_c=source)
+    # Each use keeps its place in the code.
+    flags = ["-w", "-fno-builtin", "-fno-inline", "-fno-optimize-sibling-calls"]
+    compiler.c(folder, ["calls.c"], f"{folder}/calls", level, *flags)
+    good = run(["./calls"], folder, ASANCOL_TRACE="good.trace", ASANCOL_WHERE="1")
+    expect(good.returncode, 0, "status of good uses")
+    said, status = placed(suite.asancol, f"{folder}/good.trace")
+    expect([(it.line, tried.get(it.line)) for it in said], [], "reports of good uses")
+    expect((status, Trace(f"{folder}/good.trace").is_closed), (0, True), "status of the check, and the close")
+    bad = run(["./calls", "less"], folder, ASANCOL_TRACE="bad.trace", ASANCOL_WHERE="1")
+    expect(bad.returncode, 0, "status of bad uses")
+    found = {it.line for it in placed(suite.asancol, f"{folder}/bad.trace")[0]}
+    expect([tried[line] for line in tried if line not in found], [], "what is not found")
+    expect(found - set(tried), set(), "other lines")
+
+
+def check_all_tried(suite: Suite, folder: str) -> None:
+    """Each row has a use, or stands in the list of those without."""
+    first = [row.names[0] for row in table()]
+    expect([name for name in first if not USES.get(name) and name not in NOT_TRIED], [], "rows without a use")
+    names = {name for row in table() for name in row.names}
+    expect([name for name in [*USES, *NOT_TRIED] if name not in names], [], "uses without a row")
+
+
+BUG = re.compile(r"^static void bug_(\w+)\(void\)", re.M)
+
+
+def lines_of(path: str) -> List[str]:
+    """The lines of the program at which faults are, beside those of the headers' inline functions that they are in."""
+    found = []
+    side = side_of(path)
+    for fault in side.faults:
+        module, base = side.module(fault.place)
+        said = run(["addr2line", "-i", "-e", module, hex(fault.place - 1 - base)], ".").stdout.decode().split("\n")
+        found.append(os.path.basename(said[-2].split(" (")[0]))
+    return found
+
+
+def check_common_bugs(suite: Suite, folder: str, compiler: Compiler, flags: Sequence[str]) -> None:
+    """Each is found at its line."""
+    source = f"{TESTS}/common_bugs.c"
+    with open(source, encoding="ascii") as file:
+        text = file.read()
+    # A call that ends a function would have its caller's place.
+    kept = ["-w", "-fno-optimize-sibling-calls", *flags]
+    compiler.c(folder, [source], f"{folder}/bugs", *kept)
+    for match in BUG.finditer(text):
+        trace = f"{folder}/{match.group(1)}.trace"
+        ran = run(["./bugs", match.group(1)], folder, ASANCOL_TRACE=trace, ASANCOL_WHERE="1")
+        line = text.count("\n", 0, match.start()) + 1
+        expect((ran.returncode, reports(suite.asancol, trace)[0]), (0, 1), match.group(1))
+        expect(set(lines_of(trace)), {f"common_bugs.c:{line}"}, match.group(1))
+
+
+def check_good_calls(suite: Suite, folder: str, compiler: Compiler, flags: Sequence[str]) -> None:
+    """What the caller sees is as without the recorder, and nothing is reported."""
+    source = f"{TESTS}/library_calls.c"
+    compiler.c(folder, [source], f"{folder}/plain", "-w", "-pthread", *flags, native=True)
+    compiler.c(folder, [source], f"{folder}/good", "-w", "-pthread", *flags)
+    plain = run(["./plain"], folder)
+    for settings in ({}, {"ASANCOL_TRACE": "good.trace"}, {"ASANCOL_HALT": "1"}):
+        ran = run(["./good"], folder, **settings)
+        expect((ran.returncode, ran.stderr, ran.stdout), (0, b"", plain.stdout), f"with {settings}")
+    _, texts, end = reports(suite.asancol, f"{folder}/good.trace")
+    expect((texts, end.split()[0]), ([], "closed"))
+
+
+def check_own_names(suite: Suite, folder: str, compiler: Compiler) -> None:
+    """Functions and variables of a program that have names of the C library's, in one object and in a shared one."""
+    source = f"{TESTS}/own_calls.c"
+    wanted = b"5 8 abc 16 3.5 1 2 3 4 5 6 7 8 9\n"
+    for flags in ([], ["-s"], ["-fvisibility=hidden"], ["-O2"], ["-no-pie", "-fno-pie"]):
+        compiler.c(folder, ["-c", source], f"{folder}/own.o", "-w", "-DOWN", "-fno-builtin", *flags[:1])
+        compiler.c(folder, [source, "own.o"], f"{folder}/own", "-w", "-fno-builtin", *flags)
+        ran = run(["./own"], folder, ASANCOL_TRACE="own.trace")
+        expect((ran.returncode, ran.stdout, ran.stderr), (0, wanted, b""), f"{flags}")
+        os.unlink(f"{folder}/own.trace")
+
+
+OBJECT = """
+#include <stdio.h>
+#include <stdlib.h>
+#include <string.h>
+#include <unistd.h>
+int use(char *p, size_t n)
+{
+    int length = snprintf(p, n, "%s", "12345678");
+    return length + (int)strlen(p);
+}
+"""
+PROGRAM = """
+#include <dlfcn.h>
+#include <stdlib.h>
+int use(char *, size_t);
+int main(int count, char **words)
+{
+    volatile size_t size = 9;
+    char *p = malloc(count > 1 ? 9 : 8);
+#ifdef OPENS
+    void *library = dlopen("./libused.so", RTLD_NOW);
+    int (*use)(char *, size_t) = library ? (int (*)(char *, size_t))dlsym(library, "use") : NULL;
+#endif
+    int length = use(p, size);
+    free(p);
+    return length - 16;
+}
+"""
+
+
+def check_objects(suite: Suite, folder: str, compiler: Compiler) -> None:
+    """Calls of a shared object, linked or opened; also in a program that has no recorder."""
+    write(folder, used_c=OBJECT, uses_c=PROGRAM)
+    compiler.c(folder, ["used.c"], f"{folder}/libused.so", "-fPIC", "-shared", "-w", "-Wl,-z,defs")
+    for flags in (["-L.", "-lused", "-Wl,-rpath,$ORIGIN"], ["-DOPENS", "-ldl"]):
+        compiler.c(folder, ["uses.c", *flags], f"{folder}/uses", "-w")
+        for words, wanted in (([], ["used.c:8", "used.c:9"]), (["good"], [])):
+            ran = run(["./uses", *words], folder, ASANCOL_TRACE="u.trace", ASANCOL_WHERE="1")
+            expect((ran.returncode, ran.stderr), (0, b""))
+            said = {it.line for it in placed(suite.asancol, f"{folder}/u.trace")[0]}
+            expect(sorted(said), wanted, f"{flags} {words}")
+            os.unlink(f"{folder}/u.trace")
+        expect(run(["./uses"], folder).returncode, 0, "off")
+        expect(run(["./uses"], folder, ASANCOL_HALT="1").returncode, -6, "to end at the first fault")
+        compiler.c(folder, ["uses.c", *flags], f"{folder}/plain", "-w", native=True)
+        expect(run(["./plain"], folder).returncode, 0, "in a program that has no recorder")
+
+
+def check_page(suite: Suite, folder: str) -> None:
+    """The page is what the rows say."""
+    made = run([f"{TESTS}/calls_page.py"], folder)
+    with open(f"{RECORDER}/../docs/CALLS.md", "rb") as file:
+        expect((made.returncode, made.stdout == file.read()), (0, True), "docs/CALLS.md, by calls_page.py")
+
+
+FORTIFIED = ["-O2", "-D_FORTIFY_SOURCE=2"]
+
+
+def tests(suite: Suite, compiler: Compiler) -> None:
+    for level in ("-O0", "-O2"):
+        suite.test(f"{compiler} calls, each row {level}", check_rows, compiler, level)
+    suite.test(f"{compiler} calls, all rows tried", check_all_tried)
+    for flags in (["-O0"], ["-O2"], FORTIFIED):
+        suite.test(f"{compiler} calls, common bugs {' '.join(flags)}", check_common_bugs, compiler, flags)
+    for flags in (["-O0"], ["-O2"], FORTIFIED, ["-no-pie", "-fno-pie"], ["-static"]):
+        suite.test(f"{compiler} calls, good ones {' '.join(flags)}", check_good_calls, compiler, flags)
+    suite.test(f"{compiler} calls, own names", check_own_names, compiler)
+    suite.test(f"{compiler} calls, shared objects", check_objects, compiler)
+    suite.test(f"{compiler} calls, the page", check_page)

@@ -1,0 +1,201 @@
+#!/usr/bin/env python3
+"""Prints docs/CALLS.md, which says of each row of recorder/calls.def what is recorded.
+
+usage: recorder/tests/calls_page.py > docs/CALLS.md
+"""
+
+import os
+import re
+import sys
+from typing import Dict, List
+
+TESTS = os.path.dirname(os.path.abspath(__file__))
+sys.path.insert(0, TESTS)
+
+from calls import Row, rows, split  # noqa: E402
+
+HEAD = """# Calls of the C library
+
+What the recorder records of a call, as loads and stores at the place of the call
+([RECORDER.md](RECORDER.md#what-is-recorded)). If all of it is good, that is nothing. The table is made from
+[calls.def](../recorder/calls.def), by `recorder/tests/calls_page.py`.
+
+A name that the C library at hand does not have is left out when the recorder is built. Names that begin with `__` are
+those that headers put in the place of a function: `__..._chk` with `_FORTIFY_SOURCE`, `__isoc99_` and `__isoc23_` by
+the standard of C. What is read and written after the call counts as far as the result says. What goes out is looked at
+before the call and recorded after it.
+"""
+
+CONDITIONS = {
+    "GOT": "if the result is above 0",
+    "DONE": "if the result is 0",
+    "result": "if there is a result",
+    "result >= 0": "if the result is not negative",
+}
+
+# What a word with its arguments means, {0} being the first.
+MEANINGS = {
+    "READS_FIRST": "reads the first byte of {0}",
+    "READS_STRING": "reads the string {0}",
+    "WRITES_STRING": "writes the string {0}",
+    "READS_WIDE": "reads the wide string {0}",
+    "WRITES_WIDE": "writes the wide string {0}",
+    "READS_ARRAY": "reads {1} elements of {0}",
+    "WRITES_ARRAY": "writes {1} elements of {0}",
+    "READS_HEADS": "reads the list {0}",
+    "WRITES_PIECES": "writes the first {2} bytes of the pieces",
+    "SENT": "has read the first {1} bytes of {0}",
+    "SENT_PIECES": "has read the first {2} bytes of the pieces",
+    "ALLOCATED": "what it allocates is its caller's malloc",
+    "APPENDS": "reads both strings up to their ends, {1} by at most {2} bytes, and writes from the end of {0} on",
+    "WIDE_APPENDS": "reads both strings up to their ends, {1} by at most {2} letters, and writes from the end of {0} on",
+    "COMPARES": "reads both strings up to the first difference, at most {2} bytes",
+    "COMPARES_FOLDED": "reads both strings up to the first difference, at most {2} bytes",
+    "WIDE_COMPARES": "reads both strings up to the first difference, at most {2} letters",
+    "READS_NUMBER": "reads the number and what follows it; writes {2}",
+    "READS_WIDE_NUMBER": "reads the number and what follows it; writes {2}",
+    "READS_DIGITS": "reads the number and the byte after it",
+    "READS_REAL": "reads the number and the byte after it",
+    "READS_MESSAGE": "reads the head of the message, its list of pieces, its address and its control data",
+    "WRITES_MESSAGE": "writes the pieces, the address and the control data of the message",
+    "ROOM": "reads `*{0}`",
+    "WRITES_ADDRESS": "writes {0}, as far as `*{1}` says and there was room",
+    "READS_SET": "reads the set {0}",
+    "WRITES_FOUND": "writes {1}, and {0} if something was found",
+}
+SILENT = ("ALLOCATES", "SENDS", "SENDS_PIECES")
+
+
+def code(text: str) -> str:
+    if text.isidentifier() and text != "SIZE_MAX":
+        return f"`{text}`"
+    within = re.fullmatch(r"(?:WIDE_)?LENGTH_WITHIN\((.*)\)", text)
+    if within:
+        return f"at most `{split(within.group(1))[1]}`"
+    text = re.sub(r"\(size_t\)|\(const char \*\)", "", text)
+    return f"`{text.replace('LEAST(', 'least(')}`"
+
+
+def bytes_of(verb: str, start: str, size: str) -> str:
+    pointed = re.fullmatch(r"sizeof \*(\w+)", size)
+    if pointed:
+        return f"{verb} `*{pointed.group(1)}`"
+    if start == "result ? result : in":
+        return f"{verb} `in` from its end on, as far as the call has come"
+    string = re.fullmatch(r"(strlen|wcslen)\((\w+)\) \+ 1", size)
+    if string and string.group(2) == start:
+        return f"{verb} the {'wide ' if string.group(1) == 'wcslen' else ''}string `{start}`"
+    if string:
+        return f"{verb} as much of `{start}`"
+    if "SIZE_TO" in size or "SIZE_TO" in start or "strlen" in size or "wcslen" in size:
+        return f"{verb} {code(start if start.isidentifier() else split(size)[0])}, as far as the call has come"
+    return f"{verb} {code(size)} bytes of {code(start)}"
+
+
+def statement(text: str) -> str:
+    """What one statement of a row says; nothing if it prepares another."""
+    text = text.strip()
+    word, _, rest = text.partition("(")
+    arguments = split(rest[:-1]) if rest else []
+    if word in SILENT or re.match(r"(size_t|char \*|wchar_t \*|socklen_t)", text):
+        return ""
+    if word in ("READS", "WRITES"):
+        return bytes_of(word.lower(), arguments[0], arguments[1])
+    if word in ("READS_ARRAY", "WRITES_ARRAY") and "wcslen" in arguments[1]:
+        return bytes_of(word.partition("_")[0].lower(), arguments[0], arguments[1])
+    if word in MEANINGS:
+        shown = [code(it) if word != "ROOM" else it for it in arguments]
+        if word == "WRITES_ADDRESS":
+            shown[1] = arguments[1]
+        said = MEANINGS[word].format(*shown)
+        return re.sub(r",[^,]*at most `SIZE_MAX` \w+", "", said).replace("  ", " ")
+    return f"`{text}`"
+
+
+def statements(text: str) -> List[str]:
+    """The statements of a text, apart by semicolons outside of braces."""
+    parts, depth = [""], 0
+    for letter in text:
+        depth += (letter in "{(") - (letter in "})")
+        if letter == ";" and depth == 0:
+            parts.append("")
+        else:
+            parts[-1] += letter
+        if letter == "}" and depth == 0:
+            parts.append("")
+    return [part.strip() for part in parts if part.strip()]
+
+
+def condition(text: str) -> str:
+    return CONDITIONS.get(text, f"if `{text.replace('GOT', 'result > 0').replace('DONE', 'result == 0')}`")
+
+
+def meaning(text: str) -> str:
+    """What the statements of one part of a row say."""
+    said = []
+    for part in statements(text):
+        before, rest = "", part
+        while rest.startswith(("if (", "for (")):
+            end = closing(rest, rest.index("("))
+            before += "for each message, " if rest.startswith("for") else condition(rest[4:end]) + ", "
+            rest = rest[end + 1 :].strip()
+        inside = statements(rest[1:-1]) if rest.startswith("{") else [rest]
+        words = " and ".join(word for word in map(statement, inside) if word)
+        if words:
+            said.append(before + words)
+    return "; ".join(said)
+
+
+def closing(text: str, at: int) -> int:
+    depth = 0
+    for i in range(at, len(text)):
+        depth += (text[i] == "(") - (text[i] == ")")
+        if depth == 0:
+            return i
+    raise ValueError(text)
+
+
+def with_values(text: str) -> str:
+    """The text with the values of the sizes that it gives names to."""
+    for name, value in re.findall(r"size_t (size|count) = ([^;]*);", text):
+        text = text.replace(f"size_t {name} = {value};", "")
+        text = re.sub(rf"\b{name}\b", value, text)
+    return text
+
+
+def line(row: Row) -> str:
+    names = list(row.names)
+    if row.word in ("PRINT", "SCAN"):
+        names.append(row.rest[0])
+        before, after = (row.rest[4:] + ["", ""])[:2]
+        if row.word == "PRINT":
+            before = "; ".join(filter(None, ["reads the format and what it says of its arguments", meaning(before)]))
+            after = meaning(after)
+        else:
+            before, after = meaning(before), "writes what the format says, as many values as the result"
+    else:
+        before, after = row.rest[-2:]
+        before, after = meaning(with_values(before)), meaning(after)
+    parameters = row.parameters()
+    return f"| {', '.join(f'`{name}`' for name in names)} | `{parameters}` | {before} | {after} |"
+
+
+def sections(path: str) -> Dict[str, str]:
+    """The parts of the table, by the titles of their comments."""
+    with open(path, encoding="ascii") as file:
+        text = file.read()
+    parts = re.split(r"^/\* (.*?) \*/\n", text.partition("*/")[2], flags=re.M | re.S)[1:]
+    return dict(zip(parts[::2], parts[1::2]))
+
+
+def page(path: str) -> str:
+    text = HEAD
+    for title, part in sections(path).items():
+        text += f"\n## {title.split('.')[0].split(':')[0].split(',')[0]}\n\n"
+        text += "| functions | parameters | before the call | after it |\n|---|---|---|---|\n"
+        text += "".join(line(row) + "\n" for row in rows(part))
+    return text
+
+
+if __name__ == "__main__":
+    sys.stdout.write(page(os.path.join(os.path.dirname(TESTS), "calls.def")))

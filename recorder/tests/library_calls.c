@@ -1,0 +1,186 @@
+/* Calls of the C library that do nothing wrong, and where what the caller sees could differ: results, errno, signals in
+   the middle, cancellation, and what goes out to somebody who frees it. It prints what it sees. */
+#define _GNU_SOURCE
+#include <errno.h>
+#include <fcntl.h>
+#include <limits.h>
+#include <pthread.h>
+#include <signal.h>
+#include <stddef.h>
+#include <stdint.h>
+#include <stdio.h>
+#include <stdlib.h>
+#include <string.h>
+#include <sys/socket.h>
+#include <sys/stat.h>
+#include <sys/time.h>
+#include <sys/uio.h>
+#include <time.h>
+#include <unistd.h>
+#include <wchar.h>
+
+static volatile int handled;
+
+static void handle(int number)
+{
+    (void)number;
+    handled++;
+}
+
+/* The block, of which the compiler does not know how large it is: else it would refuse what is not done in full. */
+static char *hidden(size_t size)
+{
+    char *volatile made = malloc(size);
+    return made;
+}
+
+/* As much as was read counts, and nothing where the call failed. */
+static void partial_results(void)
+{
+    int ends[2], made = pipe(ends);
+    char *five = hidden(5);
+    volatile size_t more = 100;
+    made += (int)write(ends[1], "abcde", 5);
+    printf("%d %zd %.5s\n", made, read(ends[0], five, more), five);
+    errno = 0;
+    printf("%zd %d\n", read(-1, five, more), errno);
+    fcntl(ends[0], F_SETFL, O_NONBLOCK);
+    printf("%zd %d\n", read(ends[0], five, more), errno == EAGAIN);
+    FILE *stream = fmemopen((char[]){"1\n2345"}, 6, "r");
+    printf("%d ", fgets(five, (int)more, stream) != NULL);
+    printf("%zu\n", fread(five, 2, more / 2, stream));
+    printf("%d\n", snprintf(five, 5, "%s", "abcdefgh"));
+    printf("%d\n", snprintf(NULL, 0, "%s", "abcdefgh"));
+    struct iovec pieces[2] = {{five, 5}, {five, 5}};
+    made = (int)write(ends[1], "abc", 3);
+    pieces[1].iov_base = NULL;
+    printf("%zd\n", readv(ends[0], pieces, 2));
+    free(five);
+    fclose(stream);
+}
+
+static void formats(void)
+{
+    char small[3] = {'a', 'b', 'c'}, word[8], letters[3];
+    int number = 0, other = 0;
+    long large = 0;
+    double real = 0;
+    printf("%.3s|%.*s|%5.2s|%-4d|%ld|%Lf|%g|%c|%%|%p|%ls|%.2ls\n", small, 2, small, small, 1, 2L, 3.0L, 4.0, 'x', NULL,
+           L"wide", L"abc");
+    printf("%2$s %1$d\n", 7, "positions");
+    printf("%s %hhd %hu %jd %zu %td\n", "lengths", (char)1, (unsigned short)2, (intmax_t)3, (size_t)4, (ptrdiff_t)5);
+    printf("%d", sscanf("12 abc 3.5 xyz 99", "%d %7s %lf %3c %ld", &number, word, &real, letters, &large));
+    printf(" %d %s %g %.3s %ld\n", number, word, real, letters, large);
+    printf("%d %d\n", sscanf("5 6", "%*d %d", &other), other);
+    printf("%d %s\n", sscanf("aabbc", "%7[ab]%n", word, &number), word);
+    printf("%d\n", sscanf("x", "%d %s", &number, (char *)NULL));
+}
+
+static void numbers(void)
+{
+    char *end, digits[2] = {'4', 'x'};
+    errno = 0;
+    long value = strtol("99999999999999999999", &end, 10);
+    printf("%d %d %d\n", value == LONG_MAX, errno == ERANGE, *end);
+    errno = 0;
+    end = NULL;
+    value = strtol("12", &end, 99);
+    printf("%ld %d %d\n", value, errno == EINVAL, end == NULL);
+    printf("%d %d %g\n", atoi(digits), atoi(" -7 "), atof("2.5e1x"));
+    printf("%ld %s\n", strtol(" +z", &end, 10), end);
+}
+
+/* errno is what the call has left, also where it was recorded. */
+static void keeps_errno(void)
+{
+    char *p = malloc(8);
+    volatile size_t size = 8;
+    errno = 77;
+    printf("%d ", snprintf(p, size, "%d", 5));
+    printf("%d ", errno);
+    errno = 77;
+    size = (size_t)(strlen(p) + (size_t)puts("errno"));
+    printf("%d %d\n", errno, open("/no/such/file", O_RDONLY) + errno);
+    free(p);
+}
+
+static void interrupted(void)
+{
+    struct sigaction action = {.sa_handler = handle};
+    struct itimerval soon = {{0, 0}, {0, 20000}};
+    int ends[2], made = pipe(ends);
+    char byte;
+    sigaction(SIGALRM, &action, NULL);
+    setitimer(ITIMER_REAL, &soon, NULL);
+    ssize_t count = read(ends[0], &byte, 1);
+    printf("%d %zd %d %d\n", made, count, errno == EINTR, handled);
+    struct timespec time = {5, 0}, left = {0, 0};
+    setitimer(ITIMER_REAL, &soon, NULL);
+    printf("%d %d\n", nanosleep(&time, &left), left.tv_sec == 4);
+}
+
+static void clean_up(void *unused)
+{
+    (void)unused;
+    puts("cleaned up");
+}
+
+static int waiting[2];
+
+static void *waits(void *unused)
+{
+    char bytes[8];
+    pthread_cleanup_push(clean_up, unused);
+    printf("%zd\n", read(waiting[0], bytes, sizeof bytes));
+    pthread_cleanup_pop(0);
+    return NULL;
+}
+
+static void cancelled(void)
+{
+    pthread_t thread;
+    void *result;
+    if (pipe(waiting) != 0 || pthread_create(&thread, NULL, waits, NULL) != 0)
+        return;
+    usleep(20000);
+    pthread_cancel(thread);
+    pthread_join(thread, &result);
+    printf("%d\n", result == PTHREAD_CANCELED);
+}
+
+/* Who gets a block's address frees the block, before the call that has sent it returns. */
+static void *frees(void *unused)
+{
+    char *p;
+    while (read(waiting[0], &p, sizeof p) == sizeof p)
+        free(p);
+    return unused;
+}
+
+static void sends_its_own(void)
+{
+    pthread_t thread;
+    if (pipe(waiting) != 0 || pthread_create(&thread, NULL, frees, NULL) != 0)
+        return;
+    for (int i = 0; i < 20000; i++) {
+        char **p = malloc(sizeof *p);
+        *p = (char *)p;
+        if (write(waiting[1], p, sizeof *p) != sizeof *p)
+            puts("not written");
+    }
+    close(waiting[1]);
+    pthread_join(thread, NULL);
+}
+
+int main(void)
+{
+    setvbuf(stdout, NULL, _IOLBF, 0);
+    partial_results();
+    formats();
+    numbers();
+    keeps_errno();
+    interrupted();
+    cancelled();
+    sends_its_own();
+    return 0;
+}

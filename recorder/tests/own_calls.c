@@ -1,0 +1,41 @@
+/* A program with functions and variables of its own that have names of the C library's, and its own parameters. With
+   OWN it is the file that has them. */
+struct nine {
+    long numbers[9];
+};
+#ifdef OWN
+struct nine send(long a, double b, long c, long d, long e, long f, long g, long h, long i)
+{
+    return (struct nine){{a, (long)b, c, d, e, f, g, h, i}};
+}
+int getline(char *line, int size)
+{
+    line[size - 1] = 0;
+    return size * 2;
+}
+double read(double one, double other)
+{
+    return one + other;
+}
+int index = 4, link[100] = {1, 2, 3};
+const char *access = "abc";
+#else
+struct nine send(long a, double b, long c, long d, long e, long f, long g, long h, long i);
+int getline(char *line, int size);
+double read(double one, double other);
+int printf(const char *format, ...);
+extern int index, link[100];
+extern const char *access;
+int main(void)
+{
+    char line[8];
+    struct nine sent = send(1, 2.0, 3, 4, 5, 6, 7, 8, 9);
+    index++;
+    link[99] = index;
+    printf("%d %d %s %d %g", index, link[2] + link[99], access, getline(line, 8), read(1.5, 2));
+    for (int i = 0; i < 9; i++)
+        printf(" %ld", sent.numbers[i]);
+    printf("\n");
+    return 0;
+}
+#endif
