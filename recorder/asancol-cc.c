@@ -351,20 +351,26 @@ static void take_refused_sanitizers(struct wish *wish, const char *word, const c
         wish->refusal = must(strdup(word));
 }
 
+/* The value of an option, which is the word after it. */
+static void take_value(struct wish *wish, const char *option, const char *word)
+{
+    if (strcmp(option, "-x") == 0)
+        take_language(wish, word);
+    else if (strcmp(option, "-L") == 0)
+        take_folder(wish, word);
+    else if (strcmp(option, "-Xlinker") == 0)
+        take_linker_word(wish, word, strlen(word));
+    else if (strcmp(option, "-o") == 0 || strcmp(option, "--output") == 0)
+        wish->output = must(strdup(word));
+}
+
 static void look_at(struct wish *wish, const char *word)
 {
     static const char sanitize[] = "-fsanitize=", no_sanitize[] = "-fno-sanitize=";
     const char *option = wish->option;
     wish->option = NULL;
     if (option != NULL) {
-        if (strcmp(option, "-x") == 0)
-            take_language(wish, word);
-        else if (strcmp(option, "-L") == 0)
-            take_folder(wish, word);
-        else if (strcmp(option, "-Xlinker") == 0)
-            take_linker_word(wish, word, strlen(word));
-        else if (strcmp(option, "-o") == 0 || strcmp(option, "--output") == 0)
-            wish->output = must(strdup(word));
+        take_value(wish, option, word);
     } else if (word[0] == '@') {
         take_response_file(wish, word);
     } else if (begins(word, "-l") && word[2] != 0) {

@@ -11,9 +11,11 @@
 #define TEXT_OF(word) #word
 #define TEXT(word) TEXT_OF(word)
 
-_Static_assert(offsetof(struct meeting, library) == 8 && offsetof(struct meeting, system) == 24, "as the stubs have it");
+_Static_assert(offsetof(struct meeting, library) == 8, "as the stubs have it");
+_Static_assert(offsetof(struct meeting, system) == 24, "as the stubs have it");
 
-/* `label` goes to `check` if the code of `tested` is in one of the two ranges of the meeting page, and else to `real`. */
+/* `label` goes to `check` if the code of `tested` is in one of the two ranges of the meeting page, and else to `real`.
+   */
 #define GUARD(label, tested, check, real)                                                                              \
     __asm__(".pushsection .text\n"                                                                                     \
             ".p2align 4\n"                                                                                             \

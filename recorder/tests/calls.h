@@ -195,6 +195,8 @@ static void prepare(void)
     hello = open("/dev/zero", O_RDONLY);
     nowhere = fopen("/dev/null", "w");
     wide_nowhere = fopen("/dev/null", "w");
-    if (zero < 0 || null < 0 || nowhere == NULL || wide_nowhere == NULL || socketpair(AF_UNIX, SOCK_STREAM, 0, pair) != 0)
+    if (zero < 0 || null < 0 || nowhere == NULL || wide_nowhere == NULL)
+        exit(9);
+    if (socketpair(AF_UNIX, SOCK_STREAM, 0, pair) != 0)
         exit(9);
 }

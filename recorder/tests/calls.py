@@ -130,7 +130,8 @@ USES: Dict[str, Sequence[Use]] = {
     "wcscat": [(wide("abc"), "WIDE(clear(room)), WIDE(p)"), (16, 'WIDE(clear(p)), L"abc"')],
     "__wcscat_chk": [(wide("abc"), "WIDE(clear(room)), WIDE(p), ANY"), (16, 'WIDE(clear(p)), L"abc", ANY')],
     "wcsncat": [(wide("abc"), "WIDE(clear(room)), WIDE(p), 20"), (16, 'WIDE(clear(p)), L"abcdef", 3')],
-    "__wcsncat_chk": [(wide("abc"), "WIDE(clear(room)), WIDE(p), 20, ANY"), (16, 'WIDE(clear(p)), L"abcdef", 3, ANY')],
+    "__wcsncat_chk": [(wide("abc"), "WIDE(clear(room)), WIDE(p), 20, ANY"),
+                      (16, 'WIDE(clear(p)), L"abcdef", 3, ANY')],
     "wcscmp": [(wide("abc"), 'WIDE(p), L"abc"'), (wide("abc"), 'L"abc", WIDE(p)')],
     "wcsncmp": [(wide("abc"), 'WIDE(p), L"abc", 20'), (wide("abc"), 'L"abc", WIDE(p), 4')],
     "wcschr": [(wide("abc"), "WIDE(p), 'z'")],
@@ -298,7 +299,8 @@ USES: Dict[str, Sequence[Use]] = {
     "getxattr": [("/dev", 'p, "user.a", room, 9'), ("user.a", '"/dev", p, room, 9')],
     "fgetxattr": [("user.a", "null, p, room, 9")],
     "listxattr": [("/dev", "p, room, 9")],
-    "setxattr": [("/no", 'p, "user.a", room, 9, 0'), ("user.a", '"/no", p, room, 9, 0'), (9, '"/no", "user.a", p, 9, 0')],
+    "setxattr": [("/no", 'p, "user.a", room, 9, 0'), ("user.a", '"/no", p, room, 9, 0'),
+                 (9, '"/no", "user.a", p, 9, 0')],
     "fsetxattr": [("user.a", "-1, p, room, 9, 0"), (9, '-1, "user.a", p, 9, 0')],
     # Time.
     "time": [(8, "(time_t *)p")],
@@ -349,7 +351,8 @@ USES: Dict[str, Sequence[Use]] = {
     "confstr": [("/bin:/usr/bin", "_CS_PATH, p, 99")],
     "__confstr_chk": [("/bin:/usr/bin", "_CS_PATH, p, 99, ANY")],
     "getresuid": [(4, "(uid_t *)p, (uid_t *)room, (uid_t *)room"), (4, "(uid_t *)room, (uid_t *)room, (uid_t *)p")],
-    "getgrouplist": [("root", "p, 0, (gid_t *)room, (int *)size_of(9)"), (4, '"root", 0, (gid_t *)p, (int *)size_of(1)')],
+    "getgrouplist": [("root", "p, 0, (gid_t *)room, (int *)size_of(9)"),
+                     (4, '"root", 0, (gid_t *)p, (int *)size_of(1)')],
     "initgroups": [],  # changes what the test may do
     "getpwnam": [("root", "p")],
     "getgrnam": [("root", "p")],
@@ -366,7 +369,8 @@ USES: Dict[str, Sequence[Use]] = {
     "pthread_setname_np": [("name", "pthread_self(), p")],
     "pthread_getname_np": [("name", "pthread_self(), p, 16")],
     # Hosts and networks.
-    "inet_ntop": [(4, "AF_INET, p, room, 99"), (16, "AF_INET6, p, room, 99"), ("0.0.0.0", "AF_INET, clear(room), p, 99")],
+    "inet_ntop": [(4, "AF_INET, p, room, 99"), (16, "AF_INET6, p, room, 99"),
+                  ("0.0.0.0", "AF_INET, clear(room), p, 99")],
     "inet_pton": [("1.2.3.4", "AF_INET, p, room"), (4, 'AF_INET, "1.2.3.4", p'), (16, 'AF_INET6, "::1", p')],
     "inet_aton": [("1.2.3.4", "p, (struct in_addr *)room"), (4, '"1.2.3.4", (struct in_addr *)p')],
     "inet_addr": [("1.2.3.4", "p")],
@@ -375,7 +379,8 @@ USES: Dict[str, Sequence[Use]] = {
     "getnameinfo": [(16, f"{ADDRESS}, 16, room, 99, NULL, 0, NI_NUMERICHOST")],
     "gethostbyname": [("127.0.0.1", "p")],
     "gethostbyname2": [("127.0.0.1", "p, AF_INET")],
-    "gethostbyname_r": [("127.0.0.1", "p, (struct hostent *)room, room + 99, 999, (struct hostent **)room, (int *)room"),
+    "gethostbyname_r": [("127.0.0.1", "p, (struct hostent *)room, room + 99, 999, (struct hostent **)room, "
+                                      "(int *)room"),
                         (32, '"127.0.0.1", (struct hostent *)p, room + 99, 999, (struct hostent **)room, (int *)room')],
     "gethostbyname2_r": [("127.0.0.1", "p, AF_INET, (struct hostent *)room, room + 99, 999, (struct hostent **)room, "
                                        "(int *)room")],

@@ -48,7 +48,8 @@ MEANINGS = {
     "SENT_PIECES": "has read the first {2} bytes of the pieces",
     "ALLOCATED": "what it allocates is its caller's malloc",
     "APPENDS": "reads both strings up to their ends, {1} by at most {2} bytes, and writes from the end of {0} on",
-    "WIDE_APPENDS": "reads both strings up to their ends, {1} by at most {2} letters, and writes from the end of {0} on",
+    "WIDE_APPENDS": "reads both strings up to their ends, {1} by at most {2} letters, "
+    "and writes from the end of {0} on",
     "COMPARES": "reads both strings up to the first difference, at most {2} bytes",
     "COMPARES_FOLDED": "reads both strings up to the first difference, at most {2} bytes",
     "WIDE_COMPARES": "reads both strings up to the first difference, at most {2} letters",
