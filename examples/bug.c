@@ -2,5 +2,5 @@
 #include <stdlib.h>
 #include <string.h>
 int main(int count, char **words) {
-    char *copy = malloc(strlen(words[count - 1]));
-    return puts(strcpy(copy, words[count - 1])) < 0; }
+    char *word = words[count - 1], *copy = malloc(strlen(word));
+    return strcpy(copy, word) == NULL || puts(word) < 0; }

@@ -225,8 +225,13 @@ def check_first_steps(suite: Suite, folder: str) -> None:
         [f"{where}/bin/asancol-run", "--", "./bug", "Alice"],
         cwd=folder, env=environment, capture_output=True, text=True, check=False,
     )
-    expect_ran(Ran(ran.returncode, ran.stdout, ran.stderr), 99, "heap-buffer-overflow", "bug.c:6", "bug.c:5")
+    expect_ran(Ran(ran.returncode, ran.stdout, ran.stderr), 99, "bug.c:6", "bug.c:5")
     expect(ran.stdout, "Alice\n", "what it prints")
+    with open(f"{TOP}/README.md", encoding="utf-8") as page, open(f"{TOP}/examples/bug.c", encoding="utf-8") as source:
+        text = page.read()
+        expect(source.read() in text, True, "that the page has the program")
+    lines = [it for it in ran.stderr.splitlines() if not it.startswith(("==", "    #"))]
+    expect([it for it in lines if it not in text], [], "what the page does not have")
     modules = f"{where}/lib/asancol/asancol_report"
     expect(os.path.isdir(f"{modules}/__pycache__"), True, "that the modules are compiled")
     shutil.rmtree(f"{modules}/__pycache__")
