@@ -215,7 +215,7 @@ USES: Dict[str, Sequence[Use]] = {
     "sendmsg": [(8, "filled(), message(p, 8), 0")],
     "sendmmsg": [(64, "filled(), (struct mmsghdr *)p, 1, 0")],
     "bind": [(110, f"pair[0], {ADDRESS}, 110")],
-    "accept": [],  # below, with a name of its own
+    "accept": [],  # needs somebody who connects
     "accept4": [],
     "socketpair": [(8, "AF_UNIX, SOCK_STREAM, 0, (int *)p")],
     "setsockopt": [(4, "pair[0], SOL_SOCKET, SO_REUSEADDR, p, 4")],
@@ -416,8 +416,8 @@ USES: Dict[str, Sequence[Use]] = {
 for name in ("fscanf", "sscanf"):
     USES[f"__isoc99_{name}"] = USES[f"__isoc23_{name}"] = USES[name]
 
-# What is not tried here: it needs a system that is not at hand everywhere, or a second process, or stands in programs
-# of its own below.
+# Rows that no test tries: they need a system that is not at hand everywhere, a second process or standard input, or
+# change what the tests may do.
 NOT_TRIED = {
     "process_vm_readv", "tcgetattr", "msgrcv", "ttyname_r", "__ttyname_r_chk", "flistxattr", "if_indextoname",
     "gethostname", "__gethostname_chk", "getgroups", "__getgroups_chk", "gethostbyaddr", "regfree", "scanf",
