@@ -3,7 +3,7 @@ use Rattle.std.proofs.Common.{◌≡◌, ℕ, ◌+◌, ◌≤◌, ◌<◌, Bool,
 use Rattle.std.proofs.Common.{subst, ◌∙◌, arith, inl, inr}
 use Rattle.std.specs.Prelude.{not, filter, Contains}
 use Rattle.std.specs.List.{IsDistinct, list_any}
-use Rattle.std.proofs.lemmas.Bool.{both_ways, not-true, false_from_ne_true, eqb-true, eq-eqb}
+use Rattle.std.proofs.lemmas.Bool.{both_ways, not-true, and_right, false_from_ne_true, eqb-true, eq-eqb}
 use Rattle.std.proofs.lemmas.Bool.Decides.{nat_tests}
 use Rattle.std.proofs.lemmas.List.Elements.{Contains-append_left, Contains-append_right, Contains-append_cases}
 use Rattle.trace_record.specs.declared.event.Event.{Event}
@@ -18,10 +18,10 @@ use Rattle.heap_book.proofs.NeverMeet.{meets-flip}
 use Rattle.asan_check.specs.Codes.{Freed}
 use Rattle.asan_check.specs.History.{block_of, live, held, admits, marks, with_marks, freed_mark, released_mark}
 use Rattle.asan_check.specs.History.{released_from}
-use Rattle.asan_check.specs.Laws.{since_malloc, since_free, NoPoisonShares, NoUnpoisonShares}
+use Rattle.asan_check.specs.Laws.{asks_for, since_malloc, since_free, NoPoisonShares, NoUnpoisonShares}
 use Rattle.asan_check.proofs.Steps.{eqb_flips, spans_apart, held_malloc}
 use Rattle.asan_check.proofs.Members.{in_none, in_head, in_tail, from_filtered, passes_any, none_passes, apart_across}
-use Rattle.asan_check.proofs.Members.{apart_left, apart_right, apart_beside, starts_once}
+use Rattle.asan_check.proofs.Members.{apart_left, apart_right, apart_beside, starts_once, meets_same}
 use Rattle.asan_check.proofs.Blocks.{admitted_apart}
 use Rattle.asan_check.proofs.Frames.{IsInSpan, block_leaves, freed_leaves, released_leaves, marked_leaves}
 use Rattle.asan_check.proofs.Frames.{poison_leaves, unpoison_leaves, unpoison_keeps}
@@ -172,42 +172,44 @@ live_inside bound (event.Malloc r ∷ past) b byte has above below clear =
           (NoPoisonShares-tail (event.Malloc r) _ _ _ (rw more at clear))
     ]
 
--- ---- the whole span of a live block, which no poison and no unpoison came near
+-- ---- a byte of a live block's span, where no poison and no unpoison came near a range around it
 
-pub live_span : (bound : ℕ) (past : List Event) (b : Extent) (byte : ℕ) → Contains (live bound past) b → IsInSpan b byte
-    →
-    NoPoisonShares (since_malloc bound past b) (span_from b) (span_to b)
-    → NoUnpoisonShares (since_malloc bound past b) (span_from b) (span_to b) →
+pub live_span : (bound : ℕ) (past : List Event) (b : Extent) (byte from to : ℕ) → Contains (live bound past) b
+    → IsInSpan b byte → from ≤ byte → byte < to → NoPoisonShares (since_malloc bound past b) from to
+    → NoUnpoisonShares (since_malloc bound past b) from to →
     state_of (marks bound past) byte ≡ cond (lies_in b.at (b.at + b.size) byte) Addressable HeapRedzone
-live_span bound [] b byte has in_span clear clear' = absurd (in_none b has)
-live_span bound (event.Load a ∷ past) b byte has in_span clear clear' =
-    live_span bound past b byte has in_span (NoPoisonShares-tail _ _ _ _ clear) (NoUnpoisonShares-tail _ _ _ _ clear')
-live_span bound (event.Store a ∷ past) b byte has in_span clear clear' =
-    live_span bound past b byte has in_span (NoPoisonShares-tail _ _ _ _ clear) (NoUnpoisonShares-tail _ _ _ _ clear')
-live_span bound (event.Poison s ∷ past) b byte has in_span clear clear' =
-    poison_leaves s.at (shade_size s) (span_from b) (span_to b) byte (clear s (in_head _ _)) in_span.from in_span.to _
-    (marks bound past)
-    ∙ live_span bound past b byte has in_span (NoPoisonShares-tail _ _ _ _ clear) (NoUnpoisonShares-tail _ _ _ _ clear')
-live_span bound (event.Unpoison r ∷ past) b byte has in_span clear clear' =
-    unpoison_leaves r.at r.size (span_from b) (span_to b) byte (clear' r (in_head _ _)) in_span.from in_span.to
-    (marks bound past)
-    ∙ live_span bound past b byte has in_span (NoPoisonShares-tail _ _ _ _ clear) (NoUnpoisonShares-tail _ _ _ _ clear')
-live_span bound (event.Free p ∷ past) b byte has in_span clear clear' =
+live_span bound [] b byte from to has in_span above below clear clear' = absurd (in_none b has)
+live_span bound (event.Load a ∷ past) b byte from to has in_span above below clear clear' =
+    live_span bound past b byte from to has in_span above below (NoPoisonShares-tail _ _ _ _ clear)
+    (NoUnpoisonShares-tail _ _ _ _ clear')
+live_span bound (event.Store a ∷ past) b byte from to has in_span above below clear clear' =
+    live_span bound past b byte from to has in_span above below (NoPoisonShares-tail _ _ _ _ clear)
+    (NoUnpoisonShares-tail _ _ _ _ clear')
+live_span bound (event.Poison s ∷ past) b byte from to has in_span above below clear clear' =
+    poison_leaves s.at (shade_size s) from to byte (clear s (in_head _ _)) above below _ (marks bound past)
+    ∙ live_span bound past b byte from to has in_span above below (NoPoisonShares-tail _ _ _ _ clear)
+    (NoUnpoisonShares-tail _ _ _ _ clear')
+live_span bound (event.Unpoison r ∷ past) b byte from to has in_span above below clear clear' =
+    unpoison_leaves r.at r.size from to byte (clear' r (in_head _ _)) above below (marks bound past)
+    ∙ live_span bound past b byte from to has in_span above below (NoPoisonShares-tail _ _ _ _ clear)
+    (NoUnpoisonShares-tail _ _ _ _ clear')
+live_span bound (event.Free p ∷ past) b byte from to has in_span above below clear clear' =
     let parts = live_free_cases bound past b p has in
     beside_live bound past b p byte parts.0 parts.1 in_span
-    ∙ live_span bound past b byte parts.0 in_span (NoPoisonShares-tail _ _ _ _ clear)
+    ∙ live_span bound past b byte from to parts.0 in_span above below (NoPoisonShares-tail _ _ _ _ clear)
     (NoUnpoisonShares-tail _ _ _ _ clear')
-live_span bound (event.Malloc r ∷ past) b byte has in_span clear clear' =
+live_span bound (event.Malloc r ∷ past) b byte from to has in_span above below clear clear' =
     elim (live_malloc_cases bound past b r has) [
       | inl (asked, ok, none) ↦ ap (λ ms. state_of ms byte) (laid bound past r b asked ok)
           ∙ own_byte b (marks bound past) byte in_span
       | inr (old, more) ↦
           beside_malloc bound past b r byte (Contains-append_left (live bound past) (held bound past) b old) in_span
-          ∙ live_span bound past b byte old in_span (NoPoisonShares-tail (event.Malloc r) _ _ _ (rw more at clear))
+          ∙ live_span bound past b byte from to old in_span above below
+          (NoPoisonShares-tail (event.Malloc r) _ _ _ (rw more at clear))
           (NoUnpoisonShares-tail (event.Malloc r) _ _ _ (rw more at clear'))
     ]
 
--- ---- the bytes of a held block, which no poison and no unpoison came near
+-- ---- a byte of a held block, where no poison and no unpoison came near a range around it
 
 -- the free itself
 freed_byte : (bound : ℕ) (past : List Event) (b : Extent) (p : Place) (byte : ℕ) → Contains (live bound past) b
@@ -232,39 +234,113 @@ freed_byte bound past b p byte has here stays above below =
     (bytes_in_span b byte above below))
     ∙ freed
 
-pub held_bytes : (bound : ℕ) (past : List Event) (b : Extent) (byte : ℕ) → Contains (held bound past) b → b.at ≤ byte
-    → byte < b.at + round_up b.size →
-    NoPoisonShares (since_free bound past b) b.at (b.at + round_up b.size)
-    → NoUnpoisonShares (since_free bound past b) b.at (b.at + round_up b.size) →
+pub held_bytes : (bound : ℕ) (past : List Event) (b : Extent) (byte from to : ℕ) → Contains (held bound past) b
+    → b.at ≤ byte → byte < b.at + round_up b.size → from ≤ byte → byte < to
+    → NoPoisonShares (since_free bound past b) from to → NoUnpoisonShares (since_free bound past b) from to →
     state_of (marks bound past) byte ≡ Freed
-held_bytes bound [] b byte has above below clear clear' = absurd (in_none b has)
-held_bytes bound (event.Load a ∷ past) b byte has above below clear clear' =
-    held_bytes bound past b byte has above below (NoPoisonShares-tail _ _ _ _ clear)
+held_bytes bound [] b byte from to has first last above below clear clear' = absurd (in_none b has)
+held_bytes bound (event.Load a ∷ past) b byte from to has first last above below clear clear' =
+    held_bytes bound past b byte from to has first last above below (NoPoisonShares-tail _ _ _ _ clear)
     (NoUnpoisonShares-tail _ _ _ _ clear')
-held_bytes bound (event.Store a ∷ past) b byte has above below clear clear' =
-    held_bytes bound past b byte has above below (NoPoisonShares-tail _ _ _ _ clear)
+held_bytes bound (event.Store a ∷ past) b byte from to has first last above below clear clear' =
+    held_bytes bound past b byte from to has first last above below (NoPoisonShares-tail _ _ _ _ clear)
     (NoUnpoisonShares-tail _ _ _ _ clear')
-held_bytes bound (event.Poison s ∷ past) b byte has above below clear clear' =
-    poison_leaves s.at (shade_size s) b.at (b.at + round_up b.size) byte (clear s (in_head _ _)) above below _
-    (marks bound past)
-    ∙ held_bytes bound past b byte has above below (NoPoisonShares-tail _ _ _ _ clear)
+held_bytes bound (event.Poison s ∷ past) b byte from to has first last above below clear clear' =
+    poison_leaves s.at (shade_size s) from to byte (clear s (in_head _ _)) above below _ (marks bound past)
+    ∙ held_bytes bound past b byte from to has first last above below (NoPoisonShares-tail _ _ _ _ clear)
     (NoUnpoisonShares-tail _ _ _ _ clear')
-held_bytes bound (event.Unpoison r ∷ past) b byte has above below clear clear' =
-    unpoison_leaves r.at r.size b.at (b.at + round_up b.size) byte (clear' r (in_head _ _)) above below
-    (marks bound past)
-    ∙ held_bytes bound past b byte has above below (NoPoisonShares-tail _ _ _ _ clear)
+held_bytes bound (event.Unpoison r ∷ past) b byte from to has first last above below clear clear' =
+    unpoison_leaves r.at r.size from to byte (clear' r (in_head _ _)) above below (marks bound past)
+    ∙ held_bytes bound past b byte from to has first last above below (NoPoisonShares-tail _ _ _ _ clear)
     (NoUnpoisonShares-tail _ _ _ _ clear')
-held_bytes bound (event.Malloc r ∷ past) b byte has above below clear clear' =
+held_bytes bound (event.Malloc r ∷ past) b byte from to has first last above below clear clear' =
     let old = rw (held_malloc bound r past) at has in
     beside_malloc bound past b r byte (Contains-append_right (live bound past) (held bound past) b old)
-    (bytes_in_span b byte above below)
-    ∙ held_bytes bound past b byte old above below (NoPoisonShares-tail _ _ _ _ clear)
+    (bytes_in_span b byte first last)
+    ∙ held_bytes bound past b byte from to old first last above below (NoPoisonShares-tail _ _ _ _ clear)
     (NoUnpoisonShares-tail _ _ _ _ clear')
-held_bytes bound (event.Free p ∷ past) b byte has above below clear clear' =
+held_bytes bound (event.Free p ∷ past) b byte from to has first last above below clear clear' =
     elim (held_free_cases bound past b p has) [
-      | inl (was_live, here, none) ↦ freed_byte bound past b p byte was_live here has above below
+      | inl (was_live, here, none) ↦ freed_byte bound past b p byte was_live here has first last
       | inr (old, more) ↦
-          beside_held bound past b p byte old has (bytes_in_span b byte above below)
-          ∙ held_bytes bound past b byte old above below (NoPoisonShares-tail (event.Free p) _ _ _ (rw more at clear))
+          beside_held bound past b p byte old has (bytes_in_span b byte first last)
+          ∙ held_bytes bound past b byte from to old first last above below
+          (NoPoisonShares-tail (event.Free p) _ _ _ (rw more at clear))
           (NoUnpoisonShares-tail (event.Free p) _ _ _ (rw more at clear'))
+    ]
+
+-- ---- a byte of a held block's redzones, where none came near a range around it since its malloc
+
+-- a held block is not admitted again
+held_not_admitted : (bound : ℕ) (past : List Event) (b : Extent) → Contains (held bound past) b
+    → admits bound past b ≡ false
+held_not_admitted bound past b has =
+    let taken = live bound past ++ held bound past in
+    false_from_ne_true _ (λ ok. both_ways (meets b b)
+    (none_passes (meets b) taken b (admitted_apart taken b ok)
+    (Contains-append_right (live bound past) (held bound past) b has))
+    (meets_same b b refl))
+
+-- its free leaves its redzones
+own_redzone : (bound : ℕ) (past : List Event) (b : Extent) (p : Place) (byte : ℕ) → Contains (live bound past) b
+    → starts_at p.at b ≡ true → Contains (held bound (event.Free p ∷ past)) b → IsInSpan b byte
+    → lies_in b.at (b.at + round_up b.size) byte ≡ false →
+    state_of (marks bound (event.Free p ∷ past)) byte ≡ state_of (marks bound past) byte
+own_redzone bound past b p byte has here stays in_span outside =
+    let freed_now = filter (starts_at p.at) (live bound past) in
+    let now = held bound (event.Free p ∷ past) in
+    let all = spans_apart bound past in
+    let alone : freed_now ≡ b ∷ [] = starts_once (live bound past) b p.at
+    (apart_left (live bound past) (held bound past) all) has (eqb-true b.at p.at here) in
+    let left : state_of (with_marks freed_mark freed_now (marks bound past)) byte ≡ state_of (marks bound past) byte =
+    rw (alone, outside) refl in
+    marked_leaves released_mark (released_from (held bound past ++ freed_now) now)
+    (with_marks freed_mark freed_now (marks bound past)) byte
+    (λ c has_c. released_leaves b c byte
+    (elim (Contains-append_cases (held bound past) freed_now c (from_filtered _ _ c has_c).0) [
+      | inl old ↦ apart_across (live bound past) (held bound past) b c all has old
+      | inr new ↦ apart_beside (live bound past) b c (apart_left (live bound past) (held bound past) all) has
+          (from_filtered (starts_at p.at) (live bound past) c new).0 (gone_elsewhere _ now b c stays has_c)
+    ]) in_span)
+    ∙ left
+
+pub held_redzone : (bound : ℕ) (past : List Event) (b : Extent) (byte from to : ℕ) → Contains (held bound past) b
+    → IsInSpan b byte → lies_in b.at (b.at + round_up b.size) byte ≡ false → from ≤ byte → byte < to
+    → NoPoisonShares (since_malloc bound past b) from to → NoUnpoisonShares (since_malloc bound past b) from to →
+    state_of (marks bound past) byte ≡ HeapRedzone
+held_redzone bound [] b byte from to has in_span outside above below clear clear' = absurd (in_none b has)
+held_redzone bound (event.Load a ∷ past) b byte from to has in_span outside above below clear clear' =
+    held_redzone bound past b byte from to has in_span outside above below (NoPoisonShares-tail _ _ _ _ clear)
+    (NoUnpoisonShares-tail _ _ _ _ clear')
+held_redzone bound (event.Store a ∷ past) b byte from to has in_span outside above below clear clear' =
+    held_redzone bound past b byte from to has in_span outside above below (NoPoisonShares-tail _ _ _ _ clear)
+    (NoUnpoisonShares-tail _ _ _ _ clear')
+held_redzone bound (event.Poison s ∷ past) b byte from to has in_span outside above below clear clear' =
+    poison_leaves s.at (shade_size s) from to byte (clear s (in_head _ _)) above below _ (marks bound past)
+    ∙ held_redzone bound past b byte from to has in_span outside above below (NoPoisonShares-tail _ _ _ _ clear)
+    (NoUnpoisonShares-tail _ _ _ _ clear')
+held_redzone bound (event.Unpoison r ∷ past) b byte from to has in_span outside above below clear clear' =
+    unpoison_leaves r.at r.size from to byte (clear' r (in_head _ _)) above below (marks bound past)
+    ∙ held_redzone bound past b byte from to has in_span outside above below (NoPoisonShares-tail _ _ _ _ clear)
+    (NoUnpoisonShares-tail _ _ _ _ clear')
+held_redzone bound (event.Malloc r ∷ past) b byte from to has in_span outside above below clear clear' =
+    let old = rw (held_malloc bound r past) at has in
+    let more : since_malloc bound (event.Malloc r ∷ past) b ≡ event.Malloc r ∷ since_malloc bound past b =
+    rw (and_right (asks_for b r) (admits bound past b) (held_not_admitted bound past b old)) refl in
+    beside_malloc bound past b r byte (Contains-append_right (live bound past) (held bound past) b old) in_span
+    ∙ held_redzone bound past b byte from to old in_span outside above below
+    (NoPoisonShares-tail (event.Malloc r) _ _ _ (rw more at clear))
+    (NoUnpoisonShares-tail (event.Malloc r) _ _ _ (rw more at clear'))
+held_redzone bound (event.Free p ∷ past) b byte from to has in_span outside above below clear clear' =
+    elim (held_free_cases bound past b p has) [
+      | inl (was_live, here, none) ↦
+          let round = rounds_up b in
+          let out : lies_in b.at (b.at + b.size) byte ≡ false = grind (arith, nat_tests) in
+          own_redzone bound past b p byte was_live here has in_span outside
+          ∙ live_span bound past b byte from to was_live in_span above below (NoPoisonShares-tail _ _ _ _ clear)
+          (NoUnpoisonShares-tail _ _ _ _ clear') ∙ rw out refl
+      | inr (old, more) ↦
+          beside_held bound past b p byte old has in_span
+          ∙ held_redzone bound past b byte from to old in_span outside above below
+          (NoPoisonShares-tail _ _ _ _ clear) (NoUnpoisonShares-tail _ _ _ _ clear')
     ]

@@ -1,5 +1,5 @@
 -- Worked histories, each with the reports that it comes to, computed by the definitions.
-use Rattle.std.proofs.Common.{◌≡◌, ℕ, ◌+◌, ◌*◌, ◌/◌, ◌%◌, true, false, [], ◌∷◌, refl, arith}
+use Rattle.std.proofs.Common.{◌≡◌, ℕ, ◌+◌, ◌*◌, ◌/◌, ◌%◌, true, false, [], ◌∷◌, ◌++◌, refl, arith}
 use Rattle.std.specs.Prelude.{◌&&◌, ◌==◌, nat_le, nat_lt, IsTrue, List, reverse}
 use Rattle.std.proofs.lemmas.Bool.{and_parts, leb-true, ltb-true}
 use Rattle.std.proofs.lemmas.Bool.Decides.{nat_tests}
@@ -427,3 +427,39 @@ good_load_twice :
     verdicts usual ((malloc 0x1000 5 refl) ∷ (load 0x1000 4 refl) ∷ (load 0x1000 4 refl) ∷ [])
     ≡ []
 good_load_twice = refl
+
+-- ---- histories that stand the same
+
+-- two blocks, of which the lower was freed first
+abbrev lower_freed_first : List Event
+lower_freed_first =
+    (malloc 0x1000 8 refl) ∷ (malloc 0x2000 8 refl) ∷ (free 0x1000 refl) ∷ (free 0x2000 refl) ∷ []
+
+-- and of which the upper was
+abbrev upper_freed_first : List Event
+upper_freed_first =
+    (malloc 0x1000 8 refl) ∷ (malloc 0x2000 8 refl) ∷ (free 0x2000 refl) ∷ (free 0x1000 refl) ∷ []
+
+-- a third one, whose free releases the oldest, and a load from the lower
+abbrev third_block : List Event
+third_block = (malloc 0x3000 8 refl) ∷ (free 0x3000 refl) ∷ (load 0x1000 1 refl) ∷ []
+
+lower_is_released :
+    verdicts 144 (lower_freed_first ++ third_block)
+    ≡ (report 7 (fault.Access false 1 0x1000 0x1000 class.HeapBufferOverflow 0xfa)) ∷ []
+lower_is_released = refl
+
+-- the live blocks, the shadow and the held blocks are the same, but the order of the held ones is not, and so the
+-- fault is another
+upper_is_released :
+    verdicts 144 (upper_freed_first ++ third_block)
+    ≡ (report 7 (fault.Access false 1 0x1000 0x1000 class.HeapUseAfterFree 0xfd)) ∷ []
+upper_is_released = refl
+
+-- a malloc in the span of a held block is bad, so no held block may be left out
+held_block_is_left_out :
+    verdicts 144 (lower_freed_first ++ (malloc 0x1000 8 refl) ∷ []) ≡ (report 5 (fault.BadMalloc 0x1000 8)) ∷ []
+held_block_is_left_out = refl
+
+without_the_held_block : verdicts 144 ((malloc 0x1000 8 refl) ∷ []) ≡ []
+without_the_held_block = refl

@@ -13,8 +13,11 @@ pub mod Bytes
 pub mod Accesses
 pub mod Poisons
 pub mod Order
+pub mod Marks
 pub mod Thinned
 pub mod Repeated
+pub mod Alike
+pub mod Restated
 pub mod Ways
 mod Digits
 mod Pieces

@@ -26,8 +26,8 @@ stays [] before granule byte none here = refl
 stays (mark ∷ laid) before granule byte none here = rw (none.0 byte here) (stays laid before granule byte none.1 here)
 
 -- the bytes of a granule that lies wholly in the region of a poison have its code
-poisoned : (at size code : ℕ) (before : List Mark) (granule byte : ℕ) → at ≤ 8 * granule → 8 * granule + 8 ≤ at + size
-    → byte / 8 ≡ granule →
+pub poisoned : (at size code : ℕ) (before : List Mark) (granule byte : ℕ) → at ≤ 8 * granule
+    → 8 * granule + 8 ≤ at + size → byte / 8 ≡ granule →
     state_of (Poison at size code ∷ before) byte ≡ Coded code
 poisoned at size code before granule byte from to here =
     let whole : granule_lies_in at (at + size) byte ≡ true = rw here (inside at (at + size) granule from to) in

@@ -7,3 +7,4 @@ pub mod Standing
 pub mod Freeing
 pub mod Laws
 pub mod Thinning
+pub mod Restating

@@ -1,12 +1,13 @@
 -- Where a checker stands after a history.
-use Rattle.std.specs.Prelude.{◌≡◌, ℕ, ◌-◌, ◌<◌, ◌⊎◌, Bool, true, false, List, length, drop}
-use Rattle.std.specs.Prelude.{IsPermutation}
+use Rattle.std.specs.Prelude.{◌≡◌, ℕ, ◌-◌, ◌<◌, ◌⊎◌, Bool, true, false, List, ◌∷◌, ◌++◌, length}
+use Rattle.std.specs.Prelude.{drop, take, reverse, IsPermutation, IsSome}
 use Rattle.trace_record.specs.declared.event.Event.{Event}
 use Rattle.shadow_map.specs.Shows.{Shows}
 use Rattle.asan_check.specs.declared.checker.Checker.{Checker}
 use Rattle.asan_check.specs.declared.report.Report.{Report}
 use Rattle.asan_check.specs.History.{live, held, marks}
-use Rattle.asan_check.specs.Verdicts.{verdicts_of}
+use Rattle.asan_check.specs.Verdicts.{fault_of, verdicts_of}
+use Rattle.asan_check.specs.Thinning.{is_access}
 
 module _ {A : Type 0} where
   -- what a contract sees of a checker: whether it has failed, how many events it has checked, its
@@ -56,3 +57,11 @@ module _ {A : Type 0} where
   -- the checker stands where this history leads, or has failed within it
   abbrev pub StandsOrFailed : ℕ → Checker A → List Event → Type 0
   StandsOrFailed bound c past = Stands bound c past ⊎ FailedAt bound c past
+
+-- of some events after a history, this many were passed: the next one, if there is one, is no load
+-- and no store, or something is wrong with it
+abbrev pub StopsForAReason : ℕ → List Event → List Event → ℕ → Type 0
+StopsForAReason bound past events count =
+    (next : Event) (later : List Event) → drop count events ≡ next ∷ later →
+    is_access next ≡ true →
+    IsSome (fault_of bound (reverse (take count events) ++ past) next)

@@ -56,6 +56,8 @@ impl<A: Allocator + Copy> Checker<A> {
     ghost use Rattle.asan_check.specs.Freeing.{IsFreeing};
     ghost use Rattle.asan_check.specs.Standing.{KeepsTally, ShowsHistory, Stands, FailedAt};
     ghost use Rattle.asan_check.specs.Standing.{has_failed, checked_of, reports_of, bound_of};
+    ghost use Rattle.asan_check.specs.Standing.{StopsForAReason};
+    ghost use Rattle.asan_check.specs.Thinning.{is_access};
 
     /// A checker that has checked no event, and whose quarantine holds spans of at most `bound`
     /// bytes together. Takes no memory.
@@ -175,6 +177,8 @@ impl<A: Allocator + Copy> Checker<A> {
         ensures count { checked_of self.new ≡ checked_of self.old + result }
         ensures kept { reports_of self.new ≡ reports_of self.old }
         ensures bound { bound_of self.new ≡ bound_of self.old }
+        ensures stops { (bound : ℕ) (past : List AnEvent) → Stands bound self.old past →
+            StopsForAReason bound past events.now result }
     {
         if self.failed {
             return 0;
@@ -247,6 +251,8 @@ impl<A: Allocator + Copy> Checker<A> {
         ensures quiet { (bound : ℕ) (past : List AnEvent) → ShowsHistory bound self.now past →
             verdicts_of bound (reverse (take result events.now) ++ past)
             ≡ verdicts_of bound past }
+        ensures stops { (bound : ℕ) (past : List AnEvent) → ShowsHistory bound self.now past →
+            StopsForAReason bound past events.now result }
     {
         let mut shadow = self.shadow.reader();
         let mut count = 0;
@@ -266,6 +272,9 @@ impl<A: Allocator + Copy> Checker<A> {
             ShowsHistory bound self.now past →
             (fault_of bound past event.now ≡ None)
             × ShowsHistory bound self.now (event.now ∷ past) }
+        ensures bad { result ≡ false → (bound : ℕ) (past : List AnEvent) →
+            ShowsHistory bound self.now past →
+            is_access event.now ≡ true → IsSome (fault_of bound past event.now) }
     {
         match event {
             Event::Load(access) | Event::Store(access) => {

@@ -2,15 +2,17 @@
 //! reports. Each function does nothing: its contract is the law.
 
 ghost use Rattle.std.specs.Prelude.{◌≡◌, ◌↔◌, ◌+◌, ◌∷◌, ◌++◌, ℕ, Bool, IsTrue, List, Some, None};
-ghost use Rattle.std.specs.Prelude.{Contains, option_to_list, reverse, map};
-ghost use Rattle.std.specs.List.{IsDistinct};
+ghost use Rattle.std.specs.Prelude.{Contains, IsPermutation, option_to_list, reverse, map};
+ghost use Rattle.std.specs.Prelude.{length, ◌≤◌, ◌⊎◌, []};
+ghost use Rattle.std.specs.List.{IsDistinct, list_all};
 ghost use Rattle.trace_record.specs.declared.event.Event.{Event};
 ghost use Rattle.trace_record.specs.declared.event.Access.{Access};
 ghost use Rattle.trace_record.specs.declared.shade.Shade.{Shade};
-ghost use Rattle.trace_record.specs.Shades.{shade_kind};
-ghost use Rattle.shadow_map.specs.States.{Mark, code_of};
+ghost use Rattle.trace_record.specs.declared.event.Event.TheVariants as event;
+ghost use Rattle.trace_record.specs.Shades.{shade_size, shade_kind};
+ghost use Rattle.shadow_map.specs.States.{Mark, AreMarks, code_of, state_of, lift};
 ghost use Rattle.heap_book.specs.Spans.{Extent, span_from, span_to, meets};
-ghost use Rattle.asan_units.specs.Units.{granule_of, round_up};
+ghost use Rattle.asan_units.specs.Units.{granule_of, granule_size, first_byte, round_up};
 ghost use Rattle.asan_check.specs.declared.report.Class.TheVariants as class;
 ghost use Rattle.asan_check.specs.declared.report.Report.{Report};
 ghost use Rattle.asan_check.specs.Codes.{Freed, class_of_code, code_of_kind};
@@ -20,6 +22,8 @@ ghost use Rattle.asan_check.specs.Thinning.{LeaveTheSame, LeavesOutGood, IsSubli
 ghost use Rattle.asan_check.specs.Thinning.{renumbered, thinned, is_access, one_later, LeavesOut};
 ghost use Rattle.asan_check.specs.Thinning.{LeavesOutGoodOnes, EventsLeftOutAreGood, faults_on};
 ghost use Rattle.asan_check.specs.Thinning.{thinned_events};
+ghost use Rattle.asan_check.specs.Restating.{StandTheSame, Restates, IsAsLaid, NoneShares};
+ghost use Rattle.asan_check.specs.Restating.{later_by, is_shade};
 ghost use Rattle.asan_check.specs.declared.report.Fault.{Fault};
 ghost use Rattle.asan_check.specs.Laws.{SharesByte, IsReportedAmong};
 ghost use Rattle.asan_check.specs.Laws.{since_malloc, since_free, IsLiveSince, IsHeldSince};
@@ -109,6 +113,12 @@ pub fn poison_is_reported()
         (class_of_code (code_of_kind (shade_kind poison))) (code_of_kind (shade_kind poison))) }
 {}
 
+/// Every mark of a history, with whatever bound on the quarantine, is one that a call may make. So
+/// the laws on bytes after such marks hold after every history.
+pub fn marks_of_a_history_are_marks()
+    ensures { (bound : ℕ) (past : List Event) → AreMarks (marks bound past) }
+{}
+
 /// Later events only add marks to those of a history, the newest first.
 pub fn marks_are_only_added()
     ensures { (bound : ℕ) (past since : List Event) → (laid : List Mark)
@@ -154,6 +164,68 @@ pub fn later_faults_are_the_same()
         (added : List Fault)
         × (faults_of bound (later ++ one) ≡ faults_of bound one ++ added)
         × (faults_of bound (later ++ other) ≡ faults_of bound other ++ added) }
+{}
+
+/// After two histories that stand the same, the same is wrong with an event, or nothing is, and
+/// they stand the same again after it. Histories that leave the same stand the same. So do
+/// histories after which each byte has the same state, if the live blocks are the same, in whatever
+/// order, and the held ones too, in the same order.
+pub fn the_same_stands_again()
+    ensures verdict { (bound : ℕ) (one other : List Event) (event : Event) →
+        StandTheSame bound one other → fault_of bound one event ≡ fault_of bound other event }
+    ensures again { (bound : ℕ) (one other : List Event) (event : Event) →
+        StandTheSame bound one other → StandTheSame bound (event ∷ one) (event ∷ other) }
+    ensures left { (bound : ℕ) (one other : List Event) →
+        LeaveTheSame bound one other → StandTheSame bound one other }
+    ensures states { (bound : ℕ) (one other : List Event) →
+        ((byte : ℕ) → state_of (marks bound one) byte ≡ state_of (marks bound other) byte) →
+        IsPermutation (live bound one) (live bound other) → held bound one ≡ held bound other →
+        StandTheSame bound one other }
+{}
+
+/// After two histories that stand the same, any later events bring the same faults, and the same
+/// reports but for their numbers: to the number that a report has among the later events alone, the
+/// count of the events before these is added.
+pub fn later_reports_are_the_same()
+    ensures faults { (bound : ℕ) (one other later : List Event) → StandTheSame bound one other →
+        (added : List Fault)
+        × (faults_of bound (later ++ one) ≡ faults_of bound one ++ added)
+        × (faults_of bound (later ++ other) ≡ faults_of bound other ++ added) }
+    ensures reports { (bound : ℕ) (one other later : List Event) →
+        StandTheSame bound (reverse one) (reverse other) →
+        (added : List Report)
+        × (verdicts bound (one ++ later)
+        ≡ verdicts bound one ++ map (later_by (length one)) added)
+        × (verdicts bound (other ++ later)
+        ≡ verdicts bound other ++ map (later_by (length other)) added) }
+{}
+
+/// A history that restates another by its live and its held blocks, and then by poisons and
+/// unpoisons, has the same blocks, live and held, and nothing is wrong in it. It stands the same if
+/// each granule has the same shadow byte. A granule has that of itself if the other history left
+/// in it what its blocks alone leave, and no poison and no unpoison of the restating touches it.
+/// Where a poison takes in a granule wholly, and none after it touches it, the shadow byte is the
+/// code of the poison's kind.
+pub fn what_is_restated_stands_the_same()
+    ensures live { (bound : ℕ) (restated past : List Event) → Restates bound restated past →
+        IsPermutation (live bound restated) (live bound past) }
+    ensures held { (bound : ℕ) (restated past : List Event) → Restates bound restated past →
+        held bound restated ≡ held bound past }
+    ensures quiet { (bound : ℕ) (restated past : List Event) → Restates bound restated past →
+        verdicts_of bound restated ≡ [] }
+    ensures stands { (bound : ℕ) (restated past : List Event)
+        (is : Restates bound restated past) →
+        ((granule : ℕ) →
+        (IsAsLaid bound past granule × NoneShares is.shades granule)
+        ⊎ (lift (state_of (marks bound restated)) granule
+        ≡ lift (state_of (marks bound past)) granule)) →
+        StandTheSame bound restated past }
+    ensures poisoned { (bound : ℕ) (laid later : List Event) (poison : Shade) (granule : ℕ) →
+        IsTrue (list_all is_shade later) → NoneShares later granule →
+        poison.at ≤ first_byte granule →
+        first_byte granule + granule_size ≤ poison.at + shade_size poison →
+        lift (state_of (marks bound (later ++ event.Poison poison ∷ laid))) granule
+        ≡ code_of_kind (shade_kind poison) }
 {}
 
 /// Leaving out loads and stores invents nothing: whichever are left out, the faults of what is left

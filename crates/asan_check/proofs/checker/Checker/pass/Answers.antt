@@ -24,3 +24,6 @@ returns-clause-stands g c bound past at =
       ));
       reports = at.reports ∙ sym (good.quiet bound past at.shown);
     }
+
+pub returns-clause-stops : goal.returns-clause-stops
+returns-clause-stops g c bound past at = c.count_good-count.ensures.stops bound past at.shown
