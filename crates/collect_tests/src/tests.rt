@@ -18,6 +18,7 @@ mod large;
 mod live;
 mod overlap;
 mod own_memory;
+mod patience;
 mod reading;
 mod refusals;
 mod reports;
@@ -76,15 +77,21 @@ const POISON: [u8; 37] = [
 /// How many turns something waits at most.
 const MOST_TURNS: u32 = 10_000_000;
 
-/// Waits until the flag is set, yielding the processor in each turn, and answers whether it was.
-fn wait_for(flag: &AtomicU64) -> bool {
+/// Waits until the counter has come so far, yielding the processor in each turn, and answers
+/// whether it has.
+fn wait_until(counter: &AtomicU64, least: u64) -> bool {
     for _ in 0..MOST_TURNS {
-        if flag.load(Ordering::SeqCst) > 0 {
+        if counter.load(Ordering::SeqCst) >= least {
             return true;
         }
         thread::yield_now();
     }
     false
+}
+
+/// Waits until the flag is set, and answers whether it was.
+fn wait_for(flag: &AtomicU64) -> bool {
+    wait_until(flag, 1)
 }
 
 /// A feed of bytes whose reads are cut at these places and fail at one.

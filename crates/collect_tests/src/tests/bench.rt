@@ -6,17 +6,18 @@ ghost use Rattle.asan_stream.specs.Ranges.{most_reports};
 ghost use Rattle.asan_stream.specs.Outcomes.{reports_of};
 
 use super::rig::{
-    CLOSED, Rig, Step, expect_step, expect_steps, good_load, good_malloc, plain_rig, run_rig,
+    CLOSED, Rig, Step, expect_step, expect_steps, good_load, good_malloc, plain_rig, run_all,
+    run_rig,
 };
 use super::{STREAM_AND_MORE, THREE_TEXTS, feed_of, text_and_status};
 use asan_check::Checker;
-use asan_collect::{Bench, Item, Outcome, ReaderDone, Turn, run_reader, settle};
+use asan_collect::{Bench, Gate, Item, Outcome, ReaderDone, Turn, run_reader, settle};
 use refusing_allocator::RefusingAllocator;
 use std::alloc::{Allocator, Global};
 use std::process::Abort;
 use std::snapshot::Snapshot;
-use std::sync::Wait;
-use std::sync::atomic::Ordering;
+use std::sync::atomic::{AtomicU64, Ordering};
+use std::sync::{Mutex, Wait};
 use std::test::Fail;
 use std::thread;
 use std::thread::{Promise, Threads};
@@ -114,6 +115,45 @@ fn each_event_of_a_batch_is_announced_in_order(rt: HostRuntime) -> Result<(), Fa
     for count in [0, 1, 63, 64, 65, 200u64] {
         expect_each_announced(&rt, rt.alloc(), count)?;
     }
+    Ok(())
+}
+
+/// A gate that tries to put an item into a lane, and counts how often there is no room.
+#[derive(Drop)]
+struct Trying<'a, R> {
+    rt: &'a R,
+    into: Mutex<LaneIn<Item>>,
+    full: AtomicU64,
+}
+
+impl<'a, R: Wait> Gate for Trying<'a, R> {
+    fn checked(&self, _process: u32, _event: u64) {
+        if self.into.lock(self.rt).put(CLOSED).is_err() {
+            self.full.fetch_add(1, Ordering::SeqCst);
+        }
+    }
+}
+
+#[test]
+fn a_batch_is_announced_before_the_next_bench_takes(rt: HostRuntime) -> Result<(), Fail> {
+    let mut first = plain_rig(rt.alloc(), 4)?.ok_or(NO_MEMORY)?;
+    let mut next = plain_rig(rt.alloc(), 1)?.ok_or(NO_MEMORY)?;
+    expect_steps(
+        &rt,
+        &mut first,
+        &[Step::Put(good_load()?), Step::Put(CLOSED)],
+    );
+    expect_step(&rt, &mut next, Step::Put(CLOSED));
+    let gate = Trying {
+        rt: &rt,
+        into: Mutex::new(next.into),
+        full: AtomicU64::new(0),
+    };
+    let mut benches = Vec::new(rt.alloc());
+    benches.push(first.bench)?;
+    benches.push(next.bench)?;
+    let _benches = run_all(&rt, benches, &gate);
+    assert_eq!(rt; gate.full.load(Ordering::SeqCst), 1);
     Ok(())
 }
 

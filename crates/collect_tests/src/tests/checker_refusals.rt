@@ -1,7 +1,7 @@
 //! Tests that refuse each growth in turn.
 
 use super::{THREE_TEXTS, feed_of, outcome_of_feed, three_outcomes};
-use asan_check::Report;
+use asan_check::{Report, end_text, report_text};
 use asan_collect::{Options, Outcome, Why, WriteFault, check_feed, write_outcomes};
 use refusing_allocator::RefusingAllocator;
 use std::alloc::{AllocError, Allocator, Global};
@@ -118,34 +118,70 @@ fn written_at(alloc: Global, turn: u64) -> Result<Written, Fail> {
     })
 }
 
-/// Asserts that a fault is a refusal: what was held back went out first, whole lines of the text.
-fn expect_whole_lines(rt: &impl Abort, fault: WriteFault, text: &[u8]) {
+/// A line of the text of the three outcomes, which was written to a text of its own.
+#[derive(Clone, Copy, Debug)]
+struct Line {
+    /// How many requests for memory were made up to its end.
+    requests: u64,
+    /// How long the text was before it.
+    before: usize,
+}
+
+/// The lines of the three outcomes.
+fn lines_of_three(alloc: Global) -> Result<Vec<Line>, Fail> {
+    let heap = RefusingAllocator::counting(alloc);
+    let mut lines = Vec::new(alloc);
+    let mut text = String::new(&heap);
+    for (process, outcome) in three_outcomes(alloc, alloc)?.iter().enumerate() {
+        for report in outcome.reports() {
+            let before = text.len();
+            report_text(process as u32, report, &mut text)?;
+            let requests = heap.requests_made();
+            lines.push(Line { requests, before })?;
+        }
+        let before = text.len();
+        end_text(process as u32, &outcome.ending(), &mut text)?;
+        let requests = heap.requests_made();
+        lines.push(Line { requests, before })?;
+    }
+    Ok(lines)
+}
+
+/// How long the text is before the line that makes this request, or `None` where none does.
+fn length_before(lines: &[Line], turn: u64) -> Option<usize> {
+    Some(lines.iter().find(|line| turn <= line.requests)?.before)
+}
+
+/// Asserts that a fault is a refusal, and that all lines before that of this request went out.
+fn expect_lines_before(rt: &impl Abort, lines: &[Line], turn: u64, written: &Written) {
+    let Err(fault) = written.result else {
+        panic!(rt; "turn {turn} was refused");
+    };
     assert_eq!(rt; fault.why, Why::NoMemory);
-    assert_eq!(rt; fault.written, text.len() as u64);
-    assert!(rt; THREE_TEXTS.as_bytes().starts_with(text));
-    assert!(rt; matches!(text.last(), None | Some(b'\n')));
+    assert_eq!(rt; fault.written, written.text.len() as u64);
+    assert_eq!(rt;
+        length_before(lines, turn),
+        Some(written.text.len()),
+        "turn {turn}"
+    );
+    assert!(rt; THREE_TEXTS.as_bytes().starts_with(&written.text));
 }
 
 #[test]
 fn each_growth_of_the_text_refused_in_turn(rt: HostRuntime) -> Result<(), Fail> {
-    let mut before = 0;
+    let lines = lines_of_three(rt.alloc())?;
+    assert_eq!(rt; lines.len(), 4);
     for turn in 1..100u64 {
-        let Written {
-            text,
-            result,
-            refused,
-        } = written_at(rt.alloc(), turn)?;
-        assert_eq!(rt; refused, result.is_err(), "turn {turn}");
-        let Err(fault) = result else {
-            assert!(rt; turn > 2, "only {turn} turns");
-            assert!(rt; before > 0);
-            assert!(rt; text.as_slice() == THREE_TEXTS.as_bytes());
-            return Ok(());
-        };
-        expect_whole_lines(&rt, fault, &text);
-        // No fewer lines than a turn before.
-        assert!(rt; before <= text.len(), "turn {turn}");
-        before = text.len();
+        let written = written_at(rt.alloc(), turn)?;
+        assert_eq!(rt; written.refused, written.result.is_err(), "turn {turn}");
+        if written.refused {
+            expect_lines_before(&rt, &lines, turn, &written);
+            continue;
+        }
+        assert!(rt; turn > 2, "only {turn} turns");
+        assert_eq!(rt; length_before(&lines, turn), None);
+        assert!(rt; written.text.as_slice() == THREE_TEXTS.as_bytes());
+        return Ok(());
     }
     panic!(rt; "always refused")
 }

@@ -205,3 +205,27 @@ fn few_reads_take_many_records(rt: HostRuntime) -> Result<(), Fail> {
     assert_eq!(rt; feed.reads, 3);
     Ok(())
 }
+
+/// How often a feed of the first bytes of the stream is asked, where the read after them fails or
+/// no more come.
+fn reads_of_first(rt: &impl Abort, alloc: Global, length: usize, fails: bool) -> Result<u64, Fail>
+    requires { length ≤ 36 }
+{
+    let fail_at = if fails { Some(length as u64) } else { None };
+    let feed = feed_of(alloc, &STREAM_AND_MORE[..length], &[], fail_at)?;
+    match check_feed(alloc, Counted { feed, reads: 0 }, Options::usual()) {
+        Outcome::Settled { feed, .. } => Ok(feed.reads),
+        _ => panic!(rt; "memory is ample"),
+    }
+}
+
+#[test]
+fn a_feed_that_has_ended_is_not_asked_again(rt: HostRuntime) -> Result<(), Fail> {
+    for fails in [false, true] {
+        for (length, reads) in [(0, 1), (8, 2), (30, 2), (35, 2)] {
+            let found = reads_of_first(&rt, rt.alloc(), length, fails)?;
+            assert_eq!(rt; found, reads, "{length} bytes");
+        }
+    }
+    Ok(())
+}

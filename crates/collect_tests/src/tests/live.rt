@@ -4,6 +4,7 @@ ghost use Rattle.std.specs.Prelude.{◌≡◌, ◌≤◌, ◌^◌, IfOk};
 ghost use Rattle.trace_feed.specs.Doors.{IfCame};
 
 use super::fails_once::FailsOnce;
+use super::rig::OUT_OF_ORDER;
 use super::{STREAM, feed_of, text_and_status, three_arrivals, wait_for};
 use asan_collect::{Gate, Live, OpenGate, Options, Why, WriteFault, collect_live};
 use std::alloc::Global;
@@ -303,9 +304,9 @@ impl Gate for Counters {
         let Some(heard) = self.heard.get(process as usize) else {
             return;
         };
-        if event == heard.load(Ordering::SeqCst).wrapping_add(1) {
-            heard.store(event, Ordering::SeqCst);
-        }
+        let is_next = event == heard.load(Ordering::SeqCst).wrapping_add(1);
+        let heard_of = if is_next { event } else { OUT_OF_ORDER };
+        heard.store(heard_of, Ordering::SeqCst);
     }
 }
 

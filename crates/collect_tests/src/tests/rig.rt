@@ -11,6 +11,9 @@ use std::time::Clock;
 use trace_lane::{LaneIn, LaneOut, lane};
 use trace_record::{Access, End, Event, Fate, Flaw, Place, Region};
 
+/// What a gate has heard of where an event came out of order, or twice.
+pub const OUT_OF_ORDER: u64 = u64::MAX;
+
 /// A gate of process 7. It counts the events that it hears of, as long as they come in order.
 #[derive(Drop)]
 pub struct Counter {
@@ -19,10 +22,13 @@ pub struct Counter {
 
 impl Gate for Counter {
     fn checked(&self, process: u32, event: u64) {
-        let before = self.heard.load(Ordering::SeqCst);
-        if process == 7 && event == before.wrapping_add(1) {
-            self.heard.store(event, Ordering::SeqCst);
-        }
+        let is_next = event == self.heard.load(Ordering::SeqCst).wrapping_add(1);
+        let heard = if process == 7 && is_next {
+            event
+        } else {
+            OUT_OF_ORDER
+        };
+        self.heard.store(heard, Ordering::SeqCst);
     }
 }
 
