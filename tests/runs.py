@@ -8,6 +8,7 @@ where a case failed. Where root runs it, the programs run as nobody, so that a f
 unreadable.
 """
 
+import itertools
 import os
 import re
 import resource
@@ -19,6 +20,9 @@ import sys
 import tempfile
 import threading
 import time
+
+import long_trace
+import thread_starts
 
 NOBODY = 65534
 
@@ -168,6 +172,14 @@ def same(what, got, wanted):
 def holds(what, is_so, text):
     if not is_so:
         raise AssertionError(f"{what}\n{text}")
+
+
+def same_lines(what, got, wanted):
+    """Expects this text, and shows the first line that differs."""
+    if got == wanted.encode():
+        return
+    lines = itertools.zip_longest(got.decode().splitlines(), wanted.splitlines())
+    same(what, *next((pair for pair in lines if pair[0] != pair[1]), ("", "")))
 
 
 def put(name, data):
@@ -378,6 +390,18 @@ def many_reports(program):
     program.expect(["check", "trace"], 1, texts[0])
     for ring in ["1", "1024", "65536"]:
         program.expect(["check", "--ring", ring, "trace", "trace"], 1, "".join(texts))
+
+
+def one_long_trace(program):
+    """200,000 blocks are held at once, one free releases 150,000 of them, and there are 100,000
+    reports: by one thread, and twice over threads. Memory is ample."""
+    long = long_trace.known_trace()
+    trace = put("trace", long.trace)
+    for files in [[trace], [trace, trace]]:
+        words = ["check", "--quarantine", str(long_trace.QUARANTINE), *files]
+        status, output, faults = program.run(words)
+        same(words, (status, faults), (1, b""))
+        same_lines(words, output, "".join(long.text(process) for process in range(len(files))))
 
 
 def closing(*streams):
@@ -876,7 +900,7 @@ def peak_of(process):
 
 def memory_of_each_process(program):
     """A process that is out of memory harms no other, not even one that is out of memory too, and
-    no more is held than README says."""
+    no more is held than docs/MEMORY.md says."""
     bound = 1 << 26
     # Two of the five come to their bound.
     most = 2 * (bound + bound // 8) + 5 * (1 << 18) + (1 << 22)
@@ -987,6 +1011,11 @@ def lines_of_each(output):
     return {process: "".join(own) for process, own in lines.items()}
 
 
+def ending_of(lines):
+    """What the last line, that of an end, says after `end`."""
+    return lines.splitlines(keepends=True)[-1].split(" end ")[1]
+
+
 def live_files(program):
     """The lines of each process are as without --live, and the end lines come last, in order."""
     frees = closed(*[free(0x2000)] * 3000)
@@ -1035,6 +1064,41 @@ def one_file_on_one_thread(program):
             same(words, program.run([*words, "-"], stdin=trace, before=without_threads), wanted)
     two = program.run(["check", far, far], before=without_threads)
     same("no threads", two, (3, b"p0 end not-started\np1 end not-started\n", b""))
+
+
+def without_starts(came, workers, is_live, refuses):
+    """Which of the senders that came are not started, where the start of each thread fails whose
+    number `refuses` chooses, and how many starts there are. The checkers that have a sender come
+    first, but for checker 0 without --live, and then a reader for each sender with a checker."""
+    checkers = sorted({sender % workers for sender in came} - (set() if is_live else {0}))
+    lost = {checker for number, checker in enumerate(checkers, 1) if refuses(number)}
+    checked = [sender for sender in came if sender % workers not in lost]
+    first = len(checkers) + 1
+    read = [sender for number, sender in enumerate(checked, first) if not refuses(number)]
+    return set(came) - set(read), len(checkers) + len(checked)
+
+
+def each_thread_that_does_not_start(program):
+    """The start of one thread fails, or of each from one on, for each of them in turn. The senders
+    of such a checker and of such a reader are not started, and the others are as without it."""
+    traces = [PAST_THE_END, SOUND, None, CUT, TWICE_FREED, PAST_THE_END]
+    names = ["missing" if it is None else put(f"trace {i}", it) for i, it in enumerate(traces)]
+    came = [i for i, it in enumerate(traces) if it is not None]
+    whole = lines_of_each(program.run(["check", *names])[1])
+    for workers, option in itertools.product([1, 2, 3, 64], ["--verbose", "--live"]):
+        words = ["check", option, "--workers", str(workers), *names]
+        is_live = option == "--live"
+        most = without_starts(came, workers, is_live, lambda number: False)[1]
+        for turn in range(1, most + 2):
+            for refuses in [turn.__eq__, turn.__le__]:
+                missing, starts = without_starts(came, workers, is_live, refuses)
+                lines = {**whole, **{f"p{i}": f"p{i} end not-started\n" for i in missing}}
+                said = [f"p{i} {name}: {ending_of(lines[f'p{i}'])}" for i, name in enumerate(names)]
+                ran = thread_starts.run([program.path, *words], refuses, prepared(), PATIENCE)
+                what = (words, turn, refuses)
+                same(what, (ran.status, ran.starts), (3, starts))
+                same(what, lines_of_each(ran.output), lines)
+                same(what, ran.faults.decode(), "" if is_live else "".join(said))
 
 
 def one_pipe_on_one_thread(program):
@@ -1101,6 +1165,7 @@ CASES = [
     input_that_cannot_be_read,
     closed_streams,
     many_reports,
+    one_long_trace,
     as_many_processes_as_files,
     one_file_twice,
     files_of_all_kinds,
@@ -1131,6 +1196,7 @@ CASES = [
     live_files,
     one_file_on_one_thread,
     one_pipe_on_one_thread,
+    each_thread_that_does_not_start,
     live_output_that_waits,
     live_peers,
 ]

@@ -1,0 +1,93 @@
+"""Runs a program in which some threads can't be started, for runs.py.
+
+The program's first thread is traced (ptrace(2)). Each system call of it that would start a thread
+is counted, and those that are chosen fail with EAGAIN, as they do where the system has no more
+threads. All else is as without.
+"""
+
+import ctypes
+import os
+import signal
+import subprocess
+import threading
+from typing import Callable, List, NamedTuple, Tuple
+
+# Of sys/ptrace.h, and where a process's registers lie, on x86-64.
+TRACEME, PEEK, POKE, TO_NEXT_CALL, SET_OPTIONS = 0, 3, 6, 24, 0x4200
+MARKS_CALLS, KILLS_AT_EXIT = 1, 1 << 20
+RESULT, CALL = 8 * 10, 8 * 15
+CLONE, CLONE3 = 56, 435
+NO_CALL, EAGAIN = -1, 11
+
+CALL_STOP = signal.SIGTRAP | 0x80
+
+_libc = ctypes.CDLL(None, use_errno=True)
+_libc.ptrace.restype = ctypes.c_long
+_libc.ptrace.argtypes = [ctypes.c_long, ctypes.c_long, ctypes.c_void_p, ctypes.c_void_p]
+
+
+def ptrace(request: int, process: int, at: int = 0, value: int = 0) -> int:
+    ctypes.set_errno(0)
+    answer: int = _libc.ptrace(request, process, at, value)
+    if ctypes.get_errno():
+        raise OSError(ctypes.get_errno(), f"ptrace: {os.strerror(ctypes.get_errno())}")
+    return answer
+
+
+class Ran(NamedTuple):
+    """What a program wrote, how it ended, and how many threads it tried to start."""
+
+    status: int
+    output: bytes
+    faults: bytes
+    starts: int
+
+
+def follow(process: int, refuses: Callable[[int], bool]) -> Tuple[int, int]:
+    """Follows a program up to its end. Returns how it ended, and the number of thread starts."""
+    os.waitpid(process, 0)
+    ptrace(SET_OPTIONS, process, 0, MARKS_CALLS | KILLS_AT_EXIT)
+    starts, is_inside, is_refused, passed_on = 0, False, False, 0
+    while True:
+        ptrace(TO_NEXT_CALL, process, 0, passed_on)
+        _, status = os.waitpid(process, 0)
+        if not os.WIFSTOPPED(status):
+            return os.waitstatus_to_exitcode(status), starts
+        passed_on = os.WSTOPSIG(status)
+        if passed_on != CALL_STOP:
+            continue
+        passed_on, is_inside = 0, not is_inside
+        if is_inside and ptrace(PEEK, process, CALL) in (CLONE, CLONE3):
+            starts += 1
+            is_refused = refuses(starts)
+            if is_refused:
+                ptrace(POKE, process, CALL, NO_CALL)
+        elif is_refused and not is_inside:
+            ptrace(POKE, process, RESULT, -EAGAIN)
+            is_refused = False
+
+
+def run(
+    words: List[str], refuses: Callable[[int], bool], prepare: Callable[[], None], patience: int
+) -> Ran:
+    """Runs a program, where the start of each thread fails whose number `refuses` chooses: they
+    are counted from 1. `prepare` is called in its process just before. It is killed after
+    `patience` seconds. What it writes has to fit into a pipe."""
+
+    def begin() -> None:
+        prepare()
+        ptrace(TRACEME, 0)
+
+    with subprocess.Popen(
+        words,
+        preexec_fn=begin,
+        stdin=subprocess.DEVNULL,
+        stdout=subprocess.PIPE,
+        stderr=subprocess.PIPE,
+    ) as program:
+        clock = threading.Timer(patience, program.kill)
+        clock.start()
+        program.returncode, starts = follow(program.pid, refuses)
+        clock.cancel()
+        output, faults = program.communicate()
+        return Ran(program.returncode, output, faults, starts)
