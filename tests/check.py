@@ -6,9 +6,10 @@ usage: tests/check.py                      the gate
 
 The gate first runs `hygiene.py`, in seconds, and ends there if that finds something. Then comes
 `rt ci`: it proves each crate from nothing, tries the wrong bodies and runs the tests. It builds the
-program with two compilers and leaves both, and `runs.py` runs them with words. A table shows the
-processor seconds of each crate (`costs.py` says how they are counted). The last line is
-'N passed, M failed', of `rt ci` and `runs.py` together. The status is 0 where nothing failed.
+program with two compilers and leaves both. `runs.py` runs them with words, and `fuzz.py` holds them
+to a second reading of the documents. A table shows the processor seconds of each crate (`costs.py`
+says how they are counted). The last line is 'N passed, M failed', of all of them together. The
+status is 0 where nothing failed.
 
 With `--changed` only the crates with a file that differs from BASE are checked, and those that
 stand on them, over what earlier checks kept. BASE is the commit where the branch left `main`, if
@@ -28,6 +29,9 @@ TOP = os.path.dirname(os.path.dirname(os.path.abspath(__file__)))
 
 # As LLVM builds it, and as the toolchain's own compiler does.
 PROGRAMS = ["crates/asancol/out/asancol", "crates/asancol/out/asancol.by-rattle"]
+
+# Some thousand traces, the same each time.
+FUZZ = ["tests/fuzz.py", "--draws", "4000", "--seed", "1"]
 
 COUNTS = re.compile(r"(\d+) passed, (\d+) failed")
 
@@ -90,9 +94,10 @@ def gate() -> int:
         return 1
     with costs.Meter() as meter:
         passed, failed = counted(["rt", "ci"])
-        if failed == 0:
-            ran, failed = counted([sys.executable, f"{TOP}/tests/runs.py", *PROGRAMS])
-            passed += ran
+        for words in [["tests/runs.py"], FUZZ]:
+            if failed == 0:
+                ran, failed = counted([sys.executable, *words, *PROGRAMS])
+                passed += ran
     print("\n".join(["", *meter.table(lowest_first(crates_listed())), ""]))
     print(f"{passed} passed, {failed} failed")
     return 1 if failed else 0
@@ -154,6 +159,7 @@ def steps_for(changed: Set[str], listed: Dict[str, List[str]]) -> List[Tuple[str
     if "asancol" in above:
         steps.append(("crates/asancol", ["rt", "run", "--", "--version"]))
         steps.append((".", [sys.executable, "tests/runs.py", PROGRAMS[0]]))
+        steps.append((".", [sys.executable, *FUZZ, PROGRAMS[0]]))
     return steps
 
 
@@ -176,7 +182,7 @@ def check_changed(base: str) -> int:
     others = [it for it in above if it not in changed]
     left = ["every proof from nothing"]
     left += [f"{len(listed) - len(above)} crates"] if len(above) < len(listed) else []
-    left += ["tests/runs.py"] if "asancol" not in above else []
+    left += ["tests/runs.py", "tests/fuzz.py"] if "asancol" not in above else []
     left += [f"the wrong bodies of {' '.join(others)}"] if others else []
     left += ["the program by the toolchain's own compiler"]
     came = "something failed" if failed else "nothing failed"
