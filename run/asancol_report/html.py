@@ -17,7 +17,7 @@ from .options import Options
 from .results import Process, Results, Run
 from .sources import Sources
 from .suppressions import suppression_of
-from .text import totals_line
+from .text import seen_text, totals_line
 from .verdicts import CLASSES
 from .words import command_line, plural, printable, shown_path
 
@@ -177,6 +177,7 @@ class Page:
             names = [command_line(self.results.runs[run].command) for run in list(finding.runs)[:5]]
             more = f" and {len(finding.runs) - 5} more" if len(finding.runs) > 5 else ""
             parts.append("in " + escape("; ".join(names) + more))
+            parts.append(escape(seen_text(self.results, finding)))
         return tag("p", " ".join(tag("span", part) for part in parts), class_="foot")
 
     def processes(self) -> Iterator[str]:

@@ -55,6 +55,8 @@ def process_line(process: Process, run: int, encode: Callable[[object], str]) ->
     kept = f',"kept":{encode(process.kept)}' if process.kept else ""
     if process.signal:
         kept += f',"signal":{process.signal}'
+    if process.is_abrupt:
+        kept += ',"abrupt":true'
     if process.address is not None:
         kept += f',"address":"{process.address:x}"'
     if process.stack:
@@ -217,7 +219,8 @@ def process_of(entry: Entry, commands: Commands) -> Process:
                    command_of(get("command"), commands), sys.intern(text_of(get("fate"))), number_of(get("events")),
                    number_of(get("reports")), get("whole") is True, number_of(get("left_out")),
                    sys.intern(text_of(get("why"))), text_of(get("kept")), number_of(get("signal")),
-                   address_of(get("address")) if "address" in entry else None, stack_of(get("stack")))
+                   address_of(get("address")) if "address" in entry else None, stack_of(get("stack")),
+                   get("abrupt") is True and get("whole") is True)
 
 
 def frame_of(entry: object) -> Frame:

@@ -53,11 +53,15 @@ def outcome(run: Run, findings: List[Finding], root: str) -> Tuple[str, str]:
     """Returns what came of a run, `failure`, `error` or nothing, and the elements that say so."""
     lines = unseen(run) + ([f"asancol: {run.failure}"] if run.failure else [])
     said = "\n".join(lines)
+    abrupt = "\n".join(Text.abrupt_line(process) for process in run.processes.values() if process.is_abrupt)
+    said = "\n".join(filter(None, (said, abrupt)))
     if findings:
-        return "failure", failure(findings, root) + (f"<system-err>{text_of(said)}</system-err>" if lines else "")
+        return "failure", failure(findings, root) + (f"<system-err>{text_of(said)}</system-err>" if said else "")
     if not run.is_whole:
         return "error", element("error", "not seen whole", lines[0], said)
-    return ("failure", element("failure", "command", run.failure, said)) if run.failure else ("", "")
+    if run.failure:
+        return "failure", element("failure", "command", run.failure, said)
+    return "", f"<system-out>{text_of(abrupt)}</system-out>" if abrupt else ""
 
 
 def write(results: Results, out: TextIO, options: Options, sources: Sources) -> None:

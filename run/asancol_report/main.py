@@ -111,7 +111,10 @@ class Report:
             self.check_traces(files)
         else:
             for path in files:
-                self.read_result(path)
+                for each in results_at(path):
+                    self.read_result(each)
+        if switches["--no-machines"]:
+            self.results.forget_machines()
 
     def read_result(self, path: str) -> None:
         """Reads a result. If that fails, what came before is in the report, and the others are."""
@@ -213,6 +216,14 @@ class Report:
         if self.results.counted():
             return COUNTS
         return CLEAN if self.results.is_whole() else NOT_WHOLE
+
+
+def results_at(path: str) -> List[str]:
+    """Returns the results that a name stands for: of a folder those in it and below, in the order of their names."""
+    if not os.path.isdir(path):
+        return [path]
+    return sorted(os.path.join(folder, name) for folder, _, names in os.walk(path) for name in names
+                  if name.endswith(".jsonl") and not name.startswith("."))
 
 
 def writer_of(name: str) -> Writer:

@@ -9,7 +9,7 @@ from .errors import Refused
 
 HELP = """\
 usage: asancol-report [options] RESULT.jsonl...
-           merges results of asancol-run --json
+           merges results of asancol-run --json; of a folder, all that are in it
        asancol-report [options] --trace A.trace...
            checks traces, and reads A.trace.where
 
@@ -28,6 +28,7 @@ the text:
   --source-root DIR      show files under DIR by their paths from there
   --live                 print the first report of each place when it comes
   --color WHEN           auto, always or never (auto)
+  --no-machines          leave out names of machines, and when runs were
   -q, --quiet            print nothing if no report counts and all was seen
 traces:
   --quarantine B, --memory B, --limit L    passed to asancol check
@@ -42,7 +43,7 @@ status: 0 no report counts; 1 a report counts; 2 the command line was refused;
 OUTPUTS = ("--json", "--sarif", "--junit", "--codequality", "--html")
 OF_CHECK = ("--quarantine", "--memory", "--limit")
 WITH_VALUE = (*OUTPUTS, *OF_CHECK, "--suppressions", "--baseline", "--source-root", "--color", "--nested")
-SWITCHES = ("--trace", "--run", "--live", "--gen-suppressions", "--quiet", "--help", "--version")
+SWITCHES = ("--trace", "--run", "--live", "--gen-suppressions", "--no-machines", "--quiet", "--help", "--version")
 SHORT = {"-q": "--quiet", "-h": "--help"}
 COLORS = ("auto", "always", "never")
 

@@ -2,6 +2,7 @@
 
 from __future__ import annotations
 
+import hashlib
 import signal
 from typing import Dict, Iterable, List, NamedTuple, Optional, Set, Tuple
 
@@ -31,6 +32,7 @@ class Process(NamedTuple):
     signal: int = 0  # that has ended it, as the recorder saw
     address: Optional[int] = None  # which it could not access then
     stack: Stack = ()  # where it was then
+    is_abrupt: bool = False  # nobody saw its end but the system; what it did up to there was seen
 
     @property
     def is_crash(self) -> bool:
@@ -102,7 +104,18 @@ class Totals(NamedTuple):
     processes: int
     events: int
     not_whole: int
+    abrupt: int
     troubles: int
+
+
+class Sightings(NamedTuple):
+    """In which runs a finding was seen, on which machines, and when these began: seconds since 1970, 0 if unknown."""
+
+    runs: int
+    machines: List[str]  # those that are known, by name
+    first: float
+    last: float
+    first_machine: str
 
 
 class Results:
@@ -157,6 +170,20 @@ class Results:
             tally = before._replace(times=before.times + tally.times, processes=before.processes + tally.processes)
         finding.runs[run] = tally
 
+    def sightings(self, finding: Finding) -> Sightings:
+        """Returns where and when a finding was seen. The order of the runs changes nothing."""
+        runs = [self.runs[number] for number in finding.runs]
+        first = min(((run.time, run.host) for run in runs if run.time), default=(0.0, ""))
+        return Sightings(len(runs), sorted({run.host for run in runs if run.host}), first[0],
+                         max(run.time for run in runs), first[1])
+
+    def forget_machines(self) -> None:
+        """Takes away the names of machines, and when the runs were. An id has both in it, and is replaced."""
+        for run in self.runs:
+            run.host, run.time, run.seconds = "", 0.0, 0.0
+            if run.identity:
+                run.identity = hashlib.sha256(run.identity.encode("utf-8", "surrogateescape")).hexdigest()[:32]
+
     def findings(self) -> List[Finding]:
         """Returns all findings, in an order that depends on nothing but them."""
         def order(finding: Finding) -> Tuple[str, str, int, int, str, str]:
@@ -169,6 +196,9 @@ class Results:
 
     def not_whole(self) -> List[Tuple[Run, Process]]:
         return [(run, process) for run in self.runs for process in run.processes.values() if not process.is_whole]
+
+    def abrupt(self) -> List[Process]:
+        return [process for run in self.runs for process in run.processes.values() if process.is_abrupt]
 
     def crashes(self) -> List[Process]:
         return [process for run in self.runs for process in run.processes.values() if process.is_crash]
@@ -193,7 +223,8 @@ class Results:
                 reports += finding.count
         processes = [process for run in self.runs for process in run.processes.values()]
         return Totals(reports, places, suppressed, known, len(processes), sum(it.events for it in processes),
-                      sum(not it.is_whole for it in processes), sum(len(run.troubles) for run in self.runs))
+                      sum(not it.is_whole for it in processes), sum(it.is_abrupt for it in processes),
+                      sum(len(run.troubles) for run in self.runs))
 
     def runs_of(self, findings: Iterable[Finding]) -> Set[int]:
         return {run for finding in findings for run in finding.runs}

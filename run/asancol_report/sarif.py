@@ -4,22 +4,23 @@ from __future__ import annotations
 
 import json
 import os
-import time
 from typing import Any, Dict, List, TextIO, Tuple
 from urllib.parse import quote
 
 from . import RELEASE
 from .findings import Finding, Frame, own_frames, place_text, Stack
 from .options import Options
-from .results import Results, Run
+from .results import Results, Run, Sightings
 from .sources import Sources
 from .verdicts import CLASSES
-from .words import command_line, shown_path, signal_name, whole_characters
+from .words import command_line, date_and_time, shown_path, signal_name, whole_characters
 
 SCHEMA = "https://json.schemastore.org/sarif-2.1.0.json"
 ROOT = "SRCROOT"
 # GitHub ranks by this: 7.0 to 8.9 is "high".
 SEVERITY = "8.0"
+# So many machines are named for a result.
+MOST_MACHINES = 100
 
 Part = Dict[str, Any]
 
@@ -71,7 +72,15 @@ def steps_of(finding: Finding) -> List[Tuple[str, Stack]]:
     return [(title, frames) for title, frames in steps if frames]
 
 
-def result(finding: Finding, rule: int, ordinal: int, root: str) -> Part:
+def properties(finding: Finding, seen: Sightings) -> Part:
+    made: Part = {"processes": finding.processes, "runs": seen.runs}
+    if seen.machines:
+        made["machines"] = [whole_characters(name) for name in seen.machines[:MOST_MACHINES]]
+        made["machineCount"] = len(seen.machines)
+    return made
+
+
+def result(finding: Finding, seen: Sightings, rule: int, ordinal: int, root: str) -> Part:
     steps = steps_of(finding)
     near = f", {finding.where}" if finding.where else ""
     made: Part = {
@@ -89,8 +98,10 @@ def result(finding: Finding, rule: int, ordinal: int, root: str) -> Part:
                              for number, (title, frames) in enumerate(steps[:-1], 1)],
         "codeFlows": [{"threadFlows": [{"locations": [{"location": location(own_frames(frames)[0], root, title)}
                                                       for title, frames in steps]}]}],
-        "properties": {"processes": finding.processes},
+        "properties": properties(finding, seen),
     }
+    if seen.first:
+        made["provenance"] = {"firstDetectionTimeUtc": stamp(seen.first), "lastDetectionTimeUtc": stamp(seen.last)}
     if finding.suppression:
         made["suppressions"] = [{"kind": "external", "justification": whole_characters(finding.suppression)}]
     if finding.is_known is not None:
@@ -98,12 +109,12 @@ def result(finding: Finding, rule: int, ordinal: int, root: str) -> Part:
     return made
 
 
-def results_of(findings: List[Finding], rules: List[str], root: str) -> List[Part]:
+def results_of(results: Results, rules: List[str], root: str) -> List[Part]:
     ordinals: Dict[str, int] = {}
     made = []
-    for finding in findings:
+    for finding in results.findings():
         ordinal = ordinals[finding.fingerprint] = ordinals.get(finding.fingerprint, 0) + 1
-        made.append(result(finding, rules.index(finding.class_name), ordinal, root))
+        made.append(result(finding, results.sightings(finding), rules.index(finding.class_name), ordinal, root))
     return made
 
 
@@ -120,10 +131,13 @@ def rule(name: str) -> Part:
 def invocation(run: Run) -> Part:
     texts = [f"process {process.pid} {command_line(process.command[:1])} was not seen whole: {process.why}"
              for process in run.processes.values() if not process.is_whole] + run.troubles
+    abrupt = [f"process {process.pid} {command_line(process.command[:1])} {process.why}: seen up to there"
+              for process in run.processes.values() if process.is_abrupt]
     made: Part = {
         "commandLine": whole_characters(command_line(run.command)),
         "executionSuccessful": not texts and not run.failure,
-        "toolExecutionNotifications": [{"level": "error", "message": message(text)} for text in texts],
+        "toolExecutionNotifications": [{"level": "error", "message": message(text)} for text in texts]
+        + [{"level": "note", "message": message(text)} for text in abrupt],
     }
     if run.host:
         made["machine"] = whole_characters(run.host)
@@ -142,23 +156,26 @@ def invocation(run: Run) -> Part:
 
 
 def stamp(seconds: float) -> str:
-    return time.strftime("%Y-%m-%dT%H:%M:%SZ", time.gmtime(min(seconds, 253402300799)))
+    return date_and_time(seconds, "%Y-%m-%dT%H:%M:%SZ")
 
 
 def write(results: Results, out: TextIO, options: Options, sources: Sources) -> None:
     root = os.path.realpath(options.value("--source-root", "."))
-    findings = results.findings()
-    rules = sorted({finding.class_name for finding in findings})
+    rules = sorted({finding.class_name for finding in results.places.values()})
     driver = {"name": "asancol", "version": RELEASE, "semanticVersion": RELEASE,
               "rules": [rule(name) for name in rules]}
     run: Part = {
         "tool": {"driver": driver},
         "originalUriBaseIds": {ROOT: {"uri": "file://" + uri(root.rstrip("/")) + "/"}},
         "columnKind": "unicodeCodePoints",
-        "invocations": [invocation(each) for each in results.runs],
-        "results": results_of(findings, rules, root),
     }
     if results.notes:
         run["properties"] = {"notes": [whole_characters(note) for note in results.notes]}
-    json.dump({"$schema": SCHEMA, "version": "2.1.0", "runs": [run]}, out, indent=1)
-    out.write("\n")
+    # There may be a hundred thousand runs: each has a line, and is encoded when it is written.
+    encode = json.JSONEncoder().encode
+    out.write(f'{{"$schema": {encode(SCHEMA)}, "version": "2.1.0", "runs": [{encode(run)[:-1]},\n"invocations": [')
+    out.writelines((",\n" if number else "\n") + encode(invocation(each)) for number, each in enumerate(results.runs))
+    out.write('],\n"results": [')
+    out.writelines((",\n" if number else "\n") + encode(each)
+                   for number, each in enumerate(results_of(results, rules, root)))
+    out.write("]}]}\n")

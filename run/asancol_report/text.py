@@ -7,7 +7,7 @@ from typing import Iterator, TextIO
 from .findings import Finding, Frame, place_text, Stack
 from .results import Process, Results, Run
 from .suppressions import suppression_of
-from .words import plural, printable, shown_path, signal_name
+from .words import date_and_time, plural, printable, shown_path, signal_name
 
 
 class Colors:
@@ -35,12 +35,12 @@ class Text:
         follow."""
         for finding in results.counted():
             if not is_live:
-                self.write(self.finding(finding))
+                self.write(self.finding(finding, seen=seen_text(results, finding)))
             elif finding.count > 1:
                 self.write(iter([self.count_line(finding)]))
         self.write(self.summary(results))
 
-    def finding(self, finding: Finding, times: bool = True) -> Iterator[str]:
+    def finding(self, finding: Finding, times: bool = True, seen: str = "") -> Iterator[str]:
         colors = self.colors
         count = ""
         if times and finding.count > 1:
@@ -53,6 +53,8 @@ class Text:
             if stack:
                 yield f"  {title}"
                 yield from self.stack(stack)
+        if seen:
+            yield f"  {printable(seen)}"
         if self.has_suppressions:
             line = suppression_of(finding, self.root)
             yield f"  suppression: {printable(line)}" if line else "  suppression: none, since its place is not known"
@@ -79,6 +81,8 @@ class Text:
     def summary(self, results: Results) -> Iterator[str]:
         for process in results.crashes():
             yield from self.crash(process)
+        for process in results.abrupt():
+            yield self.abrupt_line(process)
         for _, process in results.not_whole():
             yield self.process_line(process)
         for run in results.runs:
@@ -105,8 +109,27 @@ class Text:
         return f"asancol: process {process.pid} {command}NOT SEEN WHOLE: {printable(process.why)}"
 
     @staticmethod
+    def abrupt_line(process: Process) -> str:
+        command = printable(process.command[0]) + ": " if process.command else ""
+        return f"asancol: process {process.pid} {command}{printable(process.why)}: seen up to there"
+
+    @staticmethod
     def run_name(run: Run, results: Results) -> str:
         return f"{printable(run.command[0])}: " if len(results.runs) > 1 and run.command else ""
+
+
+def seen_text(results: Results, finding: Finding) -> str:
+    """Returns in how many runs, on which machines and when a finding was seen; nothing, if there is one run alone, or
+    if each run is a trace."""
+    if len(results.runs) < 2 or results.are_traces:
+        return ""
+    seen = results.sightings(finding)
+    text = f"seen in {plural(seen.runs, 'run')}"
+    if seen.machines:
+        text += f" on {plural(len(seen.machines), 'machine')}"
+    if seen.first:
+        text += f", first {date_and_time(seen.first)}" + (f" on {seen.first_machine}" if seen.first_machine else "")
+    return text
 
 
 def totals_line(results: Results) -> str:
@@ -128,4 +151,6 @@ def totals_line(results: Results) -> str:
         whole = "NOT SEEN WHOLE"
     else:
         whole = "all seen whole"
+    if totals.abrupt:
+        whole += f", {totals.abrupt} ended abruptly"
     return f"asancol: {reports}; {processes}, {plural(totals.events, 'event')}; {whole}"

@@ -5,6 +5,7 @@ from __future__ import annotations
 import os
 import re
 import signal
+import time
 from typing import Sequence
 
 # Control characters, lone surrogates (bytes that are no UTF-8), and what turns the direction of text.
@@ -47,6 +48,14 @@ def signal_name(number: int) -> str:
         return signal.Signals(number).name
     except ValueError:
         return f"signal {number}"
+
+
+LAST_SECOND = 253402300799  # of the year 9999
+
+
+def date_and_time(seconds: float, form: str = "%Y-%m-%d %H:%M:%S UTC") -> str:
+    """Returns a time that is given in seconds since 1970."""
+    return time.strftime(form, time.gmtime(min(seconds, LAST_SECOND)))
 
 
 def shown_path(path: str, root: str) -> str:

@@ -27,7 +27,7 @@ _asancol_report()
     esac
     if [[ $word == -* ]]; then
         mapfile -t COMPREPLY < <(compgen -W '--json --sarif --junit --codequality --html --suppressions
-            --gen-suppressions --baseline --source-root --live --color --quiet --trace --quarantine --memory --limit
+            --gen-suppressions --baseline --source-root --live --color --no-machines --quiet --trace --quarantine --memory --limit
             --run --help --version' -- "$word")
         return
     fi

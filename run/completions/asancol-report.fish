@@ -13,6 +13,7 @@ complete -c asancol-report -l baseline -r -F -d 'Leave out reports of an earlier
 complete -c asancol-report -l source-root -x -a '(__fish_complete_directories)' -d 'Show files from this folder'
 complete -c asancol-report -l live -d 'Print the first report of each place when it comes'
 complete -c asancol-report -l color -x -a 'auto always never' -d 'Colors'
+complete -c asancol-report -l no-machines -d 'Leave out names of machines and times'
 complete -c asancol-report -s q -l quiet -d 'Print nothing if no report counts'
 complete -c asancol-report -l trace -d 'Check traces'
 complete -c asancol-report -l quarantine -x -d 'Of asancol check'

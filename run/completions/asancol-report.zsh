@@ -15,6 +15,7 @@ _asancol_report() {
         '--source-root=[show files by their paths from a folder]:folder:_files -/' \
         '--live[print the first report of each place when it comes]' \
         '--color=[colors]:when:(auto always never)' \
+        '--no-machines[leave out names of machines and times]' \
         '(-q --quiet)'{-q,--quiet}'[print nothing if no report counts]' \
         '--trace[check traces]' \
         '--quarantine=[of asancol check]:bytes' \

@@ -22,6 +22,9 @@ from report import END, FREED, freed_block  # noqa: E402
 MANY_LINES = 100000
 MANY_PLACES = 2000
 RESULT_LINES = 1000000
+JOBS, RESULTS_OF_A_JOB = 1000, 100
+# Of so many results one has a finding, at one of so many places.
+ONE_HAS, PLACES_OF_A_FARM = 10, 500
 
 
 class Measured(NamedTuple):
@@ -81,6 +84,29 @@ def results(folder: str) -> str:
     return path
 
 
+def a_farm(folder: str) -> str:
+    """A folder with what a thousand jobs left: for each a file, with a hundred results one after another."""
+    path = os.path.join(folder, "results")
+    os.makedirs(path, exist_ok=True)
+    for job in range(JOBS):
+        with open(os.path.join(path, f"{job:04}.jsonl"), "w", encoding="utf-8") as file:
+            for number in range(job * RESULTS_OF_A_JOB, (job + 1) * RESULTS_OF_A_JOB):
+                file.writelines(json.dumps(entry, separators=(",", ":")) + "\n" for entry in one_result(job, number))
+    return path
+
+
+def one_result(job: int, number: int) -> List[Dict[str, Any]]:
+    """What asancol-run leaves of one test, run and process and in some a finding."""
+    has = number % ONE_HAS == 0
+    host = f"node-{job % 200:03}.farm.example.org"
+    run = {"type": "run", "version": 1, "run": 0, "id": f"66117cd4d81b0-{number:x}-{host}",
+           "command": ["build/tests/program", f"--case={number % 5000}"], "host": host, "directory": "/home/me/project",
+           "time": 1795604716.0 + number, "seconds": 0.204, "status": 0, "signal": 0, "ended": True, "nothing": False,
+           "missing": 0, "running": False, "timed_out": False, "lost": 0, "runs": 1, "processes": 1, "findings": int(has)}
+    process = {**result_process(0, 0), "command": run["command"], "pid": 1000 + number % 30000}
+    return [run, process, result_finding(0, 0, number // ONE_HAS % PLACES_OF_A_FARM)] if has else [run, process]
+
+
 def result_process(run: int, n: int) -> Dict[str, Any]:
     return {"type": "process", "run": run, "n": n, "pid": 5000 + n, "parent": 1, "command": ["./program", str(n)],
             "fate": "closed", "events": 1000 + n, "reports": 1, "whole": True, "left_out": 0, "why": ""}
@@ -113,6 +139,10 @@ ROWS = [
     Row("2,000 places, without", many_places, ["--trace"], 1, 100, "/nonexistent"),
     Row("a million JSON lines", results, [], 30, 500),
     Row("a million JSON lines, to a file", results, ["--json", "/dev/null"], 30, 500),
+    Row("100,000 results of 1,000 jobs", a_farm, [], 10, 500),
+    Row("100,000 results, to a page", a_farm, ["--html", "/dev/null"], 10, 500),
+    Row("100,000 results, to a file", a_farm, ["--json", "/dev/null"], 10, 500),
+    Row("100,000 results, to SARIF", a_farm, ["--sarif", "/dev/null"], 10, 500),
 ]
 
 

@@ -27,6 +27,7 @@ sys.path.insert(0, TESTS)
 import browser  # noqa: E402
 import cuts  # noqa: E402
 import fingerprints  # noqa: E402
+import machines  # noqa: E402
 import sides  # noqa: E402
 from sides import build, fault, Feed, of_program, Program, report, side, write_trace  # noqa: E402
 from support import expect, expect_in, expect_not_in, wait_until  # noqa: E402
@@ -860,6 +861,7 @@ ALL: List[Callable[[str], None]] = [
     results_are_read_again, runs_are_merged, bad_results, suppressions, baseline, sarif, sarif_has_its_schema, junit,
     code_quality, page_is_safe, page_works, outputs_are_whole, stacks_have_callers, side_memory_lies, lines_are_no_lines,
     text_does_nothing_to_a_terminal, words_are_refused, completions_are_whole, *fingerprints.TESTS, *cuts.TESTS,
+    *machines.TESTS,
 ]
 
 
