@@ -1,5 +1,6 @@
 """What the recorder's tests share: runs, builds, traces, and a suite that runs tests side by side."""
 
+import mmap
 import os
 import re
 import shutil
@@ -185,9 +186,9 @@ class Side:
 
 
 def side_of(path):
-    """The side file of a trace."""
+    """The side file of a trace. It is mapped, since most of it is a hole."""
     with open(f"{path}.where", "rb") as file:
-        return Side(file.read())
+        return Side(mmap.mmap(file.fileno(), 0, access=mmap.ACCESS_READ))
 
 
 LINE = re.compile(
