@@ -83,7 +83,7 @@ enum variable { VARIABLE_NONE, VARIABLE_STACK, VARIABLE_GLOBAL };
 
 enum { SIDE_WORDS = 4000, SIDE_BUILD_COUNT = 112, SIDE_ID = 23, SIDE_NAME = 120, SIDE_FAULTS = 1 << 16 };
 /* Where its parts begin, but for the first: */
-enum { SIDE_BUILDS = 4096, SIDE_MAPS = 8192, SIDE_INDEX = 1 << 18, SIDE_INDEX_ENTRY = 4 };
+enum { SIDE_BUILDS = 4096, SIDE_PROGRESS = 7680, SIDE_MAPS = 8192, SIDE_INDEX = 1 << 18, SIDE_INDEX_ENTRY = 4 };
 #define SIDE_FAULTS_AT (SIDE_INDEX + EVENT_LIMIT * SIDE_INDEX_ENTRY)
 #define SIDE_STACKS_AT (SIDE_FAULTS_AT + SIDE_FAULTS * sizeof(struct side_fault))
 /* How many words of 8 bytes the stacks may have. */
@@ -117,6 +117,11 @@ struct side_build {
     unsigned char length, id[SIDE_ID];
 };
 
+/* How far the process has come, for the case that it is ended without a word. */
+struct side_progress {
+    uint64_t needed; /* one more than the number of the last event that may be bad; 0: it is not noted */
+};
+
 /* What was seen when an access or a free was bad by the recorder's shadow. */
 struct side_fault {
     uint64_t event; /* the first that has this fault */
@@ -135,7 +140,8 @@ struct side_fault {
 
 _Static_assert(sizeof(struct side) == SIDE_BUILDS, "the head fits");
 _Static_assert(sizeof(struct side_build) == 32, "a build id has no padding");
-_Static_assert(SIDE_BUILDS + SIDE_BUILD_COUNT * sizeof(struct side_build) <= SIDE_MAPS, "the build ids fit");
+_Static_assert(SIDE_BUILDS + SIDE_BUILD_COUNT * sizeof(struct side_build) <= SIDE_PROGRESS, "the build ids fit");
+_Static_assert(SIDE_PROGRESS + sizeof(struct side_progress) <= SIDE_MAPS, "the progress fits");
 _Static_assert(sizeof(struct side_fault) == 192, "a fault has no padding");
 _Static_assert(SIDE_FAULTS_AT % 8 == 0, "faults are aligned");
 

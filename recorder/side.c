@@ -41,6 +41,11 @@ static void read_words(struct side *side)
         strncpy(side->words, program_invocation_name, SIDE_WORDS - 2);
 }
 
+static _Atomic uint64_t *needed_in(struct side *side)
+{
+    return (_Atomic uint64_t *)&((struct side_progress *)((unsigned char *)side + SIDE_PROGRESS))->needed;
+}
+
 void side_begin(unsigned char *bytes, uint64_t quarantine)
 {
     struct side *side = (struct side *)bytes;
@@ -56,6 +61,7 @@ void side_begin(unsigned char *bytes, uint64_t quarantine)
     side->has_checks = recorder_has_checks();
     side->quarantine = quarantine;
     read_words(side);
+    atomic_store_explicit(needed_in(side), 1, memory_order_relaxed);
     memcpy(side->header, SIDE_HEADER, sizeof side->header);
     atomic_store_explicit(&current, side, memory_order_release);
     side_write_modules();
@@ -252,6 +258,17 @@ void side_note_checks(void)
     struct side *side = side_now();
     if (side != NULL)
         side->has_checks = 1;
+}
+
+void side_note_needed(uint64_t event)
+{
+    struct side *side = side_now();
+    if (side == NULL)
+        return;
+    _Atomic uint64_t *needed = needed_in(side);
+    uint64_t before = atomic_load_explicit(needed, memory_order_relaxed);
+    while (before <= event && !atomic_compare_exchange_weak(needed, &before, event + 1))
+        ;
 }
 
 void side_note_left_out(void)

@@ -16,6 +16,9 @@ uint64_t side_length(void);
 /* Copies the map of modules from the system, with the build id of each. */
 void side_write_modules(void);
 void side_note_checks(void);
+/* The stream has to be read up to this event: it may be bad. It is noted before the access is made, so who finds the
+   process gone knows whether one is missing. */
+void side_note_needed(uint64_t event);
 /* An event finds no room. */
 void side_note_left_out(void);
 /* How the process ends, with so many events in the stream: ENDING_NONE takes an exec back. What is lost stays lost. */

@@ -689,8 +689,11 @@ static unsigned char *reserve_with(uint32_t fault, unsigned length)
 {
     uint64_t place = stream_take(&STREAM->cursor, CURSOR_EVENT + length);
     unsigned char *at = open_place(place, length);
+    uint64_t event = ((place - CURSOR_ON) >> 32) + 1;
+    if (at != NULL)
+        side_note_needed(event);
     if (at != NULL && fault != 0)
-        fault_note(fault, ((place - CURSOR_ON) >> 32) + 1);
+        fault_note(fault, event);
     return at;
 }
 

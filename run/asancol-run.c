@@ -27,7 +27,7 @@
 /* What all processes come to. */
 struct sum {
     uint64_t events, reports;
-    size_t not_whole, with_reports, recorded, marks, unchecked;
+    size_t not_whole, abrupt, with_reports, recorded, marks, unchecked;
 };
 
 static struct sum sum_up(void)
@@ -43,6 +43,7 @@ static struct sum sum_up(void)
         sum.reports += process->reports;
         sum.with_reports += process->reports > 0;
         sum.not_whole += !process->is_whole;
+        sum.abrupt += process->is_abrupt;
         sum.recorded += process->has_checks;
         sum.marks += process->is_mark;
         sum.unchecked += process->is_unchecked;
@@ -55,14 +56,16 @@ static const char *plural(uint64_t count, const char *end)
     return count == 1 ? "" : end;
 }
 
-/* The lines of processes: of those that were not seen whole if asancol-report does not print them, and of the others if
-   all are wanted. */
-static void say_processes(bool is_reported, bool is_verbose)
+/* The lines of processes: of those that were not seen whole or ended abruptly, if asancol-report does not print them,
+   and of the others if all are wanted. */
+static void say_processes(bool is_reported, bool is_verbose, bool is_quiet)
 {
     for (size_t i = 0; i < process_count(); i++) {
         const struct process *process = process_at(i);
         if (!process->is_whole && !is_reported)
             say("asancol: process %d %s: NOT SEEN WHOLE: %s", process->own_number, process->name, process->why);
+        else if (process->is_abrupt && !is_reported && !is_quiet)
+            say("asancol: process %d %s: %s: seen up to there", process->own_number, process->name, process->why);
         else if (process->is_whole && is_verbose)
             say("asancol: process %d %s: seen whole%s%s, %" PRIu64 " event%s, %" PRIu64 " report%s",
                 process->own_number, process->name, process->why[0] != 0 ? ": " : "", process->why, process->events,
@@ -72,7 +75,7 @@ static void say_processes(bool is_reported, bool is_verbose)
 
 static void say_summary(const struct sum *sum, bool is_incomplete)
 {
-    char reports[96] = "no reports", whole[48] = "all seen whole";
+    char reports[96] = "no reports", whole[48] = "all seen whole", abrupt[48] = "";
     if (sum->reports > 0)
         snprintf(reports, sizeof reports, "%" PRIu64 " report%s in %zu process%s", sum->reports,
                  plural(sum->reports, "s"), sum->with_reports, plural(sum->with_reports, "es"));
@@ -80,8 +83,10 @@ static void say_summary(const struct sum *sum, bool is_incomplete)
         snprintf(whole, sizeof whole, "%zu NOT SEEN WHOLE", sum->not_whole);
     else if (is_incomplete)
         snprintf(whole, sizeof whole, "NOT SEEN WHOLE");
-    say("asancol: %s; %zu process%s, %" PRIu64 " event%s; %s", reports, process_count(), plural(process_count(), "es"),
-        sum->events, plural(sum->events, "s"), whole);
+    if (sum->abrupt > 0)
+        snprintf(abrupt, sizeof abrupt, ", %zu ended abruptly", sum->abrupt);
+    say("asancol: %s; %zu process%s, %" PRIu64 " event%s; %s%s", reports, process_count(),
+        plural(process_count(), "es"), sum->events, plural(sum->events, "s"), whole, abrupt);
 }
 
 /* What holds of the run, and not of one process. */
@@ -117,7 +122,7 @@ static enum answer conclude(const struct options *options, const struct sum *sum
     bool is_incomplete = is_cut_short(sum, outcome) || outcome->nothing;
     enum answer answer = is_incomplete ? ANSWER_NOT_WHOLE : ANSWER_CLEAN;
     progress_erase();
-    say_processes(true, options->verbose);
+    say_processes(true, options->verbose, options->quiet);
     report_finish(outcome);
     if (report_was_started()) {
         collect_report();
@@ -129,7 +134,7 @@ static enum answer conclude(const struct options *options, const struct sum *sum
     } else if (nested_result() != NULL) {
         report_leave(nested_result());
     }
-    say_processes(false, false);
+    say_processes(false, false, options->quiet);
     say_outcome(outcome);
     if (!options->quiet || is_incomplete || answer == ANSWER_NONE || answer == ANSWER_ARGUMENTS)
         say_summary(sum, is_incomplete);

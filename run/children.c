@@ -4,7 +4,9 @@
 #include <errno.h>
 #include <signal.h>
 #include <spawn.h>
+#include <stdio.h>
 #include <stdlib.h>
+#include <string.h>
 #include <unistd.h>
 
 #include "say.h"
@@ -21,9 +23,33 @@ struct child {
 enum { BUCKETS = 4096 };
 static struct child *buckets[BUCKETS];
 static sigset_t mask_before, usual;
+static char **checkers_environment;
+
+/* Makes the environment of the checkers: this one, and huge pages for the shadow, unless it says something of them. */
+static void make_environment(void)
+{
+    static const char name[] = "GLIBC_TUNABLES=", huge[] = "glibc.malloc.hugetlb=1";
+    const char *tunables = getenv("GLIBC_TUNABLES");
+    size_t count = 0;
+    while (environ[count] != NULL)
+        count++;
+    char **made = must(calloc(count + 2, sizeof *made));
+    size_t kept = 0;
+    for (size_t i = 0; i < count; i++)
+        if (tunables == NULL || strstr(tunables, "hugetlb") != NULL || strncmp(environ[i], name, sizeof name - 1) != 0)
+            made[kept++] = environ[i];
+    if (tunables == NULL || strstr(tunables, "hugetlb") == NULL) {
+        bool is_more = tunables != NULL && *tunables != 0;
+        size_t room = sizeof name + sizeof huge + (is_more ? strlen(tunables) : 0);
+        made[kept] = must(malloc(room));
+        snprintf(made[kept], room, "%s%s%s%s", name, is_more ? tunables : "", is_more ? ":" : "", huge);
+    }
+    checkers_environment = made;
+}
 
 void children_begin(void)
 {
+    make_environment();
     struct sigaction action;
     sigprocmask(SIG_SETMASK, NULL, &mask_before);
     sigemptyset(&usual);
@@ -62,7 +88,8 @@ pid_t child_start(enum role role, struct process *process, const char *program, 
     posix_spawnattr_setpgroup(&attributes, 0);
     posix_spawnattr_setsigmask(&attributes, &mask);
     posix_spawnattr_setsigdefault(&attributes, &usual);
-    int error = posix_spawn(&child, program, &actions, &attributes, (char *const *)(uintptr_t)words, environ);
+    char **environment = role == ROLE_CHECKER ? checkers_environment : environ;
+    int error = posix_spawn(&child, program, &actions, &attributes, (char *const *)(uintptr_t)words, environment);
     posix_spawn_file_actions_destroy(&actions);
     posix_spawnattr_destroy(&attributes);
     if (error != 0) {

@@ -15,6 +15,7 @@
 
 #include "checkers.h"
 #include "children.h"
+#include "deaths.h"
 #include "descendants.h"
 #include "hub.h"
 #include "names.h"
@@ -129,11 +130,13 @@ static void reap(void)
         enum role role;
         struct process *process;
         if (child == run.command) {
+            death_note(child, status);
             run.status = status;
             run.ended = run.wait_from = now();
             run.command = 0;
             run.look_at = 0;
         } else if (!child_take(child, &role, &process)) {
+            death_note(child, status);
             run.look_at = 0;
         } else if (role == ROLE_REPORT) {
             report_has_ended(status);

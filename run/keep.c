@@ -113,11 +113,14 @@ static void put_copy(const struct process *process, int from, int to, const char
         close(to);
 }
 
+/* Neither a link nor a pipe that somebody has put there is followed, or waited for. */
 static int open_where(const char *trace, int flags)
 {
     char path[PATH_MAX];
     snprintf(path, sizeof path, "%s.where", trace);
-    return open(path, flags | O_CLOEXEC, 0666);
+    if (flags & O_CREAT)
+        unlink(path); /* what is left from a trace that was removed */
+    return open(path, flags | O_CLOEXEC | O_NOFOLLOW | O_NONBLOCK, 0666);
 }
 
 void keep_file(struct process *process)
@@ -127,10 +130,21 @@ void keep_file(struct process *process)
         say("asancol-run: %s: a trace cannot be kept: %s", folder, strerror(errno));
         return;
     }
-    int from = open(process->trace, O_RDONLY | O_CLOEXEC);
+    int from = open(process->trace, O_RDONLY | O_CLOEXEC | O_NONBLOCK);
     put_copy(process, from, to, "");
     if (from >= 0)
         close(from);
+}
+
+/* Takes away a trace that nobody needs, and what stands beside it. */
+static void drop(struct process *process)
+{
+    char path[PATH_MAX];
+    snprintf(path, sizeof path, "%s.where", process->kept);
+    unlink(path);
+    unlink(process->kept);
+    free(process->kept);
+    process->kept = NULL;
 }
 
 void keep_end(struct process *process)
@@ -138,20 +152,22 @@ void keep_end(struct process *process)
     if (process->kept == NULL)
         return;
     if (process->reports == 0 && process->is_whole) {
-        unlink(process->kept);
-        free(process->kept);
-        process->kept = NULL;
+        drop(process);
         return;
     }
     int from = process->trace != NULL ? open_where(process->trace, O_RDONLY) : process->side_memory;
     if (from >= 0)
-        put_copy(process, from, open_where(process->kept, O_WRONLY | O_CREAT | O_TRUNC), ".where");
+        put_copy(process, from, open_where(process->kept, O_WRONLY | O_CREAT | O_EXCL), ".where");
     if (from >= 0 && process->trace != NULL)
         close(from);
 }
 
-void keep_again(const struct process *process)
+void keep_again(struct process *process)
 {
+    if (process->kept != NULL && process->reports == 0 && process->is_whole) {
+        drop(process);
+        return;
+    }
     int to = process->kept != NULL && process->side != NULL ? open_where(process->kept, O_WRONLY) : -1;
     if (to < 0)
         return;

@@ -14,6 +14,6 @@ void keep_file(struct process *process);
 /* Removes the trace, or puts the side memory beside it. */
 void keep_end(struct process *process);
 /* Writes again what has changed of it since. */
-void keep_again(const struct process *process);
+void keep_again(struct process *process);
 
 #endif

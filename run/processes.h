@@ -37,6 +37,7 @@ struct process {
     uint64_t events, reports, left_out;
     unsigned signal; /* that has ended it, as the recorder saw; or 0 */
     bool is_crash;   /* and it is one of a mistake */
+    bool is_abrupt;  /* the recorder did not see its end, and what it did up to there was seen all the same */
     bool is_whole, has_checks;
     bool is_unchecked; /* it is not whole since it has no checks, and for no other reason */
     bool is_settled; /* nothing of it can change any more */

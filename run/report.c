@@ -147,6 +147,8 @@ static void put_process(FILE *to, const struct process *process)
             process->number, process->own_number, process->parent, process->fate, process->events, process->reports,
             process->is_whole ? "true" : "false", process->left_out, process->signal);
     json_text(to, process->why);
+    if (process->is_abrupt)
+        fputs(",\"abrupt\":true", to);
     fputs(",\"command\":", to);
     put_words(to, process);
     if (process->trace != NULL) {

@@ -12,6 +12,8 @@
 
 /* How many descriptors one message may bring: more than one is a mistake, and they are closed. */
 enum { MOST_RECEIVED = 4 };
+/* So much of it is mapped: all before the modules. */
+enum { SIDE_MAPPED = SIDE_MAPS };
 
 int side_receive(int connection)
 {
@@ -48,35 +50,41 @@ const struct side *side_map(int descriptor)
     struct stat seen;
     int seals = fcntl(descriptor, F_GET_SEALS);
     if (seals < 0 || !(seals & F_SEAL_SHRINK) || fstat(descriptor, &seen) != 0
-        || seen.st_size < (off_t)sizeof(struct side))
+        || seen.st_size < SIDE_MAPPED)
         return NULL;
-    void *memory = mmap(NULL, sizeof(struct side), PROT_READ, MAP_SHARED, descriptor, 0);
+    void *memory = mmap(NULL, SIDE_MAPPED, PROT_READ, MAP_SHARED, descriptor, 0);
     if (memory == MAP_FAILED)
         return NULL;
     if (is_side(memory))
         return memory;
-    munmap(memory, sizeof(struct side));
+    munmap(memory, SIDE_MAPPED);
     return NULL;
 }
 
 const struct side *side_read(const char *path)
 {
-    void *memory = mmap(NULL, sizeof(struct side), PROT_READ | PROT_WRITE, MAP_PRIVATE | MAP_ANONYMOUS, -1, 0);
+    void *memory = mmap(NULL, SIDE_MAPPED, PROT_READ | PROT_WRITE, MAP_PRIVATE | MAP_ANONYMOUS, -1, 0);
     int descriptor = open(path, O_RDONLY | O_CLOEXEC | O_NONBLOCK);
     bool is_read = memory != MAP_FAILED && descriptor >= 0
-                   && pread(descriptor, memory, sizeof(struct side), 0) == (ssize_t)sizeof(struct side)
+                   && pread(descriptor, memory, SIDE_MAPPED, 0) == SIDE_MAPPED
                    && is_side(memory);
     if (descriptor >= 0)
         close(descriptor);
     if (is_read)
         return memory;
     if (memory != MAP_FAILED)
-        munmap(memory, sizeof(struct side));
+        munmap(memory, SIDE_MAPPED);
     return NULL;
 }
 
 void side_unmap(const struct side *side)
 {
     if (side != NULL)
-        munmap((void *)(uintptr_t)side, sizeof(struct side));
+        munmap((void *)(uintptr_t)side, SIDE_MAPPED);
+}
+
+uint64_t side_needed(const struct side *side)
+{
+    const unsigned char *bytes = (const unsigned char *)side;
+    return ((const volatile struct side_progress *)(const void *)(bytes + SIDE_PROGRESS))->needed;
 }

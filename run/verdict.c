@@ -10,6 +10,8 @@
 #include <sys/wait.h>
 #include <unistd.h>
 
+#include "deaths.h"
+
 const char *signal_name(int number)
 {
     static char room[32];
@@ -70,10 +72,37 @@ static void blame_limit(struct process *process)
             process->left_out + process->events - has_mark);
 }
 
+/* A process was ended without a word: by what, as far as that is known. */
+static void say_abrupt_end(struct process *process, const char *more)
+{
+    int status;
+    enum death death = death_of(process->peer, &status);
+    if (death == DEATH_SEEN && WIFSIGNALED(status))
+        WHY("ended abruptly, by %s%s", signal_name(WTERMSIG(status)), more);
+    else if (death == DEATH_SEEN)
+        WHY("ended abruptly, with status %d%s", WEXITSTATUS(status), more);
+    else
+        WHY("ended abruptly, as by SIGKILL or an _exit in a library%s", more);
+}
+
+/* What was recorded and did not come, at least. */
+static void blame_abrupt_end(struct process *process)
+{
+    uint64_t needed = process->side != NULL ? side_needed(process->side) : 0, next = process->events + 1;
+    char more[96] = ": what came last was not seen";
+    if (needed > next)
+        snprintf(more, sizeof more, ": its last events were not seen, at least %" PRIu64, needed - next);
+    say_abrupt_end(process, more);
+}
+
+static bool is_cut_off(const struct process *process)
+{
+    return strcmp(process->fate, "no-close") == 0 || strcmp(process->fate, "truncated") == 0
+           || strncmp(process->fate, "malformed", strlen("malformed")) == 0;
+}
+
 static void blame_fate(struct process *process, uint32_t ending)
 {
-    bool is_cut_off = strcmp(process->fate, "no-close") == 0 || strcmp(process->fate, "truncated") == 0
-                      || strncmp(process->fate, "malformed", strlen("malformed")) == 0;
     if (strcmp(process->fate, "not-checked") == 0 && WIFSIGNALED(process->checker_status))
         WHY("its checker was ended by %s", signal_name(WTERMSIG(process->checker_status)));
     else if (strcmp(process->fate, "not-checked") == 0)
@@ -84,8 +113,8 @@ static void blame_fate(struct process *process, uint32_t ending)
         WHY("reached the event limit of its checker, after %" PRIu64 " events", process->events);
     else if (ending == ENDING_LOST)
         WHY("its recording ended early");
-    else if (ending == ENDING_NONE && is_cut_off)
-        WHY("ended without a word, as by SIGKILL or an _exit in a library: what came last was not seen");
+    else if (ending == ENDING_NONE && is_cut_off(process))
+        blame_abrupt_end(process);
     else
         WHY("its trace ended as %s", process->fate);
 }
@@ -98,6 +127,18 @@ static bool has_all(const struct process *process, uint32_t ending)
     if (strcmp(process->fate, "closed") == 0)
         return true;
     return is_open && is_end && process->side->events == process->events;
+}
+
+/* Whether a process that said nothing of its end is gone, and each event that it may have a report for was checked:
+   those after them, if there are any, are good mallocs and frees. In a file the stream ends before zeros. */
+static bool has_all_needed(const struct process *process, uint32_t ending)
+{
+    int status;
+    uint64_t needed = process->side != NULL ? side_needed(process->side) : 0;
+    bool is_cut = strcmp(process->fate, "no-close") == 0 || strcmp(process->fate, "truncated") == 0
+                  || (process->trace != NULL && strcmp(process->fate, "malformed code") == 0);
+    return ending == ENDING_NONE && is_cut && needed != 0 && needed - 1 <= process->events
+           && death_of(process->peer, &status) != DEATH_NONE;
 }
 
 /* Whether the process itself has raised it, by a mistake. */
@@ -118,7 +159,7 @@ static void judge(struct process *process)
     bool was_checked = strcmp(process->fate, "not-checked") != 0;
     process->left_out = side != NULL ? side->left_out : 0;
     process->has_checks = !process->is_mark && (side == NULL || side->has_checks != 0);
-    process->is_whole = process->is_unchecked = false;
+    process->is_whole = process->is_unchecked = process->is_abrupt = false;
     process->signal = ending == ENDING_SIGNAL ? side->signal : 0;
     process->is_crash = is_crash(process->signal);
     /* What is read from a file does not change any more; what is past the limit may still grow. */
@@ -130,6 +171,8 @@ static void judge(struct process *process)
         WHY("was ended by --timeout");
     else if (was_checked && is_at_limit)
         blame_limit(process);
+    else if (was_checked && has_all_needed(process, ending))
+        process->is_whole = process->is_abrupt = process->has_checks;
     else if (!was_checked || !has_all(process, ending))
         blame_fate(process, ending);
     else
@@ -139,6 +182,8 @@ static void judge(struct process *process)
         WHY("no code of it was compiled by asancol-cc");
     if (process->is_whole && ending == ENDING_SIGNAL)
         WHY("ended by %s", signal_name((int)side->signal));
+    else if (process->is_abrupt)
+        say_abrupt_end(process, "");
 }
 
 void verdict_read(struct process *process)

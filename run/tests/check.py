@@ -2,18 +2,22 @@
 """Runs programs under asancol-run, as a user would, and looks at what it prints and how it ends; and asancol-report.
 
 usage: run/tests/check.py ASANCOL [WORD..]
+       SANITIZE=1 run/tests/check.py ASANCOL [WORD..]     after make -C run sanitized
 
 With words, only tests whose names have one of them are run. The last line is 'N passed, M failed',
 and the status is 1 if a test failed. What is not there, such as bubblewrap, is said in a line, and
-left out.
+left out. With SANITIZE the tests run the asancol-run that the compiler's AddressSanitizer and
+UndefinedBehaviorSanitizer watch, and each finding is a failure.
 """
 
 import os
 import sys
 
+import abrupt
 import completions
 import feeds
 import lives
+import mutations
 import recipes
 import report
 import rooms
@@ -30,12 +34,15 @@ def main() -> int:
     suite.build()
     statuses.tests(suite)
     lives.tests(suite)
+    abrupt.tests(suite)
     rooms.tests(suite)
     feeds.tests(suite)
     completions.tests(suite)
     recipes.tests(suite)
     whole.tests(suite)
     suite.add(*report.run_tests(sys.argv[2:]))  # meanwhile
+    if not suite.words or "mutations" in suite.words:
+        suite.add(*mutations.damage(count=100, seed=1))
     return suite.finish()
 
 

@@ -181,6 +181,18 @@ def check_keep_names(suite: Suite, folder: str) -> None:
     expect([it.split(".")[0] for it in traces], ["programs", "programs"], "names")
 
 
+def check_keep_beside_links(suite: Suite, folder: str) -> None:
+    """A link that somebody has put where what stands beside a trace goes is not followed."""
+    line = f"ln -s {folder}/other {folder}/programs.$$.trace.where; exec {suite.program} past"
+    with open(f"{folder}/other", "w", encoding="utf-8") as file:
+        file.write("mine")
+    expect(suite.run("--keep", folder, "--", "sh", "-c", line).status, 99, "status")
+    with open(f"{folder}/other", encoding="utf-8") as file:
+        expect(file.read(), "mine", "the other file")
+    beside = [it for it in os.listdir(folder) if it.endswith(".where")]
+    expect([os.path.islink(f"{folder}/{it}") for it in beside], [False], "what stands beside the trace")
+
+
 def check_keep_on_full_disk(suite: Suite, folder: str) -> None:
     """A trace that cannot be kept is checked all the same."""
     line = (
@@ -213,6 +225,7 @@ def tests(suite: Suite) -> None:
     suite.test("closed log", check_closed_log)
     suite.test("keep", check_keep)
     suite.test("keep, names", check_keep_names)
+    suite.test("keep, links", check_keep_beside_links)
     suite.test("live", check_live_is_passed)
     if suite.run_words(["unshare", "-rm", "true"]).status == 0:
         suite.test("keep, full disk", check_keep_on_full_disk)

@@ -49,7 +49,7 @@ def check_group_signal(suite: Suite, folder: str) -> None:
 
 def check_killed_beside_others(suite: Suite, folder: str) -> None:
     line = f"{suite.program} sleeps 30 & sleep 0.3; kill -9 $!; {suite.program} sound"
-    expect_ran(suite.run("--", "sh", "-c", line), 98, "1 NOT SEEN WHOLE", "2 processes")
+    expect_ran(suite.run("--", "sh", "-c", line), 0, "2 processes", "all seen whole, 1 ended abruptly")
 
 
 def check_killed_checker(suite: Suite, folder: str) -> None:
@@ -62,6 +62,21 @@ def check_killed_checker(suite: Suite, folder: str) -> None:
     ran = suite.run("--", "sh", "-c", line, ASANCOL=checker)
     expect_ran(ran, 98, "its checker was ended by SIGKILL", "2 processes", "1 NOT SEEN WHOLE")
     expect(ran.out, "sound\nsound\n", "what the command printed")
+
+
+def check_huge_pages(suite: Suite, folder: str) -> None:
+    """The checkers ask for huge pages, and the command's environment stays as it is."""
+    checker, said = f"{folder}/asancol", f"{folder}/said"
+    with open(checker, "w", encoding="utf-8") as script:
+        script.write(f'#!/bin/sh\necho "$GLIBC_TUNABLES" > {said}\nexec {suite.asancol} "$@"\n')
+    os.chmod(checker, 0o755)
+    huge, other = "glibc.malloc.hugetlb=1", "glibc.malloc.tcache_count=3"
+    for before, of_checker in (("", huge), (other, f"{other}:{huge}"), ("glibc.malloc.hugetlb=0",) * 2):
+        line = f'{suite.program} sound; echo "$GLIBC_TUNABLES"'
+        ran = suite.run("--", "sh", "-c", line, ASANCOL=checker, GLIBC_TUNABLES=before)
+        expect((ran.status, ran.out), (0, f"sound\n{before}\n"), ran.err)
+        with open(said, encoding="utf-8") as file:
+            expect(file.read(), f"{of_checker}\n", "what the checker was given")
 
 
 def check_term_during_report(suite: Suite, folder: str) -> None:
@@ -300,6 +315,7 @@ def tests(suite: Suite) -> None:
     suite.test("signal to the group too", check_group_signal)
     suite.test("kill -9 beside others", check_killed_beside_others)
     suite.test("checker is killed", check_killed_checker)
+    suite.test("huge pages", check_huge_pages)
     suite.test("SIGTERM with a report", check_term_during_report)
     for number in (signal.SIGINT, signal.SIGTERM, signal.SIGHUP, signal.SIGQUIT, signal.SIGUSR1, signal.SIGUSR2):
         text = f"ended by {signal.Signals(number).name}"

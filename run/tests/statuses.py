@@ -57,7 +57,10 @@ RUNS: Dict[str, Tuple[str, int, List[str]]] = {
     "program ends by a signal": ("-- PROGRAM kills_itself 11", -11, ["the report"]),
     "program ends by a signal, and quiet": ("-q -- PROGRAM kills_itself 11", -11, ["!asancol"]),
     "program is terminated": ("-- PROGRAM kills_itself 15", -15, ["all seen whole"]),
-    "killed": ("-- PROGRAM kills_itself 9", 98, ["NOT SEEN WHOLE: ended without a word, as by SIGKILL"]),
+    "killed": ("-- PROGRAM kills_itself 9", -9, [
+        "ended abruptly, by SIGKILL: seen up to there", "all seen whole, 1 ended abruptly"
+    ]),
+    "killed, and quiet": ("-q -- sh -c 'PROGRAM kills_itself 9; true'", 0, ["!asancol"]),
     "no shadow": ("-- sh -c 'ulimit -v 1000000; PROGRAM sound || true'", 98, [
         "programs: NOT SEEN WHOLE: address space is limited", "!NOTHING WAS RECORDED"
     ]),

@@ -1,5 +1,6 @@
 """What the tests of asancol-run share: builds, runs, and a suite that runs tests side by side."""
 
+import glob
 import json
 import os
 import shutil
@@ -12,7 +13,9 @@ from typing import Any, Callable, Dict, List, NamedTuple, Optional, Sequence
 
 TESTS = os.path.dirname(os.path.abspath(__file__))
 TOP = os.path.dirname(os.path.dirname(TESTS))
-RUN = f"{TOP}/run/asancol-run"
+# If SANITIZE is set, the one that is built with the compiler's sanitizers.
+SANITIZE = os.environ.get("SANITIZE", "")
+RUN = f"{TOP}/run/sanitized/asancol-run" if SANITIZE else f"{TOP}/run/asancol-run"
 CC = f"{TOP}/recorder/asancol-cc"
 REPORT = f"{TOP}/run/asancol-report"
 FAKE_REPORT = f"{TESTS}/fake_report.py"
@@ -69,6 +72,7 @@ class Suite:
         self.folder = tempfile.mkdtemp(prefix="asancol-tests-")
         self.program = f"{self.folder}/programs"
         self.unchecked = f"{self.folder}/unchecked"
+        self.findings = f"{self.folder}/findings"  # of the sanitizers, one file a process
         self.counting = threading.Lock()
         self.pool = ThreadPoolExecutor(max_workers=min(3, len(os.sched_getaffinity(0))))
 
@@ -85,6 +89,10 @@ class Suite:
     def environment(self, **settings: str) -> Dict[str, str]:
         """The environment without what speaks to asancol, and with these settings. The report is the fake one."""
         kept = {name: value for name, value in os.environ.items() if not name.startswith("ASANCOL")}
+        if SANITIZE:
+            # It keeps its memory until it ends.
+            sanitizers = f"detect_leaks=0:log_path={self.findings}:exitcode=111"
+            kept.update(ASAN_OPTIONS=sanitizers, UBSAN_OPTIONS=f"{sanitizers}:print_stacktrace=1")
         return {**kept, "ASANCOL": self.asancol, "ASANCOL_REPORT": FAKE_REPORT, "LC_ALL": "C", **settings}
 
     def run(self, *words: str, cwd: Optional[str] = None, **settings: str) -> Ran:
@@ -138,8 +146,16 @@ class Suite:
             self.passed += passed
             self.failed += failed
 
+    def show_findings(self) -> None:
+        """Counts what sanitizers have found as failures."""
+        for path in sorted(glob.glob(f"{self.findings}.*")):
+            with open(path, encoding="utf-8", errors="replace") as file:
+                print(f"FAILED sanitizers:\n{file.read()}", flush=True)
+            self.failed += 1
+
     def finish(self) -> int:
         self.pool.shutdown()
+        self.show_findings()
         shutil.rmtree(self.folder, ignore_errors=True)
         print(f"{self.passed} passed, {self.failed} failed")
         return 0 if self.passed > 0 and self.failed == 0 else 1

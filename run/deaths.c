@@ -1,0 +1,89 @@
+#define _GNU_SOURCE
+#include "deaths.h"
+
+#include <errno.h>
+#include <signal.h>
+#include <stdio.h>
+#include <stdlib.h>
+#include <string.h>
+
+#include "say.h"
+
+struct noted {
+    pid_t number;
+    int status;
+};
+
+static struct noted *noted;
+static size_t count, room;
+
+void death_note(pid_t number, int status)
+{
+    if (count == room) {
+        room = room * 2 + 64;
+        noted = must(realloc(noted, room * sizeof *noted));
+    }
+    noted[count++] = (struct noted){number, status};
+}
+
+/* The last of this number counts: the system gives numbers again. */
+static bool find_noted(pid_t number, int *status)
+{
+    for (size_t i = count; i > 0; i--) {
+        if (noted[i - 1].number == number) {
+            *status = noted[i - 1].status;
+            return true;
+        }
+    }
+    return false;
+}
+
+/* Numbers of the words after the name in /proc/NUMBER/stat, as proc(5) counts them. */
+enum { WORD_STATE = 3, WORD_THREADS = 20, WORD_STATUS = 52 };
+
+static size_t read_stat(pid_t number, char *text, size_t size)
+{
+    char path[64];
+    snprintf(path, sizeof path, "/proc/%d/stat", number);
+    FILE *file = fopen(path, "re");
+    size_t length = file != NULL ? fread(text, 1, size - 1, file) : 0;
+    if (file != NULL)
+        fclose(file);
+    text[length] = 0;
+    return length;
+}
+
+/* Whether it has ended, and only its parent has not asked yet. A first thread may end before the others. */
+static bool is_zombie(pid_t number, int *status, bool *has_status)
+{
+    char text[1024], *rest = NULL;
+    char *at = read_stat(number, text, sizeof text) > 0 ? strrchr(text, ')') : NULL;
+    bool is_dead = false;
+    if (at == NULL)
+        return false;
+    at = strtok_r(at + 1, " \n", &rest);
+    for (int word = WORD_STATE; at != NULL; word++, at = strtok_r(NULL, " \n", &rest)) {
+        if (word == WORD_STATE)
+            is_dead = *at == 'Z' || *at == 'X';
+        else if (word == WORD_THREADS)
+            is_dead = is_dead && atoi(at) <= 1;
+        else if (word == WORD_STATUS)
+            *status = atoi(at);
+    }
+    *has_status = is_dead && *status != 0; /* 0 also stands for what we may not see */
+    return is_dead;
+}
+
+enum death death_of(pid_t number, int *status)
+{
+    bool has_status = false;
+    *status = 0;
+    if (number <= 0)
+        return DEATH_NONE;
+    bool is_gone = kill(number, 0) != 0 && errno == ESRCH;
+    if (!is_gone && !is_zombie(number, status, &has_status))
+        return DEATH_NONE;
+    if (find_noted(number, status))
+        return DEATH_SEEN;
+    return has_status ? DEATH_SEEN : DEATH_UNSEEN;
+}

@@ -1,0 +1,21 @@
+/* How processes have ended, also those that said nothing themselves. */
+#ifndef ASANCOL_RUN_DEATHS_H
+#define ASANCOL_RUN_DEATHS_H
+
+#include <stdbool.h>
+#include <sys/types.h>
+
+/* What is known of a process. */
+enum death {
+    DEATH_NONE,   /* it still runs, or nobody can say */
+    DEATH_UNSEEN, /* it is gone */
+    DEATH_SEEN    /* it is gone, and it is known how */
+};
+
+/* Notes how a process has ended that waitpid has given to us. */
+void death_note(pid_t number, int status);
+/* What is known of a process, by its number here, and how it ended, as of waitpid. A number that another process has by
+   now reads as one that still runs. */
+enum death death_of(pid_t number, int *status);
+
+#endif

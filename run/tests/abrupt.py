@@ -1,0 +1,141 @@
+"""Processes that end where the recorder does not see it: by SIGKILL, or by an exit in code that it does not know."""
+
+import os
+import random
+import re
+import shutil
+import signal
+import subprocess
+import time
+from typing import List
+
+from support import CC, REPORT, TESTS, Suite, expect, expect_ran, finish
+
+SEEN = "all seen whole, 1 ended abruptly"
+# How often a process is killed at a moment that nobody chooses.
+TIMES = 100
+
+
+def build(suite: Suite, compiler: str) -> str:
+    """Builds the program by this compiler, beside a library that is not recorded."""
+    folder = f"{suite.folder}/{compiler}"
+    os.mkdir(folder)
+    library, program = f"{folder}/libplain.so", f"{folder}/abrupt"
+    subprocess.run(["cc", "-shared", "-fPIC", f"{TESTS}/plain.c", "-o", library], check=True)
+    words = [CC, "-g", "-O1", "-pthread", f"{TESTS}/abrupt.c", library, "-o", program]
+    subprocess.run(words, check=True, env={**os.environ, "ASANCOL_CC": compiler})
+    return program
+
+
+def check_exits(suite: Suite, folder: str, program: str) -> None:
+    for way in ("call", "exit"):
+        ran = suite.run("--", program, way, "0")
+        expect_ran(ran, 0, "ended abruptly, with status 0: seen up to there", SEEN)
+        expect_ran(suite.run("--", program, way, "3"), 3, "ended abruptly, with status 3: seen up to there")
+    ran = suite.run("--", program, "child", "4")
+    expect_ran(ran, 0, "ended abruptly", ": seen up to there", "2 processes", SEEN)
+
+
+def check_bug(suite: Suite, folder: str, program: str) -> None:
+    """What was found before counts, with its line, and all outputs name the end."""
+    outputs = [f"--{kind}={folder}/{kind}" for kind in ("json", "junit", "sarif", "html")]
+    ran = suite.run(*outputs, "--", program, "bug", ASANCOL_REPORT=REPORT)
+    expect_ran(ran, 99, "heap-buffer-overflow: store of 1 byte", "in store_past", "abrupt.c:", SEEN)
+    wanted = {"json": '"abrupt":true', "junit": "seen up to there", "sarif": "seen up to there", "html": "abruptly"}
+    for kind, text in wanted.items():
+        with open(f"{folder}/{kind}", encoding="utf-8") as file:
+            expect(text in file.read(), True, f"{kind}: {text}")
+    again = suite.run_words([REPORT, f"{folder}/json"])
+    expect((again.status, SEEN in again.out + again.err), (1, True), again.out + again.err)
+    ran = suite.run(*outputs, "--", program, "call", ASANCOL_REPORT=REPORT)
+    expect_ran(ran, 0, "with status 0: seen up to there", SEEN)
+
+
+def check_burst(suite: Suite, folder: str, program: str) -> None:
+    """Either all of a burst was seen, or it is said that its end was not."""
+    for _ in range(5):
+        ran = suite.run("--", program, "burst", "1000", ASANCOL_REPORT=REPORT)
+        found = re.search(r"(\d+) reports? at 1 place; 1 process, (\d+) events", ran.err)
+        expect((ran.status, found is not None), (99, True), ran.err)
+        reports = int(found[1]) if found else 0
+        if reports == 1000:
+            expect_ran(ran, 99, SEEN)
+        else:
+            expect_ran(ran, 99, f"NOT SEEN WHOLE: ended abruptly, with status 0: its last events were not seen, "
+                       f"at least {1000 - reports}")
+
+
+def check_daemon(suite: Suite, folder: str, program: str) -> None:
+    """The parent ends in code that nobody sees, and the daemon is recorded."""
+    ran = suite.run("--", program, "daemon", ASANCOL_REPORT=REPORT)
+    expect_ran(ran, 99, "in store_past", "2 processes", SEEN)
+
+
+def killed(suite: Suite, words: List[str], least: float, most: float, **settings: str) -> List[str]:
+    """Runs a program, and kills it some time after it is ready: the status, and what was printed."""
+    line = f"{words[0]} {' '.join(words[1:])} & echo $!; wait $!; true"
+    started = suite.start("--", "setsid", "sh", "-c", line, **settings)
+    number = int(started.stdout.readline() if started.stdout else 0)
+    if started.stdout and words[1] in ("churn", "stores"):
+        started.stdout.readline()
+    time.sleep(random.uniform(least, most))
+    try:
+        os.kill(number, signal.SIGKILL)
+    except ProcessLookupError:
+        pass
+    ran = finish(started)
+    return [str(ran.status), ran.out, ran.err]
+
+
+def check_threads(suite: Suite, folder: str, program: str) -> None:
+    """Killed in the middle of its mallocs: there is never a report, and all that needs a check was seen."""
+    for _ in range(TIMES):
+        status, _, said = killed(suite, [program, "churn"], 0, 0.03)
+        expect((status, "no reports" in said), ("0", True), said)
+        expect(SEEN in said or "NOT SEEN WHOLE" in said, True, said)
+
+
+def check_stores(suite: Suite, folder: str, program: str) -> None:
+    """Never seen whole if a store that was made has no report."""
+    whole = 0
+    for _ in range(TIMES):
+        _, out, said = killed(suite, [program, "stores"], 0.005, 0.03, ASANCOL_REPORT=REPORT)
+        made = max((int(line) for line in out.split() if line.isdigit()), default=0)
+        found = re.search(r"asancol: (\d+) reports?", said)
+        reports = int(found[1]) if found else 0
+        if SEEN in said:
+            whole += 1
+            expect(reports >= made, True, f"{made} stores were made: {said}")
+        else:
+            expect("NOT SEEN WHOLE" in said, True, said)
+    expect(whole > 0, True, "that one was seen whole")
+
+
+def check_forks(suite: Suite, folder: str, program: str, way: str) -> None:
+    """Killed in the middle of forks and execs: there is no false report, and what is not seen is named."""
+    for _ in range(20):
+        status, _, said = killed(suite, [program, way], 0, 0.03)
+        expect("no reports" in said, True, said)
+        expect(status, "98" if "NOT SEEN WHOLE" in said else "0", said)
+
+
+def check_idle(suite: Suite, folder: str, program: str) -> None:
+    ran = suite.run("--", "timeout", "-s", "KILL", "0.4", suite.program, "sleeps", "30")
+    expect_ran(ran, -9, "ended abruptly", ": seen up to there", SEEN)
+
+
+def tests(suite: Suite) -> None:
+    suite.test("abrupt idle", check_idle, "")
+    for compiler in ("gcc", "clang"):
+        if shutil.which(compiler) is None:
+            print(f"left out: {compiler} is not there")
+            continue
+        program = build(suite, compiler)
+        suite.test(f"{compiler} abrupt exits", check_exits, program)
+        suite.test(f"{compiler} abrupt end after a bug", check_bug, program)
+        suite.test(f"{compiler} abrupt end after a burst", check_burst, program)
+        suite.test(f"{compiler} abrupt end of a daemon's parent", check_daemon, program)
+        suite.test(f"{compiler} abrupt end of threads", check_threads, program)
+        suite.test(f"{compiler} abrupt end of stores", check_stores, program)
+        for way in ("forks", "execs"):
+            suite.test(f"{compiler} abrupt end in {way}", check_forks, program, way)
