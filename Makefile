@@ -11,14 +11,16 @@ SOURCES := crates.txt HANDLES $(shell find crates -name out -prune -o -type f \(
 EXAMPLE := examples/one_byte_past_the_end.trace
 REDZONES := examples/stack_and_global_poison.trace
 
-.PHONY: all demo check stress failures install clean recorder check-recorder check-real bench-record stress-record \
-        install-recorder run check-run bench-run install-run dist deb check-packages
+.PHONY: all demo check stress fuzz failures install uninstall clean recorder check-recorder check-real bench-record \
+        stress-record install-recorder run check-run check-farm bench-run install-run dist deb check-packages
 
 # The program, proved.
 all: asancol
 
 # `rt run` proves what has changed, builds the program and runs it: here it only prints its help.
 asancol: $(SOURCES)
+	@command -v rt > /dev/null || { echo "make: asancol is proved and built by the command rt of the toolchain that" \
+	    "README.md names, and it is not on the PATH; 'make recorder run' needs only a C compiler" >&2; exit 1; }
 	cd crates/asancol && rt run -- --help > /dev/null
 	cp crates/asancol/out/asancol $@
 
@@ -49,6 +51,14 @@ MINUTES := 10
 stress: asancol
 	tests/stress.py --minutes $(MINUTES) ./asancol
 
+# So many drawn traces, good and damaged, by files, pipes and sockets, beside a slow checker that was written from the
+# documents alone: 100,000 take a minute or two. SEED=.. draws the same ones again.
+DRAWS := 100000
+SEED :=
+
+fuzz: asancol
+	tests/fuzz.py --draws $(DRAWS) $(if $(SEED),--seed $(SEED)) ./asancol
+
 # Memory, threads and descriptors that run short, peers that die, outputs that take no more: within a
 # minute or two.
 failures: asancol
@@ -73,9 +83,15 @@ run:
 	$(MAKE) -C run
 
 # Programs under it, as a user would run them, within two minutes. Tests of tools that are not there are left out, and
-# it says which.
+# it says which. With SANITIZE=1 asancol-run is one that the compiler's own sanitizers watch.
 check-run: asancol recorder run
-	run/tests/check.py ./asancol
+	$(if $(SANITIZE),$(MAKE) -C run sanitized)
+	$(if $(SANITIZE),SANITIZE=1) run/tests/check.py ./asancol
+
+# Small projects under ctest, meson, automake, GNU parallel, ssh, pytest, Slurm and in sandboxes, within two minutes.
+# Recipes whose tool is not there are left out, and it says which.
+check-farm: asancol recorder run
+	examples/farms/check.py ./asancol
 
 # What a run costs beside the same command without it: a minute, on a machine with nothing else to do.
 bench-run: asancol recorder run
@@ -103,7 +119,17 @@ install-run:
 install: asancol $(if $(HAS_CC),install-recorder install-run)
 	install -D asancol $(ROOT)/bin/asancol
 	$(call install-page,man/asancol.1)
+	$(call install-page,man/asancol-trace.5)
 	$(call install-completions,completions,asancol)
+
+# Takes away what `make install` has put there, with the same PREFIX and DESTDIR.
+PROGRAMS := asancol asancol-cc asancol-c++ asancol-run asancol-report
+
+uninstall:
+	rm -rf $(ROOT)/lib/asancol
+	rm -f $(foreach it,$(PROGRAMS),$(ROOT)/bin/$(it) $(ROOT)/share/man/man1/$(it).1)
+	rm -f $(ROOT)/share/man/man5/asancol-trace.5
+	rm -f $(foreach it,$(PROGRAMS),$(call completions-of,$(it)))
 
 # The sources as they are committed, in an archive that is the same whoever makes it.
 dist:

@@ -6,12 +6,16 @@ ROOT := $(DESTDIR)$(PREFIX)
 # Where zsh looks depends on who installs: a Debian package has a folder for itself.
 ZSH_FUNCTIONS ?= $(PREFIX)/share/zsh/site-functions
 
-# $(call install-page,PAGE): with the release in its title.
+# $(call install-page,PAGE): with the release in its foot, in man's macros or in mdoc's.
 define install-page
-install -d $(ROOT)/share/man/man1
-sed '/^\.TH/s/"asancol"/"asancol $(VERSION)"/' $1 > $(ROOT)/share/man/man1/$(notdir $1)
-chmod 644 $(ROOT)/share/man/man1/$(notdir $1)
+install -d $(ROOT)/share/man/man$(subst .,,$(suffix $1))
+sed -e '/^\.TH/s/"asancol"/"asancol $(VERSION)"/' -e 's/^\.Os asancol$$/& $(VERSION)/' $1 > $(ROOT)/share/man/man$(subst .,,$(suffix $1))/$(notdir $1)
+chmod 644 $(ROOT)/share/man/man$(subst .,,$(suffix $1))/$(notdir $1)
 endef
+
+# $(call completions-of,PROGRAM): where its completions are installed.
+completions-of = $(ROOT)/share/bash-completion/completions/$1 $(DESTDIR)$(ZSH_FUNCTIONS)/_$1 \
+                 $(ROOT)/share/fish/vendor_completions.d/$1.fish
 
 # $(call install-completions,FOLDER,PROGRAM)
 define install-completions

@@ -73,16 +73,15 @@ def strip(root: str) -> None:
 
 def zip_pages(root: str) -> None:
     """Zips the pages. One that only names another page becomes a link to that."""
-    folder = f"{root}/usr/share/man/man1"
-    for name in os.listdir(folder):
-        with open(f"{folder}/{name}", "rb") as file:
+    for path in glob.glob(f"{root}/usr/share/man/man*/*"):
+        with open(path, "rb") as file:
             text = file.read()
-        os.remove(f"{folder}/{name}")
+        os.remove(path)
         if text.startswith(b".so "):
             other = os.path.basename(text.split()[1].decode())
-            os.symlink(f"{other}.gz", f"{folder}/{name}.gz")
+            os.symlink(f"{other}.gz", f"{path}.gz")
         else:
-            write_zipped(f"{folder}/{name}.gz", text)
+            write_zipped(f"{path}.gz", text)
 
 
 def add_documents(root: str, version: str, maintainer: str, time: int) -> None:

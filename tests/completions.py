@@ -4,6 +4,7 @@ import os
 import re
 import shutil
 import subprocess
+import tempfile
 from typing import Callable, Dict, List, Set, Tuple
 
 TOP = os.path.dirname(os.path.dirname(os.path.abspath(__file__)))
@@ -32,7 +33,10 @@ _asancol asancol "${COMP_WORDS[COMP_CWORD]}" "${COMP_WORDS[COMP_CWORD - 1]}" 2> 
 printf '%s\\n' "${COMPREPLY[@]}"
 """
 
-PAGES = ("man/asancol.1", "recorder/man/asancol-cc.1", "run/man/asancol-run.1", "run/man/asancol-report.1")
+PAGES = (
+    "man/asancol.1", "man/asancol-trace.5",
+    "recorder/man/asancol-cc.1", "run/man/asancol-run.1", "run/man/asancol-report.1",
+)
 
 
 class Failure(Exception):
@@ -64,7 +68,7 @@ def options_are_there(program: str) -> None:
     """Each option of the help is in the page and in each completion, and no other one is."""
     options = options_of(program)
     expect("--quarantine" in options, True, "that the help has options")
-    page = set(OPTION.findall(text_of("man/asancol.1").replace("\\-", "-"))) - {"--option"}
+    page = set(OPTION.findall(text_of("man/asancol.1").replace("Fl -", "--"))) - {"--option"}
     fish = {f"--{it}" for it in re.findall(r"^complete .* -l ([a-z-]+)", text_of("completions/asancol.fish"), re.M)}
     found: Dict[str, Set[str]] = {"the page": page, "fish": fish}
     found["bash"] = set(OPTION.findall(text_of("completions/asancol.bash")))
@@ -79,6 +83,16 @@ def defaults_are_there(program: str) -> None:
     texts = "".join(output_of([program, *words, "--help"]) for words in (["check"], ["serve"]))
     numbers = set(re.findall(r"\d{2,}", texts))
     expect(numbers - set(re.findall(r"\d{2,}", text_of("man/asancol.1"))), set(), "missing in the page")
+
+
+def sample_is_printed(program: str) -> None:
+    """The commands of the page on traces print what it says."""
+    blocks = re.findall(r"^\.Bd -literal.*?\n(.*?)^\.Ed", text_of("man/asancol-trace.5"), re.M | re.S)
+    script, wanted = (it.replace("\\e", "\\") for it in blocks)
+    with tempfile.TemporaryDirectory() as folder:
+        path = f"{os.path.dirname(os.path.abspath(program))}:{os.environ['PATH']}"
+        words = ["env", f"PATH={path}", "sh", "-c", script]
+        expect(output_of(words, folder), wanted, "what the sample prints")
 
 
 def settings_are_there(_: str) -> None:
@@ -96,6 +110,14 @@ def pages_have_no_flaw(_: str) -> None:
         pipes = {"stdout": subprocess.DEVNULL, "stderr": subprocess.PIPE}
         ran = subprocess.run(words, cwd=TOP, env={**os.environ, "MANWIDTH": "80"}, check=False, **pipes)
         expect((ran.returncode, ran.stderr), (0, b""), page)
+
+
+def mandoc_sees_no_flaw(_: str) -> None:
+    """Mandoc warns of nothing in a page that is written in its macros."""
+    for page in filter(lambda it: ".Dd " in text_of(it), PAGES):
+        words = ["mandoc", "-Tlint", "-Wwarning", page]
+        ran = subprocess.run(words, cwd=TOP, stdout=subprocess.PIPE, stderr=subprocess.STDOUT, check=False)
+        expect((ran.returncode, ran.stdout), (0, b""), page)
 
 
 def offered_by_bash(words: List[str]) -> List[str]:
@@ -132,8 +154,10 @@ def files_can_be_read(_: str) -> None:
 TESTS: List[Tuple[str, Callable[[str], None], Tuple[str, ...]]] = [
     ("options", options_are_there, ()),
     ("ranges and defaults", defaults_are_there, ()),
+    ("sample of a trace", sample_is_printed, ()),
     ("settings", settings_are_there, ()),
     ("pages", pages_have_no_flaw, ("man",)),
+    ("pages in mdoc", mandoc_sees_no_flaw, ("mandoc",)),
     ("completions: syntax", files_can_be_read, ()),
     ("completions: bash", offers(offered_by_bash), ("bash",)),
     ("completions: fish", offers(offered_by_fish), ("fish",)),

@@ -119,6 +119,24 @@ def path_without(program: str, folder: str) -> str:
     return links
 
 
+def what_is_installed_goes_again(_: str, folder: str) -> None:
+    words = [f"DESTDIR={folder}", "PREFIX=/usr"]
+    must(["make", "-s", "install", *words])
+    expect(os.path.isfile(f"{folder}/usr/bin/asancol"), True, "that it is installed")
+    must(["make", "-s", "uninstall", *words])
+    left = [f"{place}/{name}" for place, _, names in os.walk(folder) for name in names]
+    expect(left, [], "what is left")
+
+
+def says_what_is_missing(_: str, folder: str) -> None:
+    """Without the toolchain make says that it is missing, and that the recorder needs none."""
+    must(["tar", "xf", archive_of(folder)], folder)
+    top = f"{folder}/asancol-{release()}"
+    ran = run(["make", "-s"], top, PATH=path_without("rt", folder))
+    said = "recorder run" in ran.err and "toolchain" in ran.err
+    expect((ran.status, said), (2, True), f"make without rt: {ran.err}")
+
+
 # The package.
 
 
@@ -200,6 +218,7 @@ def package_is_whole(_: str, folder: str) -> None:
     for name in ("asancol", "asancol-cc", "asancol-c++", "asancol-run", "asancol-report"):
         wanted += [f"bin/{name}", f"share/man/man1/{name}.1.gz", f"share/bash-completion/completions/{name}"]
         wanted += [f"share/zsh/vendor-completions/_{name}", f"share/fish/vendor_completions.d/{name}.fish"]
+    wanted.append("share/man/man5/asancol-trace.5.gz")
     documents = [it for it in files_of_tree() if re.fullmatch(r"README.md|docs/[^/]+.md|examples/.*", it)]
     documents += ["changelog.gz", "changelog.Debian.gz", "copyright"]
     wanted += [f"share/doc/asancol/{it}" for it in documents]
@@ -217,6 +236,8 @@ TESTS: List[Tuple[str, Callable[[str, str], None], Tuple[str, ...]]] = [
     ("release", programs_say_the_release, ()),
     ("archive: the same", archive_is_the_same, ("git",)),
     ("archive: enough", archive_is_enough, ("git", "cc")),
+    ("make: install and uninstall", what_is_installed_goes_again, ("cc", "c++")),
+    ("make: without the toolchain", says_what_is_missing, ("git", "cc")),
     ("package: the same", package_is_the_same, ("dpkg-deb", "dpkg-shlibdeps")),
     ("package: lintian", package_has_no_error, ("dpkg-deb", "dpkg-shlibdeps", "lintian")),
     ("package: whole", package_is_whole, ("dpkg-deb", "dpkg-shlibdeps")),
