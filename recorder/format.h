@@ -75,8 +75,8 @@ static inline uint64_t span_bytes(uint64_t size)
    it in words. */
 #define SIDE_HEADER "ASWH\3\0\0\0"
 
-/* How a process has ended. */
-enum ending { ENDING_NONE, ENDING_EXIT, ENDING_EXEC, ENDING_SIGNAL, ENDING_LOST };
+/* How a process has ended; or it goes on in the next segment, since the limit of events was reached. */
+enum ending { ENDING_NONE, ENDING_EXIT, ENDING_EXEC, ENDING_SIGNAL, ENDING_LOST, ENDING_SEGMENT };
 
 /* What lies nearest to a bad access, if it is no block. */
 enum variable { VARIABLE_NONE, VARIABLE_STACK, VARIABLE_GLOBAL };
@@ -117,9 +117,11 @@ struct side_build {
     unsigned char length, id[SIDE_ID];
 };
 
-/* How far the process has come, for the case that it is ended without a word. */
+/* How far the process has come. */
 struct side_progress {
-    uint64_t needed; /* one more than the number of the last event that may be bad; 0: it is not noted */
+    uint64_t needed;   /* one more than the number of the last event that may be bad; 0: it is not noted */
+    uint64_t segment;  /* how many segments of this process came before; these have the same process and start */
+    uint64_t restated; /* how many events at its beginning restate what stood at the end of the segment before */
 };
 
 /* What was seen when an access or a free was bad by the recorder's shadow. */
