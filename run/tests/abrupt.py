@@ -73,7 +73,7 @@ def check_daemon(suite: Suite, folder: str, program: str) -> None:
 
 def killed(suite: Suite, words: List[str], least: float, most: float, **settings: str) -> List[str]:
     """Runs a program, and kills it some time after it is ready: the status, and what was printed."""
-    line = f"{words[0]} {' '.join(words[1:])} & echo $!; wait $!; true"
+    line = f"sh -c 'echo $$; exec {' '.join(words)}' & wait $!; true"
     started = suite.start("--", "setsid", "sh", "-c", line, **settings)
     number = int(started.stdout.readline() if started.stdout else 0)
     if started.stdout and words[1] in ("churn", "stores"):

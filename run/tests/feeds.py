@@ -155,10 +155,10 @@ def check_closed_log(suite: Suite, folder: str) -> None:
 
 
 def check_keep(suite: Suite, folder: str) -> None:
-    """Traces of processes with a report stay, those of others go."""
+    """Traces of processes with a report, or not seen whole, stay. Those of others go, also if they ended abruptly."""
     kept = f"{folder}/kept"
-    line = f"{suite.program} sound; {suite.program} past; {suite.program} kills_itself 9"
-    packets = suite.packets(folder, "--keep", kept, "--", "sh", "-c", line)
+    line = "".join(f"{suite.program} {words}; " for words in ("sound", "past", "many 200", "kills_itself 9"))
+    packets = suite.packets(folder, "--limit", "100", "--keep", kept, "--", "sh", "-c", line)
     names = sorted(os.listdir(kept))
     expect(len(names), 4, names)
     paths = [it["kept"] for it in packets[1:] if "kept" in it]
@@ -175,7 +175,8 @@ def check_keep(suite: Suite, folder: str) -> None:
 
 def check_keep_names(suite: Suite, folder: str) -> None:
     """An exec keeps the number of the process, so that the name is taken."""
-    suite.run("--keep", folder, "--", suite.program, "execs", suite.program, "kills_itself", "9")
+    words = [suite.program, "execs", suite.program, "many", "200"]
+    suite.run("--limit", "100", "--keep", folder, "--", *words)
     suite.run("--keep", folder, "--", suite.program, "past_and_sleeps", "0")
     traces = [it for it in os.listdir(folder) if it.endswith(".trace")]
     expect([it.split(".")[0] for it in traces], ["programs", "programs"], "names")
