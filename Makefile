@@ -11,7 +11,7 @@ SOURCES := crates.txt HANDLES $(shell find crates -name out -prune -o -type f \(
 EXAMPLE := examples/one_byte_past_the_end.trace
 REDZONES := examples/stack_and_global_poison.trace
 
-.PHONY: all demo check stress fuzz failures install uninstall clean recorder check-recorder check-real bench-record \
+.PHONY: all demo check stress fuzz failures bench install uninstall clean recorder check-recorder check-real bench-record \
         stress-record install-recorder run check-run check-farm bench-run install-run dist deb check-packages
 
 # The program, proved.
@@ -72,6 +72,10 @@ recorder:
 # or a symbolizer that is not there are left out, and it says which.
 check-recorder: asancol recorder
 	recorder/tests/check.py ./asancol
+
+# What checking costs: some minutes, on a machine with nothing else to do. It writes the tables of docs/SPEED.md.
+bench: asancol
+	tests/bench/bench.py --page docs/SPEED.md ./asancol
 
 # What recording costs, beside AddressSanitizer: some ten minutes, on a machine with nothing else to do. The sources of
 # the real programs come as for check-real, or these are left out.
