@@ -41,7 +41,7 @@ SHOW = if $(MAKE) -q asancol > /dev/null 2>&1; then program=./asancol; else prog
 # Proves everything from nothing, tries the wrong bodies, and runs the tests and the program. What has passed is then
 # the program here, so that nothing is proved again for it.
 check:
-	tests/check.py
+	tests/gate.py
 	@cp crates/asancol/out/asancol asancol
 
 # Many traces at once, again and again, for as many minutes: each text has to be that of its trace

@@ -28,9 +28,9 @@ import time
 from typing import Dict, Iterator, List, NamedTuple, Optional, Set, Tuple
 
 import bodies
-import check
+import gate
 from bodies import Function
-from check import TOP
+from gate import TOP
 
 VERDICT = re.compile(r"^fn (\S+): (proved|not proved|no proof)(.*)")
 PLACE = re.compile(r"^(?:note: )?(?:\./)?(\S+?):(\d+):\d+: (.*)")
@@ -151,9 +151,9 @@ def edits_of(folder: str) -> List[str]:
 
 def crates_for(crate: str) -> Set[str]:
     """Returns a crate and all of the repository that it stands on."""
-    listed = check.crates_listed()
+    listed = gate.crates_listed()
     needed = {crate}
-    for name in reversed(check.lowest_first(listed)):
+    for name in reversed(gate.lowest_first(listed)):
         if name in needed:
             needed.update(it for it in listed[name] if it in listed)
     return needed
@@ -308,7 +308,7 @@ def main() -> int:
     words.add_argument("--jobs", type=int, help="how many jobs rt check takes")
     words.add_argument("crates", nargs="+", metavar="CRATE")
     given = words.parse_args()
-    listed = check.crates_listed()
+    listed = gate.crates_listed()
     unknown = [it for it in given.crates if it not in listed]
     if unknown:
         words.error(f"no crate {unknown[0]} in crates.txt")

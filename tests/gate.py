@@ -1,8 +1,8 @@
 #!/usr/bin/env python3
 """Passes everything, or what a change touches.
 
-usage: tests/check.py                      the gate
-       tests/check.py --changed [BASE]     minutes after a change of one crate
+usage: tests/gate.py                      the gate
+       tests/gate.py --changed [BASE]     minutes after a change of one crate
 
 The gate first runs `hygiene.py`, in seconds, and ends there if that finds something. Then comes
 `rt ci`: it proves each crate from nothing, tries the wrong bodies and runs the tests. It builds the
@@ -107,7 +107,7 @@ def git(*words: str) -> str:
     """Returns what a git command prints, and ends this one where git fails."""
     ran = subprocess.run(["git", *words], cwd=TOP, stdout=subprocess.PIPE, text=True)
     if ran.returncode:
-        sys.exit(f"tests/check.py: git {words[0]} failed")
+        sys.exit(f"tests/gate.py: git {words[0]} failed")
     return ran.stdout
 
 
