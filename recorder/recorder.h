@@ -34,7 +34,7 @@ struct stream {
     _Atomic uint64_t cursor; /* CURSOR_ON, the number of events, the offset; or without CURSOR_ON: off */
     uint64_t events_end;     /* the next event that is unusual, as a part of the cursor: mostly that at the limit */
     _Atomic uint64_t ready;  /* below this offset bytes can be stored */
-    unsigned char *bytes;    /* room for LARGEST_STREAM bytes, backed up to `ready` */
+    unsigned char *bytes;    /* where offsets count from: the windows of streams (windows.h) */
     uint64_t unused;         /* shared objects know where the next one lies */
     _Atomic bool is_idle;    /* nothing is recorded, and nothing will be */
     bool is_watched;         /* each access is looked at for a fault, or by the clock */

@@ -13,12 +13,13 @@
 #include "side.h"
 #include "signals.h"
 #include "unseen.h"
+#include "windows.h"
 
 union stream_page stream_page __attribute__((aligned(4096)));
 _Atomic enum state recorder_state;
 
-/* By how much a file grows, and after how many bytes a socket is given what there is. */
-enum { FILE_STEP = 1 << 20, PIECES_STEP = 1 << 16 };
+/* After how many bytes a socket is given what there is. */
+enum { PIECES_STEP = 1 << 16 };
 /* How often to look again at a record that another thread has not written yet. */
 enum { LOOKS = 1000 };
 /* How many records in a row may be missing. */
@@ -31,6 +32,8 @@ static struct {
     struct disturbance before; /* of who has it */
     struct output trace;
     struct output side; /* a file, or memory */
+    unsigned window;   /* in which both lie */
+    uint64_t start;    /* the offset at which the stream begins */
     bool has_side;
     _Atomic bool is_side_full;
     _Atomic uint64_t sent_at;      /* nanoseconds of the coarse clock: when a socket was given what there was */
@@ -108,6 +111,12 @@ static bool has_room(uint64_t end)
 static uint64_t limit_of_stream(void)
 {
     return keeper.limit;
+}
+
+/* How long the stream is up to an offset. */
+static uint64_t length_to(uint64_t offset)
+{
+    return offset - keeper.start;
 }
 
 /* The fast path looks at one number: that of the event to stop at, as long as the process has not come there. */
@@ -200,9 +209,9 @@ static void check_records(uint64_t end, uint64_t limit, bool patience)
 }
 
 /* Cuts the files after the last record or the close, and the last fault. */
-static void trim_files(uint64_t length)
+static void trim_files(uint64_t end)
 {
-    output_trim(&keeper.trace, length);
+    output_trim(&keeper.trace, length_to(end));
     if (!keeper.has_side)
         return;
     if (side_length() > SIDE_INDEX)
@@ -240,14 +249,14 @@ static const char *send_pieces(void)
 {
     uint64_t reserved = (uint32_t)atomic_load(&STREAM->cursor), ready = atomic_load(&STREAM->ready);
     check_records(reserved < ready ? reserved : ready, EVENT_LIMIT, false);
-    return output_send(&keeper.trace, keeper.checked, false, 0);
+    return output_send(&keeper.trace, length_to(keeper.checked), false, 0);
 }
 
 static const char *grow(void)
 {
     bool is_file = keeper.trace.is_mapped;
     uint64_t next = atomic_load(&STREAM->ready) + (is_file ? FILE_STEP : PIECES_STEP);
-    const char *why = is_file ? output_extend(&keeper.trace, next) : send_pieces();
+    const char *why = is_file ? output_extend(&keeper.trace, length_to(next)) : send_pieces();
     if (why == NULL)
         atomic_store_explicit(&STREAM->ready, next, memory_order_release);
     return why;
@@ -316,16 +325,17 @@ static void finish_at(uint64_t end, uint64_t limit, enum finish finish, enum end
         return;
     check_records(end, limit, true);
     bool whole = keeper.checked == end || keeper.checked_events == limit;
-    uint64_t length = keeper.checked;
+    end = keeper.checked;
     finish = whole ? as_seen(finish) : FINISH_OPEN;
     unsigned more = length_of_ending(finish);
-    if (more != 0 && grow_to(length + more)) {
-        put_ending(length, finish);
-        length += more;
+    if (more != 0 && grow_to(end + more)) {
+        put_ending(end, finish);
+        end += more;
     }
     side_note_ending(ending, number, keeper.checked_events);
-    trim_files(length);
-    const char *why = keeper.trace.is_mapped ? NULL : output_send(&keeper.trace, length, true, keeper.patience_ms);
+    trim_files(end);
+    const char *why =
+        keeper.trace.is_mapped ? NULL : output_send(&keeper.trace, length_to(end), true, keeper.patience_ms);
     if (why != NULL) {
         side_note_ending(ENDING_LOST, 0, keeper.checked_events);
         recorder_say("the end of the recording is lost: ", keeper.trace.path, why);
@@ -413,7 +423,10 @@ static const char *open_side_file(void)
     size_t length = strlen(keeper.trace.path);
     memcpy(path, keeper.trace.path, length);
     strcpy(path + length, ".where");
-    const char *why = output_open_file(&keeper.side, path, NAME_TAKEN_OVER, SIDE_ROOM, SIDE_INDEX);
+    struct window window;
+    if (!windows_of_side(keeper.window, &window))
+        return "there is no room for it";
+    const char *why = output_open_file(&keeper.side, path, NAME_TAKEN_OVER, window, SIDE_INDEX);
     if (why == NULL && !keeper.side.is_mapped)
         why = "it can't be mapped";
     return why;
@@ -435,12 +448,13 @@ static void open_side(void)
 /* The header goes to a hub at once, and the side memory with it. */
 static const char *open_hub(const struct settings *settings)
 {
-    uint64_t room = LARGEST_STREAM + FILE_STEP;
-    const char *why = output_connect(&keeper.trace, settings->hub, true, room, settings->patience_ms);
+    struct window window = windows_of_stream(keeper.window);
+    const char *why = output_connect(&keeper.trace, settings->hub, true, window, settings->patience_ms);
     if (why != NULL)
         return why;
     memcpy(keeper.trace.bytes, HEADER, HEADER_LENGTH);
-    const char *why_not = output_open_memory(&keeper.side, SIDE_ROOM);
+    bool has_room = windows_of_side(keeper.window, &window);
+    const char *why_not = has_room ? output_open_memory(&keeper.side, window) : "there is no room for it";
     if (why_not != NULL) {
         recorder_say("nothing is kept beside the trace: ", settings->hub, why_not);
         return output_send(&keeper.trace, HEADER_LENGTH, true, settings->patience_ms);
@@ -452,9 +466,11 @@ static const char *open_hub(const struct settings *settings)
 
 static const char *open_output(const struct settings *settings)
 {
-    uint64_t room = LARGEST_STREAM + FILE_STEP;
     const char *why;
     keeper.has_side = false;
+    if (windows_start() == NULL)
+        return "there is no room for it";
+    struct window window = windows_of_stream(keeper.window);
     if (settings->hub != NULL) {
         why = open_hub(settings);
         if (why == NULL || settings->trace == NULL)
@@ -466,9 +482,9 @@ static const char *open_output(const struct settings *settings)
         recorder_say("the hub can't be reached, so the trace goes to a file: ", settings->hub, why);
     }
     if (settings->trace != NULL)
-        why = output_open_file(&keeper.trace, settings->trace, NAME_NUMBERED, room, FILE_STEP);
+        why = output_open_file(&keeper.trace, settings->trace, NAME_NUMBERED, window, FILE_STEP);
     else
-        why = output_connect(&keeper.trace, settings->socket, false, room, settings->patience_ms);
+        why = output_connect(&keeper.trace, settings->socket, false, window, settings->patience_ms);
     if (why == NULL && settings->with_side)
         open_side();
     return why;
@@ -483,6 +499,8 @@ static uint64_t coarse_clock(void)
 
 bool stream_begin(const struct settings *settings)
 {
+    keeper.window = (keeper.window + 1) % WINDOWS;
+    keeper.start = keeper.window * WINDOW_BYTES;
     const char *why = open_output(settings);
     if (why != NULL) {
         const char *of = settings->trace ? settings->trace : settings->hub ? settings->hub : settings->socket;
@@ -492,7 +510,7 @@ bool stream_begin(const struct settings *settings)
     }
     madvise(&stream_page, sizeof stream_page, MADV_WIPEONFORK);
     keeper.patience_ms = settings->patience_ms;
-    keeper.checked = HEADER_LENGTH;
+    keeper.checked = keeper.start + HEADER_LENGTH;
     keeper.checked_events = 0;
     keeper.said_unseen = false;
     atomic_store(&keeper.is_suspended, false);
@@ -501,18 +519,18 @@ bool stream_begin(const struct settings *settings)
     atomic_store(&keeper.is_side_full, false);
     atomic_store(&keeper.sent_at, coarse_clock());
     atomic_store(&keeper.sent_at_once, 0);
-    STREAM->bytes = keeper.trace.bytes;
+    STREAM->bytes = windows_start();
     keeper.limit = settings->limit;
     atomic_store(&keeper.stop, settings->stop);
     set_events_end(settings->stop);
-    memcpy(STREAM->bytes, HEADER, HEADER_LENGTH);
+    memcpy(keeper.trace.bytes, HEADER, HEADER_LENGTH);
     if (keeper.has_side && keeper.side.is_mapped)
         side_begin(keeper.side.bytes, settings->quarantine);
     STREAM->has_side = keeper.has_side;
     STREAM->is_watched = keeper.has_side || keeper.trace.is_socket;
-    atomic_store(&STREAM->ready, keeper.trace.is_mapped ? FILE_STEP : PIECES_STEP);
+    atomic_store(&STREAM->ready, keeper.start + (keeper.trace.is_mapped ? FILE_STEP : PIECES_STEP));
     atomic_store(&recorder_state, STATE_RECORDING);
-    atomic_store(&STREAM->cursor, CURSOR_ON | HEADER_LENGTH);
+    atomic_store(&STREAM->cursor, CURSOR_ON | keeper.checked);
     return true;
 }
 
@@ -556,7 +574,7 @@ bool stream_suspend(void)
 static void go_on(void)
 {
     bool is_file = keeper.trace.is_mapped;
-    const char *why = is_file ? output_extend(&keeper.trace, atomic_load(&STREAM->ready)) : NULL;
+    const char *why = is_file ? output_extend(&keeper.trace, length_to(atomic_load(&STREAM->ready))) : NULL;
     if (why != NULL) {
         give_up(why);
         return;
@@ -582,8 +600,8 @@ void stream_forget(void)
 {
     atomic_store(&STREAM->cursor, 0);
     side_begin(NULL, 0);
-    output_drop(&keeper.trace);
-    output_drop(&keeper.side);
+    output_close(&keeper.trace);
+    output_close(&keeper.side);
     keeper.has_side = false;
 }
 
