@@ -16,26 +16,46 @@
 
 #include "signals.h"
 
-/* The name gets a number before its last dot, or at its end: run.trace, run.1.trace, run.2.trace. */
-static bool numbered(char *name, const char *path, unsigned number)
+/* The name gets a text before its last dot, or at its end. */
+static bool insert(char *name, const char *path, const char *text)
 {
-    size_t length = strlen(path);
+    size_t length = strlen(path), count = strlen(text);
     const char *slash = strrchr(path, '/');
     const char *dot = strrchr(slash ? slash : path, '.');
     size_t front = dot && dot != path ? (size_t)(dot - path) : length;
-    char digits[12];
-    size_t first = sizeof digits;
-    for (unsigned rest = number; rest != 0; rest /= 10)
-        digits[--first] = (char)('0' + rest % 10);
-    if (number != 0)
-        digits[--first] = '.';
-    size_t count = sizeof digits - first;
     if (length + count >= PATH_MAX)
         return false;
     memcpy(name, path, front);
-    memcpy(name + front, digits + first, count);
+    memcpy(name + front, text, count);
     memcpy(name + front + count, path + front, length - front + 1);
     return true;
+}
+
+/* Puts the digits of a number, as many as these at least, before the end of a text. Answers where they begin. */
+static char *put_digits(char *end, uint64_t number, unsigned least)
+{
+    *--end = 0;
+    for (unsigned count = 0; number != 0 || count < least; number /= 10, count++)
+        *--end = (char)('0' + number % 10);
+    return end;
+}
+
+bool output_number(char *name, const char *path, unsigned number)
+{
+    char text[24];
+    char *first = put_digits(text + sizeof text, number, 0);
+    if (number != 0)
+        *--first = '.';
+    return insert(name, path, first);
+}
+
+bool output_name_segment(char *name, const char *path, uint64_t number)
+{
+    static const char front[] = ".segment-";
+    char text[48];
+    char *first = put_digits(text + sizeof text, number, 3) - strlen(front);
+    memcpy(first, front, strlen(front));
+    return insert(name, path, first);
 }
 
 static const char *reason(void)
@@ -98,7 +118,8 @@ static int open_new(struct output *output, const char *path, enum naming naming)
     if (naming == NAME_TAKEN_OVER)
         unlink(path);
     for (unsigned number = 0; number < 1000000; number++) {
-        if (!numbered(output->path, path, number)) {
+        output->number = number;
+        if (!output_number(output->path, path, number)) {
             errno = ENAMETOOLONG;
             return -1;
         }
@@ -374,11 +395,24 @@ bool output_lose(struct output *output, const void *address)
     return output->is_lost;
 }
 
-void output_close(struct output *output)
+void output_leave(struct output *output)
 {
     if (output->bytes != NULL)
         put_memory((struct window){output->bytes, output->room});
     if (output->descriptor >= 0 && is_still(output, output->descriptor))
         close(output->descriptor);
+    output->bytes = NULL;
+    output->descriptor = -1;
+}
+
+void output_close(struct output *output)
+{
+    output_leave(output);
     clear(output, 0);
+}
+
+void output_discard(struct output *output)
+{
+    unlink(output->path);
+    output_close(output);
 }

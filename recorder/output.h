@@ -19,6 +19,7 @@ struct output {
     uint64_t room;
     unsigned char *bytes; /* plain memory before and after */
     char path[PATH_MAX];
+    unsigned number; /* that its name has got, since the name was taken; or 0 */
 };
 
 /* Where an output lies: memory that was reserved for it (windows.h). */
@@ -27,6 +28,10 @@ struct window {
     uint64_t room;
 };
 
+/* The name with a number, if that is not 0: run.trace, run.1.trace, run.2.trace. False: it is too long. */
+bool output_number(char *name, const char *path, unsigned number);
+/* The name of a later segment: run.trace, run.segment-002.trace. False: it is too long. */
+bool output_name_segment(char *name, const char *path, uint64_t number);
 /* Where there is a file of the name: the next name that is free is taken, or this file is thrown away. */
 enum naming { NAME_NUMBERED, NAME_TAKEN_OVER };
 
@@ -46,12 +51,16 @@ const char *output_send_first(struct output *output, uint64_t length, struct out
 const char *output_extend(struct output *output, uint64_t length);
 /* Backs a part of a mapped file, which may leave a hole before it. */
 const char *output_back(struct output *output, uint64_t offset, uint64_t length);
+/* Puts plain memory in its place, and closes the descriptor. What it has stays; a file can be trimmed. */
+void output_leave(struct output *output);
 /* Cuts a mapped file to this length. */
 void output_trim(struct output *output, uint64_t length);
 /* Sends what is not sent yet of the first bytes: at once what a socket takes, or all of it, with patience. */
 const char *output_send(struct output *output, uint64_t length, bool all, int patience_ms);
 /* Whether the address lies in a mapped file. Then the file is gone, and plain memory takes its place. */
 bool output_lose(struct output *output, const void *address);
+/* Takes a file away that was opened in vain. */
+void output_discard(struct output *output);
 /* Forgets an output: one that was opened in vain, or a parent's in its child. Plain memory takes its place, since a
    record may still be written there: a signal handler that forks may have interrupted that. */
 void output_close(struct output *output);

@@ -52,7 +52,7 @@ static void look_at_clock(void)
 
 void record_region(enum code code, uint64_t address, uint64_t size)
 {
-    unsigned char *at = can_be_spelled(address, size) ? stream_reserve(REGION_LENGTH) : NULL;
+    unsigned char *at = can_be_spelled(address, size) ? stream_reserve(REGION_LENGTH, code == CODE_MALLOC) : NULL;
     if (at == NULL)
         return;
     put_number(at + 1, address);
@@ -63,7 +63,7 @@ void record_region(enum code code, uint64_t address, uint64_t size)
 
 void record_poison(enum kind kind, uint64_t address, uint64_t size)
 {
-    unsigned char *at = can_be_spelled(address, size) ? stream_reserve(POISON_LENGTH) : NULL;
+    unsigned char *at = can_be_spelled(address, size) ? stream_reserve(POISON_LENGTH, false) : NULL;
     if (at == NULL)
         return;
     at[1] = (unsigned char)kind;
@@ -106,7 +106,7 @@ void record_regions(enum code code, uint64_t address, uint64_t size)
 
 void record_free(uint64_t address)
 {
-    unsigned char *at = address < ADDRESS_END ? stream_reserve(PLACE_LENGTH) : NULL;
+    unsigned char *at = address < ADDRESS_END ? stream_reserve(PLACE_LENGTH, true) : NULL;
     if (at == NULL)
         return;
     put_number(at + 1, address);

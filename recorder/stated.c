@@ -1,4 +1,7 @@
 /* What the stream states of memory outside the allocator's: brought up to the shadow when an access comes to it. */
+#define _GNU_SOURCE
+#include <sys/mman.h>
+
 #include "recorder.h"
 
 /* How often to look again at a granule that another thread is bringing up. A signal handler that has interrupted that
@@ -69,4 +72,14 @@ void stated_bring_up(uint64_t address, unsigned width)
     bool is_bad = address % GRANULE + width > has;
     if (has != 0 && has < GRANULE && is_bad && next < ADDRESS_END && !is_in_arena(next))
         bring_up(next);
+}
+
+void stated_forget(void)
+{
+    void *start = (void *)STATED_START;
+    /* Memory that the process has locked can't be given back to the system. */
+    if (madvise(start, SHADOW_BYTES, MADV_DONTNEED) != 0) {
+        munlock(start, SHADOW_BYTES);
+        madvise(start, SHADOW_BYTES, MADV_DONTNEED);
+    }
 }

@@ -1,0 +1,190 @@
+"""Tests of what goes on past the limit of events: each segment is a whole trace, and has what was wrong in it, once."""
+
+import glob
+import os
+import random
+import struct
+from typing import List, NamedTuple
+
+from support import EXIT, TESTS, Compiler, Suite, Trace, environment, expect, reports, run, side_of
+
+SEGMENT = 5  # an ending
+PROGRESS, NUMBERS = 7680, struct.Struct("<QQQ")
+
+
+class Segment(NamedTuple):
+    """What a checker makes of the trace of a segment."""
+
+    path: str
+    status: int
+    texts: List[str]
+    end: str
+
+    def is_closed(self) -> bool:
+        return self.end.split(" events ")[0] == "closed"
+
+
+def segments_of(suite: Suite, trace: str) -> List[Segment]:
+    """The segments of a trace, in their order."""
+    front, end = os.path.splitext(trace)
+    paths = [trace] if os.path.exists(trace) else []
+    paths += sorted(glob.glob(f"{front}.segment-*{end}"), key=lambda it: (len(it), it))
+    return [Segment(it, *reports(suite.asancol, it)) for it in paths]
+
+
+def record(suite: Suite, folder: str, words: List[str], limit: int, status: int = 0, **settings: str) -> List[Segment]:
+    """Runs a program with a small limit: all its segments are closed, and it says nothing."""
+    for old in glob.glob(f"{folder}/t.*trace*"):
+        os.unlink(old)
+    ran = run(words, folder, ASANCOL_TRACE="t.trace", ASANCOL_LIMIT=str(limit), **settings)
+    expect((ran.returncode, ran.stderr), (status, b""), " ".join(words))
+    return segments_of(suite, f"{folder}/t.trace")
+
+
+def texts_of(segments: List[Segment]) -> List[str]:
+    expect([it.path for it in segments if not it.is_closed()], [], "segments that are not closed")
+    return [text for it in segments for text in it.texts]
+
+
+def check_count(suite: Suite, folder: str, program: str) -> None:
+    """3, 30 and 300 segments: no report, and each event is there once."""
+    for limit, least in ((8000, 2), (1000, 25), (200, 150)):
+        segments = record(suite, folder, [program, "blocks", "8000", "-1"], limit, ASANCOL_WHERE="1")
+        expect(texts_of(segments), [], f"reports with {limit}")
+        expect(len(segments) >= least, True, f"{len(segments)} segments with {limit}")
+        sides = [side_of(it.path) for it in segments]
+        numbers = [NUMBERS.unpack_from(it.data, PROGRESS) for it in sides]
+        expect([it[1] for it in numbers], list(range(len(segments))), "numbers of segments")
+        expect(len({(it.process, it.parent, it.started) for it in sides}), 1, "processes")
+        expect([it.ending for it in sides], [SEGMENT] * (len(sides) - 1) + [EXIT], "endings")
+        expect({it.is_at_limit + it.left_out for it in sides}, {0}, "what was left out")
+        restated = sum(it[2] for it in numbers)
+        events = sum(it.events for it in sides) - restated
+        run([program, "blocks", "8000", "-1"], folder, ASANCOL_TRACE="whole.trace")
+        expect(events, len(Trace(f"{folder}/whole.trace").events), "events")
+        os.unlink(f"{folder}/whole.trace")
+
+
+def check_moments(suite: Suite, folder: str, program: str) -> None:
+    """A bug at each of 50 random moments is found, once, in its segment."""
+    draws = random.Random(1)
+    for _ in range(50):
+        limit, bad = draws.randrange(150, 2000), draws.randrange(3000)
+        segments = record(suite, folder, [program, "blocks", "3000", str(bad)], limit)
+        expect(texts_of(segments), [f"store 1 +{8 + bad % 100} heap-buffer-overflow"], f"at {bad} with {limit}")
+
+
+EARLY = [
+    "store 1 +3 heap-use-after-free",
+    "free +0 double-free",
+    "store 1 +40 heap-buffer-overflow",
+    "store 1 +8 use-after-poison",
+    "store 1 +50999 use-after-poison",
+    "store 1 +100000 heap-buffer-overflow",
+]
+
+
+def check_early(suite: Suite, folder: str, program: str) -> None:
+    """What stands since an earlier segment has the same verdicts."""
+    for limit in (1 << 24, 9000, 8500):
+        segments = record(suite, folder, [program, "early", "3000", "0"], limit)
+        expect(texts_of(segments), EARLY, f"with {limit}")
+        expect(len(segments) > 1, limit < 1 << 24, f"{len(segments)} segments with {limit}")
+    segments = record(suite, folder, [program, "early", "100", "0"], 150)
+    expect((len(segments) > 1, texts_of(segments)[2:]), (True, EARLY[2:]), "with a small limit")
+
+
+def check_long_ago(suite: Suite, folder: str, program: str) -> None:
+    """An access to what was released before the segment began is found."""
+    segments = record(suite, folder, [program, "long_ago", "3000", "0"], 500)
+    expect([it.split()[-1] for it in texts_of(segments)], ["use-after-poison"], "reports")
+
+
+def check_variables(suite: Suite, folder: str, program: str) -> None:
+    """Redzones and poison outside of blocks."""
+    for limit in (1 << 24, 2000, 300):
+        segments = record(suite, folder, [program, "variables", "3000", "10"], limit, ASANCOL_WHERE="1")
+        kinds = [it.split()[-1] for it in texts_of(segments)]
+        wanted = {"stack-buffer-overflow": 300, "global-buffer-overflow": 300, "use-after-poison": 300}
+        expect({it: kinds.count(it) for it in kinds}, wanted, f"with {limit}")
+    for limit in (1000, 100):
+        segments = record(suite, folder, [program, "poisons", "3000", "5"], limit)
+        expect([it.split()[-1] for it in texts_of(segments)], ["use-after-poison"] * 600, f"in a block, with {limit}")
+
+
+def check_many_live(suite: Suite, folder: str, program: str) -> None:
+    """If half of a segment would restate, the recording ends at the limit."""
+    ran = run([program, "many_live", "5000", "0"], folder, ASANCOL_TRACE="t.trace", ASANCOL_LIMIT="1000")
+    expect((ran.returncode, len(ran.stderr.splitlines())), (0, 1), ran.stderr)
+    segments = segments_of(suite, f"{folder}/t.trace")
+    expect([it.is_closed() for it in segments], [True, False], "closes")
+    expect(segments[-1].status, 3, "status")
+
+
+def check_kept(suite: Suite, folder: str, program: str) -> None:
+    """The newest two are kept, with what stands beside them. Files of others stay."""
+    with open(f"{folder}/t.segment-004.trace", "w") as file:
+        file.write("mine")
+    settings = {"ASANCOL_TRACE": "t.trace", "ASANCOL_LIMIT": "500", "ASANCOL_WHERE": "1", "ASANCOL_SEGMENTS": "2"}
+    expect(run([program, "blocks", "2000", "-1"], folder, **settings).stderr, b"", "what it says")
+    names = sorted(os.listdir(folder))
+    expect(len(names), 5, names)
+    expect("t.segment-004.trace" in names, True, names)
+    numbers = sorted(NUMBERS.unpack_from(side_of(f"{folder}/{it[:-6]}").data, PROGRESS)[1] for it in names if "where" in it)
+    expect((numbers[1] - numbers[0], numbers[0] > 5), (1, True), "the newest two")
+
+
+def check_children(suite: Suite, folder: str, program: str) -> None:
+    """A forked child begins with a first segment of its own, and what fails to run another program goes on."""
+    for limit in (1 << 24, 700, 300):
+        for old in glob.glob(f"{folder}/*.trace"):
+            os.unlink(old)
+        ran = run([program, "children", "500", "400"], folder, ASANCOL_TRACE="%p.trace", ASANCOL_LIMIT=str(limit))
+        expect((ran.returncode, ran.stderr), (0, b""), f"with {limit}")
+        kinds = []
+        for first in glob.glob(f"{folder}/*.trace"):
+            if "segment" not in first:
+                segments = segments_of(suite, first)
+                kinds.append([it.split()[-1] for it in texts_of(segments)])
+        past, after = "heap-buffer-overflow", "heap-use-after-free"
+        if limit == 300:
+            kinds = [[after if it == "use-after-poison" else it for it in of] for of in kinds]
+        expect(sorted(kinds, key=len), [[past], [past, after, past], [past, after, past]], f"with {limit}")
+
+
+def check_killed(suite: Suite, folder: str, program: str) -> None:
+    """Whatever was closed before SIGKILL stays closed, and the last segment is not."""
+    segments = record(suite, folder, [program, "is_killed", "2000", "0"], 500, -9)
+    expect([it.is_closed() for it in segments], [True] * (len(segments) - 1) + [False], "closes")
+    expect(len(segments) > 3, True, f"{len(segments)} segments")
+
+
+def check_no_room(suite: Suite, folder: str, program: str) -> None:
+    """The next file can't be made: the recording ends, with a line, and its last trace is not closed."""
+    os.mkdir(f"{folder}/there")
+    words = ["sh", "-c", f"(sleep 0.1; chmod a-w there) & exec {program} blocks 1000 -1"]
+    del words
+    path = f"there/{'n' * 244}.trace"  # there is no room in a name for the number of a segment
+    ran = run([program, "blocks", "1000", "-1"], folder, ASANCOL_TRACE=path, ASANCOL_LIMIT="500")
+    expect((ran.returncode, len(ran.stderr.splitlines())), (0, 1), ran.stderr)
+    segments = segments_of(suite, f"{folder}/{path}")
+    expect([it.is_closed() for it in segments], [False], "closes")
+
+
+def tests(suite: Suite, compiler: Compiler, folder: str) -> None:
+    program = f"{folder}/segments-{compiler}"
+    compiler.c(folder, [f"{TESTS}/segments.c"], program, "-O1", "-w", "-pthread")
+    cases = [
+        ("count", check_count),
+        ("moments", check_moments),
+        ("early", check_early),
+        ("long ago", check_long_ago),
+        ("variables", check_variables),
+        ("many live", check_many_live),
+        ("kept", check_kept),
+        ("children", check_children),
+        ("killed", check_killed),
+        ("no room", check_no_room),
+    ]
+    for name, check in cases:
+        suite.test(f"{compiler} segments {name}", check, program)
