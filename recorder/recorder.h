@@ -108,7 +108,7 @@ static inline bool is_stated(uint64_t address, unsigned width)
 
 /* What remains to be done for an access where something is unusual. */
 void record_access_slowly(uint64_t place, unsigned code_and_width, uint64_t address) OWN_NAME(record_access_slowly);
-/* An access to a stream that is watched. */
+/* An access to a stream that is watched, or where that does not state what the shadow says. */
 void record_watched_access(unsigned code_and_width, uint64_t address, uintptr_t caller)
     OWN_NAME(record_watched_access);
 
@@ -149,9 +149,7 @@ static inline void record_access(enum code code, unsigned width, uint64_t addres
         halt_if_bad(code, width, address, caller);
         return;
     }
-    if (!is_in_arena(address) && UNLIKELY(!is_stated(address, width)))
-        stated_bring_up(address, width);
-    if (UNLIKELY(stream->is_watched)) {
+    if (UNLIKELY(stream->is_watched) || (!is_in_arena(address) && UNLIKELY(!is_stated(address, width)))) {
         record_watched_access(code_and_width, address, caller);
     } else {
         uint64_t place = stream_take(&stream->cursor, CURSOR_EVENT + ACCESS_LENGTH);

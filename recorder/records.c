@@ -84,9 +84,14 @@ static void record_piece(enum code code, uint64_t address, uint64_t size)
         if (is_in_arena(address))
             record_poison(KIND_USER, address, size);
     } else {
-        if (is_in_arena(address))
-            record_region(code, address, size);
-        shadow_unpoison(address, size);
+        unsigned window;
+        do {
+            window = atomic_load(&stream_page.stream.window);
+            if (is_in_arena(address))
+                record_region(code, address, size);
+            shadow_unpoison(address, size);
+            /* A segment that has begun before the shadow was changed does not know of it. */
+        } while (window != atomic_load(&stream_page.stream.window));
     }
 }
 

@@ -69,13 +69,16 @@ static void note_process(struct side *side, uint64_t segment)
     progress_in(side)->segment = segment;
 }
 
-void side_begin(unsigned char *bytes, uint64_t segment, uint64_t quarantine)
+void side_forget(void)
+{
+    atomic_store(&current, NULL);
+}
+
+void side_begin(unsigned char *bytes, unsigned window, uint64_t segment, uint64_t quarantine)
 {
     struct side *side = (struct side *)bytes;
-    atomic_store(&current, NULL);
-    faults_begin(bytes);
-    if (side == NULL)
-        return;
+    side_forget();
+    faults_begin(bytes, window);
     note_process(side, segment);
     side->has_checks = recorder_has_checks();
     side->quarantine = quarantine;

@@ -191,24 +191,35 @@ static bool looks_sound(uint64_t offset, uint64_t end)
     return offset <= end;
 }
 
+/* Records that say nothing, by their lengths. */
+static const struct {
+    enum code code;
+    unsigned length;
+} fillers[] = {{CODE_LOAD, ACCESS_LENGTH}, {CODE_UNPOISON, REGION_LENGTH}, {CODE_POISON, POISON_LENGTH},
+               {CODE_FREE, PLACE_LENGTH}};
+
+enum { FILLERS = sizeof fillers / sizeof *fillers };
+
+static void put_nothing(unsigned char *at, unsigned length)
+{
+    unsigned i = 0;
+    while (fillers[i].length != length)
+        i++;
+    memset(at, 0, length);
+    if (fillers[i].code == CODE_LOAD)
+        at[1] = 1;
+    put_code(at, fillers[i].code);
+}
+
 /* A record that was begun and will never be written, as when a signal handler left by a jump: puts one there that says
    nothing. Answers its length, 0 where that can't be known. */
 static unsigned fill_hole(uint64_t offset, uint64_t end)
 {
-    static const struct {
-        enum code code;
-        unsigned length;
-    } fillers[] = {{CODE_LOAD, ACCESS_LENGTH}, {CODE_UNPOISON, REGION_LENGTH}, {CODE_POISON, POISON_LENGTH},
-                   {CODE_FREE, PLACE_LENGTH}};
-    for (unsigned i = 0; i < sizeof fillers / sizeof *fillers; i++) {
+    for (unsigned i = 0; i < FILLERS; i++) {
         unsigned length = fillers[i].length;
         if (offset + length > end || !looks_sound(offset + length, end))
             continue;
-        unsigned char *at = STREAM->bytes + offset;
-        memset(at, 0, length);
-        if (fillers[i].code == CODE_LOAD)
-            at[1] = 1;
-        put_code(at, fillers[i].code);
+        put_nothing(STREAM->bytes + offset, length);
         return length;
     }
     return 0;
@@ -482,6 +493,11 @@ static bool open_side(struct output *side, const struct output *trace, unsigned 
     return why == NULL;
 }
 
+static void begin_side(void)
+{
+    side_begin(keeper.side.bytes, keeper.window, keeper.segment, keeper.settings->quarantine);
+}
+
 /* The header goes to a hub at once, and the side memory with it. */
 static const char *open_hub(const struct settings *settings)
 {
@@ -497,7 +513,7 @@ static const char *open_hub(const struct settings *settings)
         return output_send(&keeper.trace, HEADER_LENGTH, true, settings->patience_ms);
     }
     keeper.has_side = true;
-    side_begin(keeper.side.bytes, 0, settings->quarantine);
+    begin_side();
     return output_send_first(&keeper.trace, HEADER_LENGTH, &keeper.side, settings->patience_ms);
 }
 
@@ -512,7 +528,7 @@ static const char *open_output(const struct settings *settings)
         why = open_hub(settings);
         if (why == NULL || settings->trace == NULL)
             return why;
-        side_begin(NULL, 0, 0);
+        side_forget();
         output_close(&keeper.trace);
         output_close(&keeper.side);
         keeper.has_side = false;
@@ -548,9 +564,9 @@ static void begin_segment(void)
     atomic_store(&keeper.sent_at_once, 0);
     memcpy(keeper.trace.bytes, HEADER, HEADER_LENGTH);
     if (!keeper.has_side)
-        side_begin(NULL, 0, 0);
+        side_forget();
     else if (keeper.side.is_mapped)
-        side_begin(keeper.side.bytes, keeper.segment, keeper.settings->quarantine);
+        begin_side();
     STREAM->has_side = keeper.has_side;
     STREAM->is_watched = keeper.has_side || keeper.trace.is_socket;
     atomic_store(&STREAM->ready, keeper.start + (keeper.trace.is_mapped ? FILE_STEP : PIECES_STEP));
@@ -558,6 +574,8 @@ static void begin_segment(void)
 
 bool stream_begin(const struct settings *settings)
 {
+    keeper.settings = settings;
+    keeper.segment = 0;
     keeper.window = (keeper.window + 1) % WINDOWS;
     const char *why = open_output(settings);
     if (why != NULL) {
@@ -567,8 +585,6 @@ bool stream_begin(const struct settings *settings)
         return false;
     }
     madvise(&stream_page, sizeof stream_page, MADV_WIPEONFORK);
-    keeper.settings = settings;
-    keeper.segment = 0;
     keeper.patience_ms = settings->patience_ms;
     keeper.said_unseen = false;
     atomic_store(&keeper.is_suspended, false);
@@ -798,7 +814,7 @@ bool stream_resume(void)
 void stream_forget(void)
 {
     atomic_store(&STREAM->cursor, 0);
-    side_begin(NULL, 0, 0);
+    side_forget();
     output_close(&keeper.trace);
     output_close(&keeper.side);
     keeper.has_side = false;
@@ -956,25 +972,39 @@ void record_access_slowly(uint64_t place, unsigned code_and_width, uint64_t addr
         put_access(at, code_and_width, address);
 }
 
-/* Takes the place of a record that has this fault, or none (0). The fault is noted before the record is written: who
-   reads the record finds it. */
-static unsigned char *reserve_with(uint32_t fault, unsigned length, bool is_of_heap)
+/* Takes the place of a record in the stream of a window, with this fault, or none (0). The fault is noted before the
+   record is written: who reads the record finds it. False: the stream has gone on in its next segment. What was looked
+   at may not stand there, so a record that says nothing has that place. */
+static bool reserve_with(uint32_t fault, unsigned window, unsigned length, bool is_of_heap, unsigned char **at)
 {
     uint64_t place = stream_take(&STREAM->cursor, CURSOR_EVENT + length);
-    unsigned char *at = open_place(&place, length, is_of_heap);
     uint64_t event = ((place - CURSOR_ON) >> 32) + 1;
-    if (at != NULL)
-        side_note_needed(event);
-    if (at != NULL && fault != 0)
-        fault_note(fault, event);
-    return at;
+    *at = open_place(&place, length, is_of_heap);
+    if (*at == NULL)
+        return true;
+    if (window_of((uint32_t)place) != window) {
+        put_nothing(*at, length);
+        return false;
+    }
+    side_note_needed(event);
+    if (fault != 0)
+        fault_note(window, fault, event);
+    return true;
 }
 
 void record_watched_access(unsigned code_and_width, uint64_t address, uintptr_t caller)
 {
-    bool is_bad = STREAM->has_side && shadow_is_bad(address, code_and_width >> 8);
-    uint32_t fault = is_bad ? fault_of(code_and_width, address, caller) : 0;
-    unsigned char *at = reserve_with(fault, ACCESS_LENGTH, false);
+    unsigned width = code_and_width >> 8, window;
+    unsigned char *at;
+    uint32_t fault;
+    bool is_bad;
+    do {
+        window = atomic_load(&STREAM->window);
+        if (!is_in_arena(address) && !is_stated(address, width))
+            stated_bring_up(address, width);
+        is_bad = STREAM->has_side && shadow_is_bad(address, width);
+        fault = is_bad ? fault_of(window, code_and_width, address, caller) : 0;
+    } while (!reserve_with(fault, window, ACCESS_LENGTH, false, &at));
     if (at == NULL)
         return;
     put_access(at, code_and_width, address);
@@ -986,7 +1016,13 @@ void record_bad_free(uint64_t address, uintptr_t caller)
     bool is_on = (atomic_load_explicit(&STREAM->cursor, memory_order_relaxed) & CURSOR_ON) != 0;
     if (address >= ADDRESS_END || (!is_on && !stream_wake()))
         return;
-    unsigned char *at = reserve_with(STREAM->has_side ? fault_of(CODE_FREE, address, caller) : 0, PLACE_LENGTH, true);
+    unsigned char *at;
+    unsigned window;
+    uint32_t fault;
+    do {
+        window = atomic_load(&STREAM->window);
+        fault = STREAM->has_side ? fault_of(window, CODE_FREE, address, caller) : 0;
+    } while (!reserve_with(fault, window, PLACE_LENGTH, true, &at));
     if (at == NULL)
         return;
     put_number(at + 1, address);

@@ -52,30 +52,6 @@ static void blocks(int rounds, int bad)
     free_all(kept);
 }
 
-/* What stands from the first segment on is found in the last one: a block that is held, its second free, a block that
-   is live, and poison in it. */
-static void early(int rounds, int unused)
-{
-    (void)unused;
-    char *freed = hide(malloc(24)), *live = hide(malloc(40)), *large = hide(malloc(100000));
-    __asan_poison_memory_region(live + 8, 16);
-    __asan_poison_memory_region(large + 50000, 4096);
-    __asan_unpoison_memory_region(large + 51000, 8);
-    free(freed);
-    blocks(rounds, -1);
-    store(freed + 3);
-    free(freed);
-    store(live + 40);
-    store(live + 7);
-    store(live + 8);
-    store(live + 24);
-    store(large + 50999);
-    store(large + 51000);
-    store(large + 100000);
-    free(live);
-    free(large);
-}
-
 /* A block that has left the quarantine by then. */
 static void long_ago(int rounds, int unused)
 {
@@ -121,6 +97,30 @@ static void poisons(int rounds, int every)
         store(at + 1);
     }
     free(block);
+}
+
+/* What stands from the first segment on is found in the last one: a block that is held, its second free, a block that
+   is live, and poison in it. */
+static void early(int rounds, int unused)
+{
+    (void)unused;
+    char *freed = hide(malloc(24)), *live = hide(malloc(40)), *large = hide(malloc(100000));
+    __asan_poison_memory_region(live + 8, 16);
+    __asan_poison_memory_region(large + 50000, 4096);
+    __asan_unpoison_memory_region(large + 51000, 8);
+    free(freed);
+    poisons(rounds, rounds);
+    store(freed + 3);
+    free(freed);
+    store(live + 40);
+    store(live + 7);
+    store(live + 8);
+    store(live + 24);
+    store(large + 50999);
+    store(large + 51000);
+    store(large + 100000);
+    free(live);
+    free(large);
 }
 
 /* More live blocks than half of the limit. */
