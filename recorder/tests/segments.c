@@ -168,7 +168,7 @@ static void *go_wrong_in_thread(void *number)
         __asan_unpoison_memory_region(block + 8, 16);
         store(block + 8);
         free(piece);
-        store(piece + 1);
+        (void)*(volatile char *)hide(piece + 1);
     }
     free(block);
     return NULL;

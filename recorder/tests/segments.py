@@ -4,7 +4,7 @@ import glob
 import os
 import random
 import struct
-from typing import List, NamedTuple
+from typing import Dict, List, NamedTuple
 
 from support import EXIT, TESTS, Compiler, Suite, Trace, environment, expect, reports, run, side_of
 
@@ -13,15 +13,13 @@ PROGRESS, NUMBERS = 7680, struct.Struct("<QQQ")
 
 
 class Segment(NamedTuple):
-    """What a checker makes of the trace of a segment."""
+    """What a checker says of the trace of a segment."""
 
     path: str
-    status: int
-    texts: List[str]
-    end: str
+    lines: List[str]
 
     def is_closed(self) -> bool:
-        return self.end.split(" events ")[0] == "closed"
+        return self.lines[-1].split()[2] == "closed"
 
 
 def segments_of(suite: Suite, trace: str) -> List[Segment]:
@@ -29,7 +27,16 @@ def segments_of(suite: Suite, trace: str) -> List[Segment]:
     front, end = os.path.splitext(trace)
     paths = [trace] if os.path.exists(trace) else []
     paths += sorted(glob.glob(f"{front}.segment-*{end}"), key=lambda it: (len(it), it))
-    return [Segment(it, *reports(suite.asancol, it)) for it in paths]
+    return [it for first in range(0, len(paths), 50) for it in checked(suite, paths[first : first + 50])]
+
+
+def checked(suite: Suite, paths: List[str]) -> List[Segment]:
+    lines: List[List[str]] = [[] for _ in paths]
+    for line in run([suite.asancol, "check", *paths], ".").stdout.decode().splitlines():
+        words = line.split()
+        if words[0] != "total":
+            lines[int(words[0][1:])].append(line)
+    return [Segment(*it) for it in zip(paths, lines)]
 
 
 def record(suite: Suite, folder: str, words: List[str], limit: int, status: int = 0, **settings: str) -> List[Segment]:
@@ -41,16 +48,29 @@ def record(suite: Suite, folder: str, words: List[str], limit: int, status: int 
     return segments_of(suite, f"{folder}/t.trace")
 
 
-def texts_of(segments: List[Segment]) -> List[str]:
+def expect_closed(segments: List[Segment]) -> None:
     expect([it.path for it in segments if not it.is_closed()], [], "segments that are not closed")
-    return [text for it in segments for text in it.texts]
+
+
+def texts_of(suite: Suite, segments: List[Segment]) -> List[str]:
+    """The reports of segments that are all closed, as the tests write them."""
+    expect_closed(segments)
+    return [text for it in segments if len(it.lines) > 1 for text in reports(suite.asancol, it.path)[1]]
+
+
+def kinds_of(segments: List[Segment]) -> Dict[str, int]:
+    """How many reports there are of each kind of access and each class."""
+    expect_closed(segments)
+    words = [line.split() for it in segments for line in it.lines[:-1]]
+    kinds = [f"{it[2]} {it[-3]}" for it in words]
+    return {it: kinds.count(it) for it in kinds}
 
 
 def check_count(suite: Suite, folder: str, program: str) -> None:
     """3, 30 and 300 segments: no report, and each event is there once."""
     for limit, least in ((8000, 2), (1000, 25), (200, 150)):
         segments = record(suite, folder, [program, "blocks", "8000", "-1"], limit, ASANCOL_WHERE="1")
-        expect(texts_of(segments), [], f"reports with {limit}")
+        expect(texts_of(suite, segments), [], f"reports with {limit}")
         expect(len(segments) >= least, True, f"{len(segments)} segments with {limit}")
         sides = [side_of(it.path) for it in segments]
         numbers = [NUMBERS.unpack_from(it.data, PROGRESS) for it in sides]
@@ -71,7 +91,7 @@ def check_moments(suite: Suite, folder: str, program: str) -> None:
     for _ in range(50):
         limit, bad = draws.randrange(150, 2000), draws.randrange(3000)
         segments = record(suite, folder, [program, "blocks", "3000", str(bad)], limit)
-        expect(texts_of(segments), [f"store 1 +{8 + bad % 100} heap-buffer-overflow"], f"at {bad} with {limit}")
+        expect(texts_of(suite, segments), [f"store 1 +{8 + bad % 100} heap-buffer-overflow"], f"at {bad} with {limit}")
 
 
 EARLY = [
@@ -88,26 +108,25 @@ def check_early(suite: Suite, folder: str, program: str) -> None:
     """What stands since the first segment has the same verdicts in the last."""
     for limit, least in ((1 << 24, 1), (3000, 3), (300, 20), (30, 200)):
         segments = record(suite, folder, [program, "early", "3000", "0"], limit)
-        expect(texts_of(segments), ["store 1 +1 use-after-poison", *EARLY], f"with {limit}")
+        expect(texts_of(suite, segments), ["store 1 +1 use-after-poison", *EARLY], f"with {limit}")
         expect(len(segments) >= least, True, f"{len(segments)} segments with {limit}")
 
 
 def check_long_ago(suite: Suite, folder: str, program: str) -> None:
     """An access to what was released before the segment began is found."""
     segments = record(suite, folder, [program, "long_ago", "3000", "0"], 500)
-    expect([it.split()[-1] for it in texts_of(segments)], ["use-after-poison"], "reports")
+    expect(kinds_of(segments), {"store use-after-poison": 1}, "reports")
 
 
 def check_variables(suite: Suite, folder: str, program: str) -> None:
     """Redzones and poison outside of blocks."""
     for limit in (1 << 24, 2000, 300):
         segments = record(suite, folder, [program, "variables", "3000", "10"], limit, ASANCOL_WHERE="1")
-        kinds = [it.split()[-1] for it in texts_of(segments)]
-        wanted = {"stack-buffer-overflow": 300, "global-buffer-overflow": 300, "use-after-poison": 300}
-        expect({it: kinds.count(it) for it in kinds}, wanted, f"with {limit}")
+        classes = ("stack-buffer-overflow", "global-buffer-overflow", "use-after-poison")
+        expect(kinds_of(segments), {f"store {it}": 300 for it in classes}, f"with {limit}")
     for limit in (1000, 100):
         segments = record(suite, folder, [program, "poisons", "3000", "5"], limit)
-        expect([it.split()[-1] for it in texts_of(segments)], ["use-after-poison"] * 600, f"in a block, with {limit}")
+        expect(kinds_of(segments), {"store use-after-poison": 600}, f"in a block, with {limit}")
 
 
 def check_many_live(suite: Suite, folder: str, program: str) -> None:
@@ -116,7 +135,7 @@ def check_many_live(suite: Suite, folder: str, program: str) -> None:
     expect((ran.returncode, len(ran.stderr.splitlines())), (0, 1), ran.stderr)
     segments = segments_of(suite, f"{folder}/t.trace")
     expect([it.is_closed() for it in segments], [True, False], "closes")
-    expect(segments[-1].status, 3, "status")
+    expect(segments[-1].lines[-1].split()[2], "no-close", "the last end")
 
 
 def check_kept(suite: Suite, folder: str, program: str) -> None:
@@ -143,7 +162,7 @@ def check_children(suite: Suite, folder: str, program: str) -> None:
         for first in glob.glob(f"{folder}/*.trace"):
             if "segment" not in first:
                 segments = segments_of(suite, first)
-                kinds.append([it.split()[-1] for it in texts_of(segments)])
+                kinds.append([it.split()[-1] for it in texts_of(suite, segments)])
         past, after = "heap-buffer-overflow", "heap-use-after-free"
         if limit < 1000:
             kinds = [[after if it == "use-after-poison" else it for it in of] for of in kinds]
@@ -169,6 +188,37 @@ def check_no_room(suite: Suite, folder: str, program: str) -> None:
     expect([it.is_closed() for it in segments], [False], "closes")
 
 
+def check_threads(suite: Suite, folder: str, program: str) -> None:
+    """Four threads: no report but that of the bug, in few segments and in many."""
+    for limit, least in ((20000, 2), (2000, 15), (400, 100)):
+        for bad in (-1, 1234):
+            wanted = [f"store 1 +{8 + bad % 100} heap-buffer-overflow"] if bad >= 0 else []
+            segments = record(suite, folder, [program, "threads", "3000", str(bad)], limit)
+            expect(texts_of(suite, segments), wanted, f"with {limit}")
+            expect(len(segments) >= least, True, f"{len(segments)} segments with {limit}")
+
+
+def check_wrong_threads(suite: Suite, folder: str, program: str) -> None:
+    """Four threads that go wrong in each round: each of these accesses is found once, with its place. In a small segment
+    little is held, and a block may be given again before the access to it comes."""
+    for limit, least in ((20000, 2000), (2000, 1990), (400, 1900)):
+        segments = record(suite, folder, [program, "wrong_threads", "500", "0"], limit, ASANCOL_WHERE="1")
+        kinds = kinds_of(segments)
+        after_free = kinds.pop("load heap-use-after-free", 0) + kinds.pop("load use-after-poison", 0)
+        expect(kinds, {"store stack-buffer-overflow": 2000, "store use-after-poison": 2000}, f"with {limit}")
+        expect(least <= after_free <= 2000, True, f"{after_free} after a free, with {limit}")
+        for segment in segments:
+            side, numbers = side_of(segment.path), [int(it.split()[1][1:]) for it in segment.lines[:-1]]
+            expect([it for it in numbers if side.fault(it) is None], [], f"without a place in {segment.path}")
+
+
+def check_handlers(suite: Suite, folder: str, program: str) -> None:
+    """A timer's handler allocates, whatever it interrupts."""
+    for limit in (20000, 2000, 400):
+        segments = record(suite, folder, [program, "handlers", "20000", "12345"], limit)
+        expect(texts_of(suite, segments), ["store 1 +53 heap-buffer-overflow"], f"with {limit}")
+
+
 def tests(suite: Suite, compiler: Compiler, folder: str) -> None:
     program = f"{folder}/segments-{compiler}"
     compiler.c(folder, [f"{TESTS}/segments.c"], program, "-O1", "-w", "-pthread")
@@ -182,6 +232,9 @@ def tests(suite: Suite, compiler: Compiler, folder: str) -> None:
         ("kept", check_kept),
         ("children", check_children),
         ("killed", check_killed),
+        ("threads", check_threads),
+        ("threads that go wrong", check_wrong_threads),
+        ("handlers", check_handlers),
         ("no room", check_no_room),
     ]
     for name, check in cases:
