@@ -38,6 +38,7 @@ static struct {
     unsigned window;   /* in which both lie */
     uint64_t start;    /* the offset at which the stream begins */
     bool has_side;
+    bool is_hub;       /* who reads it */
     _Atomic bool is_side_full;
     _Atomic uint64_t sent_at;      /* nanoseconds of the coarse clock: when a socket was given what there was */
     _Atomic unsigned sent_at_once; /* how often, since then */
@@ -251,6 +252,13 @@ static unsigned check_records(uint64_t end, uint64_t limit, enum patience patien
     return holes;
 }
 
+/* What is stored late, into a stream that has ended, meets plain memory. */
+static void leave_outputs(void)
+{
+    output_leave(&keeper.trace);
+    output_leave(&keeper.side);
+}
+
 /* Cuts the files after the last record or the close, and the last fault. */
 static void trim_files(uint64_t end, enum ending ending)
 {
@@ -258,10 +266,8 @@ static void trim_files(uint64_t end, enum ending ending)
         side_write_modules(); /* with those that came by other ways than dlopen */
     uint64_t side_end = side_length();
     /* No thread that is late may store past the end of a file. */
-    if (ending == ENDING_SEGMENT) {
-        output_leave(&keeper.trace);
-        output_leave(&keeper.side);
-    }
+    if (ending == ENDING_SEGMENT && keeper.trace.is_mapped)
+        leave_outputs();
     output_trim(&keeper.trace, length_to(end));
     if (!keeper.has_side)
         return;
@@ -371,10 +377,10 @@ static void leave_out(void)
     side_note_left_out();
 }
 
-/* Whether it goes on in another stream at its limit: in another file. */
+/* Whether it goes on in another stream at its limit: in another file, or in another connection to the hub. */
 static bool has_segments(void)
 {
-    return keeper.settings->segments != 0 && keeper.trace.is_mapped;
+    return keeper.settings->segments != 0 && (keeper.trace.is_mapped || keeper.is_hub);
 }
 
 /* How a stream ends whose cursor this was: at the limit, if an event has found no place. If it could go on in its next
@@ -517,21 +523,27 @@ static const char *open_hub(const struct settings *settings)
     return output_send_first(&keeper.trace, HEADER_LENGTH, &keeper.side, settings->patience_ms);
 }
 
+static void close_outputs(void)
+{
+    side_forget();
+    output_close(&keeper.trace);
+    output_close(&keeper.side);
+    keeper.has_side = false;
+}
+
 static const char *open_output(const struct settings *settings)
 {
     const char *why;
-    keeper.has_side = false;
+    keeper.has_side = keeper.is_hub = false;
     if (windows_start() == NULL)
         return "there is no room for it";
     struct window window = windows_of_stream(keeper.window);
     if (settings->hub != NULL) {
         why = open_hub(settings);
+        keeper.is_hub = why == NULL;
         if (why == NULL || settings->trace == NULL)
             return why;
-        side_forget();
-        output_close(&keeper.trace);
-        output_close(&keeper.side);
-        keeper.has_side = false;
+        close_outputs();
         recorder_say("the hub can't be reached, so the trace goes to a file: ", settings->hub, why);
     }
     if (settings->trace != NULL)
@@ -648,18 +660,21 @@ static const char *open_next(struct outputs *next, unsigned window)
     return NULL;
 }
 
+static bool finish_segment(uint64_t cursor)
+{
+    return finish_at((uint32_t)cursor, limit_of_stream(), finish_of(cursor, FINISH_CLOSED), ENDING_SEGMENT, 0);
+}
+
 /* Ends the segment whose cursor this was, and opens the next. False: the recording has ended. */
-static bool leave_segment(uint64_t cursor)
+static bool leave_file(uint64_t cursor, unsigned window)
 {
     static struct outputs next; /* the lock is held */
-    unsigned window = (keeper.window + 1) % WINDOWS;
     const char *why = open_next(&next, window);
     if (why != NULL) {
         lose(cursor, why);
         return false;
     }
-    enum finish finish = finish_of(cursor, FINISH_CLOSED);
-    if (!finish_at((uint32_t)cursor, limit_of_stream(), finish, ENDING_SEGMENT, 0)) {
+    if (!finish_segment(cursor)) {
         output_discard(&next.trace);
         if (next.has_side)
             output_discard(&next.side);
@@ -673,13 +688,35 @@ static bool leave_segment(uint64_t cursor)
     return true;
 }
 
+/* Likewise. A hub may take no more than so many connections at a time, so this one ends first. What it has at its end says
+   that there has to be a next one. */
+static bool leave_connection(uint64_t cursor, unsigned window)
+{
+    bool has_ended = finish_segment(cursor);
+    leave_outputs();
+    keeper.has_side = false;
+    keeper.window = window;
+    keeper.segment++;
+    const char *why = has_ended ? open_hub(keeper.settings) : NULL;
+    if (has_ended && why == NULL)
+        return true;
+    close_outputs();
+    STREAM->has_side = false;
+    atomic_store(&recorder_state, STATE_OFF);
+    heap_set_bound(0);
+    if (why != NULL)
+        recorder_say("recording ends: ", keeper.settings->hub, why);
+    return false;
+}
+
 /* Threads that have looked at something in the segment before see that there is another one once its window is known,
    and look again. By then nothing is left of what they have looked at. */
 static void begin_next(void)
 {
     stated_forget();
     begin_segment();
-    segments_keep(keeper.segment, &keeper.trace, keeper.settings->segments);
+    if (keeper.trace.is_mapped)
+        segments_keep(keeper.segment, &keeper.trace, keeper.settings->segments);
     /* Events are numbered anew. */
     atomic_store(&keeper.stop, 0);
     set_events_end(0);
@@ -700,7 +737,8 @@ static void switch_segment(void)
         atomic_store(&recorder_state, STATE_OFF); /* the process ends just now */
         return;
     }
-    if (!leave_segment(cursor))
+    unsigned next = (keeper.window + 1) % WINDOWS;
+    if (keeper.is_hub ? !leave_connection(cursor, next) : !leave_file(cursor, next))
         return;
     begin_next();
     if (keeper.is_overfull) {
@@ -814,10 +852,7 @@ bool stream_resume(void)
 void stream_forget(void)
 {
     atomic_store(&STREAM->cursor, 0);
-    side_forget();
-    output_close(&keeper.trace);
-    output_close(&keeper.side);
-    keeper.has_side = false;
+    close_outputs();
 }
 
 bool stream_has_lost(const void *address)
@@ -896,8 +931,9 @@ enum room { NO_ROOM, ROOM_HERE, ROOM_IN_ANOTHER };
 static enum room pass_limit(uint64_t place, bool is_of_heap)
 {
     if (has_segments()) {
-        /* What a handler records that has interrupted the allocator: the heap can't be restated just now. */
-        if (is_of_heap || !heap_is_entered()) {
+        /* A handler may have interrupted the allocator, so that the heap can't be restated just now. What a child of
+           vfork connects to is no connection of its parent's. */
+        if ((is_of_heap || !heap_is_entered()) && (!keeper.is_hub || recorder_is_own_process())) {
             go_on_in_next();
             return ROOM_IN_ANOTHER;
         }

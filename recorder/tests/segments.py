@@ -6,6 +6,7 @@ import random
 import struct
 from typing import Dict, List, NamedTuple
 
+import hub
 from support import EXIT, TESTS, Compiler, Suite, Trace, environment, expect, reports, run, side_of
 
 SEGMENT = 5  # an ending
@@ -219,6 +220,31 @@ def check_handlers(suite: Suite, folder: str, program: str) -> None:
         expect(texts_of(suite, segments), ["store 1 +53 heap-buffer-overflow"], f"with {limit}")
 
 
+def check_hub(suite: Suite, folder: str, program: str) -> None:
+    """A hub gets a connection and side memory for each segment, of one process."""
+    for words, limit in ((["blocks", "8000", "4000"], 3000), (["threads", "3000", "4"], 1000), (["early", "900", "1"], 30)):
+        peers, said = hub.run_under(folder, [program, *words], ASANCOL_LIMIT=str(limit))
+        sides = [it.side() for it in peers]
+        numbers = [NUMBERS.unpack_from(it.data, PROGRESS) for it in sides]
+        expect((said, len(peers) > 5), (b"", True), f"{len(peers)} connections of {words}")
+        expect([it[1] for it in numbers], list(range(len(peers))), "numbers of segments")
+        expect(len({(it.process, it.parent, it.started) for it in sides}), 1, "processes")
+        expect([it.ending for it in sides], [SEGMENT] * (len(sides) - 1) + [EXIT], "endings")
+        expect([it.trace().is_closed for it in peers], [True] * len(peers), "closes")
+        expect([it.events for it in sides], [len(it.trace().events) for it in peers], "events")
+        faults = [fault for it in sides for fault in it.faults]
+        expect(len(faults), 7 if words[0] == "early" else 1, "faults")
+        expect(all(it.stack and it.allocated_stack for it in faults), True, "stacks")
+
+
+def check_hub_that_leaves(suite: Suite, folder: str, program: str) -> None:
+    """The hub is gone at a switch: the process goes on, and a line says that the recording ends."""
+    peers, said = hub.run_under(folder, [program, "removes_hub", "8000", "-1"], ASANCOL_LIMIT="3000")
+    expect((len(peers), len(said.splitlines())), (1, 1), said)
+    side = peers[0].side()
+    expect((side.ending, peers[0].trace().is_closed), (SEGMENT, True), "its ending")
+
+
 def tests(suite: Suite, compiler: Compiler, folder: str) -> None:
     program = f"{folder}/segments-{compiler}"
     compiler.c(folder, [f"{TESTS}/segments.c"], program, "-O1", "-w", "-pthread")
@@ -235,6 +261,8 @@ def tests(suite: Suite, compiler: Compiler, folder: str) -> None:
         ("threads", check_threads),
         ("threads that go wrong", check_wrong_threads),
         ("handlers", check_handlers),
+        ("hub", check_hub),
+        ("hub that leaves", check_hub_that_leaves),
         ("no room", check_no_room),
     ]
     for name, check in cases:
