@@ -239,13 +239,22 @@ static void is_killed(int rounds, int unused)
     raise(SIGKILL);
 }
 
+/* Its hub can't be found any more. */
+static void removes_hub(int rounds, int unused)
+{
+    (void)unused;
+    if (unlink(getenv("ASANCOL_HUB")) != 0)
+        exit(9);
+    blocks(rounds, -1);
+}
+
 static const struct {
     const char *name;
     void (*run)(int rounds, int number);
 } programs[] = {
     {"blocks", blocks}, {"early", early}, {"long_ago", long_ago}, {"variables", variables}, {"poisons", poisons},
     {"many_live", many_live}, {"threads", threads}, {"wrong_threads", wrong_threads}, {"handlers", handlers},
-    {"children", children}, {"is_killed", is_killed},
+    {"children", children}, {"is_killed", is_killed}, {"removes_hub", removes_hub},
 };
 
 int main(int count, char **words)

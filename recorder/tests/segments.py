@@ -232,15 +232,18 @@ def check_hub(suite: Suite, folder: str, program: str) -> None:
         expect([it.ending for it in sides], [SEGMENT] * (len(sides) - 1) + [EXIT], "endings")
         expect([it.trace().is_closed for it in peers], [True] * len(peers), "closes")
         expect([it.events for it in sides], [len(it.trace().events) for it in peers], "events")
-        faults = [fault for it in sides for fault in it.faults]
+        faults = [fault for it in sides for fault in it.faults if fault.event]
         expect(len(faults), 7 if words[0] == "early" else 1, "faults")
         expect(all(it.stack and it.allocated_stack for it in faults), True, "stacks")
 
 
 def check_hub_that_leaves(suite: Suite, folder: str, program: str) -> None:
     """The hub is gone at a switch: the process goes on, and a line says that the recording ends."""
-    peers, said = hub.run_under(folder, [program, "removes_hub", "8000", "-1"], ASANCOL_LIMIT="3000")
-    expect((len(peers), len(said.splitlines())), (1, 1), said)
+    listening = hub.Hub(f"{folder}/hub", has_abstract=False)
+    words = [program, "removes_hub", "8000", "-1"]
+    ran = run(words, folder, ASANCOL_HUB=listening.path, ASANCOL_LIMIT="3000")
+    peers = listening.close()
+    expect((ran.returncode, len(peers), len(ran.stderr.splitlines())), (0, 1, 1), ran.stderr)
     side = peers[0].side()
     expect((side.ending, peers[0].trace().is_closed), (SEGMENT, True), "its ending")
 
