@@ -440,9 +440,31 @@ static void end_at_limit(uint64_t end)
     stream_unlock();
 }
 
+/* Whether a stream that was off is on again. Who switches to the next segment is waited for, and another one may follow.
+   If it stays off, it has this state. */
+static bool comes_on(enum state *state)
+{
+    for (;;) {
+        unsigned window = atomic_load(&STREAM->window);
+        *state = atomic_load(&recorder_state);
+        if (*state == STATE_SWITCHING) {
+            stream_lock();
+            stream_unlock();
+        }
+        if (is_on())
+            return true;
+        bool is_same = window == atomic_load(&STREAM->window) && *state == atomic_load(&recorder_state);
+        if (is_same && *state != STATE_SWITCHING)
+            return false;
+    }
+}
+
 bool stream_wake(void)
 {
-    switch (atomic_load_explicit(&recorder_state, memory_order_relaxed)) {
+    enum state state;
+    if (comes_on(&state))
+        return true;
+    switch (state) {
     case STATE_UNSTARTED:
         /* Too early; and in the allocator the start would record a block that its malloc then records again. */
         if (environ == NULL || heap_is_entered())
@@ -452,14 +474,7 @@ bool stream_wake(void)
     case STATE_AT_LIMIT:
         leave_out();
         return false;
-    case STATE_SWITCHING:
-        /* Who has the lock is switching. */
-        stream_lock();
-        stream_unlock();
-        return is_on();
     case STATE_RECORDING:
-        if (is_on())
-            return true; /* again */
         /* Another thread tries an exec just now, or this is a child that no fork has announced. */
         if (!recorder_is_own_process())
             recorder_say_child();
