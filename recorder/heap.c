@@ -533,7 +533,7 @@ static bool is_poison(unsigned char shade)
     return shade == SHADE_USER || shade == SHADE_CONTAINER;
 }
 
-/* What the process has poisoned in a block that is live, by its shadow. Redzones of a stack that lies in it are none. */
+/* What the process has poisoned in a live block, by its shadow. Redzones of a stack that lies in it are none. */
 static void restate_poison_of(struct restating *restating, uintptr_t address, size_t size)
 {
     for (uintptr_t at = address, end = address + size; at < end;) {
@@ -613,8 +613,8 @@ static uint64_t count_restated(void)
     return counted.events;
 }
 
-/* Releases the oldest blocks of the quarantine until the rest can be restated, with all else, in so many events. What is
-   released is poison, so it may need events too. */
+/* Releases the oldest blocks of the quarantine until the rest can be restated, with all else, in so many events. What
+   is released is poison, so it may need events too. */
 static void fit_quarantine(uint64_t most_held, uint64_t room)
 {
     uint64_t most = most_held;

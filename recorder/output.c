@@ -148,7 +148,8 @@ static void clear(struct output *output, uint64_t room)
 /* Maps a file in the place of plain memory. */
 static void *map_file(struct window window, int descriptor)
 {
-    return mmap(window.bytes, window.room, PROT_READ | PROT_WRITE, MAP_SHARED | MAP_NORESERVE | MAP_FIXED, descriptor, 0);
+    int flags = MAP_SHARED | MAP_NORESERVE | MAP_FIXED;
+    return mmap(window.bytes, window.room, PROT_READ | PROT_WRITE, flags, descriptor, 0);
 }
 
 const char *output_open_file(struct output *output, const char *path, enum naming naming, struct window window,

@@ -22,8 +22,8 @@ _Atomic enum state recorder_state;
 
 /* After how many bytes a socket is given what there is. */
 enum { PIECES_STEP = 1 << 16 };
-/* How often to look again at a record that another thread has not written yet, or at a lock; and then, if there is time,
-   how often again after a nap of so many nanoseconds. */
+/* How often to look again at a record that another thread has not written yet, or at a lock; and then, if there is
+   time, how often again after a nap of so many nanoseconds. */
 enum { LOOKS = 1000, NAPS = 1000, NAP = 100000 };
 /* How many records in a row may be missing. */
 enum { MOST_HOLES = 8 };
@@ -440,8 +440,8 @@ static void end_at_limit(uint64_t end)
     stream_unlock();
 }
 
-/* Whether a stream that was off is on again. Who switches to the next segment is waited for, and another one may follow.
-   If it stays off, it has this state. */
+/* Whether a stream that was off is on again. Who switches to the next segment is waited for, and another one may
+   follow. If it stays off, it has this state. */
 static bool comes_on(enum state *state)
 {
     for (;;) {
@@ -703,8 +703,8 @@ static bool leave_file(uint64_t cursor, unsigned window)
     return true;
 }
 
-/* Likewise. A hub may take no more than so many connections at a time, so this one ends first. What it has at its end says
-   that there has to be a next one. */
+/* Likewise. A hub may take no more than so many connections at a time, so this one ends first. What it has at its end
+   says that there has to be a next one. */
 static bool leave_connection(uint64_t cursor, unsigned window)
 {
     bool has_ended = finish_segment(cursor);
@@ -786,8 +786,8 @@ static void go_on_in_next(void)
     undisturbed_end(&before);
 }
 
-/* Turns the stream off. Answers its cursor; without CURSOR_ON: it was off. A switch to the next segment is waited for, in
-   a handler not for ever. */
+/* Turns the stream off. Answers its cursor; without CURSOR_ON: it was off. A switch to the next segment is waited for,
+   in a handler not for ever. */
 static uint64_t turn_off(bool in_handler)
 {
     for (;;) {

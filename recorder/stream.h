@@ -5,8 +5,8 @@
 #include "recorder.h"
 #include "settings.h"
 
-/* While it is switching from one segment to the next, threads wait. The last two are the ways a stream can have ended, so
-   that events are not recorded. */
+/* While it is switching from one segment to the next, threads wait. The last two are the ways a stream can have ended,
+   so that events are not recorded. */
 enum state { STATE_UNSTARTED, STATE_STARTING, STATE_RECORDING, STATE_SWITCHING, STATE_AT_LIMIT, STATE_OFF };
 
 extern _Atomic enum state recorder_state;
@@ -31,8 +31,8 @@ bool stream_has_lost(const void *address);
 void stream_write_modules(void);
 /* How many events may restate what came before a stream. */
 uint64_t stream_restating_room(void);
-/* The place of a record of so many bytes, or null if none is recorded. `is_of_heap`: the allocator records it, and is in
-   order, so that the stream may go on in its next segment here. */
+/* The place of a record of so many bytes, or null if none is recorded. `is_of_heap`: the allocator records it, and is
+   in order, so that the stream may go on in its next segment here. */
 unsigned char *stream_reserve(unsigned length, bool is_of_heap);
 /* Backs a part of the side file, if there is one. False: it can't be, or not without waiting. */
 bool stream_back_side(uint64_t offset, uint64_t length);
