@@ -396,6 +396,7 @@ def check_settings(suite: Suite, folder: str, program: str) -> None:
         ({"ASANCOL_": "1"}, ["ASANCOL_: there is no such setting"]),
         ({"ASANCOL_WHERE": "yes"}, ["ASANCOL_WHERE: yes is no number from 0 to 1, and 0 holds"]),
         ({"ASANCOL_LIMIT": "0"}, ["ASANCOL_LIMIT: 0 is no number from 1 to 16777216, and 16777216 holds"]),
+        ({"ASANCOL_SEGMENTS": "1001"}, ["ASANCOL_SEGMENTS: 1001 is no number from 0 to 1000, and all are kept"]),
         ({"ASANCOL_LIMIT": "99999999999999999999"}, ["ASANCOL_LIMIT: 99999999999999999999 is no number"]),
         ({"ASANCOL_QUARANTINE": "1M"}, ["ASANCOL_QUARANTINE: 1M is no number from 0 to 1099511627776"]),
         ({"ASANCOL_PATIENCE": "-1"}, ["ASANCOL_PATIENCE: -1 is no number from 0 to 86400, and 60 holds"]),

@@ -4,6 +4,8 @@ import glob
 import os
 import random
 import struct
+import subprocess
+import time
 from typing import Dict, List, NamedTuple
 
 import hub
@@ -178,6 +180,22 @@ def check_killed(suite: Suite, folder: str, program: str) -> None:
     expect(len(segments) > 3, True, f"{len(segments)} segments")
 
 
+def check_killed_anywhere(suite: Suite, folder: str, program: str) -> None:
+    """SIGKILL at a random moment, which is in a switch as often as not: what is there does not read as whole."""
+    draws = random.Random(1)
+    for _ in range(20):
+        for old in glob.glob(f"{folder}/t.*"):
+            os.unlink(old)
+        settings = environment(ASANCOL_TRACE="t.trace", ASANCOL_LIMIT="200", ASANCOL_SEGMENTS="50")
+        with subprocess.Popen([program, "threads", "100000000", "-1"], cwd=folder, env=settings) as process:
+            while not os.path.exists(f"{folder}/t.trace"):
+                time.sleep(0.001)
+            time.sleep(draws.random() / 5)
+            process.kill()
+        segments = segments_of(suite, f"{folder}/t.trace")
+        expect(segments[-1].is_closed(), False, f"a close of the last of {len(segments)}")
+
+
 def check_no_room(suite: Suite, folder: str, program: str) -> None:
     """The next file can't be made: the recording ends, with a line, and its last trace is not closed."""
     path = f"{'n' * 244}.trace"  # there is no room in a name for the number of a segment
@@ -266,6 +284,7 @@ def tests(suite: Suite, compiler: Compiler, folder: str) -> None:
         ("handlers", check_handlers),
         ("hub", check_hub),
         ("hub that leaves", check_hub_that_leaves),
+        ("killed anywhere", check_killed_anywhere),
         ("no room", check_no_room),
     ]
     for name, check in cases:
