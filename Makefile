@@ -12,7 +12,7 @@ EXAMPLE := examples/one_byte_past_the_end.trace
 REDZONES := examples/stack_and_global_poison.trace
 
 .PHONY: all demo check stress fuzz failures bench install uninstall clean recorder check-recorder check-real bench-record \
-        stress-record install-recorder run check-run check-farm bench-run install-run dist deb check-packages
+        stress-record stress-segments install-recorder run check-run check-farm bench-run install-run dist deb check-packages
 
 # The program, proved.
 all: asancol
@@ -112,6 +112,10 @@ TIMES := 1000
 
 stress-record: asancol recorder
 	recorder/tests/stress.py --times $(TIMES) ./asancol
+
+# 200 million mallocs and frees in four threads, and one bug at their end, under asancol-run: some minutes.
+stress-segments: asancol recorder run
+	recorder/tests/segments_stress.py ./asancol
 
 install-recorder:
 	$(MAKE) -C recorder install PREFIX=$(PREFIX) DESTDIR=$(DESTDIR)
