@@ -21,6 +21,7 @@ struct process *process_add(void)
     struct process *made = must(calloc(1, sizeof *made));
     made->number = count;
     made->connection = made->side_memory = made->verdicts = -1;
+    made->lead = made->front = made;
     processes[count++] = made;
     live++;
     return made;
