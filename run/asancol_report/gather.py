@@ -61,13 +61,13 @@ class Gatherer:
         # The processes of each finding that was seen, by its identity.
         self.seen_in: Dict[int, int] = {}
 
-    def take(self, process: int, pid: int, verdicts: int, side: Optional[Side]) -> Verdicts:
-        """Takes in the lines of a process, behind the descriptor `verdicts`."""
+    def take(self, process: int, pid: int, verdicts: int, side: Optional[Side], segment: int = 1) -> Verdicts:
+        """Takes in the lines of a process, or of a segment of it, behind the descriptor `verdicts`."""
         lines = Verdicts(verdicts, side.fault_of if side else lambda event: 0)
         for group in lines.groups.values():
             fault = side.fault(group.fault) if side and group.fault else None
-            places = self.places_of(side, fault)
-            self.sight(group, fault, places, process, pid)
+            first = Tally(0, 0, process, pid, group.first.event, segment)
+            self.sight(group, fault, self.places_of(side, fault), first)
             if self.modules.is_full():
                 self.symbols.look_up()
         if side is not None and side.ending == ENDING_SIGNAL:
@@ -107,7 +107,7 @@ class Gatherer:
                 module.wanted[linked] = None
         return Place(module, in_file, address - mapping.base)
 
-    def sight(self, group: Group, fault: Optional[Fault], places: Places, process: int, pid: int) -> None:
+    def sight(self, group: Group, fault: Optional[Fault], places: Places, tally: Tally) -> None:
         first = group.first
         size = None if first.access == "malloc" else first.size
         key = (first.class_name, first.access, size, *places, fault.name if fault else "")
@@ -116,10 +116,9 @@ class Gatherer:
             finding = Finding(first.class_name, first.access, first.size, first.address, first.bad)
             finding.shadow = first.shadow
             finding.block = block_of(fault)
-            tally = Tally(0, 0, process, pid, first.event)
             sighting = self.sightings[key] = Sighting(finding, places, tally)
         sighting.count += group.count
-        sighting.processes |= 1 << process
+        sighting.processes |= 1 << tally.process
 
     def finish(self) -> List[Finding]:
         """Looks up the symbols of all that was taken in, adds it to the results, and returns what is new there."""

@@ -1,0 +1,186 @@
+"""Traces of one process in several files. A recording that reaches the limit of events goes on in another segment, with a
+trace and a side file for itself: run.trace, run.segment-002.trace and so on. All of them are one process."""
+
+from __future__ import annotations
+
+import os
+import re
+from typing import Dict, List, NamedTuple, Optional, Set, Tuple
+
+from .reading import open_regular, read_at
+from .results import Process
+from .side import ENDING_SEGMENT, HEAD, HEADER, PROGRESS, PROGRESS_AT
+from .verdicts import End
+from .words import signal_name
+
+CLOSED = "closed"
+
+# What the segments of a process share.
+Key = Tuple[str, ...]
+
+
+class Segment(NamedTuple):
+    """A trace in a file, which is the whole recording of its process or one of its segments."""
+
+    path: str
+    number: int  # in its process, from 1
+
+
+# The names of the traces of one process, without what tells its segments apart: what comes before it, and after it.
+Family = Tuple[str, str]
+
+
+def apart(name: str) -> Tuple[Family, int]:
+    """Takes the name of a trace apart: STEM.trace, STEM.segment-002.trace, or STEM.segment-002.1.trace if that was taken."""
+    front, end = os.path.splitext(name)
+    found = re.fullmatch(r"(.+)\.segment-([0-9]{3,9})(?:\.[0-9]+)?", front)
+    return ((found[1], end), int(found[2])) if found else ((front, end), 1)
+
+
+def names_in(folder: str) -> Dict[Family, List[str]]:
+    """Returns the names in a folder by their families; none, if nobody may list it."""
+    families: Dict[Family, List[str]] = {}
+    try:
+        names = sorted(os.listdir(folder))
+    except OSError:
+        return families
+    for name in names:
+        families.setdefault(apart(name)[0], []).append(name)
+    return families
+
+
+class Known(NamedTuple):
+    """What a trace says of the process that it belongs to."""
+
+    key: Key
+    number: int
+    is_alone: bool  # it says that it is the only one
+
+
+def known_of(path: str) -> Known:
+    """Returns what the side file of a trace says. Without one its name stands for it; nobody knows then if another
+    follows."""
+    folder = os.path.realpath(os.path.dirname(path))
+    try:
+        side = open_regular(path + ".where")
+    except OSError:
+        family, number = apart(os.path.basename(path))
+        return Known((folder, *family), number, is_alone=False)
+    try:
+        head, progress = read_at(side, 0, HEAD.size), read_at(side, PROGRESS_AT, PROGRESS.size)
+    finally:
+        os.close(side)
+    if len(head) < HEAD.size or not head.startswith(HEADER) or len(progress) < PROGRESS.size:
+        return Known((os.path.realpath(path),), 1, is_alone=True)
+    _, _, _, ending, _, process, _, started, *_ = HEAD.unpack(head)
+    _, before, _ = PROGRESS.unpack(progress)
+    is_alone = before == 0 and ending != ENDING_SEGMENT
+    return Known((folder, str(process), str(started), "process"), before + 1, is_alone)
+
+
+class Traces:
+    """The traces of processes, each in the order of its segments."""
+
+    def __init__(self) -> None:
+        self.processes: List[Dict[int, str]] = []  # the paths, by the numbers of the segments
+        self.by_key: Dict[Key, List[Dict[int, str]]] = {}
+        self.taken: Set[str] = set()
+        self.names: Dict[str, Dict[Family, List[str]]] = {}  # what is in folders
+
+    def add(self, path: str) -> None:
+        """Takes in a trace, and those of the same process that lie beside it."""
+        known = self.take(path)
+        if known is None or known.is_alone:
+            return
+        for beside in self.beside(path):
+            if os.path.realpath(beside) not in self.taken and known_of(beside).key == known.key:
+                self.take(beside)
+
+    def take(self, path: str) -> Optional[Known]:
+        """Takes in a trace. None, if it is there already, or is no file."""
+        real = os.path.realpath(path)
+        if real in self.taken:
+            return None
+        if not os.path.isfile(path):
+            self.processes.append({1: path})
+            return None
+        self.taken.add(real)
+        known = known_of(path)
+        alike = self.by_key.setdefault(known.key, [])
+        process = next((it for it in alike if known.number not in it), None)
+        if process is None:
+            process = {}
+            alike.append(process)
+            self.processes.append(process)
+        process[known.number] = path
+        return known
+
+    def beside(self, path: str) -> List[str]:
+        """Returns the files whose names are those of segments of the same process."""
+        folder, name = os.path.split(path)
+        if folder not in self.names:
+            self.names[folder] = names_in(folder or ".")
+        return [os.path.join(folder, each) for each in self.names[folder].get(apart(name)[0], [])]
+
+
+def processes_in(paths: List[str]) -> List[List[Segment]]:
+    """Returns the traces of each process, in the order in which they were named first. What was named twice counts
+    once."""
+    traces = Traces()
+    for path in paths:
+        traces.add(path)
+    return [[Segment(path, number) for number, path in sorted(process.items())] for process in traces.processes]
+
+
+class Seen(NamedTuple):
+    """What came of a segment."""
+
+    segment: Segment
+    pid: int
+    parent: int
+    command: Tuple[str, ...]
+    end: End
+    why: str  # it was not seen whole; empty if it was
+    left_out: int  # events past the limit
+    restated: int  # events at its beginning that restate what stood at the end of the one before
+    goes_on: bool  # it says that another one follows
+    signal: int  # that has ended the process
+
+    @property
+    def number(self) -> int:
+        return self.segment.number
+
+
+def limit_text(left_out: int, events: int) -> str:
+    return f"reached the event limit: {left_out} of {events + left_out} events were not recorded"
+
+
+def flaw(seen: List[Seen], events: int, left_out: int) -> str:
+    """Returns why a process was not seen whole; empty if it was. Each of its segments has to be whole, and none may be
+    missing."""
+    if seen[0].number > 1:
+        return f"segment {seen[0].number} is the first that was seen"
+    for it, following in zip(seen, [*seen[1:], None]):
+        why = it.why
+        if following is not None and not why and it.end.fate != CLOSED:
+            why = f"its trace ends as {it.end.fate}"
+        if it.left_out:
+            return limit_text(left_out, events)
+        if why:
+            return f"segment {it.number}: {why}" if following is not None else why
+        if following is None:
+            return "its next segment did not come" if it.goes_on else ""
+        if following.number != it.number + 1:
+            return "its next segment did not come, and later ones did"
+    return ""
+
+
+def joined(seen: List[Seen]) -> Process:
+    """Returns the process whose segments these are."""
+    first, last = seen[0], seen[-1]
+    events = sum(it.end.events - min(it.end.events, it.restated) for it in seen)
+    left_out = sum(it.left_out for it in seen)
+    why = flaw(seen, events, left_out)
+    said = why or (f"ended by {signal_name(last.signal)}" if last.signal else "")
+    return Process(0, first.pid, first.parent, first.command, last.end.fate, events, sum(it.end.reports for it in seen),
+                   not why, left_out, said, os.path.abspath(first.segment.path), last.signal, segments=len(seen))
