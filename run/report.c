@@ -52,6 +52,7 @@ static struct {
     int numbers[RAW_PROCESSES];
     char segments[RAW_PROCESSES][32]; /* which one it is of, in words, if there are several */
     char *names[RAW_PROCESSES];
+    const struct process *leads[RAW_PROCESSES];
     size_t count, more;
 } raw;
 
@@ -170,13 +171,24 @@ static void put_process(FILE *to, const struct process *process, const struct pr
     fputc('}', to);
 }
 
+/* Counts lines that are not kept: with those of an earlier segment, or the process if there are none of it. */
+static void count_more(struct process *process)
+{
+    for (size_t i = raw.count; i > 0; i--)
+        if (raw.leads[i - 1] == process->lead) {
+            raw.left_out[i - 1] += process->reports;
+            return;
+        }
+    raw.more += !process->lead->is_among_more;
+    process->lead->is_among_more = true;
+}
+
 /* Keeps the first lines of what the checker has printed, for the case that asancol-report cannot. */
 static void keep_raw(struct process *process)
 {
     char text[RAW_BYTES];
     if (raw.count == RAW_PROCESSES) {
-        raw.more += !process->lead->is_among_more;
-        process->lead->is_among_more = true;
+        count_more(process);
         return;
     }
     ssize_t length = pread(process->verdicts, text, sizeof text - 1, 0);
@@ -189,6 +201,7 @@ static void keep_raw(struct process *process)
     raw.texts[raw.count] = must(strdup(text));
     raw.left_out[raw.count] = process->reports - lines;
     raw.names[raw.count] = process->name;
+    raw.leads[raw.count] = process->lead;
     if (segments_are_several(process))
         snprintf(raw.segments[raw.count], sizeof *raw.segments, ", segment %" PRIu64, process->segment + 1);
     raw.numbers[raw.count++] = process->own_number;

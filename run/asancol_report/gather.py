@@ -14,7 +14,7 @@ from .results import Results
 from .side import ENDING_SIGNAL, Fault, Side, VARIABLE_NONE, VARIABLE_STACK
 from .sources import Sources
 from .symbols import Symbols
-from .verdicts import Group, Verdicts
+from .verdicts import Group, Report, Verdicts
 
 NO_PLACE = "its place was not recorded"
 NO_ALLOCATION = "before the trace began"
@@ -113,10 +113,10 @@ class Gatherer:
         key = (first.class_name, first.access, size, *places, fault.name if fault else "")
         sighting = self.sightings.get(key)
         if sighting is None:
-            finding = Finding(first.class_name, first.access, first.size, first.address, first.bad)
-            finding.shadow = first.shadow
-            finding.block = block_of(fault)
-            sighting = self.sightings[key] = Sighting(finding, places, tally)
+            sighting = self.sightings[key] = Sighting(finding_of(first, fault), places, tally)
+        elif tally.process == sighting.first.process and tally.segment < sighting.first.segment:
+            # A later segment may be checked before an earlier one.
+            sighting.finding, sighting.first = finding_of(first, fault), tally
         sighting.count += group.count
         sighting.processes |= 1 << tally.process
 
@@ -186,6 +186,13 @@ class Gatherer:
                           is_inlined=number < len(names) - 1, text=self.sources.line(it.file, it.line))
             for number, it in enumerate(names)
         )
+
+
+def finding_of(report: Report, fault: Optional[Fault]) -> Finding:
+    finding = Finding(report.class_name, report.access, report.size, report.address, report.bad)
+    finding.shadow = report.shadow
+    finding.block = block_of(fault)
+    return finding
 
 
 def bits_of(number: int) -> int:

@@ -32,9 +32,8 @@ Family = Tuple[str, str]
 
 def apart(name: str) -> Tuple[Family, int]:
     """Takes the name of a trace apart: STEM.trace, STEM.segment-002.trace, or STEM.segment-002.1.trace if that was taken."""
-    front, end = os.path.splitext(name)
-    found = re.fullmatch(r"(.+)\.segment-([0-9]{3,9})(?:\.[0-9]+)?", front)
-    return ((found[1], end), int(found[2])) if found else ((front, end), 1)
+    found = re.fullmatch(r"(.+)\.segment-([0-9]{3,9})(?:\.[0-9]+)?(|\.[^.]*)", name)
+    return ((found[1], found[3]), int(found[2])) if found else (os.path.splitext(name), 1)
 
 
 def names_in(folder: str) -> Dict[Family, List[str]]:

@@ -1,0 +1,314 @@
+"""Processes whose recording goes on in further segments: each is one process in all that is said of it."""
+
+import itertools
+import json
+import os
+import shutil
+import signal
+import subprocess
+import time
+from typing import Any, List, NamedTuple, Sequence
+
+import sides
+from support import REPORT, RUN, TESTS, Ran, Suite, expect, expect_in, expect_not_in, expect_ran, finish
+
+PEER = f"{TESTS}/segmented.py"
+BAD = "heap-buffer-overflow: store of 1 byte (2 times, 1 process)"
+
+
+def run_peer(suite: Suite, words: str, *options: str, **settings: str) -> Ran:
+    return suite.run("-v", *options, "--", PEER, *words.split(), ASANCOL_REPORT=REPORT, **settings)
+
+
+def check_whole(suite: Suite, folder: str) -> None:
+    """They come in any order, and one may still be checked if the next is there."""
+    for order in itertools.permutations(["1", "2", "3e"]):
+        ran = run_peer(suite, " ".join(order))
+        expect_ran(ran, 0, "segmented: seen whole, 31 events in 3 segments, 0 reports\n",
+                   "asancol: no reports; 1 process, 31 events; all seen whole\n")
+    expect_ran(run_peer(suite, "1h 2h 3e"), 0, "no reports; 1 process, 31 events; all seen whole")
+    many = " ".join(str(number) for number in range(1, 40))
+    expect_ran(run_peer(suite, f"{many} 40e"), 0, "seen whole, 401 events in 40 segments, 0 reports", "; 1 process, ")
+    expect_ran(run_peer(suite, "1e"), 0, "seen whole, 11 events, 0 reports")
+
+
+NOT_WHOLE = {
+    "1": "its next segment did not come",
+    "1 2": "its next segment did not come",
+    "1 2b": "its next segment did not come",
+    "1 3e": "its next segment did not come, and later ones did",
+    "2 3e": "segment 2 is the first that was seen",
+    "2e": "segment 2 is the first that was seen",
+    "1 2o 3e": "segment 2: its trace ended as no-close",
+    "1 2 3o": "its trace ended as no-close",
+    "1 2l 3e": "reached the event limit: 1 of 32 events were not recorded",
+    "1 2 3el": "reached the event limit: 1 of 32 events were not recorded",
+}
+
+
+def check_not_whole(suite: Suite, folder: str, words: str, why: str) -> None:
+    """What is missing, or was not seen, is said, with and without a report."""
+    status = 99 if "b" in words else 98
+    expect_ran(run_peer(suite, words), status, f"segmented: NOT SEEN WHOLE: {why}\n", "1 process", "1 NOT SEEN WHOLE")
+    path = f"{folder}/result"
+    expect_ran(run_peer(suite, words, "--json", path), status, f"NOT SEEN WHOLE: {why}\n", "1 process", "1 NOT SEEN WHOLE")
+    (process,) = lines_of(path, "process")
+    expect((process["whole"], process["why"]), (False, why), "JSON")
+
+
+def check_others(suite: Suite, folder: str) -> None:
+    """Another program of the same process is another process, and so is a segment that comes twice."""
+    expect_ran(run_peer(suite, "1 2e exec 1 2e"), 0, "no reports; 2 processes, 42 events; all seen whole")
+    expect_ran(run_peer(suite, "1 exec 1 2e"), 98, "its next segment did not come", "2 processes, ", "1 NOT SEEN WHOLE")
+    expect_ran(run_peer(suite, "1 1 2e"), 98, "its next segment did not come", "2 processes, ", "1 NOT SEEN WHOLE")
+    expect_ran(run_peer(suite, "1 2 2e 3e"), 98, "segment 2 is the first that was seen", "2 processes, ")
+    line = f"{PEER} 1 2 3e & {PEER} 1 2 3e & wait"
+    ran = suite.run("--at-least", "2", "--", "sh", "-c", line)
+    expect_ran(ran, 0, "no reports; 2 processes, 62 events; all seen whole")
+    expect_ran(run_peer(suite, "1 2 3e", "--at-least", "2"), 98, "NOT ALL SEEN: 1 fewer than --at-least asks for")
+
+
+def check_killed(suite: Suite, folder: str) -> None:
+    """A process that is killed in a later segment."""
+    expect_ran(run_peer(suite, "1 2k"), -9, "ended abruptly, by SIGKILL: seen up to there", "1 process, 21 events",
+               "all seen whole, 1 ended abruptly")
+    ran = suite.run("--timeout", "1", "--", PEER, "1", "2", "wait")
+    expect_ran(ran, 98, "NOT SEEN WHOLE: its next segment did not come", "1 process, 21 events")
+
+
+def lines_of(path: str, kind: str) -> List[Any]:
+    with open(path, encoding="utf-8") as lines:
+        return [it for it in map(json.loads, lines) if it["type"] == kind]
+
+
+def check_outputs(suite: Suite, folder: str) -> None:
+    """Reports of several segments are those of one process, in each output, and what is read again says the same."""
+    outputs = [f"--{kind}={folder}/{kind}" for kind in ("json", "junit", "sarif", "html")]
+    ran = run_peer(suite, "1 2b 3b 4e", *outputs)
+    said = "asancol: 4 reports at 1 place; 1 process, 45 events; all seen whole\n"
+    expect_ran(ran, 99, "heap-buffer-overflow: store of 1 byte (4 times, 1 process)", said)
+    (process,) = lines_of(f"{folder}/json", "process")
+    names = ("events", "reports", "whole", "segments", "fate", "why")
+    expect([process[it] for it in names], [45, 4, True, 4, "closed", ""], "the process")
+    (finding,) = lines_of(f"{folder}/json", "finding")
+    names = ("count", "processes", "segment", "event")
+    expect([finding[it] for it in names], [4, 1, 2, 12], "the finding")
+    again = suite.run_words([REPORT, f"{folder}/json", "--json", f"{folder}/again"])
+    expect((again.status, said in again.out), (1, True), again.out)
+    for path in ("json", "again"):
+        with open(f"{folder}/{path}", encoding="utf-8") as file:
+            expect(file.read().count('"segments":4'), 1, path)
+    ran = run_peer(suite, "1 2b", *outputs)
+    for kind in ("junit", "sarif", "html"):
+        with open(f"{folder}/{kind}", encoding="utf-8") as file:
+            expect_in(file.read(), "its next segment did not come")
+
+
+def check_packets(suite: Suite, folder: str) -> None:
+    """A packet for each segment that has reports, and one for the process. A segment that is clean has none."""
+    packets = suite.packets(folder, "--", PEER, "1", "2b", "3b", "4e")
+    processes = [it for it in packets[1:] if it["type"] == "process"]
+    expect([it.get("segment") for it in processes] in ([2, 3, None], [3, 2, None]), True, "segments")
+    expect(["verdicts" in it for it in processes], [True, True, False], "packets")
+    last = processes[-1]
+    expect([last[it] for it in ("n", "events", "reports", "whole", "segments")], [0, 45, 4, True, 4], "the last one")
+    expect([it["whole"] for it in processes], [False, False, True], "it is not whole before its end")
+    expect(last["command"], ["./segmented", "1", "2b", "3b", "4e"], "its words")
+
+
+def check_live(suite: Suite, folder: str) -> None:
+    """The first report is printed when its segment has ended."""
+    started = suite.start("--live", "--", PEER, "1", "2b", "wait", "3b", "4e", ASANCOL_REPORT=REPORT)
+    line = started.stderr.readline() if started.stderr else ""
+    expect_in(line, "ERROR: asancol: heap-buffer-overflow: store of 1 byte")
+    started.send_signal(signal.SIGTERM)
+    ran = finish(started)
+    expect_ran(ran, 99, "NOT SEEN WHOLE: its next segment did not come", "2 reports at 1 place; 1 process")
+
+
+def check_raw(suite: Suite, folder: str) -> None:
+    """Without asancol-report the lines of each segment are printed."""
+    ran = suite.run("--", PEER, "1", "2b", "3b", "4e", ASANCOL_REPORT="/nonexistent/report")
+    expect_ran(ran, 99, "segmented, segment 2:\np0 #12 store 1 at ", "segmented, segment 3:\np0 #12 ",
+               "4 reports in 1 process; 1 process, 45 events; all seen whole")
+    many = [f"{number}b" for number in range(1, 30)]
+    ran = suite.run("--", PEER, *many, "30e", ASANCOL_REPORT="/nonexistent/report")
+    expect_ran(ran, 99, ", segment 20:\n", "\nand 18 more lines\n", absent=["processes", "segment 21"])
+
+
+def check_nested(suite: Suite, folder: str) -> None:
+    """A run inside another one leaves one process."""
+    for words, status, said in (("1 2 3e", 0, "1 process in 2 runs, 31 events; all seen whole"),
+                                ("1 2b 3e", 99, "2 reports at 1 place; 1 process in 2 runs, 33 events; all seen whole"),
+                                ("1 2", 98, "1 process in 2 runs, 21 events; 1 NOT SEEN WHOLE")):
+        ran = suite.run("-v", "--", RUN, "-q", "--", PEER, *words.split(), ASANCOL_REPORT=REPORT)
+        expect_ran(ran, status, said)
+
+
+def check_files(suite: Suite, folder: str) -> None:
+    """Segments in files, as of a process that could not connect."""
+    expect_ran(run_peer(suite, "--files 1 2 3e"), 0, "seen whole, 31 events in 3 segments", "1 process, ")
+    expect_ran(run_peer(suite, "--files 1 2b 3e"), 99, BAD, "2 reports at 1 place; 1 process, 33 events; all seen whole")
+    expect_ran(run_peer(suite, "--files 1 2"), 98, "NOT SEEN WHOLE: its next segment did not come", "1 process, ")
+    packets = suite.packets(folder, "--json", f"{folder}/x", "--", PEER, "--files", "1", "2b", "3e")
+    expect(packets[-2]["command"][0], "./segmented", "its words")
+
+
+def traces_in(folder: str) -> List[str]:
+    """The names of traces that were kept, in order, each of which has a side file, without the process number."""
+    names = os.listdir(folder)
+    traces = [it for it in names if it.endswith(".trace")]
+    expect(sorted(names), sorted([*traces, *[it + ".where" for it in traces]]), "names")
+    return sorted(".".join(word for word in it.split(".") if not word.isdigit()) for it in traces)
+
+
+THREE = ["segmented.segment-002.trace", "segmented.segment-003.trace", "segmented.trace"]
+
+
+def check_keep(suite: Suite, folder: str) -> None:
+    """All segments are kept if one has a report, or the process was not seen whole; and none else."""
+    for words, wanted in (("1 2 3e", []), ("3e 2 1", []), ("1 2b 3e", THREE), ("3e 2b 1", THREE), ("1b 2 3", THREE),
+                          ("1 2 3o", THREE), ("1 2", [THREE[0], THREE[2]]), ("--files 1 2b 3e", THREE),
+                          ("--files 1 2 3e", [])):
+        kept = f"{folder}/{words.replace(' ', '-')}"
+        run_peer(suite, words, "--keep", kept)
+        expect(traces_in(kept), wanted, words)
+
+
+def check_kept_early(suite: Suite, folder: str) -> None:
+    """What was clean is not kept until the end of a long run."""
+    started = suite.start("--keep", folder, "--", "sh", "-c", f"{PEER} 1 2 3e; exec {PEER} wait", ASANCOL_REPORT=REPORT)
+    expect(started.stdout.readline() if started.stdout else "", "ready\n", "the second program")
+    end = time.monotonic() + 10
+    while os.listdir(folder) and time.monotonic() < end:
+        time.sleep(0.05)
+    expect(os.listdir(folder), [], "what is kept")
+    started.send_signal(signal.SIGTERM)
+    finish(started)
+
+
+def check_kept_traces(suite: Suite, folder: str) -> None:
+    """asancol-report joins them, also if one alone is named."""
+    outer = run_peer(suite, "1 2b 3e", "--keep", folder, "--json", f"{folder}/result.jsonl")
+    said = "2 reports at 1 place; 1 process, 33 events; all seen whole\n"
+    expect_ran(outer, 99, said)
+    traces = sorted(os.path.join(folder, it) for it in os.listdir(folder) if it.endswith(".trace"))
+    first = [it["kept"] for it in lines_of(f"{folder}/result.jsonl", "process")]
+    expect([it for it in traces if "segment-" not in it], first, "kept")
+    for words in (traces, traces[::-1], *[[it] for it in traces], [*traces, *traces]):
+        ran = suite.run_words([REPORT, "--json", f"{folder}/again.jsonl", "--trace", *words])
+        expect((ran.status, said in ran.out, BAD in ran.out), (1, True, True), ran.out + ran.err)
+        (process,) = lines_of(f"{folder}/again.jsonl", "process")
+        expect((process["segments"], process["kept"]), (3, first[0]), "JSON")
+    os.unlink(next(it for it in traces if "segment-002" in it))
+    ran = suite.run_words([REPORT, "--trace", first[0]])
+    expect_in(ran.out, "NOT SEEN WHOLE: its next segment did not come, and later ones did", "1 process")
+
+
+class Trace(NamedTuple):
+    """A trace that the checker of these tests knows: its name, its segment, and how that ended."""
+
+    name: str
+    segment: int = 1
+    ending: int = 5
+    fate: str = "closed"
+    started: int = 77
+    left_out: int = 0
+
+
+def say(folder: str, traces: Sequence[Trace], *words: str) -> sides.Ran:
+    """Writes traces, and runs asancol-report on some of them, or on all."""
+    sides.write_checker(folder)
+    for it in traces:
+        parts = sides.side(ending=it.ending, segment=it.segment, restated=4 * (it.segment > 1), started=it.started,
+                           left_out=it.left_out, is_at_limit=it.left_out > 0)
+        verdicts = f"p0 end {it.fate} events 9 offset 99 reports 0\n"
+        sides.write_trace(folder, it.name, verdicts, parts if it.started else None)
+    return sides.report(folder, "--trace", *(words or [it.name for it in traces]))
+
+
+FIRST, SECOND, LAST = Trace("a.trace"), Trace("a.segment-002.trace", 2), Trace("a.segment-003.trace", 3, 1)
+WITHOUT_SIDES = [Trace("a.trace", started=0), Trace("a.segment-002.trace", started=0)]
+CASES = {
+    "all": ([FIRST, SECOND, LAST], [], "1 process, 19 events; all seen whole"),
+    "one named": ([FIRST, SECOND, LAST], ["a.segment-002.trace"], "1 process, 19 events; all seen whole"),
+    "moved": ([FIRST._replace(name="b.trace"), SECOND._replace(name="c.trace"), LAST._replace(name="a.trace")], [],
+              "1 process, 19 events; all seen whole"),
+    "taken names": ([FIRST, SECOND._replace(name="a.segment-002.1.trace"), LAST], ["a.trace"], "; all seen whole"),
+    "other ends": ([FIRST._replace(name="a"), LAST._replace(name="a.segment-002", segment=2)], ["a"], "all seen whole"),
+    "one file of another": ([FIRST, SECOND._replace(started=78), LAST], ["a.trace"],
+                            "NOT SEEN WHOLE: its next segment did not come, and later ones did"),
+    "the last is missing": ([FIRST, SECOND], [], "NOT SEEN WHOLE: its next segment did not come"),
+    "the first is missing": ([SECOND, LAST], [], "NOT SEEN WHOLE: segment 2 is the first that was seen"),
+    "cut": ([FIRST, SECOND._replace(fate="no-close"), LAST], [],
+            "NOT SEEN WHOLE: segment 2: its trace ends as no-close"),
+    "left out": ([FIRST, SECOND._replace(left_out=3), LAST], [],
+                 "NOT SEEN WHOLE: reached the event limit: 3 of 22 events were not recorded"),
+    "two": ([FIRST, LAST._replace(name="a.segment-002.trace", segment=2), FIRST._replace(name="b.trace", started=78),
+             LAST._replace(name="b.segment-002.trace", segment=2, started=78)], [],
+            "2 processes, 28 events; all seen whole"),
+    "twice": ([FIRST, FIRST._replace(name="b.trace"), LAST._replace(segment=2)], [], "2 processes, 23 events; 1 NOT"),
+    "without side files": (WITHOUT_SIDES, ["a.trace"], "1 process, 18 events; all seen whole"),
+    "without side files, one missing": ([*WITHOUT_SIDES[:1], Trace("a.segment-003.trace", started=0)], ["a.trace"],
+                                        "NOT SEEN WHOLE: its next segment did not come, and later ones did"),
+}
+
+
+def check_traces(suite: Suite, folder: str, name: str) -> None:
+    traces, words, said = CASES[name]
+    ran = say(folder, traces, *words)
+    expect((ran.status, ran.errors), (3 if "NOT" in said else 0, ""), ran.text)
+    expect_in(ran.text, said)
+
+
+def check_many_traces(suite: Suite, folder: str) -> None:
+    """In a folder of many, each is looked at once."""
+    program = [Trace(f"a.segment-{number:03}.trace", number) for number in range(2, 400)]
+    ran = say(folder, [FIRST, *program, Trace("a.segment-400.trace", 400, 1)])
+    expect_in(ran.text, "1 process, 2004 events; all seen whole")
+
+
+def check_lost_reports(suite: Suite, folder: str) -> None:
+    """If the reports of a segment did not arrive, no later packet makes the process whole again."""
+    feed = sides.Feed(folder)
+    feed.begin()
+    feed.process(0, segment=1, reports=1, whole=False, why="its next segment did not come")
+    feed.process(0, reports=1, segments=2)
+    ran = feed.end()
+    expect(ran.status, 3, ran.text)
+    expect_in(ran.text, "NOT SEEN WHOLE: its reports did not arrive", "1 process")
+
+
+def check_older_results(suite: Suite, folder: str) -> None:
+    """A result without these fields is one of processes of one segment."""
+    run_peer(suite, "1 2b 3e", "--json", f"{folder}/new")
+    with open(f"{folder}/new", encoding="utf-8") as file:
+        text = file.read()
+    with open(f"{folder}/old", "w", encoding="utf-8") as file:
+        file.write(text.replace(',"segments":3', "").replace('"segment":2,', ""))
+    ran = suite.run_words([REPORT, f"{folder}/old", "--json", f"{folder}/again"])
+    expect((ran.status, "1 process, 33 events; all seen whole" in ran.out), (1, True), ran.out)
+    with open(f"{folder}/again", encoding="utf-8") as file:
+        expect_not_in(file.read(), "segment\"", "segments\"")
+
+
+def tests(suite: Suite) -> None:
+    suite.test("segments, whole", check_whole)
+    for words, why in NOT_WHOLE.items():
+        suite.test(f"segments {words}", check_not_whole, words, why)
+    suite.test("segments, others", check_others)
+    suite.test("segments, killed", check_killed)
+    suite.test("segments, outputs", check_outputs)
+    suite.test("segments, packets", check_packets)
+    suite.test("segments, live", check_live)
+    suite.test("segments, raw", check_raw)
+    suite.test("segments, nested", check_nested)
+    suite.test("segments, files", check_files)
+    suite.test("segments, keep", check_keep)
+    suite.test("segments, kept early", check_kept_early)
+    suite.test("segments, kept traces", check_kept_traces)
+    for name in CASES:
+        suite.test(f"segments, traces: {name}", check_traces, name)
+    suite.test("segments, many traces", check_many_traces)
+    suite.test("segments, lost reports", check_lost_reports)
+    suite.test("segments, older results", check_older_results)
