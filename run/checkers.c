@@ -216,8 +216,8 @@ void checker_sum_up(struct process *process)
     process->lead->is_summed_up = true;
 }
 
-/* It is done: what nobody asks for any more is given back. The trace stays until it is known that no segment follows, or
-   what became of all. */
+/* It is done: what nobody asks for any more is given back. The trace stays until it is known that no segment follows,
+   or what became of all. */
 static void finish(struct process *process)
 {
     process_is_done(process);

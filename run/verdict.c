@@ -179,8 +179,8 @@ static void judge(struct process *process)
     process->is_whole = process->is_unchecked = process->is_abrupt = process->is_cut_at_limit = false;
     process->signal = ending == ENDING_SIGNAL ? side->signal : 0;
     process->is_crash = is_crash(process->signal);
-    /* What is read from a file does not change any more; what is past the limit may still grow, and in a segment an event
-       may still be left out as long as the process runs. */
+    /* What is read from a file does not change any more; what is past the limit may still grow, and an event of a
+       segment may be left out as long as the process runs. */
     bool is_over = !is_at_limit && ending != ENDING_NONE && ending != ENDING_SEGMENT;
     process->is_settled = side == NULL || process->trace != NULL || is_over;
     process->why[0] = 0;

@@ -82,8 +82,8 @@ class Hub:
         self.gatherer = self.new_gatherer(self.number)
 
     def take_process(self, entry: Dict[str, object], descriptors: List[int]) -> None:
-        """Takes in what is known of a process by now. A later packet replaces what an earlier one says, and may bring the
-        reports of another segment."""
+        """Takes in what is known of a process by now. A later packet replaces what an earlier one says, and may bring
+        the reports of another segment."""
         process = process_of(entry, self.commands)
         segment = number_of(entry.get("segment"))
         processes = self.results.runs[self.number].processes

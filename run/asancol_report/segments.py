@@ -1,5 +1,8 @@
-"""Traces of one process in several files. A recording that reaches the limit of events goes on in another segment, with a
-trace and a side file for itself: run.trace, run.segment-002.trace and so on. All of them are one process."""
+"""Traces of one process in several files.
+
+A recording that reaches the limit of events goes on in another segment, with a trace and a side file for itself:
+run.trace, run.segment-002.trace and so on. All of them are one process.
+"""
 
 from __future__ import annotations
 
@@ -31,7 +34,8 @@ Family = Tuple[str, str]
 
 
 def apart(name: str) -> Tuple[Family, int]:
-    """Takes the name of a trace apart: STEM.trace, STEM.segment-002.trace, or STEM.segment-002.1.trace if that was taken."""
+    """Takes the name of a trace apart: STEM.trace, STEM.segment-002.trace, or STEM.segment-002.1.trace, if that was
+    taken."""
     found = re.fullmatch(r"(.+)\.segment-([0-9]{3,9})(?:\.[0-9]+)?(|\.[^.]*)", name)
     return ((found[1], found[3]), int(found[2])) if found else (os.path.splitext(name), 1)
 

@@ -129,8 +129,8 @@ class Traces:
             ended_by = side.signal if side and is_ended_otherwise(end, side) else 0
             parent, left_out, restated = (side.parent, side.left_out, side.restated) if side else (0, 0, 0)
             goes_on = side is not None and side.ending == ENDING_SEGMENT
-            return Seen(segment, pid, parent, tuple(command), end, why_not_whole(end, side), left_out, restated, goes_on,
-                        ended_by)
+            why = why_not_whole(end, side)
+            return Seen(segment, pid, parent, tuple(command), end, why, left_out, restated, goes_on, ended_by)
         finally:
             if side is not None:
                 side.close()

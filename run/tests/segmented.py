@@ -4,10 +4,10 @@
 usage: segmented.py [--files] WORD..
 
 Each word is a segment, in the order in which they are sent: its number, from 1, and letters. With `b` it has two bad
-stores. With `e` the process ends in it, and else it goes on in the next one. With `o` it has no close, with `l` an event
-was left out, with `h` its connection stays until the end, and with `k` SIGKILL ends the process there. The word `exec`
-begins another program in the same process, and `wait` waits until a signal comes. With --files the traces are left in
-the folder of the hub, as by a process that can't connect.
+stores. With `e` the process ends in it, and else it goes on in the next one. With `o` it has no close, with `l` an
+event was left out, with `h` its connection stays until the end, and with `k` SIGKILL ends the process there. The word
+`exec` begins another program in the same process, and `wait` waits until a signal comes. With --files the traces are
+left in the folder of the hub, as by a process that can't connect.
 
 A segment has a malloc, which all but the first one restate, and ten loads.
 """

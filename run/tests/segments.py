@@ -49,9 +49,10 @@ NOT_WHOLE = {
 def check_not_whole(suite: Suite, folder: str, words: str, why: str) -> None:
     """What is missing, or was not seen, is said, with and without a report."""
     status = 99 if "b" in words else 98
-    expect_ran(run_peer(suite, words), status, f"segmented: NOT SEEN WHOLE: {why}\n", "1 process", "1 NOT SEEN WHOLE")
     path = f"{folder}/result"
-    expect_ran(run_peer(suite, words, "--json", path), status, f"NOT SEEN WHOLE: {why}\n", "1 process", "1 NOT SEEN WHOLE")
+    for options in ([], ["--json", path]):
+        ran = run_peer(suite, words, *options)
+        expect_ran(ran, status, f"segmented: NOT SEEN WHOLE: {why}\n", "1 process", "1 NOT SEEN WHOLE")
     (process,) = lines_of(path, "process")
     expect((process["whole"], process["why"]), (False, why), "JSON")
 
@@ -148,7 +149,7 @@ def check_nested(suite: Suite, folder: str) -> None:
 def check_files(suite: Suite, folder: str) -> None:
     """Segments in files, as of a process that could not connect."""
     expect_ran(run_peer(suite, "--files 1 2 3e"), 0, "seen whole, 31 events in 3 segments", "1 process, ")
-    expect_ran(run_peer(suite, "--files 1 2b 3e"), 99, BAD, "2 reports at 1 place; 1 process, 33 events; all seen whole")
+    expect_ran(run_peer(suite, "--files 1 2b 3e"), 99, BAD, "1 process, 33 events; all seen whole")
     expect_ran(run_peer(suite, "--files 1 2"), 98, "NOT SEEN WHOLE: its next segment did not come", "1 process, ")
     packets = suite.packets(folder, "--json", f"{folder}/x", "--", PEER, "--files", "1", "2b", "3e")
     expect(packets[-2]["command"][0], "./segmented", "its words")

@@ -101,7 +101,8 @@ def side(maps: str = "", builds: Sequence[Tuple[int, str]] = (), faults: Sequenc
     names = b"".join(word.encode("utf-8", "surrogateescape") + b"\0" for word in words) + b"\0"
     ids = b"".join(struct.pack("<QB23s", start, len(text) // 2, bytes.fromhex(text)) for start, text in builds)
     progress = struct.pack("<QQQ", needed, segment - 1, restated)
-    return [(0, head), (QUARANTINE_AT, struct.pack("<Q", quarantine)), (PROGRESS_AT, progress), (72, names), (4096, ids), (MAPS_AT, maps.encode() + b"\0"),
+    return [(0, head), (QUARANTINE_AT, struct.pack("<Q", quarantine)), (72, names), (4096, ids),
+            (PROGRESS_AT, progress), (MAPS_AT, maps.encode() + b"\0"),
             (INDEX_AT, struct.pack(f"<{len(index)}I", *index)), (FAULTS_AT, b"".join(faults)),
             (STACKS_AT, struct.pack(f"<{len(stacks)}Q", *stacks))]
 
