@@ -6,7 +6,7 @@ import signal
 import time
 from typing import Any, Dict, List
 
-from support import FAKE_REPORT, RUN, Failure, Suite, expect, expect_ran, finish, read_packets
+from support import FAKE_REPORT, RUN, SEGMENTED, Failure, Suite, expect, expect_ran, finish, read_packets
 
 
 def check_packets(suite: Suite, folder: str) -> None:
@@ -155,13 +155,14 @@ def check_closed_log(suite: Suite, folder: str) -> None:
 
 
 def check_keep(suite: Suite, folder: str) -> None:
-    """Traces of processes with a report stay, those of others go."""
+    """Traces of processes with a report, or that were not seen whole, stay. Those of others go."""
     kept = f"{folder}/kept"
-    line = f"{suite.program} sound; {suite.program} past; {suite.program} kills_itself 9"
+    line = f"{suite.program} sound; {suite.program} past; {suite.program} kills_itself 9; {SEGMENTED} 1"
     packets = suite.packets(folder, "--keep", kept, "--", "sh", "-c", line)
     names = sorted(os.listdir(kept))
     expect(len(names), 4, names)
-    paths = [it["kept"] for it in packets[1:] if "kept" in it]
+    last = {it["n"]: it for it in packets[1:] if it["type"] == "process"}
+    paths = [it["kept"] for it in last.values() if "kept" in it]
     expect(sorted(os.path.basename(it) for it in paths), [it for it in names if it.endswith(".trace")], "names")
     (past,) = [it["kept"] for it in packets[1:] if it.get("reports")]
     checked = suite.run_words([suite.asancol, "check", past])
@@ -175,7 +176,7 @@ def check_keep(suite: Suite, folder: str) -> None:
 
 def check_keep_names(suite: Suite, folder: str) -> None:
     """An exec keeps the number of the process, so that the name is taken."""
-    suite.run("--keep", folder, "--", suite.program, "execs", suite.program, "kills_itself", "9")
+    suite.run("--keep", folder, "--", suite.program, "execs", suite.program, "past")
     suite.run("--keep", folder, "--", suite.program, "past_and_sleeps", "0")
     traces = [it for it in os.listdir(folder) if it.endswith(".trace")]
     expect([it.split(".")[0] for it in traces], ["programs", "programs"], "names")

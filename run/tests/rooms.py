@@ -91,7 +91,7 @@ def check_file_instead(suite: Suite, folder: str) -> None:
     ran = suite.run("--", "sh", "-c", f"{line} sound")
     expect_ran(ran, 0, "1 process, 1 event; all seen whole")
     ran = suite.run("--", "sh", "-c", f"{line} kills_itself 9")
-    expect_ran(ran, 98, "NOT SEEN WHOLE")
+    expect_ran(ran, -9, "ended abruptly, by SIGKILL: seen up to there", "all seen whole, 1 ended abruptly")
 
 
 def nested(suite: Suite, line: str) -> List[str]:

@@ -3,21 +3,19 @@
 import itertools
 import json
 import os
-import shutil
 import signal
-import subprocess
-import time
 from typing import Any, List, NamedTuple, Sequence
 
 import sides
-from support import REPORT, RUN, TESTS, Ran, Suite, expect, expect_in, expect_not_in, expect_ran, finish
+from support import (
+    REPORT, RUN, SEGMENTED, Ran, Suite, expect, expect_in, expect_not_in, expect_ran, finish, wait_until
+)
 
-PEER = f"{TESTS}/segmented.py"
 BAD = "heap-buffer-overflow: store of 1 byte (2 times, 1 process)"
 
 
 def run_peer(suite: Suite, words: str, *options: str, **settings: str) -> Ran:
-    return suite.run("-v", *options, "--", PEER, *words.split(), ASANCOL_REPORT=REPORT, **settings)
+    return suite.run("-v", *options, "--", SEGMENTED, *words.split(), ASANCOL_REPORT=REPORT, **settings)
 
 
 def check_whole(suite: Suite, folder: str) -> None:
@@ -63,7 +61,7 @@ def check_others(suite: Suite, folder: str) -> None:
     expect_ran(run_peer(suite, "1 exec 1 2e"), 98, "its next segment did not come", "2 processes, ", "1 NOT SEEN WHOLE")
     expect_ran(run_peer(suite, "1 1 2e"), 98, "its next segment did not come", "2 processes, ", "1 NOT SEEN WHOLE")
     expect_ran(run_peer(suite, "1 2 2e 3e"), 98, "segment 2 is the first that was seen", "2 processes, ")
-    line = f"{PEER} 1 2 3e & {PEER} 1 2 3e & wait"
+    line = f"{SEGMENTED} 1 2 3e & {SEGMENTED} 1 2 3e & wait"
     ran = suite.run("--at-least", "2", "--", "sh", "-c", line)
     expect_ran(ran, 0, "no reports; 2 processes, 62 events; all seen whole")
     expect_ran(run_peer(suite, "1 2 3e", "--at-least", "2"), 98, "NOT ALL SEEN: 1 fewer than --at-least asks for")
@@ -73,7 +71,7 @@ def check_killed(suite: Suite, folder: str) -> None:
     """A process that is killed in a later segment."""
     expect_ran(run_peer(suite, "1 2k"), -9, "ended abruptly, by SIGKILL: seen up to there", "1 process, 21 events",
                "all seen whole, 1 ended abruptly")
-    ran = suite.run("--timeout", "1", "--", PEER, "1", "2", "wait")
+    ran = suite.run("--timeout", "1", "--", SEGMENTED, "1", "2", "wait")
     expect_ran(ran, 98, "NOT SEEN WHOLE: its next segment did not come", "1 process, 21 events")
 
 
@@ -107,19 +105,19 @@ def check_outputs(suite: Suite, folder: str) -> None:
 
 def check_packets(suite: Suite, folder: str) -> None:
     """A packet for each segment that has reports, and one for the process. A segment that is clean has none."""
-    packets = suite.packets(folder, "--", PEER, "1", "2b", "3b", "4e")
+    packets = suite.packets(folder, "--", SEGMENTED, "1", "2b", "3b", "4e")
     processes = [it for it in packets[1:] if it["type"] == "process"]
     expect([it.get("segment") for it in processes] in ([2, 3, None], [3, 2, None]), True, "segments")
     expect(["verdicts" in it for it in processes], [True, True, False], "packets")
     last = processes[-1]
     expect([last[it] for it in ("n", "events", "reports", "whole", "segments")], [0, 45, 4, True, 4], "the last one")
-    expect([it["whole"] for it in processes], [False, False, True], "it is not whole before its end")
+    expect((processes[0]["whole"], last["whole"]), (False, True), "it is not whole before its end")
     expect(last["command"], ["./segmented", "1", "2b", "3b", "4e"], "its words")
 
 
 def check_live(suite: Suite, folder: str) -> None:
     """The first report is printed when its segment has ended."""
-    started = suite.start("--live", "--", PEER, "1", "2b", "wait", "3b", "4e", ASANCOL_REPORT=REPORT)
+    started = suite.start("--live", "--", SEGMENTED, "1", "2b", "wait", "3b", "4e", ASANCOL_REPORT=REPORT)
     line = started.stderr.readline() if started.stderr else ""
     expect_in(line, "ERROR: asancol: heap-buffer-overflow: store of 1 byte")
     started.send_signal(signal.SIGTERM)
@@ -129,11 +127,11 @@ def check_live(suite: Suite, folder: str) -> None:
 
 def check_raw(suite: Suite, folder: str) -> None:
     """Without asancol-report the lines of each segment are printed."""
-    ran = suite.run("--", PEER, "1", "2b", "3b", "4e", ASANCOL_REPORT="/nonexistent/report")
+    ran = suite.run("--", SEGMENTED, "1", "2b", "3b", "4e", ASANCOL_REPORT="/nonexistent/report")
     expect_ran(ran, 99, "segmented, segment 2:\np0 #12 store 1 at ", "segmented, segment 3:\np0 #12 ",
                "4 reports in 1 process; 1 process, 45 events; all seen whole")
     many = [f"{number}b" for number in range(1, 30)]
-    ran = suite.run("--", PEER, *many, "30e", ASANCOL_REPORT="/nonexistent/report")
+    ran = suite.run("--", SEGMENTED, *many, "30e", ASANCOL_REPORT="/nonexistent/report")
     expect_ran(ran, 99, ", segment 20:\n", "\nand 18 more lines\n", absent=["processes", "segment 21"])
 
 
@@ -142,7 +140,7 @@ def check_nested(suite: Suite, folder: str) -> None:
     for words, status, said in (("1 2 3e", 0, "1 process in 2 runs, 31 events; all seen whole"),
                                 ("1 2b 3e", 99, "2 reports at 1 place; 1 process in 2 runs, 33 events; all seen whole"),
                                 ("1 2", 98, "1 process in 2 runs, 21 events; 1 NOT SEEN WHOLE")):
-        ran = suite.run("-v", "--", RUN, "-q", "--", PEER, *words.split(), ASANCOL_REPORT=REPORT)
+        ran = suite.run("-v", "--", RUN, "-q", "--", SEGMENTED, *words.split(), ASANCOL_REPORT=REPORT)
         expect_ran(ran, status, said)
 
 
@@ -151,7 +149,7 @@ def check_files(suite: Suite, folder: str) -> None:
     expect_ran(run_peer(suite, "--files 1 2 3e"), 0, "seen whole, 31 events in 3 segments", "1 process, ")
     expect_ran(run_peer(suite, "--files 1 2b 3e"), 99, BAD, "1 process, 33 events; all seen whole")
     expect_ran(run_peer(suite, "--files 1 2"), 98, "NOT SEEN WHOLE: its next segment did not come", "1 process, ")
-    packets = suite.packets(folder, "--json", f"{folder}/x", "--", PEER, "--files", "1", "2b", "3e")
+    packets = suite.packets(folder, "--json", f"{folder}/x", "--", SEGMENTED, "--files", "1", "2b", "3e")
     expect(packets[-2]["command"][0], "./segmented", "its words")
 
 
@@ -178,12 +176,10 @@ def check_keep(suite: Suite, folder: str) -> None:
 
 def check_kept_early(suite: Suite, folder: str) -> None:
     """What was clean is not kept until the end of a long run."""
-    started = suite.start("--keep", folder, "--", "sh", "-c", f"{PEER} 1 2 3e; exec {PEER} wait", ASANCOL_REPORT=REPORT)
+    line = f"{SEGMENTED} 1 2 3e; exec {SEGMENTED} wait"
+    started = suite.start("--keep", folder, "--", "sh", "-c", line, ASANCOL_REPORT=REPORT)
     expect(started.stdout.readline() if started.stdout else "", "ready\n", "the second program")
-    end = time.monotonic() + 10
-    while os.listdir(folder) and time.monotonic() < end:
-        time.sleep(0.05)
-    expect(os.listdir(folder), [], "what is kept")
+    wait_until(lambda: not os.listdir(folder), "the end of what was kept")
     started.send_signal(signal.SIGTERM)
     finish(started)
 
