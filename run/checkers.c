@@ -200,12 +200,12 @@ void checker_sum_up(struct process *process)
     struct process *front = process->lead->front;
     if (process->lead->is_summed_up)
         return;
-    bool has_changed = segments_are_several(process);
+    bool has_changed = false;
     for (struct process *at = front; at != NULL; at = at->next) {
         has_changed |= !at->is_settled && at->kept != NULL;
         has_changed |= verdict_again(at);
     }
-    if (has_changed) {
+    if (has_changed || segments_are_several(process)) {
         struct process joined = segments_joined(process);
         for (struct process *at = front; at != NULL; at = at->next)
             keep_again(at, is_kept(&joined));

@@ -158,24 +158,18 @@ def limit_text(left_out: int, events: int) -> str:
     return f"reached the event limit: {left_out} of {events + left_out} events were not recorded"
 
 
-def flaw(seen: List[Seen], events: int, left_out: int) -> str:
-    """Returns why a process was not seen whole; empty if it was. Each of its segments has to be whole, and none may be
-    missing."""
+def flaw(seen: List[Seen]) -> Tuple[str, Seen]:
+    """Returns why a process was not seen whole, empty if it was, and the segment that says how it ended. Each of its
+    segments has to be whole, and none may be missing."""
     if seen[0].number > 1:
-        return f"segment {seen[0].number} is the first that was seen"
-    for it, following in zip(seen, [*seen[1:], None]):
-        why = it.why
-        if following is not None and not why and it.end.fate != CLOSED:
-            why = f"its trace ends as {it.end.fate}"
-        if it.left_out:
-            return limit_text(left_out, events)
-        if why:
-            return f"segment {it.number}: {why}" if following is not None else why
-        if following is None:
-            return "its next segment did not come" if it.goes_on else ""
+        return f"segment {seen[0].number} is the first that was seen", seen[-1]
+    for it, following in zip(seen, seen[1:]):
+        if it.why or it.end.fate != CLOSED:
+            return f"segment {it.number}: {it.why or f'its trace ends as {it.end.fate}'}", it
         if following.number != it.number + 1:
-            return "its next segment did not come, and later ones did"
-    return ""
+            return "its next segment did not come, and later ones did", seen[-1]
+    last = seen[-1]
+    return last.why or ("its next segment did not come" if last.goes_on else ""), last
 
 
 def joined(seen: List[Seen]) -> Process:
@@ -183,7 +177,9 @@ def joined(seen: List[Seen]) -> Process:
     first, last = seen[0], seen[-1]
     events = sum(it.end.events - min(it.end.events, it.restated) for it in seen)
     left_out = sum(it.left_out for it in seen)
-    why = flaw(seen, events, left_out)
+    why, of = flaw(seen)
+    if of.left_out:
+        why = limit_text(left_out, events)
     said = why or (f"ended by {signal_name(last.signal)}" if last.signal else "")
-    return Process(0, first.pid, first.parent, first.command, last.end.fate, events, sum(it.end.reports for it in seen),
+    return Process(0, first.pid, first.parent, first.command, of.end.fate, events, sum(it.end.reports for it in seen),
                    not why, left_out, said, os.path.abspath(first.segment.path), last.signal, segments=len(seen))

@@ -5,9 +5,10 @@ usage: segmented.py [--files] WORD..
 
 Each word is a segment, in the order in which they are sent: its number, from 1, and letters. With `b` it has two bad
 stores. With `e` the process ends in it, and else it goes on in the next one. With `o` it has no close, with `l` an
-event was left out, with `h` its connection stays until the end, and with `k` SIGKILL ends the process there. The word
-`exec` begins another program in the same process, and `wait` waits until a signal comes. With --files the traces are
-left in the folder of the hub, as by a process that can't connect.
+event was left out, with `h` its connection stays until the end, with `t` its side memory says only later how it ended,
+and with `k` SIGKILL ends the process there. The word `exec` begins another program in the same process, and `wait`
+waits until a signal comes. With --files the traces are left in the folder of the hub, as by a process that can't
+connect.
 
 A segment has a malloc, which all but the first one restate, and ten loads.
 """
@@ -27,6 +28,7 @@ import sides
 BLOCK, SIZE = 0x100000001000, 8
 LOADS = 10
 EXIT, SEGMENT = 1, 5  # endings
+ENDING_AT, LATE = 24, 0.4
 F_ADD_SEALS, F_SEAL_SHRINK = 1033, 2
 
 
@@ -37,8 +39,12 @@ def records(word: str) -> bytes:
     return text + (b"" if "o" in word or "k" in word else b"\7")
 
 
+def ending_of(word: str) -> int:
+    return EXIT if "e" in word else SEGMENT
+
+
 def side_of(word: str, number: int, started: int) -> sides.Parts:
-    ending = 0 if "k" in word else EXIT if "e" in word else SEGMENT
+    ending = 0 if "k" in word or "t" in word else ending_of(word)
     return sides.side(process=os.getpid(), started=started, ending=ending, segment=number, restated=int(number > 1),
                       events=1 + LOADS, left_out=int("l" in word), is_at_limit="l" in word, needed=1,
                       quarantine=1 << 28, words=["./segmented", *sys.argv[1:]])
@@ -53,6 +59,10 @@ def send(word: str, number: int, started: int) -> socket.socket:
     text = records(word)
     peer.sendmsg([text[:8]], [(socket.SOL_SOCKET, socket.SCM_RIGHTS, array.array("i", [memory]))])
     peer.sendall(text[8:])
+    if "t" in word:
+        peer.shutdown(socket.SHUT_WR)
+        time.sleep(LATE)
+        os.pwrite(memory, struct.pack("<I", ending_of(word)), ENDING_AT)
     os.close(memory)
     return peer
 

@@ -27,6 +27,7 @@ def check_whole(suite: Suite, folder: str) -> None:
     expect_ran(run_peer(suite, "1h 2h 3e"), 0, "no reports; 1 process, 31 events; all seen whole")
     many = " ".join(str(number) for number in range(1, 40))
     expect_ran(run_peer(suite, f"{many} 40e"), 0, "seen whole, 401 events in 40 segments, 0 reports", "; 1 process, ")
+    expect_ran(run_peer(suite, "1t 2te"), 0, "seen whole, 21 events in 2 segments", "1 process, 21 events")
     expect_ran(run_peer(suite, "1e"), 0, "seen whole, 11 events, 0 reports")
 
 
@@ -35,6 +36,7 @@ NOT_WHOLE = {
     "1 2": "its next segment did not come",
     "1 2b": "its next segment did not come",
     "1 3e": "its next segment did not come, and later ones did",
+    "1t": "its next segment did not come",
     "2 3e": "segment 2 is the first that was seen",
     "2e": "segment 2 is the first that was seen",
     "1 2o 3e": "segment 2: its trace ended as no-close",
@@ -174,6 +176,18 @@ def check_keep(suite: Suite, folder: str) -> None:
         expect(traces_in(kept), wanted, words)
 
 
+def check_taken_names(suite: Suite, folder: str) -> None:
+    """What is there stays, and asancol-report is not misled by it."""
+    line = f"for it in trace 1.segment-002.trace; do echo > {folder}/segmented.$$.$it; done; exec {SEGMENTED} 1 2b 3e"
+    suite.run("--keep", folder, "--", "sh", "-c", line, ASANCOL_REPORT=REPORT)
+    names = [it for it in os.listdir(folder) if it.endswith(".trace")]
+    wanted = ["1.segment-002.1.trace", "1.segment-002.trace", "1.segment-003.trace", "1.trace", "trace"]
+    expect(sorted(it.split(".", 2)[2] for it in names), wanted, "names")
+    (first,) = [it for it in names if it.endswith(".1.trace") and "segment-" not in it]
+    ran = suite.run_words([REPORT, "--trace", f"{folder}/{first}"])
+    expect_in(ran.out, "2 reports at 1 place; 1 process, 33 events; all seen whole")
+
+
 def check_kept_early(suite: Suite, folder: str) -> None:
     """What was clean is not kept until the end of a long run."""
     line = f"{SEGMENTED} 1 2 3e; exec {SEGMENTED} wait"
@@ -303,6 +317,7 @@ def tests(suite: Suite) -> None:
     suite.test("segments, files", check_files)
     suite.test("segments, keep", check_keep)
     suite.test("segments, kept early", check_kept_early)
+    suite.test("segments, taken names", check_taken_names)
     suite.test("segments, kept traces", check_kept_traces)
     for name in CASES:
         suite.test(f"segments, traces: {name}", check_traces, name)
