@@ -21,6 +21,7 @@ import time
 import calls
 import fuzzing
 import hub
+import segments
 import inline
 import seen_whole
 from support import (
@@ -33,6 +34,7 @@ from support import (
     expect,
     Failure,
     HELPER,
+    limited,
     MARK,
     one_mark,
     PAST_THE_END,
@@ -201,7 +203,7 @@ def check_no_errors(suite, folder, program):
     """Nobody reads standard error, where a line would go."""
     reading, writing = os.pipe()
     os.close(reading)
-    settings = environment(ASANCOL_TRACE="t.trace", ASANCOL_LIMIT="100")
+    settings = environment(ASANCOL_TRACE="t.trace", **limited(100))
     words = [program, "many_events"]
     ran = subprocess.run(words, cwd=folder, stderr=writing, env=settings, timeout=PATIENCE, check=False)
     os.close(writing)
@@ -772,6 +774,7 @@ def main():
             calls.tests(suite, compiler)
             fuzzing.tests(suite, compiler, folder)
             hub.tests(suite, compiler, folder)
+            segments.tests(suite, compiler, folder)
         return suite.finish()
     finally:
         shutil.rmtree(folder, ignore_errors=True)

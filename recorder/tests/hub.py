@@ -35,6 +35,7 @@ from support import (
     Trace,
     environment,
     expect,
+    limited,
     placed,
     reports,
     run,
@@ -44,7 +45,6 @@ from support import (
 
 # No call becomes a jump, so each has its place.
 FLAGS = ("-w", "-pthread", "-fno-optimize-sibling-calls")
-LIMIT = "ASANCOL_LIMIT"
 F_GET_SEALS = 1034
 # A name that is free again may still be held by a child that another test has just forked.
 NUMBERS = itertools.count()
@@ -346,7 +346,7 @@ def check_limit(suite: Suite, folder: str, program: str) -> None:
     """Past the limit events are counted and not recorded, and the recorder leaves it to the hub to say so."""
     wanted = {"many": (0, EXIT), "execs_at_limit": (0, EXEC), "execs_in_vain_at_limit": (-9, NO_ENDING)}
     for name, (status, ending) in wanted.items():
-        peer = one(folder, [program, name], status, **{LIMIT: "100"})
+        peer = one(folder, [program, name], status, **limited(100))
         side = peer.side()
         expect((side.ending, side.is_at_limit, side.events), (ending, 1, 100), name)
         expect(side.left_out, 300, f"left out of {name}")
@@ -525,11 +525,11 @@ def check_files(suite: Suite, folder: str, program: str) -> None:
 
 def check_small_files(suite: Suite, folder: str, program: str) -> None:
     """Under a limit on the size of files there is no room for faults: a line says so, and the trace is whole."""
-    limited = ["sh", "-c", f"ulimit -f 4096; exec {program} loops"]
-    ran = run(limited, folder, ASANCOL_TRACE="t.trace", ASANCOL_WHERE="1")
+    small = ["sh", "-c", f"ulimit -f 4096; exec {program} loops"]
+    ran = run(small, folder, ASANCOL_TRACE="t.trace", ASANCOL_WHERE="1")
     expect((ran.returncode, len(ran.stderr.splitlines())), (0, 1), ran.stderr)
     expect(len(reports(suite.asancol, f"{folder}/t.trace")[1]), 100, "reports")
-    peers, said = run_under(folder, limited)
+    peers, said = run_under(folder, small)
     expect((peers[0].memory, len(said.splitlines())), (None, 1), said)
     expect(len(check(suite, folder, peers[0])[1]), 100, "reports of the hub")
 

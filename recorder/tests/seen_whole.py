@@ -19,6 +19,7 @@ from support import (
     Trace,
     build,
     expect,
+    limited,
     one_mark,
     reports,
     run,
@@ -50,7 +51,7 @@ def expect_cut(suite: Suite, path: str, limit: int) -> None:
 
 
 def check_limit(suite: Suite, folder: str, program: str) -> None:
-    ran = run([program, "many_events"], folder, ASANCOL_TRACE="t.trace", ASANCOL_LIMIT="50000")
+    ran = run([program, "many_events"], folder, ASANCOL_TRACE="t.trace", **limited(50000))
     expect(ran.returncode, 0, "status of the program")
     expect_cut(suite, f"{folder}/t.trace", 50000)
     whole = run([program, "many_events"], folder, ASANCOL_TRACE="whole.trace")
@@ -60,7 +61,7 @@ def check_limit(suite: Suite, folder: str, program: str) -> None:
     expect(whole.stderr, b"", "standard error without a limit")
     # One event fewer, and as many as there are.
     less, exact = f"{folder}/less.trace", f"{folder}/exact.trace"
-    ran = run([program, "many_events"], folder, ASANCOL_TRACE=less, ASANCOL_LIMIT=str(events - 1))
+    ran = run([program, "many_events"], folder, ASANCOL_TRACE=less, **limited(events - 1))
     expect(len(lines_of(ran.stderr)), 1, ran.stderr)
     expect_cut(suite, less, events - 1)
     ran = run([program, "many_events"], folder, ASANCOL_TRACE=exact, ASANCOL_LIMIT=str(events))
@@ -71,20 +72,20 @@ def check_limit_in_threads(suite: Suite, folder: str, program: str) -> None:
     """The limit is just after what a file has at first, where some threads are waiting for more."""
     for limit in (104856, 104857, 104858, 104870, 105300):
         name = f"{limit}.trace"
-        ran = run([program, "many_events_in_threads"], folder, ASANCOL_TRACE=name, ASANCOL_LIMIT=str(limit))
+        ran = run([program, "many_events_in_threads"], folder, ASANCOL_TRACE=name, **limited(limit))
         expect((ran.returncode, len(lines_of(ran.stderr))), (0, 1), name)
         expect_cut(suite, f"{folder}/{name}", limit)
 
 
 def check_exec_after_limit(suite: Suite, folder: str, program: str) -> None:
-    ran = run([program, "execs_after_much"], folder, ASANCOL_TRACE="t.trace", ASANCOL_LIMIT="100")
+    ran = run([program, "execs_after_much"], folder, ASANCOL_TRACE="t.trace", **limited(100))
     expect((ran.returncode, len(lines_of(ran.stderr))), (0, 1), ran.stderr)
     expect_cut(suite, f"{folder}/t.trace", 100)
 
 
 def check_greatest_limit(suite: Suite, folder: str, program: str) -> None:
     """More events than any trace may have: `too-many`, with what came before."""
-    ran = run([program, "twenty_million_events"], folder, ASANCOL_TRACE="t.trace")
+    ran = run([program, "twenty_million_events"], folder, ASANCOL_TRACE="t.trace", **limited(1 << 24))
     expect((ran.returncode, len(lines_of(ran.stderr))), (0, 1), ran.stderr)
     checked = run([suite.asancol, "check", "t.trace"], folder)
     said = lines_of(checked.stdout)
@@ -96,7 +97,7 @@ def check_greatest_limit(suite: Suite, folder: str, program: str) -> None:
 def check_no_room_at_the_limit(suite: Suite, folder: str, program: str) -> None:
     """The records up to the limit fill the file as far as it may grow: `no-close`."""
     words = ["sh", "-c", f"ulimit -f 2048; exec {program} many_events_in_threads"]
-    ran = run(words, folder, ASANCOL_TRACE="t.trace", ASANCOL_LIMIT="209714")
+    ran = run(words, folder, ASANCOL_TRACE="t.trace", **limited(209714))
     expect(ran.returncode, 0, ran.stderr)
     expect(len(lines_of(ran.stderr)) >= 1, True, "that it says so")
     status, _, end = reports(suite.asancol, f"{folder}/t.trace")
@@ -413,15 +414,15 @@ def check_settings(suite: Suite, folder: str, program: str) -> None:
 
 def check_log(suite: Suite, folder: str, program: str) -> None:
     """ASANCOL_LOG takes what the recorder says, line after line."""
-    limited = {"ASANCOL_TRACE": "%p.trace", "ASANCOL_LIMIT": "100", "ASANCOL_LOG": "log"}
+    settings = {"ASANCOL_TRACE": "%p.trace", "ASANCOL_LOG": "log", **limited(100)}
     for _ in range(2):
-        ran = run([program, "many_events"], folder, **limited)
+        ran = run([program, "many_events"], folder, **settings)
         expect((ran.returncode, ran.stderr), (0, b""), "with a log")
     with open(f"{folder}/log", "rb") as file:
         expect_said(lines_of(file.read()), *["further events left out"] * 2)
-    run([program, "many_events"], folder, **{**limited, "ASANCOL_LOG": "log.%p"})
+    run([program, "many_events"], folder, **{**settings, "ASANCOL_LOG": "log.%p"})
     expect(len(glob.glob(f"{folder}/log.[0-9]*")), 1, "a log with the number of the process")
-    ran = run([program, "many_events"], folder, **{**limited, "ASANCOL_LOG": "none/log"})
+    ran = run([program, "many_events"], folder, **{**settings, "ASANCOL_LOG": "none/log"})
     expect_said(lines_of(ran.stderr), "the log can't be opened: ", "further events left out")
 
 
@@ -431,7 +432,7 @@ def check_other_folder(suite: Suite, folder: str, program: str) -> None:
     write(folder, chief_c='#include <stdlib.h>\nint main(void) { return system("cd other && exec $PROGRAM"); }\n')
     here = f"{folder}/50%p"
     build([CC, "chief.c", "-o", "chief"], folder, ASANCOL_CC="cc")
-    settings = {"ASANCOL_TRACE": "%p.trace", "ASANCOL_LOG": "log", "ASANCOL_LIMIT": "1"}
+    settings = {"ASANCOL_TRACE": "%p.trace", "ASANCOL_LOG": "log", **limited(1)}
     ran = run(["../chief"], here, PROGRAM=f"{program} many_events", **settings)
     expect((ran.returncode, ran.stderr), (0, b""), "the program")
     expect(len(glob.glob(f"{glob.escape(here)}/*.trace")), 2, f"traces beside each other: {os.listdir(here)}")

@@ -41,6 +41,11 @@ def environment(**settings):
     return {**kept, **settings}
 
 
+def limited(events):
+    """Settings under which a recording ends after so many events, since there is one segment."""
+    return {"ASANCOL_LIMIT": str(events), "ASANCOL_SEGMENTS": "0"}
+
+
 def run(words, folder, stdin=None, **settings):
     return subprocess.run(
         words,
