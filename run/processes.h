@@ -20,7 +20,7 @@ enum stage {
 enum cut { CUT_NONE, CUT_BY_WAIT, CUT_BY_TIMEOUT };
 
 struct process {
-    size_t number; /* from 0 */
+    size_t number; /* of a lead: process_number has it */
     enum stage stage;
     pid_t peer;                         /* as the system numbers it for us; 0: not known */
     int own_number, parent;             /* as it knows them itself */
@@ -62,6 +62,8 @@ struct process {
 struct process *process_add(void);
 struct process *process_at(size_t number);
 size_t process_count(void);
+/* The number of a process in the run, from 0, which its first segment to come gets if it has none yet. */
+size_t process_number(struct process *lead);
 /* How many are not done. */
 size_t process_live_count(void);
 /* Notes that it is done. */

@@ -143,14 +143,14 @@ static void put_words(FILE *to, const struct process *process)
 }
 
 /* What is known of a process; and of its segments the one whose descriptors come with it, if that is not null. */
-static void put_process(FILE *to, const struct process *process, const struct process *segment)
+static void put_process(FILE *to, struct process *process, const struct process *segment)
 {
     const char *trace = segment != NULL ? segment->trace : process->trace;
     fprintf(to,
             "{\"type\":\"process\",\"n\":%zu,\"pid\":%d,\"parent\":%d,\"fate\":\"%s\",\"events\":%" PRIu64
             ",\"reports\":%" PRIu64 ",\"whole\":%s,\"left_out\":%" PRIu64 ",\"signal\":%u,\"why\":",
-            process->number, process->own_number, process->parent, process->fate, process->events, process->reports,
-            process->is_whole ? "true" : "false", process->left_out, process->signal);
+            process_number(process), process->own_number, process->parent, process->fate, process->events,
+            process->reports, process->is_whole ? "true" : "false", process->left_out, process->signal);
     json_text(to, process->why);
     if (process->is_abrupt)
         fputs(",\"abrupt\":true", to);

@@ -38,21 +38,29 @@ static bool put(struct process *lead, struct process *made)
     return true;
 }
 
-void segments_join(struct process *process)
+static void take_segment(struct process *process)
 {
-    if (process->side == NULL || process->side->started == 0)
-        return;
     uint64_t segment = side_progress(process->side).segment;
     process->segment = segment < MOST_SEGMENTS ? segment : 0;
     process->started = process->side->started;
+}
+
+void segments_join(struct process *process)
+{
     struct process **bucket = &buckets[(unsigned)process->own_number % BUCKETS];
-    for (struct process *lead = *bucket; lead != NULL; lead = lead->beside)
+    bool is_known = process->side != NULL && process->side->started != 0;
+    if (is_known)
+        take_segment(process);
+    for (struct process *lead = *bucket; is_known && lead != NULL; lead = lead->beside)
         if (is_same_process(lead, process) && put(lead, process)) {
             joined_count++;
             return;
         }
-    process->beside = *bucket;
-    *bucket = process;
+    process_number(process);
+    if (is_known) {
+        process->beside = *bucket;
+        *bucket = process;
+    }
 }
 
 size_t segments_process_count(void)
@@ -154,7 +162,8 @@ static const struct process *add_up(struct process *joined, const struct process
 
 struct process segments_joined(const struct process *process)
 {
-    const struct process *lead = process->lead;
+    struct process *lead = process->lead;
+    process_number(lead);
     struct process joined = *lead;
     joined.segments = 1;
     if (!segments_are_several(lead))

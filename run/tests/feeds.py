@@ -28,7 +28,8 @@ def check_packets(suite: Suite, folder: str) -> None:
 
 def check_second_message(suite: Suite, folder: str) -> None:
     """What is left out grows after the end of the check: a second message says it."""
-    packets = suite.packets(folder, "--json", f"{folder}/x", "--", suite.program, "many", "10000", ASANCOL_LIMIT="5000")
+    words = ["--json", f"{folder}/x", "--", suite.program, "many", "10000"]
+    packets = suite.packets(folder, *words, ASANCOL_LIMIT="5000", ASANCOL_SEGMENTS="0")
     of_process = [it for it in packets[1:] if it["type"] == "process"]
     last = of_process[-1]
     expect((last["n"], last["whole"], last["left_out"]), (0, False, 15001), "the last message")

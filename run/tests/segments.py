@@ -3,14 +3,17 @@
 import itertools
 import json
 import os
+import shutil
 import signal
+import subprocess
 from typing import Any, List, NamedTuple, Sequence
 
 import sides
 from support import (
-    REPORT, RUN, SEGMENTED, Ran, Suite, expect, expect_in, expect_not_in, expect_ran, finish, wait_until
+    CC, REPORT, RUN, SEGMENTED, TOP, Ran, Suite, expect, expect_in, expect_not_in, expect_ran, finish, wait_until
 )
 
+SEEN = "all seen whole, 1 ended abruptly"
 BAD = "heap-buffer-overflow: store of 1 byte (2 times, 1 process)"
 
 
@@ -303,7 +306,75 @@ def check_older_results(suite: Suite, folder: str) -> None:
         expect_not_in(file.read(), "segment\"", "segments\"")
 
 
+def build(suite: Suite, compiler: str) -> str:
+    """Builds the recorder's program for this, by this compiler."""
+    program = f"{suite.folder}/{compiler}-segments"
+    words = [CC, "-g", "-O1", "-pthread", f"{TOP}/recorder/tests/segments.c", "-o", program]
+    subprocess.run(words, check=True, env={**os.environ, "ASANCOL_CC": compiler})
+    return program
+
+
+def check_recorded(suite: Suite, folder: str, program: str) -> None:
+    """Programs with a small limit: the lines are those of one that never comes to it, but for the segments."""
+    for words, status, texts in (
+        ("blocks 3000 -1", 0, ["no reports; 1 process, 6000 events; all seen whole"]),
+        ("blocks 3000 1700", 99, ["in blocks ", "1 report at 1 place; 1 process, 6001 events; all seen whole"]),
+        ("threads 1000 400", 99, ["in blocks ", "1 report at 1 place; 1 process, ", "all seen whole"]),
+        ("early 2000 0", 99, ["in early ", "7 reports at 7 places; 1 process, ", "all seen whole"]),
+        ("children 1000 -1", 99, ["4 reports at 2 places; 3 processes, ", "all seen whole"]),
+        ("is_killed 1000 0", -9, ["ended abruptly, by SIGKILL: seen up to there", "1 process, ", SEEN]),
+    ):
+        for limit in ("400", "1000000"):
+            settings = {"ASANCOL_REPORT": REPORT, "ASANCOL_LIMIT": limit}
+            ran = suite.run("-v", "--", program, *words.split(), **settings)
+            expect_ran(ran, status, *texts)
+            expect(" segments, " in ran.err, limit == "400", f"{words}, {limit}: segments")
+
+
+def check_recorded_limit(suite: Suite, folder: str, program: str) -> None:
+    """Too much is live to begin a segment with it; or there are to be no segments."""
+    ran = suite.run("--", program, "many_live", "3000", "0", ASANCOL_LIMIT="500")
+    expect_ran(ran, 98, "NOT SEEN WHOLE: reached the event limit: ", " of 3000 events were not recorded", "1 process, ")
+    ran = suite.run("--", program, "blocks", "1000", "-1", ASANCOL_LIMIT="500", ASANCOL_SEGMENTS="0")
+    expect_ran(ran, 98, "NOT SEEN WHOLE: reached the event limit: ", " of 2000 events were not recorded", "1 process, ")
+
+
+def check_recorded_traces(suite: Suite, folder: str, program: str) -> None:
+    """Traces that were kept, or that the process has left by itself, have the report that the run had."""
+    settings = {"ASANCOL_REPORT": REPORT, "ASANCOL_LIMIT": "500"}
+    words = [program, "blocks", "1000", "700"]
+    said = "1 report at 1 place; 1 process, 2001 events; all seen whole\n"
+    expect_ran(suite.run("--keep", f"{folder}/kept", "--", *words, **settings), 99, said, "in blocks ")
+    settings["ASANCOL_WHERE"] = "1"
+    suite.run_words(words, cwd=folder, ASANCOL_TRACE="t.trace", **settings)
+    suite.run_words(words, cwd=folder, ASANCOL_TRACE="newest.trace", ASANCOL_SEGMENTS="2", **settings)
+    kept = [f"{folder}/kept/{it}" for it in os.listdir(f"{folder}/kept") if it.endswith(".trace")]
+    for traces in (kept, kept[:1], [f"{folder}/t.trace"], [f"{folder}/t.segment-003.trace"]):
+        ran = suite.run_words([REPORT, "--trace", *traces])
+        expect((ran.status, said in ran.out, "in blocks " in ran.out), (1, True, True), ran.out + ran.err)
+    newest = sorted(it for it in os.listdir(folder) if it.startswith("newest.") and it.endswith(".trace"))
+    expect(len(newest), 2, newest)
+    ran = suite.run_words([REPORT, "--trace", f"{folder}/{newest[1]}"])
+    expect_in(ran.out, "NOT SEEN WHOLE: segment ", " is the first that was seen", "1 process, ")
+
+
+def check_recorded_files(suite: Suite, folder: str, program: str) -> None:
+    """A process that cannot reach the socket leaves its segments in files."""
+    line = f"rm $ASANCOL_HUB; exec unshare -rn {program} blocks 1000 700"
+    ran = suite.run("-v", "--", "sh", "-c", line, ASANCOL_REPORT=REPORT, ASANCOL_LIMIT="500")
+    expect_ran(ran, 99, "1 report at 1 place; 1 process, 2001 events; all seen whole", "in blocks ")
+
+
 def tests(suite: Suite) -> None:
+    for compiler in ("gcc", "clang"):
+        if shutil.which(compiler) is None:
+            continue
+        program = build(suite, compiler)
+        suite.test(f"{compiler} segments, recorded", check_recorded, program)
+        suite.test(f"{compiler} segments, recorded limit", check_recorded_limit, program)
+        suite.test(f"{compiler} segments, recorded traces", check_recorded_traces, program)
+        if suite.run_words(["unshare", "-rn", "true"]).status == 0:
+            suite.test(f"{compiler} segments, recorded files", check_recorded_files, program)
     suite.test("segments, whole", check_whole)
     for words, why in NOT_WHOLE.items():
         suite.test(f"segments {words}", check_not_whole, words, why)
