@@ -73,11 +73,13 @@ def check_others(suite: Suite, folder: str) -> None:
 
 
 def check_killed(suite: Suite, folder: str) -> None:
-    """A process that is killed in a later segment."""
+    """A process that is killed in a later segment, or between two."""
     expect_ran(run_peer(suite, "1 2k"), -9, "ended abruptly, by SIGKILL: seen up to there", "1 process, 21 events",
                "all seen whole, 1 ended abruptly")
-    ran = suite.run("--timeout", "1", "--", SEGMENTED, "1", "2", "wait")
-    expect_ran(ran, 98, "NOT SEEN WHOLE: its next segment did not come", "1 process, 21 events")
+    started = suite.start("--", SEGMENTED, "1", "2", "wait")
+    expect(started.stdout.readline() if started.stdout else "", "ready\n", "the program")
+    started.send_signal(signal.SIGTERM)
+    expect_ran(finish(started), 98, "NOT SEEN WHOLE: its next segment did not come", "1 process, 21 events")
 
 
 def lines_of(path: str, kind: str) -> List[Any]:
