@@ -73,10 +73,13 @@ def known_of(path: str) -> Known:
         head, progress = read_at(side, 0, HEAD.size), read_at(side, PROGRESS_AT, PROGRESS.size)
     finally:
         os.close(side)
+    alone = Known((os.path.realpath(path),), 1, is_alone=True)
     if len(head) < HEAD.size or not head.startswith(HEADER) or len(progress) < PROGRESS.size:
-        return Known((os.path.realpath(path),), 1, is_alone=True)
+        return alone
     _, _, _, ending, _, process, _, started, *_ = HEAD.unpack(head)
     _, before, _ = PROGRESS.unpack(progress)
+    if started == 0:
+        return alone
     is_alone = before == 0 and ending != ENDING_SEGMENT
     return Known((folder, str(process), str(started), "process"), before + 1, is_alone)
 
