@@ -142,6 +142,11 @@ bool checker_start(struct process *process)
 {
     meet(process);
     if (process->cut == CUT_NONE && has_sent_nothing(process)) {
+        if (segments_take_empty(process)) {
+            process_is_done(process);
+            close_one(&process->connection);
+            return true;
+        }
         process->is_mark = true;
         checker_give_up(process, "it was not recorded, or not by this run");
         return true;

@@ -63,6 +63,28 @@ void segments_join(struct process *process)
     }
 }
 
+/* Whether the last segment of a process says that another one follows. The process may just have written it. */
+static bool goes_on(const struct process *lead)
+{
+    const struct process *last = lead->front;
+    while (last->next != NULL)
+        last = last->next;
+    return last->ending == ENDING_SEGMENT || (last->side != NULL && last->side->ending == ENDING_SEGMENT);
+}
+
+bool segments_take_empty(struct process *process)
+{
+    for (size_t i = process->peer != 0 ? process_count() : 0; i > 0; i--) {
+        struct process *other = process_at(i - 1);
+        if (other == process || other->lead != other || other->peer != process->peer || !goes_on(other))
+            continue;
+        process->lead = other;
+        joined_count++;
+        return true;
+    }
+    return false;
+}
+
 size_t segments_process_count(void)
 {
     return process_count() - joined_count;

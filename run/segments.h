@@ -7,6 +7,9 @@
 
 /* Joins one whose side memory was mapped to those of the same process that have come before. */
 void segments_join(struct process *process);
+/* Whether it has connected to go on in the next segment of a process, and has sent nothing: that one did not come. It
+   is no process then. */
+bool segments_take_empty(struct process *process);
 /* How many processes there are, of all that have connected. */
 size_t segments_process_count(void);
 /* Whether there are others of its process, or should be. */

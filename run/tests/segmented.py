@@ -6,9 +6,9 @@ usage: segmented.py [--files] WORD..
 Each word is a segment, in the order in which they are sent: its number, from 1, and letters. With `b` it has two bad
 stores. With `e` the process ends in it, and else it goes on in the next one. With `o` it has no close, with `l` an
 event was left out, with `h` its connection stays until the end, with `t` its side memory says only later how it ended,
-and with `k` SIGKILL ends the process there. The word `exec` begins another program in the same process, and `wait`
-waits until a signal comes. With --files the traces are left in the folder of the hub, as by a process that can't
-connect.
+and with `k` SIGKILL ends the process there. The word `exec` begins another program in the same process, `empty` is a
+connection on which nothing is sent, and `wait` waits until a signal comes. With --files the traces are left in the
+folder of the hub, as by a process that can't connect.
 
 A segment has a malloc, which all but the first one restate, and ten loads.
 """
@@ -50,12 +50,17 @@ def side_of(word: str, number: int, started: int) -> sides.Parts:
                       quarantine=1 << 28, words=["./segmented", *sys.argv[1:]])
 
 
+def connect() -> socket.socket:
+    peer = socket.socket(socket.AF_UNIX)
+    peer.connect(os.environ["ASANCOL_HUB"])
+    return peer
+
+
 def send(word: str, number: int, started: int) -> socket.socket:
     """Sends a segment over a new connection."""
     memory = sides.fill(os.memfd_create("side", os.MFD_ALLOW_SEALING), side_of(word, number, started))
     fcntl.fcntl(memory, F_ADD_SEALS, F_SEAL_SHRINK)
-    peer = socket.socket(socket.AF_UNIX)
-    peer.connect(os.environ["ASANCOL_HUB"])
+    peer = connect()
     text = records(word)
     peer.sendmsg([text[:8]], [(socket.SOL_SOCKET, socket.SCM_RIGHTS, array.array("i", [memory]))])
     peer.sendall(text[8:])
@@ -83,6 +88,8 @@ def main(words: List[str]) -> None:
         number = int("".join(it for it in word if it.isdigit()) or 0)
         if word == "exec":
             started = time.time_ns()
+        elif word == "empty":
+            connect().close()
         elif word == "wait":
             print("ready", flush=True)
             signal.pause()

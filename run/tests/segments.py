@@ -9,11 +9,11 @@ import subprocess
 from typing import Any, List, NamedTuple, Sequence
 
 import sides
+from abrupt import SEEN, killed
 from support import (
     CC, REPORT, RUN, SEGMENTED, TOP, Ran, Suite, expect, expect_in, expect_not_in, expect_ran, finish, wait_until
 )
 
-SEEN = "all seen whole, 1 ended abruptly"
 BAD = "heap-buffer-overflow: store of 1 byte (2 times, 1 process)"
 
 
@@ -40,6 +40,8 @@ NOT_WHOLE = {
     "1 2b": "its next segment did not come",
     "1 3e": "its next segment did not come, and later ones did",
     "1t": "its next segment did not come",
+    "1 empty": "its next segment did not come",
+    "1 2b empty": "its next segment did not come",
     "2 3e": "segment 2 is the first that was seen",
     "2e": "segment 2 is the first that was seen",
     "1 2o 3e": "segment 2: its trace ended as no-close",
@@ -65,6 +67,7 @@ def check_others(suite: Suite, folder: str) -> None:
     expect_ran(run_peer(suite, "1 2e exec 1 2e"), 0, "no reports; 2 processes, 42 events; all seen whole")
     expect_ran(run_peer(suite, "1 exec 1 2e"), 98, "its next segment did not come", "2 processes, ", "1 NOT SEEN WHOLE")
     expect_ran(run_peer(suite, "1 1 2e"), 98, "its next segment did not come", "2 processes, ", "1 NOT SEEN WHOLE")
+    expect_ran(run_peer(suite, "1 2e empty"), 98, "it was not recorded, or not by this run", "2 processes, 21 events")
     expect_ran(run_peer(suite, "1 2 2e 3e"), 98, "segment 2 is the first that was seen", "2 processes, ")
     line = f"{SEGMENTED} 1 2 3e & {SEGMENTED} 1 2 3e & wait"
     ran = suite.run("--at-least", "2", "--", "sh", "-c", line)
@@ -333,6 +336,15 @@ def check_recorded(suite: Suite, folder: str, program: str) -> None:
             expect(" segments, " in ran.err, limit == "400", f"{words}, {limit}: segments")
 
 
+def check_recorded_kills(suite: Suite, folder: str, program: str) -> None:
+    """Killed at a moment that nobody chooses: it is one process without a false report, and what is missing is said."""
+    for _ in range(20):
+        words = [program, "threads", "1000000", "-1"]
+        status, _, said = killed(suite, words, 0, 0.1, ASANCOL_REPORT=REPORT, ASANCOL_LIMIT="2000")
+        expect("no reports; " in said and "2 processes" not in said, True, said)
+        expect(status, "0" if SEEN in said else "98", said)
+
+
 def check_recorded_limit(suite: Suite, folder: str, program: str) -> None:
     """Too much is live to begin a segment with it; or there are to be no segments."""
     ran = suite.run("--", program, "many_live", "3000", "0", ASANCOL_LIMIT="500")
@@ -373,6 +385,7 @@ def tests(suite: Suite) -> None:
             continue
         program = build(suite, compiler)
         suite.test(f"{compiler} segments, recorded", check_recorded, program)
+        suite.test(f"{compiler} segments, recorded kills", check_recorded_kills, program)
         suite.test(f"{compiler} segments, recorded limit", check_recorded_limit, program)
         suite.test(f"{compiler} segments, recorded traces", check_recorded_traces, program)
         if suite.run_words(["unshare", "-rn", "true"]).status == 0:
