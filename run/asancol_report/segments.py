@@ -8,11 +8,11 @@ from __future__ import annotations
 
 import os
 import re
-from typing import Dict, List, NamedTuple, Optional, Set, Tuple
+from typing import Dict, List, NamedTuple, Set, Tuple
 
 from .reading import open_regular, read_at
 from .results import Process
-from .side import ENDING_SEGMENT, HEAD, HEADER, PROGRESS, PROGRESS_AT
+from .side import ENDING_NONE, ENDING_SEGMENT, HEAD, HEADER, PROGRESS, PROGRESS_AT
 from .verdicts import End
 from .words import signal_name
 
@@ -57,31 +57,35 @@ class Known(NamedTuple):
 
     key: Key
     number: int
-    is_alone: bool  # it says that it is the only one
+    has_side: bool = False
+    has_ended: bool = False  # the process has: none follows
 
 
 def known_of(path: str) -> Known:
     """Returns what the side file of a trace says. Without one its name stands for it; nobody knows then if another
     follows."""
-    folder = os.path.realpath(os.path.dirname(path))
-    try:
-        side = open_regular(path + ".where")
-    except OSError:
-        family, number = apart(os.path.basename(path))
-        return Known((folder, *family), number, is_alone=False)
-    try:
-        head, progress = read_at(side, 0, HEAD.size), read_at(side, PROGRESS_AT, PROGRESS.size)
-    finally:
-        os.close(side)
-    alone = Known((os.path.realpath(path),), 1, is_alone=True)
+    folder, name = os.path.split(path)
+    folder = os.path.realpath(folder)
+    family, number = apart(name)
+    head, progress = fronts_of(path + ".where")
     if len(head) < HEAD.size or not head.startswith(HEADER) or len(progress) < PROGRESS.size:
-        return alone
+        return Known((folder, *family), number)
     _, _, _, ending, _, process, _, started, *_ = HEAD.unpack(head)
     _, before, _ = PROGRESS.unpack(progress)
-    if started == 0:
-        return alone
-    is_alone = before == 0 and ending != ENDING_SEGMENT
-    return Known((folder, str(process), str(started), "process"), before + 1, is_alone)
+    key = (folder, str(process), str(started), "process") if started else (os.path.realpath(path),)
+    return Known(key, before + 1, has_side=True, has_ended=ending not in (ENDING_NONE, ENDING_SEGMENT))
+
+
+def fronts_of(path: str) -> Tuple[bytes, bytes]:
+    """Returns the parts of a side file that say what it belongs to; nothing, if it can't be read."""
+    try:
+        side = open_regular(path)
+    except OSError:
+        return b"", b""
+    try:
+        return read_at(side, 0, HEAD.size), read_at(side, PROGRESS_AT, PROGRESS.size)
+    finally:
+        os.close(side)
 
 
 class Traces:
@@ -95,23 +99,34 @@ class Traces:
 
     def add(self, path: str) -> None:
         """Takes in a trace, and those of the same process that lie beside it."""
-        known = self.take(path)
-        if known is None or known.is_alone:
+        if os.path.realpath(path) in self.taken:
             return
-        for beside in self.beside(path):
-            if os.path.realpath(beside) not in self.taken and known_of(beside).key == known.key:
-                self.take(beside)
-
-    def take(self, path: str) -> Optional[Known]:
-        """Takes in a trace. None, if it is there already, or is no file."""
-        real = os.path.realpath(path)
-        if real in self.taken:
-            return None
         if not os.path.isfile(path):
             self.processes.append({1: path})
-            return None
-        self.taken.add(real)
+            return
         known = known_of(path)
+        process = self.take(path, known)
+        if known.has_ended and known.number == 1:
+            return
+        others = [(beside, known_of(beside)) for beside in self.beside(path)
+                  if os.path.realpath(beside) not in self.taken]
+        for beside, other in others:
+            if other.key == known.key:
+                self.take(beside, other)
+        for beside, other in others:
+            if not other.has_side and other.key != known.key:
+                self.take_begun(beside, other.number, process)
+
+    def take_begun(self, path: str, number: int, process: Dict[int, str]) -> None:
+        """Takes in the next segment of a process that was killed before it could say more of it than its name."""
+        before = process.get(number - 1)
+        if before is not None and number not in process and not known_of(before).has_ended:
+            self.taken.add(os.path.realpath(path))
+            process[number] = path
+
+    def take(self, path: str, known: Known) -> Dict[int, str]:
+        """Takes in a trace, and returns those of its process."""
+        self.taken.add(os.path.realpath(path))
         alike = self.by_key.setdefault(known.key, [])
         process = next((it for it in alike if known.number not in it), None)
         if process is None:
@@ -119,7 +134,7 @@ class Traces:
             alike.append(process)
             self.processes.append(process)
         process[known.number] = path
-        return known
+        return process
 
     def beside(self, path: str) -> List[str]:
         """Returns the files whose names are those of segments of the same process."""
