@@ -22,6 +22,7 @@
 #include "processes.h"
 #include "report.h"
 #include "say.h"
+#include "segments.h"
 #include "signals.h"
 
 /* What a process holds here while it is checked, and how many more descriptors are kept free. */
@@ -262,8 +263,8 @@ static void show_progress(double time)
     if (run.ended == 0 || time < run.ended + PROGRESS || time < run.progress_at)
         return;
     run.progress_at = time + 0.2;
-    size_t live = process_live_count();
-    progress("asancol: waiting for processes: %zu checked, %zu to go", process_count() - live, live);
+    size_t live = process_live_count(), all = segments_process_count();
+    progress("asancol: waiting for processes: %zu checked, %zu to go", all > live ? all - live : 0, live);
 }
 
 /* Does what its time has come for, and answers how long nothing else will. */

@@ -21,6 +21,7 @@ import mutations
 import recipes
 import report
 import rooms
+import segments
 import statuses
 import whole
 from support import Suite
@@ -37,6 +38,7 @@ def main() -> int:
     abrupt.tests(suite)
     rooms.tests(suite)
     feeds.tests(suite)
+    segments.tests(suite)
     completions.tests(suite)
     recipes.tests(suite)
     whole.tests(suite)

@@ -19,6 +19,7 @@ RUN = f"{TOP}/run/sanitized/asancol-run" if SANITIZE else f"{TOP}/run/asancol-ru
 CC = f"{TOP}/recorder/asancol-cc"
 REPORT = f"{TOP}/run/asancol-report"
 FAKE_REPORT = f"{TESTS}/fake_report.py"
+SEGMENTED = f"{TESTS}/segmented.py"
 
 # No run may take longer, in seconds. Nothing is measured by it.
 PATIENCE = 120
