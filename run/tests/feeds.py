@@ -156,7 +156,7 @@ def check_closed_log(suite: Suite, folder: str) -> None:
 
 
 def check_keep(suite: Suite, folder: str) -> None:
-    """Traces of processes with a report, or that were not seen whole, stay. Those of others go, also if they ended abruptly."""
+    """Traces of processes with a report, or not seen whole, stay. Those of others go, also after an abrupt end."""
     kept = f"{folder}/kept"
     line = f"{suite.program} sound; {suite.program} past; {suite.program} kills_itself 9; {SEGMENTED} 1"
     packets = suite.packets(folder, "--keep", kept, "--", "sh", "-c", line)
