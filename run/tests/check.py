@@ -21,6 +21,7 @@ import mutations
 import recipes
 import report
 import rooms
+import service
 import statuses
 import whole
 from support import Suite
@@ -39,6 +40,7 @@ def main() -> int:
     feeds.tests(suite)
     completions.tests(suite)
     recipes.tests(suite)
+    service.tests(suite)
     whole.tests(suite)
     suite.add(*report.run_tests(sys.argv[2:]))  # meanwhile
     if not suite.words or "mutations" in suite.words:
