@@ -12,7 +12,7 @@ EXAMPLE := examples/one_byte_past_the_end.trace
 REDZONES := examples/stack_and_global_poison.trace
 
 .PHONY: all demo check stress fuzz failures install uninstall clean recorder check-recorder check-real bench-record \
-        stress-record install-recorder run check-run check-farm bench-run install-run install-units dist deb \
+        soak stress-record install-recorder run check-run check-farm bench-run install-run install-units dist deb \
         check-packages
 
 # The program, proved.
@@ -93,6 +93,13 @@ check-run: asancol recorder run
 # Recipes whose tool is not there are left out, and it says which.
 check-farm: asancol recorder run
 	examples/farms/check.py ./asancol
+
+# Recorded programs against an endless service, for as many hours: each has its verdict or a word, each planted bug is
+# found, and what serves does not grow. It prints a line a minute.
+HOURS := 1
+
+soak: asancol recorder
+	run/tests/soak.py --hours $(HOURS) ./asancol
 
 # What a run costs beside the same command without it: a minute, on a machine with nothing else to do.
 bench-run: asancol recorder run

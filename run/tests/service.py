@@ -12,7 +12,7 @@ import subprocess
 import time
 from typing import Callable, Dict, List, NamedTuple, Optional
 
-from support import PATIENCE, TOP, Failure, Suite, expect, expect_in, wait_until
+from support import PATIENCE, TESTS, TOP, Failure, Suite, expect, expect_in, wait_until
 
 SERVE = f"{TOP}/examples/service/serve.py"
 # How much `systemd-analyze security` may find, from 0 to 10.
@@ -223,6 +223,13 @@ def check_mode(suite: Suite, folder: str) -> None:
     expect([it.user for it in service.results()], [65534] * 2, "users")
 
 
+def check_soak(suite: Suite, folder: str) -> None:
+    """The soak itself, for some seconds."""
+    ran = suite.run_words([f"{TESTS}/soak.py", "--hours", "0.002", suite.asancol])
+    expect((ran.status, ran.err), (0, ""), ran.out)
+    expect_in(ran.out, "false 0\n", "\n0 failures\n")
+
+
 # The units.
 
 
@@ -326,7 +333,8 @@ def boot(folder: str, units: str) -> None:
     """Boots systemd with the units, and with one that runs the probe."""
     write(f"{units}/probe.service", f"[Service]\nType=oneshot\nExecStart={PREFIX}/probe\n")
     mounts = [f"--bind-ro={units}/{name}:/etc/systemd/system/{name}" for name in os.listdir(units)]
-    words = [*CONTAINER, f"--bind={folder}{PREFIX}:{PREFIX}", *mounts, "--boot", "systemd.firstboot=no", "systemd.wants=probe.service"]
+    words = [*CONTAINER, f"--bind={folder}{PREFIX}:{PREFIX}", *mounts, "--boot", "systemd.firstboot=no",
+             "systemd.wants=probe.service"]
     nothing = subprocess.DEVNULL
     subprocess.run(words, stdin=nothing, stdout=nothing, stderr=nothing, check=True, timeout=PATIENCE)
 
@@ -360,8 +368,9 @@ def calls_of_sets(line: str) -> List[str]:
         if not word.startswith("@"):
             calls.append(word)
             continue
-        shown = subprocess.run(["systemd-analyze", "syscall-filter", word], stdout=subprocess.PIPE, text=True, check=True)
-        waiting += [it.strip() for it in shown.stdout.splitlines()[1:] if it.strip() and not it.strip().startswith("#")]
+        shown = subprocess.run(["systemd-analyze", "syscall-filter", word], stdout=subprocess.PIPE, check=True)
+        lines = [it.strip() for it in shown.stdout.decode().splitlines()[1:]]
+        waiting += [it for it in lines if it and not it.startswith("#")]
     return calls
 
 
@@ -430,6 +439,7 @@ def tests(suite: Suite) -> None:
     suite.test("service: end", check_end)
     suite.test("service: another server", check_other_server)
     suite.test("service: full", check_full)
+    suite.test("service: soak", check_soak)
     suite.test("service: command of the unit", check_unit_command)
     if os.geteuid() == 0:
         suite.test("service: mode", check_mode)
