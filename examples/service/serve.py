@@ -15,6 +15,7 @@ one ends the commands, too. This is what packaging/systemd has for systemd, for 
 
 import argparse
 import contextlib
+import errno
 import fcntl
 import os
 import select
@@ -48,18 +49,22 @@ def is_left_over(path: str) -> bool:
 
 
 def listen(path: str, mode: int, group: str) -> socket.socket:
-    """Makes the socket, for whom the mode and the group allow it. One that nobody serves any more is replaced."""
-    listener = socket.socket(socket.AF_UNIX)
-    if is_left_over(path):
-        os.unlink(path)
-    before = os.umask(0o777)  # until it has its group
-    listener.bind(path)
-    os.umask(before)
-    if group:
-        shutil.chown(path, group=group)
-    os.chmod(path, mode)
-    listener.setblocking(False)
-    listener.listen(socket.SOMAXCONN)
+    """Makes the socket, for whom the mode and the group allow it, and names it once a process can connect. One that
+    nobody serves any more is replaced."""
+    if os.path.lexists(path) and not is_left_over(path):
+        raise FileExistsError(errno.EADDRINUSE, os.strerror(errno.EADDRINUSE), path)
+    listener, made = socket.socket(socket.AF_UNIX), f"{path}.{os.getpid()}"
+    listener.bind(made)
+    try:
+        if group:
+            shutil.chown(made, group=group)
+        os.chmod(made, mode)
+        listener.setblocking(False)
+        listener.listen(socket.SOMAXCONN)
+        os.rename(made, path)
+    except (OSError, LookupError):
+        os.unlink(made)
+        raise
     return listener
 
 

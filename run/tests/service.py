@@ -14,9 +14,10 @@ from typing import Callable, Dict, List, NamedTuple, Optional
 
 from support import PATIENCE, TESTS, TOP, Failure, Suite, expect, expect_in, wait_until
 
-SERVE = f"{TOP}/examples/service/serve.py"
+EXAMPLES = f"{TOP}/examples/service"
+SERVE = f"{EXAMPLES}/serve.py"
 # How much `systemd-analyze security` may find, from 0 to 10.
-MOST_EXPOSED = 1
+MOST_EXPOSED = 0.4
 HEADER = b"ASTR\2\0\0\0"
 
 
@@ -223,6 +224,25 @@ def check_mode(suite: Suite, folder: str) -> None:
     expect([it.user for it in service.results()], [65534] * 2, "users")
 
 
+def check_script(suite: Suite, folder: str) -> None:
+    """The commands of the page serve a socket, record a program and show its lines."""
+    os.symlink(f"{TOP}/examples", f"{folder}/examples")
+    os.symlink(suite.asancol, f"{folder}/asancol")
+    write(f"{folder}/program", f"#!/bin/sh\nexec {suite.program} past\n", 0o755)
+    ran = suite.run_words(["sh", f"{EXAMPLES}/serve.sh"], folder, PATH=f"{folder}:{os.environ['PATH']}")
+    lines = r"results/[\d.]+-\d+-\d+\.1:p0 #2 store 1 at .*\nresults/\S+\.1:p0 end closed events 2 .* reports 1\n"
+    expect((ran.status, re.fullmatch(lines, ran.out) is not None, ran.err), (0, True, ""), ran.out)
+
+
+def check_page(suite: Suite, folder: str) -> None:
+    """The page has the commands as they are, and how much systemd finds."""
+    page = text_of(f"{TOP}/docs/SERVICE.md")
+    for name in ("systemd.sh", "group.sh", "serve.sh"):
+        commands = re.sub(r"^#.*\n", "", text_of(f"{EXAMPLES}/{name}"))
+        expect_in(page, f"```sh\n{commands}```\n")
+    expect_in(page, f"says {MOST_EXPOSED}, where")
+
+
 def check_soak(suite: Suite, folder: str) -> None:
     """The soak itself, for some seconds."""
     ran = suite.run_words([f"{TESTS}/soak.py", "--hours", "0.002", suite.asancol])
@@ -271,7 +291,7 @@ def check_units(suite: Suite, folder: str) -> None:
     expect(len(names), 3, "units")
     ran = suite.run_words(["systemd-analyze", "verify", "--man=no", *names])
     expect((ran.status, ran.out, ran.err), (0, "", ""), "verify")
-    threshold = f"--threshold={MOST_EXPOSED * 10}"
+    threshold = f"--threshold={MOST_EXPOSED * 10:.0f}"
     ran = suite.run_words(["systemd-analyze", "security", "--offline=yes", "--no-pager", threshold,
                            f"{units}/asancol@.service"])
     if ran.status != 0:
@@ -306,20 +326,15 @@ def check_socket_activate(suite: Suite, folder: str) -> None:
 PREFIX = "/opt/asancol"
 PROBE = f"""#!/bin/sh
 cd {PREFIX}
-as_nobody='setpriv --reuid=65534 --regid=65534 --clear-groups'
-ASANCOL_SOCKET=/run/asancol.sock
-export ASANCOL_SOCKET
-systemctl start asancol.socket
-for word in sound past; do ./program $word; done
-$as_nobody ./program past 2> refused
-mkdir -p /etc/systemd/system/asancol.socket.d
-printf '[Socket]\\nSocketGroup=nogroup\\n' > /etc/systemd/system/asancol.socket.d/group.conf
-systemctl daemon-reload
-systemctl restart asancol.socket
-$as_nobody ./program past
+export SYSTEMD_PAGER=cat
+as_user='setpriv --reuid=65534 --regid=65534 --groups=100 env ASANCOL_SOCKET=/run/asancol.sock'
+sh systemd.sh > first
+$as_user ./program 2> refused
+sh group.sh
+$as_user ./program
 for wait in 1 2 3 4 5 6 7 8 9 10; do
-    journalctl --no-pager --identifier asancol --output with-unit > lines
-    test "$(grep -c ' end ' lines)" = 3 && break
+    journalctl --identifier asancol --output with-unit > lines
+    test "$(grep -c ' end ' lines)" = 2 && break
     sleep 1
 done
 systemctl list-units --all --no-legend 'asancol@*' > left
@@ -343,14 +358,18 @@ def check_systemd(suite: Suite, folder: str) -> None:
     """systemd itself starts a unit for each connection, and turns those away that may not connect."""
     units = install_units(suite, PREFIX, folder)
     top = f"{folder}{PREFIX}"
-    shutil.copy(suite.program, f"{top}/program")
-    os.chmod(f"{top}/program", 0o755)
+    shutil.copy(suite.program, f"{top}/programs")
+    os.chmod(f"{top}/programs", 0o755)
+    write(f"{top}/program", f"#!/bin/sh\nexec {PREFIX}/programs past\n", 0o755)
+    for name in ("systemd.sh", "group.sh"):
+        shutil.copy(f"{EXAMPLES}/{name}", top)
     write(f"{top}/probe", PROBE, 0o755)
     boot(folder, units)
     seen = {name: text_of(f"{top}/{name}") for name in ("refused", "lines", "left")}
     expect_in(seen["refused"], "nothing is recorded: /run/asancol.sock: Permission denied")
-    ends = re.findall(r" asancol@\d+-\d+-(\d+)\.service\[\d+\]: p0 end (\w+) .* reports (\d+)$", seen["lines"], re.M)
-    expect(sorted(ends), [("0", "closed", "0"), ("0", "closed", "1"), ("65534", "closed", "1")], seen["lines"])
+    line = r"^\w+ [\d-]+ [\d:]+ \w+ \w+ asancol@\d+-\d+-(\d+)\.service\[\d+\]: p0 end (\w+) .* reports (\d+)$"
+    ends = re.findall(line, seen["lines"], re.M)
+    expect(sorted(ends), [("0", "closed", "1"), ("65534", "closed", "1")], seen["lines"])
     expect(seen["left"], "", "units that are left")
 
 
@@ -440,6 +459,8 @@ def tests(suite: Suite) -> None:
     suite.test("service: another server", check_other_server)
     suite.test("service: full", check_full)
     suite.test("service: soak", check_soak)
+    suite.test("service: script", check_script)
+    suite.test("service: page", check_page)
     suite.test("service: command of the unit", check_unit_command)
     if os.geteuid() == 0:
         suite.test("service: mode", check_mode)

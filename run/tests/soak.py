@@ -346,7 +346,8 @@ class Soak:
         last, of = self.samples[-1], self.counts
         print(f"{last.seconds / 60:5.0f} min: {of['processes']} processes, {of['killed']} killed, "
               f"{of['verdicts']} verdicts, {of['words']} words, {of['found']} of {of['planted']} planted found, "
-              f"{of['false']} false; service: {last.kilobytes} KB, {last.descriptors} descriptors, {last.processes} processes", flush=True)
+              f"{of['false']} false; service: {last.kilobytes} KB, {last.descriptors} descriptors, "
+              f"{last.processes} processes", flush=True)
 
     def run(self, hours: float, workers: int) -> None:
         before = self.service.sample(0)
