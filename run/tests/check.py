@@ -18,6 +18,7 @@ import completions
 import feeds
 import lives
 import mutations
+import peers
 import recipes
 import report
 import rooms
@@ -37,6 +38,7 @@ def main() -> int:
     lives.tests(suite)
     abrupt.tests(suite)
     rooms.tests(suite)
+    peers.tests(suite)
     feeds.tests(suite)
     completions.tests(suite)
     recipes.tests(suite)
