@@ -32,6 +32,7 @@ static int by_number(const void *left, const void *right)
     return (one > other) - (one < other);
 }
 
+/* False: it is gone. */
 static bool read_kin(const char *name, struct kin *kin)
 {
     char path[300], text[512], state;
@@ -45,8 +46,9 @@ static bool read_kin(const char *name, struct kin *kin)
     const char *end = strrchr(text, ')');
     kin->number = atoi(name);
     bool is_read = end != NULL && sscanf(end + 1, " %c %d %d", &state, &kin->parent, &kin->group) == 3;
-    kin->is_zombie = is_read && state == 'Z';
-    return is_read;
+    kin->is_zombie = is_read && (state == 'Z' || state == 'X');
+    /* One that is just being taken away has no parent any more. */
+    return is_read && !(kin->is_zombie && kin->parent == 0);
 }
 
 /* All processes that run, in the order of their numbers. */

@@ -1,5 +1,5 @@
-/* Whose the processes are that connect. Any of this machine can: a socket's path and its abstract name are listed in
-   /proc/net/unix. Let in are those of our user and of root, and what the command has started, whoever that is by now. */
+/* Whose the processes are that connect. Any of this machine can: the names of sockets are listed in /proc/net/unix. Let
+   in are those of our user and of root, and what the command has started, whoever that is by now. */
 #ifndef ASANCOL_RUN_PEERS_H
 #define ASANCOL_RUN_PEERS_H
 

@@ -26,6 +26,33 @@ time.sleep(float(sys.argv[2]))
 """
 
 
+# Sends what is no memory of a recorder with the first bytes of a trace. Its words name the hub and what it sends.
+SENDER = """
+import array, ctypes, os, socket, sys
+hub, what = sys.argv[1:]
+shrink = 0x0002
+memory = os.memfd_create("side", os.MFD_ALLOW_SEALING)
+os.ftruncate(memory, 1 << 20)
+text = b"ASWH\\3\\0\\0\\0" + bytes(56) + b"\\x1b]0;x\\x07" * 500
+if what in ("sealed", "garbage"):
+    os.pwrite(memory, text if what == "sealed" else text[:8] + os.urandom(8184), 0)
+    __import__("fcntl").fcntl(memory, 1033, shrink)
+if what == "short":
+    os.ftruncate(memory, 100)
+if what == "unsealed":
+    os.pwrite(memory, text, 0)
+others = {"pipe": os.pipe()[0], "device": os.open("/dev/zero", os.O_RDONLY), "folder": os.open("/", os.O_RDONLY)}
+sent = [others.get(what, memory)] * (200 if what == "many" else 1)
+peer = socket.socket(socket.AF_UNIX)
+peer.connect(hub)
+rights = [(socket.SOL_SOCKET, socket.SCM_RIGHTS, array.array("i", sent))]
+peer.sendmsg([b"ASTR\\2\\0\\0\\0"], rights)
+if what == "unsealed":
+    os.ftruncate(memory, 0)
+peer.sendmsg([b"\\7"], rights)
+"""
+
+
 def as_user(user: int) -> List[str]:
     return ["setpriv", f"--reuid={user}", f"--regid={user}", "--clear-groups"]
 
@@ -114,7 +141,50 @@ def check_gone_of_known_user(suite: Suite, folder: str) -> None:
     expect_ran(finish(run), 98, "it was not recorded, or not by this run", absent=["refused"])
 
 
+# Listens under an abstract name, and says what it gets.
+SQUATTER = """
+import socket, sys
+hub = socket.socket(socket.AF_UNIX)
+hub.bind("\\0" + sys.argv[1])
+hub.listen()
+print("listens", flush=True)
+peer = hub.accept()[0]
+print(len(peer.recv(4096)), flush=True)
+"""
+
+
+def check_squatter(suite: Suite, folder: str) -> None:
+    """An abstract name may be another user's: a process does not tell him what it does, and leaves a file."""
+    os.chmod(folder, 0o777)
+    hub = f"{folder}/hub"
+    for user, gets in ((OTHER, "0"), (NOBODY, "8")):
+        words = [*as_user(user), "python3", "-c", SQUATTER, hub]
+        squatter = subprocess.Popen(words, stdout=subprocess.PIPE, text=True)
+        out = squatter.stdout
+        expect(out.readline() if out else "", "listens\n", "the other")
+        ran = suite.run_words([*as_user(NOBODY), suite.program, "sound"], ASANCOL_HUB=hub)
+        expect(out.readline() if out else "", f"{gets}\n", f"what user {user} gets")
+        squatter.communicate()
+        is_file = "so the trace goes to a file: " in ran.err and "its name is another user's" in ran.err
+        expect(is_file, gets == "0", ran.err)
+    expect(len([it for it in os.listdir(folder) if it.endswith(".trace")]), 1, "files")
+
+
+def check_descriptors(suite: Suite, folder: str) -> None:
+    """Whatever descriptors come with a trace, it is checked. Names are printed without what controls a terminal."""
+    sender = f"{folder}/sender.py"
+    with open(sender, "w", encoding="utf-8") as file:
+        file.write(SENDER)
+    for what in ("pipe", "device", "folder", "short", "unsealed", "many", "garbage", "sealed"):
+        line = f"{suite.program} sound; python3 {sender} $ASANCOL_HUB {what}; {suite.program} sound"
+        ran = suite.run("-v", "--", "sh", "-c", line)
+        # Without such a memory, a trace that is closed was seen whole.
+        status = 98 if what in ("garbage", "sealed") else 0
+        expect_ran(ran, status, "3 processes, 2 events", absent=["\x1b", "\x07"])
+
+
 def tests(suite: Suite) -> None:
+    suite.test("peer: descriptors", check_descriptors)
     if os.geteuid() != 0 or not shutil.which("setpriv"):
         print("left out: peers of other users: root alone can be another user, by setpriv")
         return
@@ -126,3 +196,4 @@ def tests(suite: Suite) -> None:
     suite.test("peer: many strangers", check_many_strangers)
     suite.test("peer: gone", check_gone)
     suite.test("peer: gone, of a known user", check_gone_of_known_user)
+    suite.test("peer: squatter", check_squatter)
