@@ -86,6 +86,9 @@ def check_stranger(suite: Suite, folder: str, user: int) -> None:
     """Another user's process is refused, with a line, and the run is as without it."""
     run = Run(suite, folder, user)
     run.connect(OTHER, suite.program, "past_and_sleeps", "0.5")
+    private = os.path.dirname(run.hub)
+    for words in (["touch", f"{private}/mark"], ["ls", private]):
+        expect("Permission denied" in run.connect(OTHER, *words), True, " ".join(words))
     refused = rf"asancol: a connection was refused: process \d+ of user {OTHER} was not started by this command\n"
     text = run.end(0, "1 process, ", "all seen whole", absent=["the report"])
     expect(re.search(refused, text) is not None, True, text)

@@ -250,6 +250,22 @@ def check_soak(suite: Suite, folder: str) -> None:
     expect_in(ran.out, "false 0\n", "\n0 failures\n")
 
 
+def check_mode_of_serve(suite: Suite, folder: str) -> None:
+    """To the socket of `asancol serve` connects whom the umask leaves the right to write."""
+    os.chmod(folder, 0o755)
+    line = f"import socket; socket.socket(socket.AF_UNIX).connect('{folder}/socket')"
+    for mask, refused in ((0o022, True), (0o000, False)):
+        words = [suite.asancol, "serve", "--count", "1", "--ready", f"{folder}/ready", f"{folder}/socket"]
+        program = subprocess.Popen(words, stdout=subprocess.DEVNULL, umask=mask)
+        wait_until(lambda: os.path.exists(f"{folder}/ready"), "the socket")
+        ran = suite.run_words(["setpriv", "--reuid=65534", "--regid=65534", "--clear-groups", "python3", "-c", line])
+        expect("PermissionError" in ran.err, refused, ran.err)
+        program.terminate()
+        program.wait()
+        os.remove(f"{folder}/socket")
+        os.remove(f"{folder}/ready")
+
+
 # The units.
 
 
@@ -464,6 +480,7 @@ def tests(suite: Suite) -> None:
     suite.test("service: command of the unit", check_unit_command)
     if os.geteuid() == 0:
         suite.test("service: mode", check_mode)
+        suite.test("service: mode of serve", check_mode_of_serve)
     else:
         print("left out: service: mode: root alone can be another user")
     for program, name, check in (("systemd-analyze", "units", check_units), ("systemd-analyze", "filter", check_filter),
