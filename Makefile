@@ -12,7 +12,8 @@ EXAMPLE := examples/one_byte_past_the_end.trace
 REDZONES := examples/stack_and_global_poison.trace
 
 .PHONY: all demo check stress fuzz failures bench install uninstall clean recorder check-recorder check-real bench-record \
-        stress-record stress-segments install-recorder run check-run check-farm bench-run install-run dist deb check-packages
+        soak stress-record stress-segments install-recorder run check-run check-farm bench-run install-run install-units \
+        dist deb check-packages
 
 # The program, proved.
 all: asancol
@@ -97,6 +98,13 @@ check-run: asancol recorder run
 check-farm: asancol recorder run
 	examples/farms/check.py ./asancol
 
+# Recorded programs against an endless service, for as many hours: each has its verdict or a word, each planted bug is
+# found, and what serves does not grow. It prints a line a minute.
+HOURS := 1
+
+soak: asancol recorder
+	run/tests/soak.py --hours $(HOURS) ./asancol
+
 # What a run costs beside the same command without it: a minute, on a machine with nothing else to do.
 bench-run: asancol recorder run
 	run/tests/bench.py ./asancol
@@ -123,8 +131,16 @@ install-recorder:
 install-run:
 	$(MAKE) -C run install PREFIX=$(PREFIX) DESTDIR=$(DESTDIR)
 
+# The units of systemd for an endless service. None of them is enabled.
+UNITS := asancol.socket asancol@.service asancol.slice
+
+install-units:
+	install -d $(ROOT)/lib/systemd/system
+	$(foreach it,$(UNITS),sed 's,@BIN@,$(PREFIX)/bin,' packaging/systemd/$(it) > $(ROOT)/lib/systemd/system/$(it);)
+	chmod 644 $(UNITS:%=$(ROOT)/lib/systemd/system/%)
+
 # With the recorder and the command that runs others, where a C compiler is there.
-install: asancol $(if $(HAS_CC),install-recorder install-run)
+install: asancol install-units $(if $(HAS_CC),install-recorder install-run)
 	install -D asancol $(ROOT)/bin/asancol
 	$(call install-page,man/asancol.1)
 	$(call install-page,man/asancol-trace.5)
@@ -136,7 +152,7 @@ PROGRAMS := asancol asancol-cc asancol-c++ asancol-run asancol-report
 uninstall:
 	rm -rf $(ROOT)/lib/asancol
 	rm -f $(foreach it,$(PROGRAMS),$(ROOT)/bin/$(it) $(ROOT)/share/man/man1/$(it).1)
-	rm -f $(ROOT)/share/man/man5/asancol-trace.5
+	rm -f $(ROOT)/share/man/man5/asancol-trace.5 $(UNITS:%=$(ROOT)/lib/systemd/system/%)
 	rm -f $(foreach it,$(PROGRAMS),$(call completions-of,$(it)))
 
 # The sources as they are committed, in an archive that is the same whoever makes it.

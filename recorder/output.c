@@ -210,6 +210,15 @@ static bool connect_patiently(int descriptor, const struct sockaddr_un *address,
     return true;
 }
 
+/* An abstract name is anybody's who takes it, and may be another user's by now. */
+static bool is_trusted(int descriptor)
+{
+    struct ucred listener;
+    socklen_t size = sizeof listener;
+    return getsockopt(descriptor, SOL_SOCKET, SO_PEERCRED, &listener, &size) == 0
+           && (listener.uid == 0 || listener.uid == geteuid());
+}
+
 const char *output_connect(struct output *output, const char *path, bool has_abstract, struct window window,
                            int patience_ms)
 {
@@ -225,8 +234,11 @@ const char *output_connect(struct output *output, const char *path, bool has_abs
     if (connect_patiently(descriptor, &address, name_socket(&address, path, false), &patience_ms))
         return take_pieces(output, descriptor, window);
     const char *why = reason();
-    if (has_abstract && connect_patiently(descriptor, &address, name_socket(&address, path, true), &patience_ms))
-        return take_pieces(output, descriptor, window);
+    if (has_abstract && connect_patiently(descriptor, &address, name_socket(&address, path, true), &patience_ms)) {
+        if (is_trusted(descriptor))
+            return take_pieces(output, descriptor, window);
+        why = "its name is another user's";
+    }
     close(descriptor);
     return why;
 }

@@ -18,10 +18,12 @@ import completions
 import feeds
 import lives
 import mutations
+import peers
 import recipes
 import report
 import rooms
 import segments
+import service
 import statuses
 import whole
 from support import Suite
@@ -37,10 +39,12 @@ def main() -> int:
     lives.tests(suite)
     abrupt.tests(suite)
     rooms.tests(suite)
+    peers.tests(suite)
     feeds.tests(suite)
     segments.tests(suite)
     completions.tests(suite)
     recipes.tests(suite)
+    service.tests(suite)
     whole.tests(suite)
     suite.add(*report.run_tests(sys.argv[2:]))  # meanwhile
     if not suite.words or "mutations" in suite.words:
