@@ -63,6 +63,8 @@ MEANINGS = {
     "WRITES_ADDRESS": "writes {0}, as far as `*{1}` says and there was room",
     "READS_SET": "reads the set {0}",
     "WRITES_FOUND": "writes {1}, and {0} if something was found",
+    "READS_REQUEST": "reads what the request takes, of the requests that are in calls.c",
+    "WRITES_REQUEST": "writes what the request gives, of these",
 }
 SILENT = ("ALLOCATES", "SENDS", "SENDS_PIECES")
 
