@@ -108,6 +108,7 @@ struct wish {
     bool is_static;     /* with the C library inside, whose own calls would be wrapped too */
     bool finds_static;  /* after its last word of this kind the linker looks for static libraries alone */
     bool has_libc;      /* named by itself */
+    bool has_libm;      /* the mathematics of the C library */
     bool is_stripped;   /* what is linked has no table of symbols */
     const char *output; /* null if it is not named */
     char **folders;     /* in which libraries are looked for */
@@ -151,6 +152,12 @@ static bool ends(const char *word, const char *end)
     return length >= count && strcmp(word + length - count, end) == 0;
 }
 
+static const char *base_name(const char *path)
+{
+    const char *slash = strrchr(path, '/');
+    return slash ? slash + 1 : path;
+}
+
 /* Whether the linker takes a file as it is. */
 static bool is_linked(const char *word)
 {
@@ -179,6 +186,7 @@ static void take_input(struct wish *wish, const char *word)
     wish->has_source |= is_source;
     wish->has_compiled |= is_compiled;
     wish->has_linked |= wish->names_language || !is_header;
+    wish->has_libm |= begins(base_name(word), "libm.so");
     if (!is_compiled)
         linked_look_at(&wish->linked, word);
 }
@@ -212,6 +220,7 @@ static void take_library(struct wish *wish, const char *name)
 {
     char path[2 * PATH_MAX];
     wish->has_libc |= strcmp(name, "c") == 0;
+    wish->has_libm |= strcmp(name, "m") == 0 || begins(name, ":libm.so");
     for (size_t i = 0; i < wish->folder_count; i++) {
         snprintf(path, sizeof path, "%s/lib%s.a", wish->folders[i], name);
         linked_look_at(&wish->linked, path);
@@ -421,12 +430,6 @@ static struct command compiler(void)
     return command;
 }
 
-static const char *base_name(const char *path)
-{
-    const char *slash = strrchr(path, '/');
-    return slash ? slash + 1 : path;
-}
-
 /* The file that a word of the shell's kind runs, but never this program itself. */
 static bool find_program(const char *word, const char *self, char *found)
 {
@@ -566,13 +569,16 @@ static void add_link(struct line *line, const struct wish *wish, const char *sel
     if (wish->is_shared) {
         add(line, "-Wl,--undefined=asancol_map_early");
         add(line, own_file(self, "libasancol_shared.a"));
-        return;
+    } else {
+        if (!wish->is_bare || wish->has_libc)
+            add_all(line, program_flags, COUNT(program_flags));
+        add(line, own_file(self, "libasancol_record.a"));
+        if (wish->has_libc)
+            add(line, "-lc"); /* for what the recorder calls */
     }
-    if (!wish->is_bare || wish->has_libc)
-        add_all(line, program_flags, COUNT(program_flags));
-    add(line, own_file(self, "libasancol_record.a"));
-    if (wish->has_libc)
-        add(line, "-lc"); /* for what the recorder calls */
+    /* What was called of it is called by the recorder now, which stands behind it. */
+    if (wish->has_libm)
+        add(line, "-Wl,--push-state,--as-needed,-lm,--pop-state");
 }
 
 /* Says what will not be recorded. */

@@ -127,6 +127,23 @@ USES: Dict[str, Sequence[Use]] = {
     "random_r": [(4, "random_state(), (int32_t *)p")],
     "drand48_r": [(8, "(struct drand48_data *)zeros(), (double *)p"), (24, "(struct drand48_data *)p, (double *)room")],
     "lrand48_r": [(8, "(struct drand48_data *)zeros(), (long *)p"), (24, "(struct drand48_data *)p, (long *)room")],
+    # Mathematics.
+    "frexp": [(4, "2.0, (int *)p")],
+    "frexpf": [(4, "2.0f, (int *)p")],
+    "frexpl": [(4, "2.0L, (int *)p")],
+    "modf": [(8, "2.5, (double *)p")],
+    "modff": [(4, "2.5f, (float *)p")],
+    "modfl": [(16, "2.5L, (long double *)p")],
+    "remquo": [(4, "7.0, 2.0, (int *)p")],
+    "remquof": [(4, "7.0f, 2.0f, (int *)p")],
+    "remquol": [(4, "7.0L, 2.0L, (int *)p")],
+    "lgamma_r": [(4, "2.5, (int *)p")],
+    "lgammaf_r": [(4, "2.5f, (int *)p")],
+    "lgammal_r": [(4, "2.5L, (int *)p")],
+    "sincos": [(8, "1.0, (double *)p, (double *)room"), (8, "1.0, (double *)room, (double *)p")],
+    "sincosf": [(4, "1.0f, (float *)p, (float *)room"), (4, "1.0f, (float *)room, (float *)p")],
+    "sincosl": [(16, "1.0L, (long double *)p, (long double *)room"),
+                (16, "1.0L, (long double *)room, (long double *)p")],
     # Wide strings, and those of several bytes a character.
     "wcslen": [(wide("abc"), "WIDE(p)")],
     "wcsnlen": [(wide("abc"), "WIDE(p), 20")],
@@ -608,7 +625,8 @@ def source_of(names: Sequence[str]) -> Tuple[str, Dict[str, str]]:
 
 def names_there() -> List[str]:
     """The names that the C library has, by what the recorder was made with."""
-    return [name for row in table("out/calls.def") for name in row.names]
+    tables = ("out/calls.def", "out/mathematics.def")
+    return [name for of in tables for row in table(of) for name in row.names]
 
 
 def check_rows(suite: Suite, folder: str, compiler: Compiler, level: str) -> None:
@@ -618,7 +636,7 @@ def check_rows(suite: Suite, folder: str, compiler: Compiler, level: str) -> Non
     write(folder, calls_c=source)
     # Each use keeps its place in the code.
     flags = ["-w", "-fno-builtin", "-fno-inline", "-fno-optimize-sibling-calls"]
-    compiler.c(folder, ["calls.c"], f"{folder}/calls", level, *flags)
+    compiler.c(folder, ["calls.c"], f"{folder}/calls", level, *flags, "-lm")
     good = run(["./calls"], folder, ASANCOL_TRACE="good.trace", ASANCOL_WHERE="1")
     expect(good.returncode, 0, "status of good uses")
     said, status = placed(suite.asancol, f"{folder}/good.trace")
@@ -785,6 +803,65 @@ def check_objects(suite: Suite, folder: str, compiler: Compiler) -> None:
         expect(run(["./plain"], folder).returncode, 0, "in a program that has no recorder")
 
 
+TURNED = """
+#define _GNU_SOURCE
+#include <math.h>
+#include <stdlib.h>
+double turned(double by)
+{
+    double *both = malloc(2 * sizeof *both - (by > 1));
+    volatile double sum;
+    sincos(by, &both[0], &both[1]);
+    sum = both[0];
+    free(both);
+    return sum;
+}
+"""
+PARTED = """
+#include <dlfcn.h>
+#include <math.h>
+#include <stdio.h>
+double turned(double by);
+int main(int count, char **words)
+{
+    double (*turn)(double) = NULL;
+    int power;
+    double volatile number = count * 0.75;
+#ifdef OPENS
+    void *library = dlopen("./libturned.so", RTLD_NOW);
+    turn = library ? (double (*)(double))dlsym(library, "turned") : NULL;
+#elif !defined ALONE
+    turn = turned;
+#endif
+    if (turn != NULL)
+        turn(number);
+    return frexp(number, &power) == 0.75 && power == count - 1 ? 0 : 9;
+}
+"""
+
+
+def check_mathematics(suite: Suite, folder: str, compiler: Compiler) -> None:
+    """The library of mathematics: also if the linker takes only what is needed of it, if it comes with a library that
+    is opened, and if it is not there."""
+    write(folder, turned_c=TURNED, parted_c=PARTED)
+    compiler.c(folder, ["-c", "turned.c"], f"{folder}/turned.o", "-fPIC", "-w")
+    compiler.c(folder, ["turned.o", "-lm"], f"{folder}/libturned.so", "-shared", "-Wl,-z,defs")
+    for flags in (["turned.o", "-lm"], ["turned.o", "-Wl,--as-needed", "-lm"], ["turned.o", "-l:libm.so.6"],
+                  ["-DOPENS", "-ldl"]):
+        compiler.c(folder, ["parted.c", *flags], f"{folder}/parted", "-w", "-fno-builtin")
+        for words, wanted in (([], []), (["less"], ["turned.c:9"])):
+            ran = run(["./parted", *words], folder, ASANCOL_TRACE="m.trace", ASANCOL_WHERE="1")
+            expect((ran.returncode, ran.stderr), (0, b""), f"{flags} {words}")
+            said = {it.line for it in placed(suite.asancol, f"{folder}/m.trace")[0]}
+            expect(sorted(said), wanted, f"{flags} {words}")
+            os.unlink(f"{folder}/m.trace")
+        expect(run(["./parted", "less"], folder).returncode, 0, f"{flags}, off")
+    compiler.c(folder, ["parted.c"], f"{folder}/parted", "-w", "-fno-builtin", "-DALONE")
+    expect(run(["./parted"], folder).returncode, 0, "without the library")
+    needed = run(["readelf", "-d", "parted"], folder).stdout
+    expect(b"libm.so" in needed, False, "that the library comes in")
+
+
 def check_page(suite: Suite, folder: str) -> None:
     """The page is what the rows say."""
     made = run([f"{TESTS}/calls_page.py"], folder)
@@ -805,4 +882,5 @@ def tests(suite: Suite, compiler: Compiler) -> None:
         suite.test(f"{compiler} calls, good ones {' '.join(flags)}", check_good_calls, compiler, flags)
     suite.test(f"{compiler} calls, own names", check_own_names, compiler)
     suite.test(f"{compiler} calls, shared objects", check_objects, compiler)
+    suite.test(f"{compiler} calls, mathematics", check_mathematics, compiler)
     suite.test(f"{compiler} calls, the page", check_page)
