@@ -17,7 +17,7 @@ function put(    word, rest, count, names, other, i)
     rest = substr(row, index(row, ","))
     count = split(substr(row, length(word) + 1, index(row, ",") - length(word) - 1), names, " ")
     other = ""
-    if (word == "PRINT(" || word == "SCAN(") {
+    if (word ~ /PRINT|SCAN|LOG/) {
         other = substr(rest, 3)
         other = substr(other, 1, index(other, ",") - 1)
     }

@@ -292,11 +292,11 @@ static size_t pages_of(size_t size)
         return result;                                                                                                 \
     }
 
-#define PRINT(name, listed, parameters, arguments, format, before, after)                                              \
+#define PRINT_BY(walk, name, listed, parameters, arguments, format, before, after)                                     \
     extern int real_##listed(UNPACKED parameters, va_list) __asm__(#listed);                                           \
     static int with_##name(UNPACKED parameters, va_list values, uintptr_t caller)                                      \
     {                                                                                                                  \
-        format_checks_print(format, values, caller);                                                                   \
+        walk(format, values, caller);                                                                                  \
         before;                                                                                                        \
         int result = real_##listed(UNPACKED arguments, values);                                                        \
         after;                                                                                                         \
@@ -304,7 +304,7 @@ static size_t pages_of(size_t size)
     }                                                                                                                  \
     FORMATTED(name, listed, parameters, arguments, format)
 
-#define SCAN(name, listed, parameters, arguments, format, before)                                                      \
+#define SCAN_BY(walk, name, listed, parameters, arguments, format, before)                                             \
     extern int real_##listed(UNPACKED parameters, va_list) __asm__(#listed);                                           \
     static int with_##name(UNPACKED parameters, va_list values, uintptr_t caller)                                      \
     {                                                                                                                  \
@@ -312,10 +312,54 @@ static size_t pages_of(size_t size)
         va_copy(again, values);                                                                                        \
         before;                                                                                                        \
         int result = real_##listed(UNPACKED arguments, values);                                                        \
-        format_checks_scan(format, again, result, caller);                                                             \
+        walk(format, again, result, caller);                                                                           \
         va_end(again);                                                                                                 \
         return result;                                                                                                 \
     }                                                                                                                  \
     FORMATTED(name, listed, parameters, arguments, format)
+
+#define PRINT(...) PRINT_BY(format_checks_print, __VA_ARGS__)
+#define WIDE_PRINT(...) PRINT_BY(format_checks_wide_print, __VA_ARGS__)
+#define SCAN(...) SCAN_BY(format_checks_scan, __VA_ARGS__)
+#define WIDE_SCAN(...) SCAN_BY(format_checks_wide_scan, __VA_ARGS__)
+
+#define LOG(name, listed, parameters, arguments, format)                                                               \
+    extern void real_##listed(UNPACKED parameters, va_list) __asm__(#listed);                                          \
+    STUB_OF_TWO(name, listed)                                                                                          \
+    STUB(listed)                                                                                                       \
+    CHECK void checked_##listed(UNPACKED parameters, va_list values)                                                   \
+    {                                                                                                                  \
+        format_checks_print(format, values, CALLER());                                                                 \
+        real_##listed(UNPACKED arguments, values);                                                                     \
+    }                                                                                                                  \
+    CHECK void checked_##name(UNPACKED parameters, ...)                                                                \
+    {                                                                                                                  \
+        va_list values;                                                                                                \
+        va_start(values, format);                                                                                      \
+        format_checks_print(format, values, CALLER());                                                                 \
+        real_##listed(UNPACKED arguments, values);                                                                     \
+        va_end(values);                                                                                                \
+    }
+
+/* Of such a function that has no form with a va_list: it gets the text that the format makes. */
+#define MESSAGE(name, parameters, arguments, format, before)                                                           \
+    extern void real_##name(UNPACKED parameters, ...) __asm__(#name);                                                  \
+    STUB(name)                                                                                                         \
+    CHECK void checked_##name(UNPACKED parameters, ...)                                                                \
+    {                                                                                                                  \
+        uintptr_t caller = CALLER();                                                                                   \
+        va_list values, again;                                                                                         \
+        va_start(values, format);                                                                                      \
+        va_copy(again, values);                                                                                        \
+        format_checks_print(format, values, caller);                                                                   \
+        before;                                                                                                        \
+        int length = vsnprintf(NULL, 0, format, values);                                                               \
+        char text[length < 0 ? 1 : length + 1];                                                                        \
+        text[0] = 0;                                                                                                   \
+        vsnprintf(text, sizeof text, format, again);                                                                   \
+        va_end(again);                                                                                                 \
+        va_end(values);                                                                                                \
+        real_##name(UNPACKED arguments, "%s", text);                                                                   \
+    }
 
 #include "out/calls.def"

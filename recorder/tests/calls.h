@@ -2,7 +2,9 @@
 #define _GNU_SOURCE
 #include <arpa/inet.h>
 #include <dirent.h>
+#include <err.h>
 #include <errno.h>
+#include <error.h>
 #include <execinfo.h>
 #include <fcntl.h>
 #include <glob.h>
@@ -51,6 +53,7 @@
 #include <sys/utsname.h>
 #include <sys/wait.h>
 #include <sys/xattr.h>
+#include <syslog.h>
 #include <termios.h>
 #include <time.h>
 #include <unistd.h>
@@ -302,6 +305,12 @@ static struct iovec *to_pieces(void)
 
 /* What the program reads as its input. */
 static const char *after_input(const char *input, const char *format)
+{
+    stdin = stream(input);
+    return format;
+}
+
+static const wchar_t *after_wide_input(const char *input, const wchar_t *format)
 {
     stdin = stream(input);
     return format;

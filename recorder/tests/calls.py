@@ -3,11 +3,11 @@
 import glob
 import os
 import re
-from typing import Dict, List, NamedTuple, Sequence, Tuple, Union
+from typing import Dict, List, NamedTuple, Sequence, Set, Tuple, Union
 
 from support import RECORDER, TESTS, Compiler, Suite, Trace, expect, placed, reports, run, side_of, write
 
-ROW = re.compile(r"^(CALL|NO_RESULT|PRINT|SCAN)\((.*?)\)(?=\n(?! )|\Z)", re.M | re.S)
+ROW = re.compile(r"^(CALL|NO_RESULT|(?:WIDE_)?(?:PRINT|SCAN)|LOG|MESSAGE)\((.*?)\)(?=\n(?! )|\Z)", re.M | re.S)
 
 
 class Row(NamedTuple):
@@ -18,10 +18,19 @@ class Row(NamedTuple):
     rest: List[str]
 
     def parameters(self) -> str:
-        return self.rest[0] if self.word == "NO_RESULT" else self.rest[1]
+        return self.rest[0] if self.word in ("NO_RESULT", "MESSAGE") else self.rest[1]
 
     def result(self) -> str:
-        return {"CALL": self.rest[0], "NO_RESULT": "void"}.get(self.word, "int")
+        if self.word in ("NO_RESULT", "LOG", "MESSAGE"):
+            return "void"
+        return self.rest[0] if self.word == "CALL" else "int"
+
+    def has_format(self) -> bool:
+        return self.word not in ("CALL", "NO_RESULT")
+
+    def has_list(self) -> bool:
+        """Whether there is a function with a va_list beside it: the first of the rest."""
+        return self.has_format() and self.word != "MESSAGE"
 
 
 def split(text: str) -> List[str]:
@@ -526,13 +535,34 @@ USES: Dict[str, Sequence[Use]] = {
     "__sprintf_chk": [("abc", 'room, 1, 99, "%s", p'), (4, 'p, 1, 99, "%d", 123')],
     "__snprintf_chk": [("abc", 'room, 99, 1, 99, "%s", p'), (4, 'p, 99, 1, 99, "%d", 123')],
     "__asprintf_chk": [("abc", '(char **)room, 1, "%s", p')],
+    "wprintf": [(wide("abc"), 'L"%d%ls", 1, p'), ("abc", 'L"%Lf%5.*s", 1.0L, 9, p'), (wide("abc"), "WIDE(p)")],
+    "fwprintf": [(wide("abc"), 'wide_nowhere, L"%S", p'), (4, 'wide_nowhere, L"abc%n", p')],
+    "swprintf": [("abc", 'WIDE(room), 99, L"%s", p'), (16, 'WIDE(p), 99, L"%d", 123')],
+    "__wprintf_chk": [("abc", '1, L"%s", p')],
+    "__fwprintf_chk": [("abc", 'wide_nowhere, 1, L"%s", p')],
+    "__swprintf_chk": [("abc", 'WIDE(room), 99, 1, 99, L"%s", p'), (16, 'WIDE(p), 99, 1, 99, L"%d", 123')],
+    "syslog": [("abc", 'LOG_DEBUG, "%s", p'), ("abc", "LOG_DEBUG, p")],
+    "__syslog_chk": [("abc", 'LOG_DEBUG, 1, "%s", p')],
+    "warn": [("abc", '"%s", p'), ("abc", "p")],
+    "warnx": [("abc", '"%s", p')],
+    "err": [("abc", '0, "%s", p')],
+    "errx": [("abc", '0, "%s", p')],
+    "error": [("abc", '0, 0, "%s", p'), ("abc", "0, 0, p")],
+    "error_at_line": [("abc", '0, 0, "a", 1, "%s", p'), ("abc", '0, 0, p, 1, "a"')],
     "scanf": [(4, 'after_input("12", "%d"), p')],
     "fscanf": [(4, 'stream("12"), "%d", p'), (8, 'stream("12"), "%ld", p'), (4, 'stream("abc d"), "%s", p'),
                (2, 'stream("12"), "%hd", p'), (8, 'stream("1.5"), "%lf", p'), (4, 'stream("7 abc"), "%*d %[a-c]", p'),
                (3, 'stream("abcdef"), "%3c", p'), (16, 'stream("abc"), "%ls", p'), (8, 'stream("abc"), "%ms", p')],
     "sscanf": [("12 ", 'p, "%d", (int *)room'), (4, '"12", "%d", p'), (4, '"1 abc 3", "%d %s %d", room, p, room + 9')],
+    "wscanf": [(4, 'after_wide_input("12", L"%d"), p')],
+    "fwscanf": [(4, 'stream("12"), L"%d", p'), (4, 'stream("abc d"), L"%s", p'), (16, 'stream("abc"), L"%ls", p'),
+                (4, 'stream("7 abc"), L"%*d %[a-c]", p')],
+    "swscanf": [(wide("12 "), 'WIDE(p), L"%d", (int *)room'), (4, 'L"1 abc 3", L"%d %s %d", room, p, room + 9')],
 }
-for name in ("scanf", "fscanf", "sscanf"):
+# They end the process.
+ENDING = ("err", "errx")
+ENDING_FORMS = (*ENDING, "verr", "verrx")
+for name in ("scanf", "fscanf", "sscanf", "wscanf", "fwscanf", "swscanf"):
     USES[f"__isoc99_{name}"] = USES[f"__isoc23_{name}"] = USES[name]
 
 HEAD = f'#include "{TESTS}/calls.h"\n'
@@ -541,15 +571,19 @@ struct use {
     void (*run)(char *p);
     const char *holds;
     size_t size;
+    int ends;
 };
 static const struct use uses[] = {
 %s
 };
+/* How many bytes less each block has; and with another word that use alone, which may end the process. */
 int main(int count, char **words)
 {
-    size_t less = count > 1;
+    size_t less = words[1][0] - '0';
     prepare();
     for (size_t i = 0; i < sizeof uses / sizeof *uses; i++) {
+        if (count > 2 ? i != (size_t)atoi(words[2]) : uses[i].ends)
+            continue;
         size_t size = uses[i].size - less;
         char *p = malloc(size);
         for (size_t j = 0; j < size; j++)
@@ -593,8 +627,8 @@ def with_list(row: Row, name: str) -> str:
     """A function of this name that calls the form of a format that has a va_list."""
     parameters, arguments, last = row.parameters()[:-1], row.rest[2][:-1], row.rest[3]
     return (
-        f"static int {name}{parameters}, ...) {{ va_list list; {apart(name)} va_start(list, {last}); "
-        f"int result = call_{row.rest[0]}{arguments}, list); va_end(list); return result; }} "
+        f"static void {name}{parameters}, ...) {{ va_list list; {apart(name)} va_start(list, {last}); "
+        f"call_{row.rest[0]}{arguments}, list); va_end(list); }} "
     )
 
 
@@ -608,17 +642,18 @@ def source_of(names: Sequence[str]) -> Tuple[str, Dict[str, str]]:
     by_name = {name: row for row in table() for name in row.names}
     for name in names:
         row = by_name[name]
-        has_list = row.word in ("PRINT", "SCAN")
-        parameters = row.parameters()[:-1] + ", ...)" if has_list else row.parameters()
+        parameters = row.parameters()[:-1] + ", ...)" if row.has_format() else row.parameters()
         lines.append(declared(row.result(), name, parameters))
-        if has_list:
-            lines.append(declared("int", row.rest[0], row.parameters()[:-1] + ", va_list)"))
+        if row.has_list():
+            lines.append(declared(row.result(), row.rest[0], row.parameters()[:-1] + ", va_list)"))
         for use in uses_of(row, name):
-            for form in [f"call_{name}"] + [f"list_{len(lines) + 2}"] * has_list:
+            for form in [f"call_{name}"] + [f"list_{len(lines) + 2}"] * row.has_list():
                 number = len(lines) + 1
                 shared = with_list(row, form) if form.startswith("list_") else ""
                 lines.append(f"{shared}static void use_{number}(char *p) {{ {apart(number)} {form}({use[1]}); }}")
-                entries.append(f"    {{use_{number}, {quoted(holds(use))}, {len(holds(use))}}},")
+                entries.append(
+                    f"    {{use_{number}, {quoted(holds(use))}, {len(holds(use))}, {int(name in ENDING)}}},"
+                )
                 tried[f"calls.c:{number}"] = f"{row.rest[0] if shared else name}({use[1]})"
     return "\n".join(lines) + MAIN % "\n".join(entries), tried
 
@@ -629,6 +664,19 @@ def names_there() -> List[str]:
     return [name for of in tables for row in table(of) for name in row.names]
 
 
+def found_by(suite: Suite, folder: str, less: int, alone: Sequence[int]) -> Tuple[Set[str], Set[int]]:
+    """The lines that are found with so many bytes less, and the numbers of the uses that were left out."""
+    lines, left_out = set(), set()
+    for words in [[], *([str(number)] for number in alone)]:
+        trace = f"{folder}/calls.trace"
+        ran = run(["./calls", str(less), *words], folder, ASANCOL_TRACE=trace, ASANCOL_WHERE="1")
+        expect((ran.returncode, Trace(trace).is_closed), (0, True), f"status, and the close, of {less} {words}")
+        lines |= {it.line for it in placed(suite.asancol, trace)[0]}
+        left_out |= {int(number) for number in re.findall(rb"^left out (\d+)$", ran.stdout, re.M)}
+        os.unlink(trace)
+    return lines, left_out
+
+
 def check_rows(suite: Suite, folder: str, compiler: Compiler, level: str) -> None:
     """Each use is silent with a block that has room, and found at its line with one byte less. What the system does
     not have or allow is left out, and said."""
@@ -637,15 +685,11 @@ def check_rows(suite: Suite, folder: str, compiler: Compiler, level: str) -> Non
     # Each use keeps its place in the code.
     flags = ["-w", "-fno-builtin", "-fno-inline", "-fno-optimize-sibling-calls"]
     compiler.c(folder, ["calls.c"], f"{folder}/calls", level, *flags, "-lm")
-    good = run(["./calls"], folder, ASANCOL_TRACE="good.trace", ASANCOL_WHERE="1")
-    expect(good.returncode, 0, "status of good uses")
-    said, status = placed(suite.asancol, f"{folder}/good.trace")
-    expect([(it.line, tried.get(it.line)) for it in said], [], "reports of good uses")
-    expect((status, Trace(f"{folder}/good.trace").is_closed), (0, True), "status of the check, and the close")
-    bad = run(["./calls", "less"], folder, ASANCOL_TRACE="bad.trace", ASANCOL_WHERE="1")
-    expect(bad.returncode, 0, "status of bad uses")
-    found = {it.line for it in placed(suite.asancol, f"{folder}/bad.trace")[0]}
-    left_out = {list(tried)[int(number)] for number in re.findall(rb"^left out (\d+)$", bad.stdout, re.M)}
+    ending = [number for number, use in enumerate(tried.values()) if use.split("(")[0] in ENDING_FORMS]
+    said, _ = found_by(suite, folder, 0, ending)
+    expect([(line, tried.get(line)) for line in said], [], "reports of good uses")
+    found, numbers = found_by(suite, folder, 1, ending)
+    left_out = {list(tried)[number] for number in numbers}
     for line in left_out:
         print(f"left out: {tried[line]} needs what this system does not have")
     expect([tried[line] for line in tried if line not in found | left_out], [], "what is not found")
