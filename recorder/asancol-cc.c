@@ -553,13 +553,19 @@ static void add_wraps(struct line *line)
     add(line, word);
 }
 
+/* Whether a program gets the C library into itself. Then no function is wrapped. */
+static bool is_static_program(const struct wish *wish)
+{
+    return (wish->is_static || wish->finds_static) && !wish->is_shared;
+}
+
 static void add_link(struct line *line, const struct wish *wish, const char *self)
 {
     /* What was compiled here, or so before, has checks, also if it has no access. */
     bool is_refused = wish->refusal != NULL;
     if ((wish->linked.has_marked && !(is_refused && wish->linked.has_lto)) || (wish->has_compiled && !is_refused))
         add(line, "-Wl,--undefined=asancol_checks");
-    if ((wish->is_static || wish->finds_static) && !wish->is_shared) {
+    if (is_static_program(wish)) {
         add_all(line, program_flags, COUNT(program_flags));
         add(line, own_file(self, "libasancol_static.a"));
         add(line, own_file(self, "no-second-allocator.ld"));
@@ -588,6 +594,9 @@ static void warn(const struct wish *wish, bool links)
         fprintf(stderr, NAME ": warning: %s: with this nothing is recorded\n", wish->foreign);
     else if (wish->refusal != NULL && (wish->has_compiled || (links && wish->linked.has_lto)))
         fprintf(stderr, NAME ": warning: %s: what is compiled with this is not recorded\n", wish->refusal);
+    if (wish->foreign == NULL && links && is_static_program(wish) && !wish->is_bare)
+        fprintf(stderr, NAME ": warning: %s: calls of the C library, as memcpy and strlen, are not recorded\n",
+                wish->is_static ? "-static" : "-Bstatic");
     if (wish->foreign == NULL && (links || wish->is_partial))
         linked_warn(&wish->linked, NAME);
 }
@@ -610,12 +619,6 @@ static void add_checks(struct line *line, const struct wish *wish, const struct 
     if (!wish->stops_early && wish->linked.unmarked_lto != NULL)
         fail("it was made with -flto, but not by " NAME ": compile it again", wish->linked.unmarked_lto);
     add_all(line, all ? gcc_all_flags : gcc_flags, COUNT(gcc_flags));
-}
-
-/* Whether the linker wraps functions. */
-static bool wraps_functions(const struct wish *wish)
-{
-    return wish->is_shared || !(wish->is_static || wish->finds_static);
 }
 
 /* Whether the compiler gets this word when the link is only tried. */
@@ -675,7 +678,7 @@ int main(int count, char **words)
     if (wish.has_input)
         warn(&wish, links);
     /* What was linked shows which names the program has for variables. Few have one: then it is linked again. */
-    if (wish.has_input && wish.foreign == NULL && links && wraps_functions(&wish)) {
+    if (wish.has_input && wish.foreign == NULL && links && !is_static_program(&wish)) {
         struct line line = make_line(&wish, &command, words, links, true, self);
         const char *output = wish.output != NULL ? wish.output : "a.out";
         int status = run(found, &line);
