@@ -196,9 +196,12 @@ def check_plain_objects(suite: Suite, folder: str, compiler: Compiler) -> None:
     names = [f"n{i}" for i in range(6)]
     write(folder, **{f"{name}_c": f"int {name};\n" for name in names})
     build([compiler.name, "-DVALUE=1", "-c", "main.c", "helper.c", *(f"{name}.c" for name in names)], folder)
-    for flags in ([], ["-static"], ["-no-pie"]):
+    for flags in ([], ["-no-pie"]):
         expect_warnings(warned(folder, compiler, *flags, "main.o", "helper.o", "-o", "program"), "main.o, helper.o")
         expect_unseen(suite, folder)
+    said = warned(folder, compiler, "-static", "main.o", "helper.o", "-o", "program")
+    expect_warnings(said, NO_CALLS, "main.o, helper.o")
+    expect_unseen(suite, folder)
     objects = [f"{name}.o" for name in names]
     said = warned(folder, compiler, "-DVALUE=1", "main.c", "helper.c", *objects, "-o", "program")
     expect_warnings(said, "n0.o, n1.o, n2.o, n3.o and 2 more")
@@ -244,9 +247,34 @@ def check_spellings(suite: Suite, folder: str, compiler: Compiler) -> None:
     flags = ["-fno-record-gcc-switches", "-DVALUE=1"]
     expect_warnings(warned(folder, compiler, *flags, "-c", "main.c", "helper.c"))
     libm = run([compiler.name, "-print-file-name=libm.so.6"], folder).stdout.decode().strip()
-    for words in ([libm], ["-nodefaultlibs", "-lgcc", "-lc"], ["-no-pie", "-Wl,-Bstatic", "-static-libgcc"]):
+    for words in ([libm], ["-nodefaultlibs", "-lgcc", "-lc"]):
         expect_warnings(warned(folder, compiler, "main.o", "helper.o", *words, "-o", "program"))
         one_mark(suite, folder)
+
+
+COPY = """
+#include <stdlib.h>
+#include <string.h>
+int main(void) { char *p = malloc(8); memcpy(p, "12345678", (size_t)atoi("9")); free(p); return 0; }
+"""
+NO_CALLS = "calls of the C library, as memcpy and strlen, are not recorded"
+
+
+def check_static(suite: Suite, folder: str, compiler: Compiler) -> None:
+    """With the C library inside, calls of it are not recorded, and each link says so: a bad memcpy is missed."""
+    write(folder, copy_c=COPY, main_c=PAST_THE_END, helper_c=HELPER)
+    both = ["-DVALUE=1", "main.c", "helper.c"]
+    for words, name in ((["-static"], "-static: "), (["-static-pie"], "-static: "), (["--static"], "-static: "),
+                        (["-no-pie", "-Wl,-Bstatic", "-static-libgcc"], "-Bstatic: ")):
+        expect_warnings(warned(folder, compiler, *both, *words, "-o", "program"), name + NO_CALLS)
+        one_mark(suite, folder)
+    expect_warnings(warned(folder, compiler, "-static", "-c", "main.c"))
+    expect_warnings(warned(folder, compiler, *both, "-Wl,-Bstatic", "-Wl,-Bdynamic", "-o", "program"))
+    for flags, wanted in (([], 1), (["-static"], 0)):
+        warned(folder, compiler, *flags, "-fno-builtin", "copy.c", "-o", "program")
+        expect(run(["./program"], folder, ASANCOL_TRACE="t.trace").returncode, 0, flags)
+        expect(reports(suite.asancol, f"{folder}/t.trace")[0], wanted, flags)
+        os.unlink(f"{folder}/t.trace")
 
 
 def check_nothing_to_see(suite: Suite, folder: str, compiler: Compiler) -> None:
@@ -256,7 +284,7 @@ def check_nothing_to_see(suite: Suite, folder: str, compiler: Compiler) -> None:
     for words in (["empty.c"], ["empty.o"], ["-static", "empty.o"], ["-O2", "-flto", "empty.c"]):
         if "-flto" in words and compiler.name == "clang":
             continue
-        expect_warnings(warned(folder, compiler, *words, "-o", "program"))
+        expect_warnings(warned(folder, compiler, *words, "-o", "program"), *[NO_CALLS] * ("-static" in words))
         ran = run(["./program"], folder, ASANCOL_TRACE="t.trace")
         expect((ran.returncode, ran.stderr), (0, b""), words)
         expect(reports(suite.asancol, f"{folder}/t.trace")[0], 0, words)
@@ -300,6 +328,7 @@ def seen_tests(suite: Suite, compiler: Compiler) -> None:
     suite.test(f"{compiler} refusals", check_refusals, compiler)
     suite.test(f"{compiler} plain objects", check_plain_objects, compiler)
     suite.test(f"{compiler} spellings", check_spellings, compiler)
+    suite.test(f"{compiler} linked with -static", check_static, compiler)
     suite.test(f"{compiler} nothing to see", check_nothing_to_see, compiler)
     suite.test(f"{compiler} plugins", check_plugins, compiler)
 
