@@ -23,55 +23,15 @@ import time
 
 import long_trace
 import thread_starts
+from traces import CLOSE, HEADER, HEADER_2, closed, free, load, malloc, poison, store, unpoison
 
 NOBODY = 65534
 
 # No run may take longer, in seconds.
 PATIENCE = 60
 
-# Traces, which are put together here by hand and not by the program's own encoder.
-HEADER = b"ASTR\x01\0\0\0"
-HEADER_2 = b"ASTR\x02\0\0\0"
-CLOSE = b"\x07"
-
-
-def number(value):
-    return value.to_bytes(8, "little")
-
-
-def load(width, at):
-    return bytes([1, width]) + number(at)
-
-
-def store(width, at):
-    return bytes([2, width]) + number(at)
-
-
-def malloc(at, size):
-    return b"\x03" + number(at) + number(size)
-
-
-def free(at):
-    return b"\x04" + number(at)
-
-
-def poison(at, size, kind=None):
-    """A poison of version 1, or one of version 2, which has a kind."""
-    said = b"" if kind is None else bytes([kind])
-    return b"\x05" + said + number(at) + number(size)
-
-
-def unpoison(at, size):
-    return b"\x06" + number(at) + number(size)
-
-
 # What is said where a word is no command.
 HINT = "\nTo check a trace in a file: asancol check FILE\n"
-
-
-def closed(*records, header=HEADER):
-    return header + b"".join(records) + CLOSE
-
 
 # A malloc of 5 bytes and a store of 4 that ends one byte past them.
 PAST_THE_END = closed(malloc(0x1000, 5), store(4, 0x1004))
