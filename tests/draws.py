@@ -3,9 +3,9 @@
 from random import Random
 from typing import List
 
-from second_reading import FREE, LOAD, MALLOC, POISON, STORE, UNPOISON
+import traces
+from traces import HEADERS, POISON, UNPOISON
 
-HEADERS = [b"ASTR\x01\0\0\0", b"ASTR\x02\0\0\0"]
 END = 1 << 47
 
 # Where the blocks of a trace lie: the ends of the addresses, and both sides of round numbers.
@@ -15,8 +15,9 @@ NUMBERS_AT_ENDS = [0, 31, 32, END - 8, END - 1, END, END + 1, 1 << 48, (1 << 63)
 SIZES_AT_ENDS = [1 << 12, 1 << 16, (1 << 28) - 1, 1 << 28, (1 << 28) + 1, 1 << 32, (1 << 32) + 1, (1 << 64) - 1]
 
 
-def number(value: int) -> bytes:
-    return (value % (1 << 64)).to_bytes(8, "little")
+def wrapped(value: int) -> int:
+    """Returns a number that has room in a record."""
+    return value % (1 << 64)
 
 
 class Draw:
@@ -53,27 +54,29 @@ class Draw:
         if random.random() < 0.03:
             at = 0
         self.used.append(at)
-        return bytes([MALLOC]) + number(at) + number(self.size())
+        return traces.malloc(wrapped(at), wrapped(self.size()))
 
     def free(self) -> bytes:
         random = self.random
         at = random.choice(self.used) if self.used and random.random() < 0.85 else self.address()
-        return bytes([FREE]) + number(at if random.random() < 0.97 else 0)
+        return traces.free(wrapped(at) if random.random() < 0.97 else 0)
 
     def access(self) -> bytes:
         random = self.random
         width = random.choice([1, 2, 4, 8])
         if random.random() < self.odd / 4:
             width = random.randrange(256)
-        return bytes([random.choice([LOAD, STORE]), width]) + number(self.address())
+        return random.choice([traces.load, traces.store])(width, wrapped(self.address()))
 
     def poison(self, code: int) -> bytes:
         random = self.random
         at, size = self.address(), self.size()
         if random.random() < 0.4:
             size += -(at + size) % 8
-        kind = bytes([random.randrange(3 if random.random() >= self.odd / 2 else 6)])
-        return bytes([code]) + (kind if code == POISON and self.version == 2 else b"") + number(at) + number(size)
+        kind = random.randrange(3 if random.random() >= self.odd / 2 else 6)
+        if code == UNPOISON:
+            return traces.unpoison(wrapped(at), wrapped(size))
+        return traces.poison(wrapped(at), wrapped(size), kind if self.version == 2 else None)
 
     def record(self) -> bytes:
         which = self.random.random()
@@ -91,8 +94,8 @@ class Draw:
         if random.random() < 0.01:
             count = random.randrange(100, 400)
         records = [self.record() for _ in range(count)]
-        close = b"\x07" if random.random() < 0.8 else b""
-        return b"".join([HEADERS[self.version - 1], *records, close])
+        close = traces.CLOSE if random.random() < 0.8 else b""
+        return b"".join([HEADERS[self.version], *records, close])
 
 
 def damaged(random: Random, trace: bytes) -> bytes:
@@ -112,7 +115,7 @@ def damaged(random: Random, trace: bytes) -> bytes:
         elif what == 4 and text:
             text[at % len(text)] = random.choice([0, 1, 2, 3, 4, 5, 6, 7, 8, 9, 0x80, 0xFF])
         elif what == 5:
-            text[:8] = random.choice([*HEADERS, b"ASTR\x03\0\0\0", b"ASTR\x01\0\0\x01", b"ASTS\x01\0\0\0"])
+            text[:8] = random.choice([*HEADERS.values(), b"ASTR\x03\0\0\0", b"ASTR\x01\0\0\x01", b"ASTS\x01\0\0\0"])
         else:
             text += text[at:]
     return bytes(text)

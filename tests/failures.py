@@ -19,8 +19,9 @@ import sys
 import threading
 
 import runs
-from runs import CUT, HEADER, PAST_THE_END, PATIENCE, SOUND, TWICE_FREED
-from runs import Served, closed, holds, load, malloc, prepared, put, same
+from runs import CUT, PAST_THE_END, PATIENCE, SOUND, TWICE_FREED
+from runs import Served, holds, prepared, put, same
+from traces import HEADER, closed, load, malloc
 
 # 2,000 blocks that are far from one another, and 200 loads past their ends. It takes some memory.
 SPREAD = closed(

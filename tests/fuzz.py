@@ -29,6 +29,7 @@ from typing import Dict, List, NamedTuple, Optional, Tuple
 
 import draws
 import second_reading
+from traces import layout_at, version_of
 
 # No batch may take longer, in seconds.
 PATIENCE = 120
@@ -309,9 +310,10 @@ def difference(program: str, batch: Batch) -> Optional[Differs]:
 def records_of(trace: bytes) -> List[bytes]:
     """The trace in parts: the header, records as far as they can be told apart, and bytes."""
     parts, at = [trace[:8]], 8
-    version = second_reading.HEADERS.get(trace[:8], 1)
+    version = version_of(trace) or 1
     while at < len(trace):
-        length = second_reading.length_of(trace[at], version) or 1
+        layout = layout_at(trace, at, version)
+        length = layout.size if layout else 1
         parts.append(trace[at : at + length])
         at += length
     return parts

@@ -11,6 +11,8 @@ usage: tests/hygiene.py
 - Each name that a file imports is used there (`names.py`). `rt tidy` drops those that are not; it
   proves the crate again, so this does not call it.
 - Each function, clause, file, test and target of make that a page names is there (`pages.py`).
+- The worked examples that MODEL.md shows, the stored traces and the lemmas of `Examples` are what
+  the rows of their names say (`worked.py`).
 - The program says the release that VERSION says: it can't read the file, since it is proved.
 
 Each finding is a line `FILE:LINE: what`. The last line counts them, and the status is 1 if there are
@@ -26,6 +28,7 @@ from typing import Iterator, List, Tuple
 
 import names
 import pages
+import worked
 from files import TOP, files_of_tree
 
 Finding = Tuple[str, int, str]
@@ -96,7 +99,10 @@ def findings() -> Iterator[Finding]:
     yield from other_release()
     yield from names.uncited_lemmas(sources)
     yield from names.unused_imports(sources)
-    yield from pages.findings(pages.Tree(TOP, files))
+    known = worked.by_name(worked.rows())
+    yield from worked.other_lemmas(known)
+    yield from worked.other_traces(known)
+    yield from pages.findings(pages.Tree(TOP, files), known)
 
 
 def main() -> int:

@@ -11,8 +11,9 @@ and docs/FORMAT.md alone. It knows mallocs, frees, loads and stores.
 import bisect
 import collections
 import random
-import struct
 from typing import Deque, Dict, List, NamedTuple, Optional, Tuple
+
+import traces
 
 # The largest quarantine, in bytes, and the largest block.
 QUARANTINE = 1 << 40
@@ -141,20 +142,20 @@ class Drawn:
 
     def __init__(self) -> None:
         self.model = Model()
-        self.records = [b"ASTR\2\0\0\0"]
+        self.records: List[bytes] = []
         self.random = random.Random(12)
 
     def malloc(self, at: int, size: int) -> None:
-        self.records.append(struct.pack("<BQQ", 3, at, size))
+        self.records.append(traces.malloc(at, size))
         self.model.malloc(at, size)
 
     def free(self, at: int) -> None:
-        self.records.append(struct.pack("<BQ", 4, at))
+        self.records.append(traces.free(at))
         self.model.free(at)
 
-    def access(self, code: int, width: int, at: int) -> None:
-        self.records.append(struct.pack("<BBQ", code, width, at))
-        self.model.access({1: "load", 2: "store"}[code], width, at)
+    def access(self, kind: str, width: int, at: int) -> None:
+        self.records.append({"load": traces.load, "store": traces.store}[kind](width, at))
+        self.model.access(kind, width, at)
 
     def fill_quarantine(self) -> List[Tuple[int, int]]:
         """Allocates all blocks and frees them, the small ones first, in another order. Returns the
@@ -182,7 +183,7 @@ class Drawn:
         if drawn < 7:
             width = self.random.choice([1, 2, 4, 8])
             place = self.random.randrange(-REDZONE, round_up(size) + REDZONE)
-            self.access(1 + drawn % 2, width, at + place)
+            self.access(["load", "store"][drawn % 2], width, at + place)
         elif drawn < 9:
             self.free(at + self.random.choice([0, 0, 4]))
         else:
@@ -197,7 +198,7 @@ def long_trace() -> Long:
     assert model.most_released == RELEASED_AT_ONCE and not model.lines
     while len(model.lines) < REPORTS:
         drawn.touch(*drawn.random.choice(small))
-    trace = b"".join([*drawn.records, b"\7"])
+    trace = traces.closed(*drawn.records, header=traces.HEADER_2)
     end = f"end closed events {model.events} offset {len(trace)} reports {len(model.lines)}\n"
     return Long(trace, [*model.lines, end])
 

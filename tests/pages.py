@@ -7,12 +7,15 @@ be a function, a clause, a definition or a field; one that begins with a capital
 follows a function there, up to a `;` and not in brackets, has to be a clause of a function of that
 name, or a public function or a test; functions of one name count as one. A link that is no address
 has to lead to a file and, after `#`, to a heading of it. Each target of `make` has to be in the
-Makefile.
+Makefile. A worked example has the events and the lines of the rows that its title names.
 """
 
 import os
 import re
 from typing import Dict, Iterator, List, Optional, Set, Tuple
+
+from traces import is_row
+from worked import Row
 
 Finding = Tuple[str, int, str]
 
@@ -49,6 +52,9 @@ DEFINED = re.compile(
 FUNCTION = re.compile(r"\bfn (\w+)")
 PUBLIC = re.compile(r"(?:\bpub (?:const )?|#\[test\]\s*)fn (\w+)")
 CLAUSE = re.compile(r"\b(?:ensures|requires)\*? (\w+)")
+# The worked examples of a page; and each of them, with the names of its rows and the rest up to the next one.
+EXAMPLES = re.compile(r"^## Worked examples\n.*?(?=^## |\Z)", re.M | re.S)
+EXAMPLE = re.compile(r"^\*\*([^*]+)\*\*(?: \((`\w+`(?:,\s`\w+`)*)\))?(.*?)(?=^\*\*|\Z)", re.M | re.S)
 MAKE = re.compile(r"(?:^|[\s`(])make((?: +(?:-\w+ +\w+|[A-Z]+=\S+|[a-z][a-z-]*))+)")
 
 
@@ -67,7 +73,7 @@ class Tree:
         # The functions that a page may name after another one: those that are public, and tests.
         self.named: Set[str] = set()
         for path in files:
-            if path.endswith((".rt", ".antt", ".py", ".c", ".h", ".def", ".txt", "Makefile")):
+            if path.endswith((".rt", ".antt", ".py", ".c", ".h", ".def", ".txt", ".rows", "Makefile")):
                 self.read(path)
         self.stems = {os.path.splitext(os.path.basename(it))[0] for it in files}
 
@@ -197,6 +203,30 @@ def bad_targets(page: str, text: str, targets: Dict[str, Set[str]]) -> Iterator[
                         yield page, number, f"no target of the Makefile: make {word}"
 
 
+def is_as_rows(names: str, rest: str, known: Dict[str, Row]) -> bool:
+    """Returns whether a worked example has the events, the bounds of the quarantine and the lines of these rows."""
+    named = [known.get(it) for it in SPAN.findall(names)]
+    rows = [it for it in named if it]
+    events = [it for it in SPAN.findall(rest.replace("\n", " ")) if is_row(it)]
+    bounds = [str(row.numbers["Q"]) for row in rows if "Q" in row.numbers]
+    return (
+        len(named) == len(rows) > 0
+        and events == list(dict.fromkeys(row.text for row in rows))
+        and re.findall(r"\bQ = (\d+)", rest) == bounds
+        and re.findall(r"^p\d+ .*$", rest, re.M) == [line for row in rows for line in row.lines]
+    )
+
+
+def bad_examples(page: str, text: str, known: Dict[str, Row]) -> Iterator[Finding]:
+    """Goes over the worked examples of a page that are not what the rows say which their titles name."""
+    for examples in EXAMPLES.finditer(text):
+        for found in EXAMPLE.finditer(examples[0]):
+            title, names, rest = found.groups()
+            if not is_as_rows(names or "", rest, known):
+                line = text.count("\n", 0, examples.start() + found.start()) + 1
+                yield page, line, f"not what the rows of examples/worked say: {title}"
+
+
 def targets_of(tree: Tree) -> Dict[str, Set[str]]:
     """Returns the targets of each Makefile, by its folder."""
     found = {}
@@ -207,7 +237,7 @@ def targets_of(tree: Tree) -> Dict[str, Set[str]]:
     return found
 
 
-def findings(tree: Tree) -> Iterator[Finding]:
+def findings(tree: Tree, known: Dict[str, Row]) -> Iterator[Finding]:
     targets = targets_of(tree)
     pages = ["README.md", "CHANGELOG.md"] + [it for it in tree.files if re.fullmatch(r"docs/[^/]+\.md", it)]
     for page in sorted(pages):
@@ -216,3 +246,4 @@ def findings(tree: Tree) -> Iterator[Finding]:
         yield from bad_names(page, text, tree)
         yield from bad_cells(page, text, tree)
         yield from bad_targets(page, text, targets)
+        yield from bad_examples(page, text, known)

@@ -8,6 +8,7 @@ where a case failed. Where root runs it, the programs run as nobody, so that a f
 unreadable.
 """
 
+import fcntl
 import itertools
 import os
 import re
@@ -23,55 +24,23 @@ import time
 
 import long_trace
 import thread_starts
+import worked
+from traces import CLOSE, HEADER, HEADER_2, closed, free, load, malloc, poison, store
 
 NOBODY = 65534
 
 # No run may take longer, in seconds.
 PATIENCE = 60
 
-# Traces, which are put together here by hand and not by the program's own encoder.
-HEADER = b"ASTR\x01\0\0\0"
-HEADER_2 = b"ASTR\x02\0\0\0"
-CLOSE = b"\x07"
+# Read here, while the tree can be read: the cases run as nobody.
+ROWS = worked.rows()
 
-
-def number(value):
-    return value.to_bytes(8, "little")
-
-
-def load(width, at):
-    return bytes([1, width]) + number(at)
-
-
-def store(width, at):
-    return bytes([2, width]) + number(at)
-
-
-def malloc(at, size):
-    return b"\x03" + number(at) + number(size)
-
-
-def free(at):
-    return b"\x04" + number(at)
-
-
-def poison(at, size, kind=None):
-    """A poison of version 1, or one of version 2, which has a kind."""
-    said = b"" if kind is None else bytes([kind])
-    return b"\x05" + said + number(at) + number(size)
-
-
-def unpoison(at, size):
-    return b"\x06" + number(at) + number(size)
-
+# A pipe with this room holds 256 bytes that are kept apart.
+ROOM_OF_A_PIPE = 1 << 20
+F_SETPIPE_SZ = 1031  # of Linux; Python's fcntl has it from 3.10 on
 
 # What is said where a word is no command.
 HINT = "\nTo check a trace in a file: asancol check FILE\n"
-
-
-def closed(*records, header=HEADER):
-    return header + b"".join(records) + CLOSE
-
 
 # A malloc of 5 bytes and a store of 4 that ends one byte past them.
 PAST_THE_END = closed(malloc(0x1000, 5), store(4, 0x1004))
@@ -209,127 +178,69 @@ def one_file(program):
     program.expect_unwritten(["check", "missing"])
 
 
-def worked_traces(program):
-    bad_mallocs = [malloc(0x1000, 0), load(1, 0x1000), malloc(0, 16), malloc(0x18, 8)]
+def kept_apart(trace):
+    """The reading end of a pipe that holds a trace: each read gives one byte of it."""
+    reader, writer = os.pipe2(os.O_DIRECT | os.O_CLOEXEC)
+    fcntl.fcntl(writer, F_SETPIPE_SZ, ROOM_OF_A_PIPE)
+    os.set_blocking(writer, False)
+    for byte in trace:
+        os.write(writer, bytes([byte]))
+    os.close(writer)
+    return reader
+
+
+def expect_row(program, row, version):
+    """Expects the lines of a row in a version: from a file, byte by byte, and cut after each byte, all of these in one
+    run."""
+    what = (row.name, version)
+    trace = row.trace(version)
+    wanted = worked.printed(row, version, len(trace))
+    whole = (wanted.status, wanted.text(0).encode(), b"")
+    words = ["check", *row.options()]
+    same(what, program.run([*words, put("trace", trace)]), whole)
+    reader = kept_apart(trace)
+    try:
+        same(what, program.run([*words, "-"] if row.options() else [], stdin=reader), whole)
+    finally:
+        os.close(reader)
+    names = [put(f"first {length}", trace[:length]) for length in range(len(trace) + 1)]
+    texts = [worked.printed(row, version, length).text(length) for length in range(len(trace) + 1)]
+    status, output, faults = program.run([*words, *names])
+    same(what, (status, faults), (3, b""))
+    same_lines(what, output, "".join(texts))
+
+
+def worked_rows(program):
+    """Each row of examples/worked, in each version that can spell it."""
+    for row in ROWS:
+        for version in row.versions():
+            expect_row(program, row, version)
+
+
+def headers_and_codes(program):
     for data, status, text in [
         (b"", 3, "p0 end truncated events 0 offset 0 reports 0\n"),
         (HEADER, 3, "p0 end no-close events 0 offset 8 reports 0\n"),
         (b"ASTX\x01\0\0\0", 3, "p0 end malformed header events 0 offset 0 reports 0\n"),
         (b"ASTX\x01\0\0", 3, "p0 end truncated events 0 offset 0 reports 0\n"),
         (
+            closed(header=b"ASTR\x03\0\0\0"),
+            3,
+            "p0 end malformed header events 0 offset 0 reports 0\n",
+        ),
+        (
             HEADER + malloc(0x1000, 5) + b"\x09\x07 and more",
             3,
             "p0 end malformed code events 1 offset 25 reports 0\n",
-        ),
-        (
-            closed(*bad_mallocs, malloc(0x3004, 8)),
-            1,
-            "p0 #2 load 1 at 000000001000 bad 000000001000 heap-buffer-overflow shadow fa\n"
-            "p0 #4 malloc 8 at 000000000018 bad-malloc\n"
-            "p0 #5 malloc 8 at 000000003004 bad-malloc\n"
-            "p0 end closed events 5 offset 87 reports 3\n",
-        ),
-        (
-            TWICE_FREED,
-            1,
-            "p0 #3 free at 000000001000 double-free\n"
-            "p0 end closed events 3 offset 44 reports 1\n",
-        ),
-        (
-            closed(malloc(0x1000, 8), free(0x1004), free(0)),
-            1,
-            "p0 #2 free at 000000001004 bad-free\n"
-            "p0 end closed events 3 offset 44 reports 1\n",
-        ),
-        (
-            closed(load(8, 0x7FFF_FFFF_FFF8)),
-            0,
-            "p0 end closed events 1 offset 19 reports 0\n",
-        ),
-        (
-            closed(load(8, 0x7FFF_FFFF_FFF9)),
-            3,
-            "p0 end malformed range events 0 offset 8 reports 0\n",
-        ),
-        (closed(load(3, 0x1000)), 3, "p0 end malformed width events 0 offset 8 reports 0\n"),
-        (
-            closed(malloc(0x1004, 1 << 28)),
-            1,
-            "p0 #1 malloc 268435456 at 000000001004 bad-malloc\n"
-            "p0 end closed events 1 offset 26 reports 1\n",
-        ),
-        (
-            closed(malloc(0x1004, (1 << 28) + 1)),
-            3,
-            "p0 end malformed size events 0 offset 8 reports 0\n",
-        ),
-        (
-            closed(malloc(0x7FFF_FFFF_FFD8, 8)),
-            0,
-            "p0 end closed events 1 offset 26 reports 0\n",
-        ),
-        (
-            closed(malloc(0x7FFF_FFFF_FFE0, 8)),
-            1,
-            "p0 #1 malloc 8 at 7fffffffffe0 bad-malloc\n"
-            "p0 end closed events 1 offset 26 reports 1\n",
         ),
     ]:
         program.expect([], status, text, given=data)
 
 
-def both_versions(program):
-    """Poison with a kind and without one, after the header of its version and of the other."""
-    redzones = [
-        poison(0x2000, 16, 1),
-        poison(0x2010, 16, 2),
-        load(1, 0x2008),
-        store(4, 0x2010),
-        unpoison(0x2000, 32),
-        load(8, 0x2000),
-    ]
+def header_of_the_other_version(program):
+    """Records that were written for one version, after the header of each."""
     written_for_1 = [malloc(0x1000, 8), poison(0x1002, 6), load(1, 0x1003)]
     for data, status, text in [
-        (
-            closed(*redzones, header=HEADER_2),
-            1,
-            "p0 #3 load 1 at 000000002008 bad 000000002008 stack-buffer-overflow shadow f2\n"
-            "p0 #4 store 4 at 000000002010 bad 000000002010 global-buffer-overflow shadow f9\n"
-            "p0 end closed events 6 offset 92 reports 2\n",
-        ),
-        (
-            closed(poison(0x1004, 12, 1), load(8, 0x1000), header=HEADER_2),
-            1,
-            "p0 #2 load 8 at 000000001000 bad 000000001004 stack-buffer-overflow shadow 04\n"
-            "p0 end closed events 2 offset 37 reports 1\n",
-        ),
-        (
-            closed(malloc(0x1000, 5), poison(0x1000, 5, 1), load(1, 0x1006), header=HEADER_2),
-            1,
-            "p0 #3 load 1 at 000000001006 bad 000000001006 stack-buffer-overflow shadow f2\n"
-            "p0 end closed events 3 offset 54 reports 1\n",
-        ),
-        (
-            closed(poison(0x1000, (1 << 28) + 1, 3), header=HEADER_2),
-            3,
-            "p0 end malformed kind events 0 offset 8 reports 0\n",
-        ),
-        (
-            closed(malloc(0x7FFF_0000_0000, 1 << 32), header=HEADER_2),
-            1,
-            "p0 #1 malloc 4294967296 at 7fff00000000 bad-malloc\n"
-            "p0 end closed events 1 offset 26 reports 1\n",
-        ),
-        (
-            closed(malloc(0x1000, (1 << 32) + 1), header=HEADER_2),
-            3,
-            "p0 end malformed size events 0 offset 8 reports 0\n",
-        ),
-        (
-            closed(unpoison(0x7FFF_0000_0001, 1 << 32), header=HEADER_2),
-            3,
-            "p0 end malformed range events 0 offset 8 reports 0\n",
-        ),
         (
             closed(*written_for_1),
             1,
@@ -345,16 +256,6 @@ def both_versions(program):
             closed(poison(0x2000, 16, 1)),
             3,
             "p0 end malformed code events 1 offset 25 reports 0\n",
-        ),
-        (
-            closed(malloc(0x1000, 5), store(4, 0x1004), header=HEADER_2),
-            1,
-            past_the_end(),
-        ),
-        (
-            closed(header=b"ASTR\x03\0\0\0"),
-            3,
-            "p0 end malformed header events 0 offset 0 reports 0\n",
         ),
     ]:
         program.expect([], status, text, given=data)
@@ -549,25 +450,6 @@ def quarantine(program):
             1,
             "p0 #3 free at 000000001000 bad-free\np0 end closed events 3 offset 44 reports 1\n",
         )
-
-
-def four_gigabyte_block(program):
-    """A block of 2^32 bytes is released by its own free, unless the quarantine has room for it."""
-    block = [malloc(1 << 32, 1 << 32), free(1 << 32), free(1 << 32)]
-    put("trace", closed(*block, header=HEADER_2))
-    for words, fault in [
-        ([], "bad-free"),
-        (["--quarantine", "4294967359"], "bad-free"),
-        (["--quarantine", "4294967360"], "double-free"),
-    ]:
-        program.expect(
-            ["check", *words, "trace"],
-            1,
-            f"p0 #3 free at 000100000000 {fault}\n"
-            "p0 end closed events 3 offset 44 reports 1\n",
-        )
-    put("trace", closed(*block))
-    program.expect(["check", "trace"], 3, "p0 end malformed size events 0 offset 8 reports 0\n")
 
 
 def ends_of_ranges(program):
@@ -1160,8 +1042,9 @@ def live_peers(program):
 
 CASES = [
     one_file,
-    worked_traces,
-    both_versions,
+    worked_rows,
+    headers_and_codes,
+    header_of_the_other_version,
     input_that_cannot_be_read,
     closed_streams,
     many_reports,
@@ -1173,7 +1056,6 @@ CASES = [
     limit_of_events,
     greatest_limits,
     quarantine,
-    four_gigabyte_block,
     ends_of_ranges,
     refused_words,
     word_that_is_no_text,

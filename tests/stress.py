@@ -22,7 +22,7 @@ import tempfile
 import threading
 import time
 
-from runs import CLOSE, HEADER, free, load, malloc, store
+from traces import CLOSE, HEADER, free, load, malloc, poison, store, unpoison
 
 RINGS = ["1", "1024"]
 WORKERS = ["1", "2", "64"]
@@ -32,14 +32,6 @@ MOST = 256
 
 # How many traces the runs choose from.
 TRACES = 64
-
-
-def poison(at, size):
-    return b"\x05" + malloc(at, size)[1:]
-
-
-def unpoison(at, size):
-    return b"\x06" + malloc(at, size)[1:]
 
 
 def made_trace(draw):

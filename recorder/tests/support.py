@@ -6,6 +6,7 @@ import re
 import shutil
 import struct
 import subprocess
+import sys
 import tempfile
 import threading
 from concurrent.futures import ThreadPoolExecutor
@@ -13,6 +14,9 @@ from typing import NamedTuple
 
 TESTS = os.path.dirname(os.path.abspath(__file__))
 RECORDER = os.path.dirname(TESTS)
+sys.path.append(f"{os.path.dirname(RECORDER)}/tests")
+
+import traces  # noqa: E402
 CC = f"{RECORDER}/asancol-cc"
 CXX = f"{RECORDER}/asancol-c++"
 
@@ -20,9 +24,6 @@ CXX = f"{RECORDER}/asancol-c++"
 PATIENCE = 300
 
 REDZONE = 32
-LENGTHS = {1: 10, 2: 10, 3: 17, 4: 9, 5: 18, 6: 17}
-POISON = 5
-CLOSE = 7
 
 
 class Failure(Exception):
@@ -69,25 +70,9 @@ class Trace:
 
     def __init__(self, path=None, data=None):
         self.data = data if data is not None else open(path, "rb").read()
-        self.events = []
-        self.is_closed = False
-        at = 8
-        while at < len(self.data):
-            code = self.data[at]
-            length = LENGTHS.get(code)
-            if code == CLOSE:
-                self.is_closed = at + 1 == len(self.data)
-            if length is None or at + length > len(self.data):
-                break
-            record = self.data[at : at + length]
-            if length == 10:
-                self.events.append((code, int.from_bytes(record[2:], "little"), record[1]))
-            else:
-                if code == POISON:
-                    record = record[1:]  # without its kind
-                address = int.from_bytes(record[1:9], "little")
-                self.events.append((code, address, int.from_bytes(record[9:], "little")))
-            at += length
+        reading = traces.read(self.data)
+        self.events = [(event.code, event.at, event.size) for event in reading.events]
+        self.is_closed = reading.is_closed
 
     def count(self, code):
         return sum(1 for event in self.events if event[0] == code)
@@ -96,7 +81,7 @@ class Trace:
         """The start of the block whose span has the address, as it was at an event."""
         for code, start, size in reversed(self.events[: before - 1]):
             end = start + (size + 7) // 8 * 8 + REDZONE
-            if code == 3 and start != 0 and start - REDZONE <= address < end:
+            if code == traces.MALLOC and start != 0 and start - REDZONE <= address < end:
                 return start
         return None
 
