@@ -621,6 +621,9 @@ static void fit_quarantine(uint64_t most_held, uint64_t room)
     do {
         while (heap.held_count > most)
             release_oldest();
+        /* A few are no matter, and need no count of all others. */
+        if (heap.held_count <= room / 16)
+            return;
         uint64_t others = count_restated(), fit = others < room ? (room - others) / 2 : 0;
         if (heap.held_count <= fit)
             return;

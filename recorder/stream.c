@@ -6,6 +6,7 @@
 #include <sched.h>
 #include <string.h>
 #include <sys/mman.h>
+#include <sys/syscall.h>
 #include <time.h>
 #include <unistd.h>
 
@@ -90,14 +91,16 @@ static bool lock_at_once(void)
 /* How long to wait for another thread. */
 enum patience { NONE, SHORT, LONG };
 
-/* Waits a little. */
+/* Waits a little. Nobody is cancelled here, as by a call of nanosleep. */
 static void rest(int looks)
 {
     struct timespec nap = {0, NAP};
+    int before = errno;
     if (looks < LOOKS)
         sched_yield();
     else
-        nanosleep(&nap, NULL);
+        syscall(SYS_nanosleep, &nap, NULL);
+    errno = before;
 }
 
 /* Likewise, if there was not enough of it. */
