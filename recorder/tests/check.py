@@ -524,7 +524,8 @@ def check_builds(suite, folder, compiler):
         made = run([CC, *words], folder, stdin=stdin, ASANCOL_CC=compiler.name)
         if made.returncode != 0:
             raise Failure(f"{words}: {made.stderr.decode()}")
-        expect(made.stderr if "-v" not in words else b"", b"", f"{words}")
+        may_warn = "-v" in words or "-static" in words
+        expect(b"" if may_warn else made.stderr, b"", f"{words}")
         return made.stdout
 
     cc("-c", "main.c")
