@@ -11,9 +11,9 @@ SOURCES := crates.txt HANDLES $(shell find crates -name out -prune -o -type f \(
 EXAMPLE := examples/one_byte_past_the_end.trace
 REDZONES := examples/stack_and_global_poison.trace
 
-.PHONY: all demo check stress fuzz failures bench install uninstall clean recorder check-recorder check-real bench-record \
-        soak stress-record stress-segments install-recorder run check-run check-farm bench-run install-run install-units \
-        dist deb check-packages
+.PHONY: all demo check stress fuzz fuzz-parsers failures bench soak install uninstall clean recorder check-recorder \
+        check-real bench-record stress-record stress-segments install-recorder run check-run check-farm bench-run \
+        install-run install-units dist deb check-packages
 
 # The program, proved.
 all: asancol
@@ -70,9 +70,17 @@ recorder:
 	$(MAKE) -C recorder
 
 # Small programs under each compiler that is there, recorded and checked. Tests that need a compiler, an AddressSanitizer
-# or a symbolizer that is not there are left out, and it says which.
+# or a symbolizer that is not there are left out, and it says which. With SANITIZE=1 its parsers and its stream run under
+# the compilers' own sanitizers, too.
 check-recorder: asancol recorder
-	recorder/tests/check.py ./asancol
+	$(if $(SANITIZE),SANITIZE=1) recorder/tests/check.py ./asancol
+
+# What parses strangers' words, objects, formats, settings and messages, in the recorder and in asancol-run: libFuzzer
+# draws inputs for each of them, for so many seconds.
+SECONDS := 60
+
+fuzz-parsers: recorder
+	tests/fuzzers.py --seconds $(SECONDS)
 
 # What checking costs: some minutes, on a machine with nothing else to do. It writes the tables of docs/SPEED.md.
 bench: asancol

@@ -116,6 +116,7 @@ struct wish {
     char *foreign;      /* a word for another sanitizer, which brings its own runtime, or another machine; or null */
     char *refusal;      /* a word by which the compiler puts no calls before accesses, or null */
     struct linked linked; /* the files that are linked */
+    unsigned response_files, nested; /* how many were looked into, and in how many of them this is */
     const char *option; /* whose value is the next word, or null */
 };
 
@@ -265,8 +266,8 @@ static void look_into(struct wish *wish, const char *path)
             quote = 0;
             continue;
         }
-        if (byte == '\\' && quote != '\'')
-            byte = getc(file);
+        if (byte == '\\' && quote != '\'' && (byte = getc(file)) == EOF)
+            byte = '\\'; /* at the end it stands for itself */
         if (length + 1 == room)
             word = must(realloc(word, room *= 2));
         word[length++] = (char)byte;
@@ -328,13 +329,20 @@ static void take_language(struct wish *wish, const char *language)
     wish->stops_early |= ends(language, "-header");
 }
 
+/* One may name itself. GCC takes no more of them either. */
+enum { MOST_RESPONSE_FILES = 2000, MOST_NESTED = 64 };
+
 static void take_response_file(struct wish *wish, const char *word)
 {
     struct stat seen;
-    if (stat(word + 1, &seen) == 0)
-        look_into(wish, word + 1);
-    else
+    if (stat(word + 1, &seen) != 0) {
         take_input(wish, word);
+    } else if (wish->response_files < MOST_RESPONSE_FILES && wish->nested < MOST_NESTED) {
+        wish->response_files++;
+        wish->nested++;
+        look_into(wish, word + 1);
+        wish->nested--;
+    }
 }
 
 /* Whether one of the sanitizers that an option lists has one of these words in its name. */

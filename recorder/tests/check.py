@@ -5,7 +5,8 @@ usage: recorder/tests/check.py ASANCOL [WORD..]
 
 With words, only tests whose names have one of them are run. The last line is 'N passed, M failed',
 and the status is 1 where a test failed. What is not there (a compiler, its AddressSanitizer) is
-said in a line, and left out.
+said in a line, and left out. If SANITIZE is set, the parsers of the recorder and of asancol-cc, and
+the stream under threads, run under the compilers' own sanitizers too.
 """
 
 import os
@@ -50,6 +51,9 @@ from support import (
     side_of,
     write,
 )
+
+sys.path.append(f"{os.path.dirname(RECORDER)}/tests")
+import fuzzers  # noqa: E402
 
 
 def has_sanitizer(compiler, folder):
@@ -776,6 +780,8 @@ def main():
             fuzzing.tests(suite, compiler, folder)
             hub.tests(suite, compiler, folder)
             segments.tests(suite, compiler, folder)
+        if os.environ.get("SANITIZE") and (not suite.words or "fuzzers" in suite.words):
+            suite.add(*fuzzers.check(seconds=5, words=["recorder", "asancol-cc"]))
         return suite.finish()
     finally:
         shutil.rmtree(folder, ignore_errors=True)

@@ -300,6 +300,12 @@ class Suite:
                 self.failed += 1
                 print(f"FAILED {name}: {type(wrong).__name__}: {wrong}", flush=True)
 
+    def add(self, passed, failed):
+        """Counts tests that were run otherwise."""
+        with self.counting:
+            self.passed += passed
+            self.failed += failed
+
     def finish(self):
         self.pool.shutdown()
         print(f"{self.passed} passed, {self.failed} failed")

@@ -26,7 +26,10 @@ import segments
 import service
 import statuses
 import whole
-from support import Suite
+from support import TOP, Suite
+
+sys.path.append(f"{TOP}/tests")
+import fuzzers  # noqa: E402
 
 
 def main() -> int:
@@ -49,6 +52,8 @@ def main() -> int:
     suite.add(*report.run_tests(sys.argv[2:]))  # meanwhile
     if not suite.words or "mutations" in suite.words:
         suite.add(*mutations.damage(count=100, seed=1))
+    if not suite.words or "fuzzers" in suite.words:
+        suite.add(*fuzzers.check(seconds=2, words=["asancol-run"]))
     return suite.finish()
 
 
