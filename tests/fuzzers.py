@@ -132,7 +132,8 @@ def check_fuzzer(target: Target, folder: str, seconds: float) -> None:
 
 def check_threads(compiler: str, folder: str) -> None:
     """Four threads that write into a stream, under ThreadSanitizer."""
-    sources = [f"{OURS}/threads.c", f"{RECORDER}/stream.c", f"{RECORDER}/output.c"]
+    parts = ("stream", "output", "windows", "segments")
+    sources = [f"{OURS}/threads.c"] + [f"{RECORDER}/{part}.c" for part in parts]
     run([build(compiler, Target("threads", sources, []), "thread", ["-pthread"], folder)], folder)
 
 

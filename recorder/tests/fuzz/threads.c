@@ -21,19 +21,29 @@ enum { THREADS = 4, RECORDS = 40000, LIMIT = 100000 };
 /* What the other parts of the recorder would do. */
 
 void faults_are_cut(void) {}
-uint32_t fault_of(unsigned code_and_width, uint64_t address, uintptr_t caller)
+uint32_t fault_of(unsigned window, unsigned code_and_width, uint64_t address, uintptr_t caller)
 {
-    (void)code_and_width, (void)address, (void)caller;
+    (void)window, (void)code_and_width, (void)address, (void)caller;
     return 0;
 }
-void fault_note(uint32_t fault, uint64_t event) { (void)fault, (void)event; }
+void fault_note(unsigned window, uint32_t fault, uint64_t event) { (void)window, (void)fault, (void)event; }
 bool heap_is_entered(void) { return false; }
+void heap_lock(void) {}
+void heap_unlock(void) {}
+void heap_restate(uint64_t most_held, uint64_t room) { (void)most_held, (void)room; }
 void heap_set_bound(uint64_t bytes) { (void)bytes; }
+void stated_bring_up(uint64_t address, unsigned width) { (void)address, (void)width; }
+void stated_forget(void) {}
 bool recorder_has_checks(void) { return true; }
 bool recorder_is_own_process(void) { return true; }
 void recorder_say_child(void) {}
 void recorder_start(void) {}
-void side_begin(unsigned char *bytes, uint64_t quarantine) { (void)bytes, (void)quarantine; }
+void side_begin(unsigned char *bytes, unsigned window, uint64_t segment, uint64_t quarantine)
+{
+    (void)bytes, (void)window, (void)segment, (void)quarantine;
+}
+void side_forget(void) {}
+void side_note_restated(uint64_t events) { (void)events; }
 uint64_t side_length(void) { return 0; }
 void side_note_ending(enum ending ending, int number, uint64_t events) { (void)ending, (void)number, (void)events; }
 void side_note_late_signal(int number) { (void)number; }
@@ -64,7 +74,7 @@ static void *write_records(void *number)
     uint64_t first = (uint64_t)(uintptr_t)number << 32;
     for (uint64_t i = 0; i < RECORDS; i++) {
         bool is_malloc = i % 3 == 0;
-        unsigned char *at = stream_reserve(is_malloc ? REGION_LENGTH : PLACE_LENGTH);
+        unsigned char *at = stream_reserve(is_malloc ? REGION_LENGTH : PLACE_LENGTH, false);
         if (at == NULL)
             continue;
         put_number(at + 1, first + i);
