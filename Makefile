@@ -13,7 +13,7 @@ REDZONES := examples/stack_and_global_poison.trace
 
 .PHONY: all demo check stress fuzz fuzz-parsers failures bench soak install uninstall clean recorder check-recorder \
         check-real bench-record stress-record stress-segments install-recorder run check-run check-farm bench-run \
-        install-run install-units dist deb check-packages
+        bench-scale install-run install-units dist deb check-packages
 
 # The program, proved.
 all: asancol
@@ -70,8 +70,8 @@ recorder:
 	$(MAKE) -C recorder
 
 # Small programs under each compiler that is there, recorded and checked. Tests that need a compiler, an AddressSanitizer
-# or a symbolizer that is not there are left out, and it says which. With SANITIZE=1 its parsers and its stream run under
-# the compilers' own sanitizers, too.
+# or a symbolizer that is not there are left out, and it says which. With SANITIZE=1 its parsers and its stream also run
+# under the compilers' own sanitizers.
 check-recorder: asancol recorder
 	$(if $(SANITIZE),SANITIZE=1) recorder/tests/check.py ./asancol
 
@@ -105,6 +105,10 @@ check-run: asancol recorder run
 # Recipes whose tool is not there are left out, and it says which.
 check-farm: asancol recorder run
 	examples/farms/check.py ./asancol
+
+# What one process, one connection and one result cost: the figures of docs/SCALE.md, in some minutes.
+bench-scale: asancol recorder run
+	run/tests/bench_scale.py ./asancol
 
 # Recorded programs against an endless service, for as many hours: each has its verdict or a word, each planted bug is
 # found, and what serves does not grow. It prints a line a minute.
