@@ -574,6 +574,7 @@ static void add_link(struct line *line, const struct wish *wish, const char *sel
     if ((wish->linked.has_marked && !(is_refused && wish->linked.has_lto)) || (wish->has_compiled && !is_refused))
         add(line, "-Wl,--undefined=asancol_checks");
     if (is_static_program(wish)) {
+        add(line, "-Wl,--eh-frame-hdr"); /* by which stacks lead through the C library */
         add_all(line, program_flags, COUNT(program_flags));
         add(line, own_file(self, "libasancol_static.a"));
         add(line, own_file(self, "no-second-allocator.ld"));

@@ -281,10 +281,12 @@ static size_t pages_of(size_t size)
     STUB(listed)                                                                                                       \
     CHECK int checked_##listed(UNPACKED parameters, va_list values)                                                    \
     {                                                                                                                  \
+        IS_OWN_FRAME;                                                                                                  \
         return with_##name(UNPACKED arguments, values, CALLER());                                                      \
     }                                                                                                                  \
     CHECK int checked_##name(UNPACKED parameters, ...)                                                                 \
     {                                                                                                                  \
+        IS_OWN_FRAME;                                                                                                  \
         va_list values;                                                                                                \
         va_start(values, format);                                                                                      \
         int result = with_##name(UNPACKED arguments, values, CALLER());                                                \
@@ -296,6 +298,7 @@ static size_t pages_of(size_t size)
     extern int real_##listed(UNPACKED parameters, va_list) __asm__(#listed);                                           \
     static int with_##name(UNPACKED parameters, va_list values, uintptr_t caller)                                      \
     {                                                                                                                  \
+        IS_OWN_FRAME;                                                                                                  \
         walk(format, values, caller);                                                                                  \
         before;                                                                                                        \
         int result = real_##listed(UNPACKED arguments, values);                                                        \
@@ -308,6 +311,7 @@ static size_t pages_of(size_t size)
     extern int real_##listed(UNPACKED parameters, va_list) __asm__(#listed);                                           \
     static int with_##name(UNPACKED parameters, va_list values, uintptr_t caller)                                      \
     {                                                                                                                  \
+        IS_OWN_FRAME;                                                                                                  \
         va_list again;                                                                                                 \
         va_copy(again, values);                                                                                        \
         before;                                                                                                        \
@@ -329,11 +333,13 @@ static size_t pages_of(size_t size)
     STUB(listed)                                                                                                       \
     CHECK void checked_##listed(UNPACKED parameters, va_list values)                                                   \
     {                                                                                                                  \
+        IS_OWN_FRAME;                                                                                                  \
         format_checks_print(format, values, CALLER());                                                                 \
         real_##listed(UNPACKED arguments, values);                                                                     \
     }                                                                                                                  \
     CHECK void checked_##name(UNPACKED parameters, ...)                                                                \
     {                                                                                                                  \
+        IS_OWN_FRAME;                                                                                                  \
         va_list values;                                                                                                \
         va_start(values, format);                                                                                      \
         format_checks_print(format, values, CALLER());                                                                 \
@@ -347,6 +353,7 @@ static size_t pages_of(size_t size)
     STUB(name)                                                                                                         \
     CHECK void checked_##name(UNPACKED parameters, ...)                                                                \
     {                                                                                                                  \
+        IS_OWN_FRAME;                                                                                                  \
         uintptr_t caller = CALLER();                                                                                   \
         va_list values, again;                                                                                         \
         va_start(values, format);                                                                                      \

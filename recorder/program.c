@@ -5,6 +5,7 @@
 #include "library.h"
 #include "signals.h"
 #include "stream.h"
+#include "unwinding.h"
 
 static void access_from_object(enum code code, unsigned width, uint64_t address, uintptr_t caller)
 {
@@ -14,6 +15,7 @@ static void access_from_object(enum code code, unsigned width, uint64_t address,
 static void modules_changed(void)
 {
     library_look_again();
+    unwinding_modules_changed();
     stream_write_modules();
 }
 

@@ -3,6 +3,7 @@
 #define ASANCOL_ROWS_H
 
 #include "calls.h"
+#include "cfi.h"
 #include "stubs.h"
 
 /* What is read and written. */
@@ -46,6 +47,7 @@
     STUB(name)                                                                                                         \
     CHECK type checked_##name parameters                                                                               \
     {                                                                                                                  \
+        IS_OWN_FRAME;                                                                                                  \
         uintptr_t caller = CALLER();                                                                                   \
         before;                                                                                                        \
         type result = real_##name arguments;                                                                           \
@@ -59,6 +61,7 @@
     STUB(name)                                                                                                         \
     CHECK void checked_##name parameters                                                                               \
     {                                                                                                                  \
+        IS_OWN_FRAME;                                                                                                  \
         uintptr_t caller = CALLER();                                                                                   \
         before;                                                                                                        \
         real_##name arguments;                                                                                         \
