@@ -66,14 +66,14 @@ void faults_begin(unsigned char *bytes, unsigned window)
 }
 
 /* Whether a part of the side file has memory. */
-static bool back(struct list *list, uint64_t offset, uint64_t length)
+static bool back(struct list *list, uint64_t offset, uint64_t length, bool has_place)
 {
     for (uint64_t piece = offset / PIECE; piece <= (offset + length - 1) / PIECE; piece++) {
         _Atomic uint32_t *bits = &list->backed[piece / PIECE_BITS];
         uint32_t bit = UINT32_C(1) << piece % PIECE_BITS;
         if (atomic_load_explicit(bits, memory_order_acquire) & bit)
             continue;
-        if (!stream_back_side(piece * PIECE, PIECE))
+        if (!stream_back_side(piece * PIECE, PIECE, has_place))
             return false;
         atomic_fetch_or(bits, bit);
     }
@@ -97,7 +97,7 @@ static uint32_t put_stack(struct list *list, place_word of)
         return number;
     number = atomic_fetch_add(&list->taken_words, count + 1);
     uint64_t offset = SIDE_STACKS_AT + (uint64_t)number * sizeof(uint64_t);
-    if (number > most || !back(list, offset, (count + 1) * sizeof(uint64_t)))
+    if (number > most || !back(list, offset, (count + 1) * sizeof(uint64_t), false))
         return 0;
     uint64_t *words = (uint64_t *)(list->bytes + offset);
     words[0] = count;
@@ -245,7 +245,7 @@ static uint32_t add_fault(struct list *list, const struct side_fault *fault)
         atomic_fetch_sub(&list->taken, 1);
         return 0;
     }
-    if (!back(list, SIDE_FAULTS_AT + (number - 1) * sizeof *fault, sizeof *fault))
+    if (!back(list, SIDE_FAULTS_AT + (number - 1) * sizeof *fault, sizeof *fault, false))
         return 0;
     *entry_of(list, number) = *fault;
     raise_to(count, number);
@@ -304,7 +304,7 @@ uint32_t fault_of(unsigned window, unsigned code_and_width, uint64_t address, ui
     struct list *list = &lists[window];
     uint64_t next = atomic_load(&stream_page.stream.cursor) << 1 >> 33, bad = first_bad(code_and_width >> 8, address);
     /* The event will be one of the next. */
-    if (next >= EVENT_LIMIT || !back(list, SIDE_INDEX + next * SIDE_INDEX_ENTRY, SIDE_INDEX_ENTRY))
+    if (next >= EVENT_LIMIT || !back(list, SIDE_INDEX + next * SIDE_INDEX_ENTRY, SIDE_INDEX_ENTRY, false))
         return 0;
     struct side_fault fault = {.place = caller, .stack = put_stack(list, place_of(caller))};
     return is_in_arena(bad) ? block_fault(list, code_and_width, bad, &fault)
@@ -315,7 +315,7 @@ void fault_note(unsigned window, uint32_t number, uint64_t event)
 {
     struct list *list = &lists[window];
     uint64_t offset = SIDE_INDEX + (event - 1) * SIDE_INDEX_ENTRY;
-    if (!back(list, offset, SIDE_INDEX_ENTRY))
+    if (!back(list, offset, SIDE_INDEX_ENTRY, true))
         return;
     _Atomic uint64_t *first = (_Atomic uint64_t *)&entry_of(list, number)->event;
     uint64_t seen = atomic_load(first);

@@ -894,12 +894,12 @@ void stream_write_modules(void)
     stream_unlock();
 }
 
-bool stream_back_side(uint64_t offset, uint64_t length)
+bool stream_back_side(uint64_t offset, uint64_t length, bool has_place)
 {
     if (!keeper.side.is_mapped)
         return true;
-    /* Who has the lock may be waiting for a record of this thread. */
-    if (atomic_load(&keeper.is_side_full) || !lock_within(SHORT))
+    /* Who has the lock may be waiting for a record of this thread, whose place was taken. */
+    if (atomic_load(&keeper.is_side_full) || !lock_within(has_place ? SHORT : LONG))
         return false;
     const char *why = output_back(&keeper.side, offset, length);
     if (why != NULL && !atomic_exchange(&keeper.is_side_full, true))

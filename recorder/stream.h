@@ -34,8 +34,9 @@ uint64_t stream_restating_room(void);
 /* The place of a record of so many bytes, or null if none is recorded. `is_of_heap`: the allocator records it, and is
    in order, so that the stream may go on in its next segment here. */
 unsigned char *stream_reserve(unsigned length, bool is_of_heap);
-/* Backs a part of the side file, if there is one. False: it can't be, or not without waiting. */
-bool stream_back_side(uint64_t offset, uint64_t length);
+/* Backs a part of the side file, if there is one. False: it can't be, or not without waiting longer than others may
+   wait for this thread: they do if the place of its record was taken. */
+bool stream_back_side(uint64_t offset, uint64_t length, bool has_place);
 /* After a record: gives a socket what there is, if it is time for it; or at once, but only so often. */
 void stream_look_at_clock(bool at_once);
 /* Says how much was left out, if anything was. */
