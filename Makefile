@@ -11,8 +11,9 @@ SOURCES := crates.txt HANDLES $(shell find crates -name out -prune -o -type f \(
 EXAMPLE := examples/one_byte_past_the_end.trace
 REDZONES := examples/stack_and_global_poison.trace
 
-.PHONY: all demo check stress fuzz failures bench install uninstall clean recorder check-recorder check-real bench-record \
-        stress-record install-recorder run check-run check-farm bench-run install-run dist deb check-packages
+.PHONY: all demo check stress fuzz fuzz-parsers failures bench soak install uninstall clean recorder check-recorder \
+        check-real bench-record stress-record stress-segments install-recorder run check-run check-farm bench-run \
+        bench-scale install-run install-units dist deb check-packages
 
 # The program, proved.
 all: asancol
@@ -69,9 +70,17 @@ recorder:
 	$(MAKE) -C recorder
 
 # Small programs under each compiler that is there, recorded and checked. Tests that need a compiler, an AddressSanitizer
-# or a symbolizer that is not there are left out, and it says which.
+# or a symbolizer that is not there are left out, and it says which. With SANITIZE=1 its parsers and its stream also run
+# under the compilers' own sanitizers.
 check-recorder: asancol recorder
-	recorder/tests/check.py ./asancol
+	$(if $(SANITIZE),SANITIZE=1) recorder/tests/check.py ./asancol
+
+# What parses strangers' words, objects, formats, settings and messages, in the recorder and in asancol-run: libFuzzer
+# draws inputs for each of them, for so many seconds.
+SECONDS := 60
+
+fuzz-parsers: recorder
+	tests/fuzzers.py --seconds $(SECONDS)
 
 # What checking costs: some minutes, on a machine with nothing else to do. It writes the tables of docs/SPEED.md.
 bench: asancol
@@ -97,6 +106,17 @@ check-run: asancol recorder run
 check-farm: asancol recorder run
 	examples/farms/check.py ./asancol
 
+# What one process, one connection and one result cost: the figures of docs/SCALE.md, in some minutes.
+bench-scale: asancol recorder run
+	run/tests/bench_scale.py ./asancol
+
+# Recorded programs against an endless service, for as many hours: each has its verdict or a word, each planted bug is
+# found, and what serves does not grow. It prints a line a minute.
+HOURS := 1
+
+soak: asancol recorder
+	run/tests/soak.py --hours $(HOURS) ./asancol
+
 # What a run costs beside the same command without it: a minute, on a machine with nothing else to do.
 bench-run: asancol recorder run
 	run/tests/bench.py ./asancol
@@ -113,14 +133,26 @@ TIMES := 1000
 stress-record: asancol recorder
 	recorder/tests/stress.py --times $(TIMES) ./asancol
 
+# 200 million mallocs and frees in four threads, and one bug at their end, under asancol-run: some minutes.
+stress-segments: asancol recorder run
+	recorder/tests/segments_stress.py ./asancol
+
 install-recorder:
 	$(MAKE) -C recorder install PREFIX=$(PREFIX) DESTDIR=$(DESTDIR)
 
 install-run:
 	$(MAKE) -C run install PREFIX=$(PREFIX) DESTDIR=$(DESTDIR)
 
+# The units of systemd for an endless service. None of them is enabled.
+UNITS := asancol.socket asancol@.service asancol.slice
+
+install-units:
+	install -d $(ROOT)/lib/systemd/system
+	$(foreach it,$(UNITS),sed 's,@BIN@,$(PREFIX)/bin,' packaging/systemd/$(it) > $(ROOT)/lib/systemd/system/$(it);)
+	chmod 644 $(UNITS:%=$(ROOT)/lib/systemd/system/%)
+
 # With the recorder and the command that runs others, where a C compiler is there.
-install: asancol $(if $(HAS_CC),install-recorder install-run)
+install: asancol install-units $(if $(HAS_CC),install-recorder install-run)
 	install -D asancol $(ROOT)/bin/asancol
 	$(call install-page,man/asancol.1)
 	$(call install-page,man/asancol-trace.5)
@@ -132,7 +164,7 @@ PROGRAMS := asancol asancol-cc asancol-c++ asancol-run asancol-report
 uninstall:
 	rm -rf $(ROOT)/lib/asancol
 	rm -f $(foreach it,$(PROGRAMS),$(ROOT)/bin/$(it) $(ROOT)/share/man/man1/$(it).1)
-	rm -f $(ROOT)/share/man/man5/asancol-trace.5
+	rm -f $(ROOT)/share/man/man5/asancol-trace.5 $(UNITS:%=$(ROOT)/lib/systemd/system/%)
 	rm -f $(foreach it,$(PROGRAMS),$(call completions-of,$(it)))
 
 # The sources as they are committed, in an archive that is the same whoever makes it.

@@ -108,6 +108,7 @@ struct wish {
     bool is_static;     /* with the C library inside, whose own calls would be wrapped too */
     bool finds_static;  /* after its last word of this kind the linker looks for static libraries alone */
     bool has_libc;      /* named by itself */
+    bool has_libm;      /* the mathematics of the C library */
     bool is_stripped;   /* what is linked has no table of symbols */
     const char *output; /* null if it is not named */
     char **folders;     /* in which libraries are looked for */
@@ -115,6 +116,7 @@ struct wish {
     char *foreign;      /* a word for another sanitizer, which brings its own runtime, or another machine; or null */
     char *refusal;      /* a word by which the compiler puts no calls before accesses, or null */
     struct linked linked; /* the files that are linked */
+    unsigned response_files, nested; /* how many were looked into, and in how many of them this is */
     const char *option; /* whose value is the next word, or null */
 };
 
@@ -151,6 +153,12 @@ static bool ends(const char *word, const char *end)
     return length >= count && strcmp(word + length - count, end) == 0;
 }
 
+static const char *base_name(const char *path)
+{
+    const char *slash = strrchr(path, '/');
+    return slash ? slash + 1 : path;
+}
+
 /* Whether the linker takes a file as it is. */
 static bool is_linked(const char *word)
 {
@@ -179,6 +187,7 @@ static void take_input(struct wish *wish, const char *word)
     wish->has_source |= is_source;
     wish->has_compiled |= is_compiled;
     wish->has_linked |= wish->names_language || !is_header;
+    wish->has_libm |= begins(base_name(word), "libm.so");
     if (!is_compiled)
         linked_look_at(&wish->linked, word);
 }
@@ -212,6 +221,7 @@ static void take_library(struct wish *wish, const char *name)
 {
     char path[2 * PATH_MAX];
     wish->has_libc |= strcmp(name, "c") == 0;
+    wish->has_libm |= strcmp(name, "m") == 0 || begins(name, ":libm.so");
     for (size_t i = 0; i < wish->folder_count; i++) {
         snprintf(path, sizeof path, "%s/lib%s.a", wish->folders[i], name);
         linked_look_at(&wish->linked, path);
@@ -256,8 +266,8 @@ static void look_into(struct wish *wish, const char *path)
             quote = 0;
             continue;
         }
-        if (byte == '\\' && quote != '\'')
-            byte = getc(file);
+        if (byte == '\\' && quote != '\'' && (byte = getc(file)) == EOF)
+            byte = '\\'; /* at the end it stands for itself */
         if (length + 1 == room)
             word = must(realloc(word, room *= 2));
         word[length++] = (char)byte;
@@ -319,13 +329,20 @@ static void take_language(struct wish *wish, const char *language)
     wish->stops_early |= ends(language, "-header");
 }
 
+/* One may name itself. GCC takes no more of them either. */
+enum { MOST_RESPONSE_FILES = 2000, MOST_NESTED = 64 };
+
 static void take_response_file(struct wish *wish, const char *word)
 {
     struct stat seen;
-    if (stat(word + 1, &seen) == 0)
-        look_into(wish, word + 1);
-    else
+    if (stat(word + 1, &seen) != 0) {
         take_input(wish, word);
+    } else if (wish->response_files < MOST_RESPONSE_FILES && wish->nested < MOST_NESTED) {
+        wish->response_files++;
+        wish->nested++;
+        look_into(wish, word + 1);
+        wish->nested--;
+    }
 }
 
 /* Whether one of the sanitizers that an option lists has one of these words in its name. */
@@ -419,12 +436,6 @@ static struct command compiler(void)
     if (command.count == 0)
         command.words[command.count++] = must(strdup(USUAL));
     return command;
-}
-
-static const char *base_name(const char *path)
-{
-    const char *slash = strrchr(path, '/');
-    return slash ? slash + 1 : path;
 }
 
 /* The file that a word of the shell's kind runs, but never this program itself. */
@@ -550,13 +561,20 @@ static void add_wraps(struct line *line)
     add(line, word);
 }
 
+/* Whether a program gets the C library into itself. Then no function is wrapped. */
+static bool is_static_program(const struct wish *wish)
+{
+    return (wish->is_static || wish->finds_static) && !wish->is_shared;
+}
+
 static void add_link(struct line *line, const struct wish *wish, const char *self)
 {
     /* What was compiled here, or so before, has checks, also if it has no access. */
     bool is_refused = wish->refusal != NULL;
     if ((wish->linked.has_marked && !(is_refused && wish->linked.has_lto)) || (wish->has_compiled && !is_refused))
         add(line, "-Wl,--undefined=asancol_checks");
-    if ((wish->is_static || wish->finds_static) && !wish->is_shared) {
+    if (is_static_program(wish)) {
+        add(line, "-Wl,--eh-frame-hdr"); /* by which stacks lead through the C library */
         add_all(line, program_flags, COUNT(program_flags));
         add(line, own_file(self, "libasancol_static.a"));
         add(line, own_file(self, "no-second-allocator.ld"));
@@ -566,13 +584,16 @@ static void add_link(struct line *line, const struct wish *wish, const char *sel
     if (wish->is_shared) {
         add(line, "-Wl,--undefined=asancol_map_early");
         add(line, own_file(self, "libasancol_shared.a"));
-        return;
+    } else {
+        if (!wish->is_bare || wish->has_libc)
+            add_all(line, program_flags, COUNT(program_flags));
+        add(line, own_file(self, "libasancol_record.a"));
+        if (wish->has_libc)
+            add(line, "-lc"); /* for what the recorder calls */
     }
-    if (!wish->is_bare || wish->has_libc)
-        add_all(line, program_flags, COUNT(program_flags));
-    add(line, own_file(self, "libasancol_record.a"));
-    if (wish->has_libc)
-        add(line, "-lc"); /* for what the recorder calls */
+    /* What was called of it is called by the recorder now, which stands behind it. */
+    if (wish->has_libm)
+        add(line, "-Wl,--push-state,--as-needed,-lm,--pop-state");
 }
 
 /* Says what will not be recorded. */
@@ -582,6 +603,9 @@ static void warn(const struct wish *wish, bool links)
         fprintf(stderr, NAME ": warning: %s: with this nothing is recorded\n", wish->foreign);
     else if (wish->refusal != NULL && (wish->has_compiled || (links && wish->linked.has_lto)))
         fprintf(stderr, NAME ": warning: %s: what is compiled with this is not recorded\n", wish->refusal);
+    if (wish->foreign == NULL && links && is_static_program(wish) && !wish->is_bare)
+        fprintf(stderr, NAME ": warning: %s: calls of the C library, as memcpy and strlen, are not recorded\n",
+                wish->is_static ? "-static" : "-Bstatic");
     if (wish->foreign == NULL && (links || wish->is_partial))
         linked_warn(&wish->linked, NAME);
 }
@@ -604,12 +628,6 @@ static void add_checks(struct line *line, const struct wish *wish, const struct 
     if (!wish->stops_early && wish->linked.unmarked_lto != NULL)
         fail("it was made with -flto, but not by " NAME ": compile it again", wish->linked.unmarked_lto);
     add_all(line, all ? gcc_all_flags : gcc_flags, COUNT(gcc_flags));
-}
-
-/* Whether the linker wraps functions. */
-static bool wraps_functions(const struct wish *wish)
-{
-    return wish->is_shared || !(wish->is_static || wish->finds_static);
 }
 
 /* Whether the compiler gets this word when the link is only tried. */
@@ -669,7 +687,7 @@ int main(int count, char **words)
     if (wish.has_input)
         warn(&wish, links);
     /* What was linked shows which names the program has for variables. Few have one: then it is linked again. */
-    if (wish.has_input && wish.foreign == NULL && links && wraps_functions(&wish)) {
+    if (wish.has_input && wish.foreign == NULL && links && !is_static_program(&wish)) {
         struct line line = make_line(&wish, &command, words, links, true, self);
         const char *output = wish.output != NULL ? wish.output : "a.out";
         int status = run(found, &line);

@@ -1,7 +1,9 @@
 # Writes each row of calls.def once for each name, without those that the C library does not have. The first file lists
-# the library's names. `wraps` is the file for the names that are left.
+# the library's names, and with an `m` those of its mathematics. Rows of names that only the latter has go to the file
+# `mathematics`. `wraps` is the file for the names that are left.
 
-FNR == NR { has[$1] = 1; next }
+BEGIN { printf "" > mathematics }
+FNR == NR { has[$1] = has[$1] $2; next }
 /^[A-Z_]+\(/ { put(); row = $0; next }
 /^ / && row != "" { row = row "\n" $0; next }
 { put() }
@@ -15,13 +17,16 @@ function put(    word, rest, count, names, other, i)
     rest = substr(row, index(row, ","))
     count = split(substr(row, length(word) + 1, index(row, ",") - length(word) - 1), names, " ")
     other = ""
-    if (word == "PRINT(" || word == "SCAN(") {
+    if (word ~ /PRINT|SCAN|LOG/) {
         other = substr(rest, 3)
         other = substr(other, 1, index(other, ",") - 1)
     }
     for (i = 1; i <= count; i++)
         if (names[i] in has && (other == "" || other in has)) {
-            print word names[i] rest
+            if (has[names[i]] == "m")
+                print word names[i] rest > mathematics
+            else
+                print word names[i] rest
             print "WRAP(" names[i] ")" > wraps
             if (other != "")
                 print "WRAP(" other ")" > wraps

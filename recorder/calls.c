@@ -4,39 +4,50 @@
 #include <arpa/inet.h>
 #include <dirent.h>
 #include <errno.h>
+#include <fcntl.h>
 #include <glob.h>
 #include <grp.h>
 #include <ifaddrs.h>
 #include <limits.h>
+#include <linux/capability.h>
+#include <mntent.h>
+#include <net/if.h>
 #include <netdb.h>
+#include <netinet/ether.h>
 #include <poll.h>
 #include <pthread.h>
 #include <pwd.h>
 #include <regex.h>
+#include <sched.h>
 #include <signal.h>
 #include <stdarg.h>
 #include <stdio.h>
 #include <stdlib.h>
 #include <sys/epoll.h>
+#include <sys/ioctl.h>
+#include <sys/prctl.h>
 #include <sys/resource.h>
 #include <sys/select.h>
 #include <sys/sem.h>
+#include <sys/shm.h>
 #include <sys/socket.h>
 #include <sys/stat.h>
 #include <sys/statfs.h>
 #include <sys/statvfs.h>
 #include <sys/sysinfo.h>
 #include <sys/time.h>
+#include <sys/timeb.h>
 #include <sys/times.h>
 #include <sys/utsname.h>
 #include <sys/wait.h>
 #include <termios.h>
 #include <time.h>
+#include <unistd.h>
 #include <utime.h>
+#include <utmpx.h>
 #include <wordexp.h>
 
-#include "calls.h"
-#include "stubs.h"
+#include "rows.h"
 
 __attribute__((noinline, cold)) void call_is_bad(enum code code, uintptr_t start, size_t size, uintptr_t caller)
 {
@@ -44,40 +55,6 @@ __attribute__((noinline, cold)) void call_is_bad(enum code code, uintptr_t start
     note_bad_range(code, start, size, caller);
     errno = before;
 }
-
-/* The words of the rows. */
-
-#define READS(start, size) call_checks(CODE_LOAD, start, (size_t)(size), caller)
-#define WRITES(start, size) call_checks(CODE_STORE, start, (size_t)(size), caller)
-#define READS_FIRST(start) READS(start, 1)
-#define READS_ARRAY(start, count, size) call_checks_array(CODE_LOAD, start, (size_t)(count), size, caller)
-#define WRITES_ARRAY(start, count, size) call_checks_array(CODE_STORE, start, (size_t)(count), size, caller)
-#define READS_STRING(text) call_checks_string(CODE_LOAD, text, caller)
-#define WRITES_STRING(text) call_checks_string(CODE_STORE, text, caller)
-#define READS_WIDE(text) call_checks_wide(CODE_LOAD, text, caller)
-#define WRITES_WIDE(text) call_checks_wide(CODE_STORE, text, caller)
-
-#define READS_HEADS(pieces, count) READS_ARRAY(pieces, LEAST(count, IOV_MAX), sizeof *(pieces))
-#define WRITES_PIECES(pieces, count, size) pieces_check(CODE_STORE, pieces, (size_t)(count), 0, (size_t)(size), caller)
-#define SENDS(start, size) size_t good = good_length(start, size)
-#define SENT(start, size)                                                                                              \
-    if (UNLIKELY((size_t)(size) > good) && GOT)                                                                        \
-        READS((const char *)(start) + good, (size_t)(size) - good)
-#define SENDS_PIECES(pieces, count) size_t good = good_pieces(pieces, (size_t)(count))
-#define SENT_PIECES(pieces, count, size)                                                                               \
-    if (UNLIKELY((size_t)(size) > good) && GOT)                                                                        \
-        pieces_check(CODE_LOAD, pieces, (size_t)(count), good, (size_t)(size), caller)
-
-#define GOT (result > 0)
-#define DONE (result == 0)
-#define LEAST(one, other) least((size_t)(one), (size_t)(other))
-#define ALLOCATES note_called_from(caller)
-#define ALLOCATED note_called_from(0)
-
-#define SIZE_TO(start, end, otherwise)                                                                                 \
-    ((end) != NULL ? (size_t)((const char *)(end) - (const char *)(start)) : (size_t)(otherwise))
-#define LENGTH_WITHIN(text, most) length_within(text, most)
-#define WIDE_LENGTH_WITHIN(text, most) wide_length_within(text, most)
 
 /* A string that is put after another one. */
 
@@ -235,32 +212,66 @@ static void reads_set(const void *set, int count, uintptr_t caller)
             WRITES(to, sizeof *to);                                                                                    \
     }
 
-/* The rows. `real_` and a name is the function itself, apart from what a header declares. */
+/* What a request of ioctl reads and writes at its argument. Of a request that is not here nothing is known. */
 
-#define CALL(name, type, parameters, arguments, before, after)                                                         \
-    extern type real_##name parameters __asm__(#name);                                                                 \
-    STUB(name)                                                                                                         \
-    CHECK type checked_##name parameters                                                                               \
-    {                                                                                                                  \
-        uintptr_t caller = CALLER();                                                                                   \
-        before;                                                                                                        \
-        type result = real_##name arguments;                                                                           \
-        after;                                                                                                         \
-        (void)caller;                                                                                                  \
-        return result;                                                                                                 \
-    }
+/* The system's own `struct termios`. */
+enum { TERMIOS_BYTES = 36 };
 
-#define NO_RESULT(name, parameters, arguments, before, after)                                                          \
-    extern void real_##name parameters __asm__(#name);                                                                 \
-    STUB(name)                                                                                                         \
-    CHECK void checked_##name parameters                                                                               \
-    {                                                                                                                  \
-        uintptr_t caller = CALLER();                                                                                   \
-        before;                                                                                                        \
-        real_##name arguments;                                                                                         \
-        after;                                                                                                         \
-        (void)caller;                                                                                                  \
-    }
+static const struct request {
+    unsigned long number;
+    size_t read, written;
+} requests[] = {
+    {FIONREAD, 0, sizeof(int)},
+    {FIONBIO, sizeof(int), 0},
+    {FIOASYNC, sizeof(int), 0},
+    {TCGETS, 0, TERMIOS_BYTES},
+    {TCSETS, TERMIOS_BYTES, 0},
+    {TCSETSW, TERMIOS_BYTES, 0},
+    {TCSETSF, TERMIOS_BYTES, 0},
+    {TIOCGWINSZ, 0, sizeof(struct winsize)},
+    {TIOCSWINSZ, sizeof(struct winsize), 0},
+    {TIOCGPGRP, 0, sizeof(pid_t)},
+    {TIOCSPGRP, sizeof(pid_t), 0},
+    {TIOCOUTQ, 0, sizeof(int)},
+    {TIOCGPTN, 0, sizeof(unsigned)},
+    {TIOCSPTLCK, sizeof(int), 0},
+    {TIOCMGET, 0, sizeof(int)},
+    {TIOCMSET, sizeof(int), 0},
+    {SIOCGIFCONF, sizeof(struct ifconf), sizeof(struct ifconf)},
+    {SIOCGIFNAME, sizeof(struct ifreq), sizeof(struct ifreq)},
+    {SIOCGIFINDEX, sizeof(struct ifreq), sizeof(struct ifreq)},
+    {SIOCGIFFLAGS, sizeof(struct ifreq), sizeof(struct ifreq)},
+    {SIOCGIFADDR, sizeof(struct ifreq), sizeof(struct ifreq)},
+    {SIOCGIFNETMASK, sizeof(struct ifreq), sizeof(struct ifreq)},
+    {SIOCGIFBRDADDR, sizeof(struct ifreq), sizeof(struct ifreq)},
+    {SIOCGIFHWADDR, sizeof(struct ifreq), sizeof(struct ifreq)},
+    {SIOCGIFMTU, sizeof(struct ifreq), sizeof(struct ifreq)},
+};
+
+static struct request request_of(unsigned long number)
+{
+    for (size_t i = 0; i < sizeof requests / sizeof *requests; i++)
+        if (requests[i].number == number)
+            return requests[i];
+    return (struct request){number, 0, 0};
+}
+
+#define READS_REQUEST(request, with) READS(with, request_of(request).read)
+#define WRITES_REQUEST(request, with) WRITES(with, request_of(request).written)
+
+/* How many sets of capabilities a version of the call has. */
+static size_t sets_of_version(uint32_t version)
+{
+    return version == _LINUX_CAPABILITY_VERSION_1 ? _LINUX_CAPABILITY_U32S_1 : _LINUX_CAPABILITY_U32S_3;
+}
+
+static size_t pages_of(size_t size)
+{
+    size_t page = (size_t)getpagesize();
+    return size / page + (size % page != 0);
+}
+
+/* Rows of formats. */
 
 #define UNPACKED(...) __VA_ARGS__
 
@@ -270,10 +281,12 @@ static void reads_set(const void *set, int count, uintptr_t caller)
     STUB(listed)                                                                                                       \
     CHECK int checked_##listed(UNPACKED parameters, va_list values)                                                    \
     {                                                                                                                  \
+        IS_OWN_FRAME;                                                                                                  \
         return with_##name(UNPACKED arguments, values, CALLER());                                                      \
     }                                                                                                                  \
     CHECK int checked_##name(UNPACKED parameters, ...)                                                                 \
     {                                                                                                                  \
+        IS_OWN_FRAME;                                                                                                  \
         va_list values;                                                                                                \
         va_start(values, format);                                                                                      \
         int result = with_##name(UNPACKED arguments, values, CALLER());                                                \
@@ -281,11 +294,12 @@ static void reads_set(const void *set, int count, uintptr_t caller)
         return result;                                                                                                 \
     }
 
-#define PRINT(name, listed, parameters, arguments, format, before, after)                                              \
+#define PRINT_BY(walk, name, listed, parameters, arguments, format, before, after)                                     \
     extern int real_##listed(UNPACKED parameters, va_list) __asm__(#listed);                                           \
     static int with_##name(UNPACKED parameters, va_list values, uintptr_t caller)                                      \
     {                                                                                                                  \
-        format_checks_print(format, values, caller);                                                                   \
+        IS_OWN_FRAME;                                                                                                  \
+        walk(format, values, caller);                                                                                  \
         before;                                                                                                        \
         int result = real_##listed(UNPACKED arguments, values);                                                        \
         after;                                                                                                         \
@@ -293,18 +307,66 @@ static void reads_set(const void *set, int count, uintptr_t caller)
     }                                                                                                                  \
     FORMATTED(name, listed, parameters, arguments, format)
 
-#define SCAN(name, listed, parameters, arguments, format, before)                                                      \
+#define SCAN_BY(walk, name, listed, parameters, arguments, format, before)                                             \
     extern int real_##listed(UNPACKED parameters, va_list) __asm__(#listed);                                           \
     static int with_##name(UNPACKED parameters, va_list values, uintptr_t caller)                                      \
     {                                                                                                                  \
+        IS_OWN_FRAME;                                                                                                  \
         va_list again;                                                                                                 \
         va_copy(again, values);                                                                                        \
         before;                                                                                                        \
         int result = real_##listed(UNPACKED arguments, values);                                                        \
-        format_checks_scan(format, again, result, caller);                                                             \
+        walk(format, again, result, caller);                                                                           \
         va_end(again);                                                                                                 \
         return result;                                                                                                 \
     }                                                                                                                  \
     FORMATTED(name, listed, parameters, arguments, format)
+
+#define PRINT(...) PRINT_BY(format_checks_print, __VA_ARGS__)
+#define WIDE_PRINT(...) PRINT_BY(format_checks_wide_print, __VA_ARGS__)
+#define SCAN(...) SCAN_BY(format_checks_scan, __VA_ARGS__)
+#define WIDE_SCAN(...) SCAN_BY(format_checks_wide_scan, __VA_ARGS__)
+
+#define LOG(name, listed, parameters, arguments, format)                                                               \
+    extern void real_##listed(UNPACKED parameters, va_list) __asm__(#listed);                                          \
+    STUB_OF_TWO(name, listed)                                                                                          \
+    STUB(listed)                                                                                                       \
+    CHECK void checked_##listed(UNPACKED parameters, va_list values)                                                   \
+    {                                                                                                                  \
+        IS_OWN_FRAME;                                                                                                  \
+        format_checks_print(format, values, CALLER());                                                                 \
+        real_##listed(UNPACKED arguments, values);                                                                     \
+    }                                                                                                                  \
+    CHECK void checked_##name(UNPACKED parameters, ...)                                                                \
+    {                                                                                                                  \
+        IS_OWN_FRAME;                                                                                                  \
+        va_list values;                                                                                                \
+        va_start(values, format);                                                                                      \
+        format_checks_print(format, values, CALLER());                                                                 \
+        real_##listed(UNPACKED arguments, values);                                                                     \
+        va_end(values);                                                                                                \
+    }
+
+/* Of such a function that has no form with a va_list: it gets the text that the format makes. */
+#define MESSAGE(name, parameters, arguments, format, before)                                                           \
+    extern void real_##name(UNPACKED parameters, ...) __asm__(#name);                                                  \
+    STUB(name)                                                                                                         \
+    CHECK void checked_##name(UNPACKED parameters, ...)                                                                \
+    {                                                                                                                  \
+        IS_OWN_FRAME;                                                                                                  \
+        uintptr_t caller = CALLER();                                                                                   \
+        va_list values, again;                                                                                         \
+        va_start(values, format);                                                                                      \
+        va_copy(again, values);                                                                                        \
+        format_checks_print(format, values, caller);                                                                   \
+        before;                                                                                                        \
+        int length = vsnprintf(NULL, 0, format, values);                                                               \
+        char text[length < 0 ? 1 : length + 1];                                                                        \
+        text[0] = 0;                                                                                                   \
+        vsnprintf(text, sizeof text, format, again);                                                                   \
+        va_end(again);                                                                                                 \
+        va_end(values);                                                                                                \
+        real_##name(UNPACKED arguments, "%s", text);                                                                   \
+    }
 
 #include "out/calls.def"

@@ -57,10 +57,14 @@ static inline size_t wide_length_within(const wchar_t *text, size_t most)
     return end != NULL ? (size_t)(end - text) + 1 : most;
 }
 
-/* formats.c: what a printf reads and writes by its format, but for its output. */
+/* formats.c: what a printf reads and writes by its format, but for its output. Nothing without a format. */
 void format_checks_print(const char *format, va_list values, uintptr_t caller) OWN_NAME(format_checks_print);
+void format_checks_wide_print(const wchar_t *format, va_list values, uintptr_t caller)
+    OWN_NAME(format_checks_wide_print);
 /* What a scanf has written that has assigned `count` values. */
 void format_checks_scan(const char *format, va_list values, int count, uintptr_t caller) OWN_NAME(format_checks_scan);
+void format_checks_wide_scan(const wchar_t *format, va_list values, int count, uintptr_t caller)
+    OWN_NAME(format_checks_wide_scan);
 
 /* pieces.c: memory in pieces. */
 

@@ -10,17 +10,21 @@
 #include "globals.h"
 #include "memory.h"
 #include "stream.h"
+#include "windows.h"
 
 /* A side file gets room on the disk in pieces of so many bytes, as they are written to: what has no room is not
    stored. */
 enum { PIECE = 1 << 16, PIECES = SIDE_ROOM / PIECE + 1, PIECE_BITS = 32 };
 
-static struct {
+/* By the window of the stream. A thread that has begun in one goes on there, whatever comes after. */
+static struct list {
     unsigned char *bytes;
     _Atomic uint32_t taken;       /* entries of the list */
     _Atomic uint32_t taken_words; /* of the stacks */
     _Atomic uint32_t backed[PIECES / PIECE_BITS + 1];
-} faults;
+} lists[WINDOWS];
+
+static struct list *_Atomic newest = lists;
 
 /* Faults that are known: the upper bits of a hash, and the number in the lower ones. */
 #define KNOWN ((uint64_t)1 << 17)
@@ -33,32 +37,39 @@ static _Alignas(PAGE) _Atomic uint64_t known[KNOWN];
 enum { RECENT = 1 << 10 };
 static _Atomic uint64_t recent[RECENT];
 
-void faults_are_cut(void)
+static void forget_backed(struct list *list)
 {
-    for (size_t i = 0; i < sizeof faults.backed / sizeof *faults.backed; i++)
-        atomic_store(&faults.backed[i], 0);
+    for (size_t i = 0; i < sizeof list->backed / sizeof *list->backed; i++)
+        atomic_store(&list->backed[i], 0);
 }
 
-void faults_begin(unsigned char *bytes)
+void faults_are_cut(void)
 {
-    if (atomic_load(&faults.taken) != 0) {
+    forget_backed(atomic_load(&newest));
+}
+
+void faults_begin(unsigned char *bytes, unsigned window)
+{
+    struct list *list = &lists[window];
+    if (atomic_load(&atomic_load(&newest)->taken) != 0) {
         /* Memory that the process has locked can't be given back to the system. */
         if (madvise((void *)known, sizeof known, MADV_DONTNEED) != 0)
             memset((void *)known, 0, sizeof known);
         memset((void *)recent, 0, sizeof recent);
     }
-    atomic_store(&faults.taken, 0);
-    atomic_store(&faults.taken_words, 1);
+    atomic_store(&list->taken, 0);
+    atomic_store(&list->taken_words, 1);
     places_forget_numbers();
-    faults.bytes = bytes;
-    faults_are_cut();
+    list->bytes = bytes;
+    forget_backed(list);
+    atomic_store(&newest, list);
 }
 
 /* Whether a part of the side file has memory. */
-static bool back(uint64_t offset, uint64_t length)
+static bool back(struct list *list, uint64_t offset, uint64_t length)
 {
     for (uint64_t piece = offset / PIECE; piece <= (offset + length - 1) / PIECE; piece++) {
-        _Atomic uint32_t *bits = &faults.backed[piece / PIECE_BITS];
+        _Atomic uint32_t *bits = &list->backed[piece / PIECE_BITS];
         uint32_t bit = UINT32_C(1) << piece % PIECE_BITS;
         if (atomic_load_explicit(bits, memory_order_acquire) & bit)
             continue;
@@ -77,22 +88,27 @@ static void raise_to(_Atomic uint32_t *count, uint32_t least)
         ;
 }
 
-uint32_t fault_put_stack(place_word of)
+static uint32_t put_stack(struct list *list, place_word of)
 {
     const uint64_t *frames;
     unsigned count = place_frames(of, &frames);
     uint32_t number = place_number(of), most = SIDE_STACK_WORDS - (MOST_FRAMES + 1);
-    if (count == 0 || number != 0 || atomic_load(&faults.taken_words) > most)
+    if (count == 0 || number != 0 || atomic_load(&list->taken_words) > most)
         return number;
-    number = atomic_fetch_add(&faults.taken_words, count + 1);
+    number = atomic_fetch_add(&list->taken_words, count + 1);
     uint64_t offset = SIDE_STACKS_AT + (uint64_t)number * sizeof(uint64_t);
-    if (number > most || !back(offset, (count + 1) * sizeof(uint64_t)))
+    if (number > most || !back(list, offset, (count + 1) * sizeof(uint64_t)))
         return 0;
-    uint64_t *words = (uint64_t *)(faults.bytes + offset);
+    uint64_t *words = (uint64_t *)(list->bytes + offset);
     words[0] = count;
     memcpy(words + 1, frames, count * sizeof *frames);
-    raise_to((_Atomic uint32_t *)&((struct side *)faults.bytes)->stack_words, number + count + 1);
-    return place_give_number(of, number);
+    raise_to((_Atomic uint32_t *)&((struct side *)list->bytes)->stack_words, number + count + 1);
+    return atomic_load(&newest) == list ? place_give_number(of, number) : number;
+}
+
+uint32_t fault_put_stack(place_word of)
+{
+    return put_stack(atomic_load(&newest), of);
 }
 
 /* What is nearest. */
@@ -172,7 +188,7 @@ static void describe_variable(const struct frame *frame, uint64_t address, struc
     memset(fault->name + strlen(fault->name), 0, SIDE_NAME - strlen(fault->name));
 }
 
-static void describe_block(uint64_t address, struct side_fault *fault)
+static void describe_block(struct list *list, uint64_t address, struct side_fault *fault)
 {
     struct nearest block;
     if (!arena_find_nearest(address, &block))
@@ -180,9 +196,9 @@ static void describe_block(uint64_t address, struct side_fault *fault)
     fault->block = block.start;
     fault->block_size = block.size;
     fault->allocated = place_address(block.places.allocated);
-    fault->allocated_stack = fault_put_stack(block.places.allocated);
+    fault->allocated_stack = put_stack(list, block.places.allocated);
     fault->freed = place_address(block.places.freed);
-    fault->freed_stack = fault_put_stack(block.places.freed);
+    fault->freed_stack = put_stack(list, block.places.freed);
 }
 
 /* The first byte that is bad decides what is near. */
@@ -200,11 +216,12 @@ static uint64_t mix(uint64_t hash, uint64_t word)
     return hash ^ hash >> 29;
 }
 
-/* Of what makes one fault: the place, the kind and width, where the block was allocated and freed, each with its stack,
-   and the name. */
-static uint64_t hash_of(unsigned code_and_width, const struct side_fault *fault)
+/* Of what makes one fault in a list: the place, the kind and width, where the block was allocated and freed, each with
+   its stack, and the name. */
+static uint64_t hash_of(const struct list *list, unsigned code_and_width, const struct side_fault *fault)
 {
-    uint64_t hash = mix(mix(mix(mix(1, fault->place), code_and_width), fault->allocated), fault->freed);
+    uint64_t first = 1 + (uint64_t)(list - lists);
+    uint64_t hash = mix(mix(mix(mix(first, fault->place), code_and_width), fault->allocated), fault->freed);
     hash = mix(mix(hash, (uint64_t)fault->stack << 32 | fault->allocated_stack), fault->freed_stack);
     for (size_t i = 0; i < SIDE_NAME && fault->name[i] != 0; i += sizeof(uint64_t)) {
         uint64_t word;
@@ -214,29 +231,29 @@ static uint64_t hash_of(unsigned code_and_width, const struct side_fault *fault)
     return mix(hash, fault->variable);
 }
 
-static struct side_fault *entry_of(uint32_t number)
+static struct side_fault *entry_of(const struct list *list, uint32_t number)
 {
-    return (struct side_fault *)(faults.bytes + SIDE_FAULTS_AT) + (number - 1);
+    return (struct side_fault *)(list->bytes + SIDE_FAULTS_AT) + (number - 1);
 }
 
 /* Adds an entry to the list. Answers its number, or 0. */
-static uint32_t add_fault(const struct side_fault *fault)
+static uint32_t add_fault(struct list *list, const struct side_fault *fault)
 {
-    _Atomic uint32_t *count = (_Atomic uint32_t *)&((struct side *)faults.bytes)->fault_count;
-    uint32_t number = atomic_fetch_add(&faults.taken, 1) + 1;
+    _Atomic uint32_t *count = (_Atomic uint32_t *)&((struct side *)list->bytes)->fault_count;
+    uint32_t number = atomic_fetch_add(&list->taken, 1) + 1;
     if (number > SIDE_FAULTS) {
-        atomic_fetch_sub(&faults.taken, 1);
+        atomic_fetch_sub(&list->taken, 1);
         return 0;
     }
-    if (!back(SIDE_FAULTS_AT + (number - 1) * sizeof *fault, sizeof *fault))
+    if (!back(list, SIDE_FAULTS_AT + (number - 1) * sizeof *fault, sizeof *fault))
         return 0;
-    *entry_of(number) = *fault;
+    *entry_of(list, number) = *fault;
     raise_to(count, number);
     return number;
 }
 
 /* Two threads that find the same one at once may make two entries of it, of which one has no event. */
-static uint32_t find_or_add(uint64_t hash, const struct side_fault *fault)
+static uint32_t find_or_add(struct list *list, uint64_t hash, const struct side_fault *fault)
 {
     uint32_t number = 0;
     uint64_t tag = hash & ~NUMBER_MASK;
@@ -244,7 +261,7 @@ static uint32_t find_or_add(uint64_t hash, const struct side_fault *fault)
         _Atomic uint64_t *place = &known[at & NUMBER_MASK];
         uint64_t seen = atomic_load_explicit(place, memory_order_acquire);
         if (seen == 0) {
-            if (number == 0 && (number = add_fault(fault)) == 0)
+            if (number == 0 && (number = add_fault(list, fault)) == 0)
                 return 0;
             if (atomic_compare_exchange_strong(place, &seen, tag | number))
                 return number;
@@ -254,17 +271,18 @@ static uint32_t find_or_add(uint64_t hash, const struct side_fault *fault)
     }
 }
 
-static uint32_t block_fault(unsigned code_and_width, uint64_t bad, struct side_fault *fault)
+static uint32_t block_fault(struct list *list, unsigned code_and_width, uint64_t bad, struct side_fault *fault)
 {
-    describe_block(bad, fault);
-    return find_or_add(hash_of(code_and_width, fault), fault);
+    describe_block(list, bad, fault);
+    return find_or_add(list, hash_of(list, code_and_width, fault), fault);
 }
 
-static uint32_t variable_fault(unsigned code_and_width, uint64_t bad, struct side_fault *fault)
+static uint32_t variable_fault(struct list *list, unsigned code_and_width, uint64_t bad, struct side_fault *fault)
 {
     struct frame frame = {0, 0};
     bool has_frame = !globals_may_have(bad) && frame_around(bad, &frame);
     uint64_t key = mix(mix(mix(mix(fault->place, fault->stack), code_and_width), bad), globals_generation());
+    key = mix(key, (uint64_t)(list - lists));
     if (has_frame)
         key = mix(mix(key, frame.start), frame.description);
     _Atomic uint64_t *place = &recent[key % RECENT];
@@ -275,30 +293,33 @@ static uint32_t variable_fault(unsigned code_and_width, uint64_t bad, struct sid
         describe_variable(&frame, bad, fault);
     else
         describe_global(bad, fault);
-    uint32_t number = find_or_add(hash_of(code_and_width, fault), fault);
+    uint32_t number = find_or_add(list, hash_of(list, code_and_width, fault), fault);
     if (number != 0)
         atomic_store(place, (key & ~NUMBER_MASK) | number);
     return number;
 }
 
-uint32_t fault_of(unsigned code_and_width, uint64_t address, uintptr_t caller)
+uint32_t fault_of(unsigned window, unsigned code_and_width, uint64_t address, uintptr_t caller)
 {
+    struct list *list = &lists[window];
     uint64_t next = atomic_load(&stream_page.stream.cursor) << 1 >> 33, bad = first_bad(code_and_width >> 8, address);
     /* The event will be one of the next. */
-    if (next >= EVENT_LIMIT || !back(SIDE_INDEX + next * SIDE_INDEX_ENTRY, SIDE_INDEX_ENTRY))
+    if (next >= EVENT_LIMIT || !back(list, SIDE_INDEX + next * SIDE_INDEX_ENTRY, SIDE_INDEX_ENTRY))
         return 0;
-    struct side_fault fault = {.place = caller, .stack = fault_put_stack(place_of(caller))};
-    return is_in_arena(bad) ? block_fault(code_and_width, bad, &fault) : variable_fault(code_and_width, bad, &fault);
+    struct side_fault fault = {.place = caller, .stack = put_stack(list, place_of(caller))};
+    return is_in_arena(bad) ? block_fault(list, code_and_width, bad, &fault)
+                            : variable_fault(list, code_and_width, bad, &fault);
 }
 
-void fault_note(uint32_t number, uint64_t event)
+void fault_note(unsigned window, uint32_t number, uint64_t event)
 {
+    struct list *list = &lists[window];
     uint64_t offset = SIDE_INDEX + (event - 1) * SIDE_INDEX_ENTRY;
-    if (!back(offset, SIDE_INDEX_ENTRY))
+    if (!back(list, offset, SIDE_INDEX_ENTRY))
         return;
-    _Atomic uint64_t *first = (_Atomic uint64_t *)&entry_of(number)->event;
+    _Atomic uint64_t *first = (_Atomic uint64_t *)&entry_of(list, number)->event;
     uint64_t seen = atomic_load(first);
     while ((seen == 0 || event < seen) && !atomic_compare_exchange_weak(first, &seen, event))
         ;
-    atomic_store_explicit((_Atomic uint32_t *)(faults.bytes + offset), number, memory_order_release);
+    atomic_store_explicit((_Atomic uint32_t *)(list->bytes + offset), number, memory_order_release);
 }

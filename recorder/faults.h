@@ -8,16 +8,16 @@
 
 #include "stacks.h"
 
-/* Faults are noted in these bytes from now on (side.h); or nowhere, if they are null. */
-void faults_begin(unsigned char *bytes);
+/* Faults of the stream in this window are noted in these bytes (side.h). It is the newest. */
+void faults_begin(unsigned char *bytes, unsigned window);
 /* The side file was cut after what it has. */
 void faults_are_cut(void);
 /* Puts the stack of a place beside the stream, if it is not there yet. Answers its number; 0: it has none, or no room. */
 uint32_t fault_put_stack(place_word of);
 /* The number of a fault, from 1; 0 if there is no room for it. It is found before its event has its place in the
    stream, for which other threads may wait. At any time, and in a signal handler too. */
-uint32_t fault_of(unsigned code_and_width, uint64_t address, uintptr_t caller);
+uint32_t fault_of(unsigned window, unsigned code_and_width, uint64_t address, uintptr_t caller);
 /* An event has this fault. */
-void fault_note(uint32_t fault, uint64_t event);
+void fault_note(unsigned window, uint32_t fault, uint64_t event);
 
 #endif

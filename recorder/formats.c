@@ -1,5 +1,6 @@
 /* The formats of printf and scanf, as accesses of memory. A walk ends where it does not know what follows: at positions
    (%1$d), and at conversions that the program has registered. */
+#include <limits.h>
 #include <stdarg.h>
 #include <stdio.h>
 
@@ -111,6 +112,8 @@ void format_checks_print(const char *format, va_list values, uintptr_t caller)
     struct arguments arguments;
     struct conversion it = {0};
     const char *at = format;
+    if (format == NULL)
+        return;
     va_copy(arguments.list, values);
     while ((at = strchr(at, '%')) != NULL) {
         at = read_print(at + 1, &it, &arguments);
@@ -120,6 +123,36 @@ void format_checks_print(const char *format, va_list values, uintptr_t caller)
     }
     va_end(arguments.list);
     call_checks_string(CODE_LOAD, format, caller);
+}
+
+/* Of a wide format, what follows a percent sign, as far as it fits, in letters of one byte. */
+
+enum { LONGEST_CONVERSION = 64 };
+
+static void narrow(char *to, const wchar_t *from)
+{
+    size_t length = 0;
+    for (; length < LONGEST_CONVERSION - 1 && from[length] != 0; length++)
+        to[length] = from[length] > 0 && from[length] <= CHAR_MAX ? (char)from[length] : '?';
+    to[length] = 0;
+}
+
+void format_checks_wide_print(const wchar_t *format, va_list values, uintptr_t caller)
+{
+    struct arguments arguments;
+    struct conversion it = {0};
+    char text[LONGEST_CONVERSION];
+    const wchar_t *at = format;
+    va_copy(arguments.list, values);
+    while ((at = wcschr(at, '%')) != NULL) {
+        narrow(text, at + 1);
+        const char *end = read_print(text, &it, &arguments);
+        if (!print_one(&it, &arguments, caller))
+            break;
+        at += end - text + 2;
+    }
+    va_end(arguments.list);
+    call_checks_wide(CODE_LOAD, format, caller);
 }
 
 /* The end of a set of letters, which may begin with its own bracket. */
@@ -169,23 +202,49 @@ static size_t scanned_size(const struct conversion *it, const char *to)
     }
 }
 
+/* Takes the argument of a conversion that ends there. False: it is not known. */
+static bool scan_one(const struct conversion *it, const char *end, struct arguments *arguments, int *count,
+                     uintptr_t caller)
+{
+    if (*end == 0 || strchr("%diouxXbBpaAeEfFgGcCsS[n", it->kind) == NULL || may_allocate(it, end[1]))
+        return false;
+    if (it->kind == '%' || it->is_left_out)
+        return true;
+    char *to = va_arg(arguments->list, char *);
+    call_checks(CODE_STORE, to, scanned_size(it, to), caller);
+    *count -= it->kind != 'n';
+    return true;
+}
+
 /* A %n after the last value is left out: whether the scan has come to it is not known. */
 void format_checks_scan(const char *format, va_list values, int count, uintptr_t caller)
 {
+    struct arguments arguments;
     struct conversion it = {0};
-    va_list list;
     const char *at = format;
-    va_copy(list, values);
+    va_copy(arguments.list, values);
     while (count > 0 && (at = strchr(at, '%')) != NULL) {
         at = read_scan(at + 1, &it);
-        if (*at == 0 || strchr("%diouxXbBpaAeEfFgGcCsS[n", it.kind) == NULL || may_allocate(&it, at[1]))
+        if (!scan_one(&it, at, &arguments, &count, caller))
             break;
         at++;
-        if (it.kind == '%' || it.is_left_out)
-            continue;
-        char *to = va_arg(list, char *);
-        call_checks(CODE_STORE, to, scanned_size(&it, to), caller);
-        count -= it.kind != 'n';
     }
-    va_end(list);
+    va_end(arguments.list);
+}
+
+void format_checks_wide_scan(const wchar_t *format, va_list values, int count, uintptr_t caller)
+{
+    struct arguments arguments;
+    struct conversion it = {0};
+    char text[LONGEST_CONVERSION];
+    const wchar_t *at = format;
+    va_copy(arguments.list, values);
+    while (count > 0 && (at = wcschr(at, '%')) != NULL) {
+        narrow(text, at + 1);
+        const char *end = read_scan(text, &it);
+        if (!scan_one(&it, end, &arguments, &count, caller))
+            break;
+        at += end - text + 2;
+    }
+    va_end(arguments.list);
 }

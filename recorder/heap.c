@@ -21,8 +21,6 @@
 #include "recorder.h"
 
 enum { LARGEST_SLOT = 1 << 14, FINE_STEP = 16, FINE_END = 1024, CLASSES = 64 + 16 };
-/* A stream that begins with what is there has the newest of the blocks in quarantine, and no more of them. */
-enum { HELD_RECORDED = 4096 };
 
 enum { LARGEST_OFFSET = (1 << 30) - 1 };
 
@@ -204,19 +202,23 @@ static void release(struct block *block)
     class->free = block;
 }
 
+static void release_oldest(void)
+{
+    struct block *block = heap.oldest;
+    heap.oldest = block->next;
+    if (heap.oldest == NULL)
+        heap.newest = NULL;
+    heap.held_bytes -= span_bytes(block->size);
+    heap.held_count--;
+    if (!heap.is_unpainted)
+        paint_released((uintptr_t)block_start(block), block->size);
+    release(block);
+}
+
 static void release_down_to(uint64_t bound)
 {
-    while (heap.held_bytes > bound) {
-        struct block *block = heap.oldest;
-        heap.oldest = block->next;
-        if (heap.oldest == NULL)
-            heap.newest = NULL;
-        heap.held_bytes -= span_bytes(block->size);
-        heap.held_count--;
-        if (!heap.is_unpainted)
-            paint_released((uintptr_t)block_start(block), block->size);
-        release(block);
-    }
+    while (heap.held_bytes > bound)
+        release_oldest();
 }
 
 static void hold(struct block *block)
@@ -403,18 +405,18 @@ static void *place_block(size_t size, size_t alignment, uintptr_t caller)
     if (UNLIKELY(arena.places != NULL))
         arena.places[block - arena.blocks] = (struct places){place_from(borrowed.frame, caller), 0};
     if (size <= LARGEST_BLOCK) {
-        block->state = BLOCK_LIVE;
         block->size = (uint32_t)size;
         if (!heap.is_unpainted)
             paint_redzones(address, size);
         record_region(CODE_MALLOC, address, size);
+        /* The record may be the first of a segment, which restates what is live: this block is not yet. */
+        block->state = BLOCK_LIVE;
         if (!heap.is_unpainted)
             paint_live(address, size);
     } else {
         /* It can't be spelled, so it is no block for the checker: memory like a global's. */
         block->state = BLOCK_UNRECORDED;
         block->large_size = size;
-        record_regions(CODE_UNPOISON, address, size);
     }
     return (void *)address;
 }
@@ -432,6 +434,8 @@ static void *allocate(size_t size, size_t alignment, bool zeroed, uintptr_t call
         if (address == NULL)
             record_region(CODE_MALLOC, 0, size); /* refused */
         leave();
+        if (address != NULL && size > LARGEST_BLOCK)
+            record_regions(CODE_UNPOISON, (uintptr_t)address, size);
     }
     if (address == NULL)
         errno = ENOMEM;
@@ -497,7 +501,7 @@ static void *move(void *old, size_t size, uintptr_t caller)
     return moved;
 }
 
-/* Every slot and every run that was ever used. */
+/* Every slot and every run that is in use, or was. */
 static void for_each_slot(void (*visit)(const struct block *block, void *with), void *with)
 {
     for (uint32_t unit = 1; unit < arena.top; unit++) {
@@ -508,14 +512,29 @@ static void for_each_slot(void (*visit)(const struct block *block, void *with), 
     }
 }
 
+/* What a stream begins with, if there was something before it. So the checker holds the same blocks as the heap, and
+   finds the same wrong from here on. */
+
+struct restating {
+    bool is_counted;    /* nothing is recorded */
+    uint64_t events;    /* how many there were */
+    uintptr_t from, to; /* free memory that has no poison yet */
+};
+
+static void restate_poison(struct restating *restating, uintptr_t address, size_t size)
+{
+    restating->events++;
+    if (!restating->is_counted)
+        record_poison(KIND_USER, address, size);
+}
+
 static bool is_poison(unsigned char shade)
 {
     return shade == SHADE_USER || shade == SHADE_CONTAINER;
 }
 
-/* What the process has poisoned in a block that is live, by its shadow: in a stream that begins with the block.
-   Redzones of a stack that lies in it are none. */
-static void record_poison_of(uintptr_t address, size_t size)
+/* What the process has poisoned in a live block, by its shadow. Redzones of a stack that lies in it are none. */
+static void restate_poison_of(struct restating *restating, uintptr_t address, size_t size)
 {
     for (uintptr_t at = address, end = address + size; at < end;) {
         uintptr_t bad = shadow_first_bad(at, end - at);
@@ -524,21 +543,92 @@ static void record_poison_of(uintptr_t address, size_t size)
         while (good < end && is_poison(*shadow_of(good)))
             good += GRANULE;
         if (bad < end && good > next)
-            record_poison(KIND_USER, bad, (good < end ? good : end) - bad);
+            restate_poison(restating, bad, (good < end ? good : end) - bad);
         at = good > bad ? good : granule + GRANULE;
     }
 }
 
-static void record_if_live(const struct block *block, void *unused)
+static void restate_live(const struct block *block, void *with)
 {
-    (void)unused;
-    if (block->state != BLOCK_LIVE && block->state != BLOCK_UNRECORDED)
+    struct restating *restating = with;
+    if (block->state != BLOCK_LIVE)
         return;
-    uintptr_t address = (uintptr_t)block_start(block);
-    if (block->state == BLOCK_LIVE)
-        record_region(CODE_MALLOC, address, block->size);
+    restating->events++;
+    if (!restating->is_counted)
+        record_region(CODE_MALLOC, (uintptr_t)block_start(block), block->size);
+}
+
+static void restate_poison_if_live(const struct block *block, void *with)
+{
+    if (block->state == BLOCK_LIVE || block->state == BLOCK_UNRECORDED)
+        restate_poison_of(with, (uintptr_t)block_start(block), size_of(block));
+}
+
+/* Poisons the free memory that was found. */
+static void restate_free(struct restating *restating)
+{
+    for (uint64_t piece; restating->from < restating->to; restating->from += piece) {
+        uint64_t rest = restating->to - restating->from;
+        piece = rest < LARGEST_REGION ? rest : LARGEST_REGION;
+        restate_poison(restating, restating->from, piece);
+    }
+}
+
+static void add_free(struct restating *restating, uintptr_t start, uint64_t size)
+{
+    if (restating->to != start) {
+        restate_free(restating);
+        restating->from = start;
+    }
+    restating->to = start + size;
+}
+
+/* A block that was released was redzone for the checker. It does not know it any more, and an access there is bad: one
+   poison stands for all that lie in a row. */
+static void restate_released(struct restating *restating)
+{
+    for (uint32_t unit = 1; unit < arena.top; unit++) {
+        const struct unit *at = &arena.units[unit];
+        const struct block *blocks = arena.blocks + (size_t)unit * SLOTS;
+        uintptr_t start = (uintptr_t)unit_start(unit);
+        for (uint32_t slot = 0; at->kind == UNIT_SLAB && slot < at->used; slot++)
+            if (blocks[slot].state == BLOCK_FREE)
+                add_free(restating, start + slot * (uintptr_t)at->slot_size, at->slot_size);
+        if (at->kind == UNIT_FREE || (at->kind == UNIT_RUN && blocks->state == BLOCK_FREE))
+            add_free(restating, start, (uint64_t)at->count * UNIT);
+        if (at->kind == UNIT_FREE || at->kind == UNIT_RUN)
+            unit += at->count - 1;
+    }
+    restate_free(restating);
+}
+
+/* The events but for those of the quarantine. */
+static uint64_t count_restated(void)
+{
+    struct restating counted = {.is_counted = true};
+    for_each_slot(restate_live, &counted);
     if (!heap.is_unpainted)
-        record_poison_of(address, size_of(block));
+        for_each_slot(restate_poison_if_live, &counted);
+    restate_released(&counted);
+    return counted.events;
+}
+
+/* Releases the oldest blocks of the quarantine until the rest can be restated, with all else, in so many events. What
+   is released is poison, so it may need events too. */
+static void fit_quarantine(uint64_t most_held, uint64_t room)
+{
+    uint64_t most = most_held;
+    do {
+        while (heap.held_count > most)
+            release_oldest();
+        /* A few are no matter, and need no count of all others. */
+        if (heap.held_count <= room / 16)
+            return;
+        uint64_t others = count_restated(), fit = others < room ? (room - others) / 2 : 0;
+        if (heap.held_count <= fit)
+            return;
+        most = fit < heap.held_count / 4 * 3 ? fit : heap.held_count / 4 * 3;
+    } while (heap.held_count != 0);
 }
 
 void heap_paint(bool is_painted)
@@ -561,16 +651,18 @@ void heap_is_poisoned(void)
     heap.is_unpainted = false;
 }
 
-void heap_record_all(bool all_held)
+void heap_restate(uint64_t most_held, uint64_t room)
 {
-    const struct block *first = heap.oldest;
-    for (uint64_t rest = heap.held_count; rest > HELD_RECORDED && !all_held; rest--)
-        first = first->next;
-    for (const struct block *block = first; block != NULL; block = block->next)
+    struct restating restating = {0};
+    fit_quarantine(most_held, room);
+    for_each_slot(restate_live, &restating);
+    for (const struct block *block = heap.oldest; block != NULL; block = block->next) {
         record_region(CODE_MALLOC, (uintptr_t)block_start(block), block->size);
-    for (const struct block *block = first; block != NULL; block = block->next)
         record_free((uintptr_t)block_start(block));
-    for_each_slot(record_if_live, NULL);
+    }
+    restate_released(&restating);
+    if (!heap.is_unpainted)
+        for_each_slot(restate_poison_if_live, &restating);
 }
 
 static void add_if_used(const struct block *block, void *numbers)

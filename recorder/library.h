@@ -6,6 +6,8 @@
 
 /* Says where it is. Where the library is a part of the program, nothing is wrapped, and it stays unsaid. */
 void library_find(struct meeting *meeting);
+/* After a library was opened: the mathematics may have come with it. */
+void library_look_again(void);
 /* From now on no call is checked. */
 void library_leave_unchecked(void);
 

@@ -3,6 +3,7 @@
 
 #include <errno.h>
 #include <string.h>
+#include <sys/syscall.h>
 #include <sys/uio.h>
 #include <unistd.h>
 
@@ -37,5 +38,30 @@ bool memory_read_text(uint64_t from, char *to, size_t room)
         length += piece;
     }
     to[length] = 0;
+    return true;
+}
+
+enum { MEMORY_PAGE = 4096 };
+
+/* A call that changes nothing: it reads the set of signals first, and then finds that it does not know what to do. It
+   is quick, and no sandbox refuses it. */
+static bool is_page_there(uintptr_t page)
+{
+    enum { NOTHING_TO_DO = -1, SET_BYTES = 8 };
+    int before = errno;
+    bool is_there = syscall(SYS_rt_sigprocmask, NOTHING_TO_DO, page, NULL, SET_BYTES) == -1 && errno == EINVAL;
+    errno = before;
+    return is_there;
+}
+
+bool memory_is_there(struct known_page *known, uintptr_t address, size_t size)
+{
+    for (uintptr_t page = address / MEMORY_PAGE * MEMORY_PAGE; page < address + size; page += MEMORY_PAGE) {
+        if (page == known->start)
+            continue;
+        if (page == 0 || page > UINTPTR_MAX - 2 * MEMORY_PAGE || !is_page_there(page))
+            return false;
+        known->start = page;
+    }
     return true;
 }

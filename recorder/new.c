@@ -1,10 +1,12 @@
 /* Operator new: its malloc is recorded with the place of the `new`. */
+#include "cfi.h"
 #include "hooks.h"
 
 #define NEW(name, parameters, arguments)                                                                               \
     void *name parameters;                                                                                             \
     void *__wrap_##name parameters                                                                                     \
     {                                                                                                                  \
+        IS_OWN_FRAME;                                                                                                  \
         note_called_from(CALLER());                                                                                    \
         void *made = name arguments;                                                                                   \
         note_called_from(0);                                                                                           \

@@ -16,26 +16,46 @@
 
 #include "signals.h"
 
-/* The name gets a number before its last dot, or at its end: run.trace, run.1.trace, run.2.trace. */
-static bool numbered(char *name, const char *path, unsigned number)
+/* The name gets a text before its last dot, or at its end. */
+static bool insert(char *name, const char *path, const char *text)
 {
-    size_t length = strlen(path);
+    size_t length = strlen(path), count = strlen(text);
     const char *slash = strrchr(path, '/');
     const char *dot = strrchr(slash ? slash : path, '.');
     size_t front = dot && dot != path ? (size_t)(dot - path) : length;
-    char digits[12];
-    size_t first = sizeof digits;
-    for (unsigned rest = number; rest != 0; rest /= 10)
-        digits[--first] = (char)('0' + rest % 10);
-    if (number != 0)
-        digits[--first] = '.';
-    size_t count = sizeof digits - first;
     if (length + count >= PATH_MAX)
         return false;
     memcpy(name, path, front);
-    memcpy(name + front, digits + first, count);
+    memcpy(name + front, text, count);
     memcpy(name + front + count, path + front, length - front + 1);
     return true;
+}
+
+/* Puts the digits of a number, as many as these at least, before the end of a text. Answers where they begin. */
+static char *put_digits(char *end, uint64_t number, unsigned least)
+{
+    *--end = 0;
+    for (unsigned count = 0; number != 0 || count < least; number /= 10, count++)
+        *--end = (char)('0' + number % 10);
+    return end;
+}
+
+bool output_number(char *name, const char *path, unsigned number)
+{
+    char text[24];
+    char *first = put_digits(text + sizeof text, number, 0);
+    if (number != 0)
+        *--first = '.';
+    return insert(name, path, first);
+}
+
+bool output_name_segment(char *name, const char *path, uint64_t number)
+{
+    static const char front[] = ".segment-";
+    char text[48];
+    char *first = put_digits(text + sizeof text, number, 3) - strlen(front);
+    memcpy(first, front, strlen(front));
+    return insert(name, path, first);
 }
 
 static const char *reason(void)
@@ -70,7 +90,14 @@ static bool is_still(const struct output *output, int descriptor)
     return fstat(descriptor, &seen) == 0 && seen.st_dev == output->device && seen.st_ino == output->node;
 }
 
-static const char *take_pieces(struct output *output, int descriptor, uint64_t room)
+/* Puts plain memory, of zeros, where an output lies. */
+static bool put_memory(struct window window)
+{
+    return mmap(window.bytes, window.room, PROT_READ | PROT_WRITE,
+                MAP_PRIVATE | MAP_ANONYMOUS | MAP_NORESERVE | MAP_FIXED, -1, 0) == window.bytes;
+}
+
+static const char *take_pieces(struct output *output, int descriptor, struct window window)
 {
     struct stat seen;
     output->descriptor = moved_up(descriptor);
@@ -78,10 +105,9 @@ static const char *take_pieces(struct output *output, int descriptor, uint64_t r
         return reason();
     output->device = seen.st_dev;
     output->node = seen.st_ino;
-    void *bytes = mmap(NULL, room, PROT_READ | PROT_WRITE, MAP_PRIVATE | MAP_ANONYMOUS | MAP_NORESERVE, -1, 0);
-    if (bytes == MAP_FAILED)
+    if (!put_memory(window))
         return reason();
-    output->bytes = bytes;
+    output->bytes = window.bytes;
     return NULL;
 }
 
@@ -92,7 +118,8 @@ static int open_new(struct output *output, const char *path, enum naming naming)
     if (naming == NAME_TAKEN_OVER)
         unlink(path);
     for (unsigned number = 0; number < 1000000; number++) {
-        if (!numbered(output->path, path, number)) {
+        output->number = number;
+        if (!output_number(output->path, path, number)) {
             errno = ENAMETOOLONG;
             return -1;
         }
@@ -118,11 +145,18 @@ static void clear(struct output *output, uint64_t room)
     output->bytes = NULL;
 }
 
-const char *output_open_file(struct output *output, const char *path, enum naming naming, uint64_t room,
+/* Maps a file in the place of plain memory. */
+static void *map_file(struct window window, int descriptor)
+{
+    int flags = MAP_SHARED | MAP_NORESERVE | MAP_FIXED;
+    return mmap(window.bytes, window.room, PROT_READ | PROT_WRITE, flags, descriptor, 0);
+}
+
+const char *output_open_file(struct output *output, const char *path, enum naming naming, struct window window,
                              uint64_t backed)
 {
     struct stat seen;
-    clear(output, room);
+    clear(output, window.room);
     int descriptor = open_new(output, path, naming);
     if (descriptor < 0 || fstat(descriptor, &seen) != 0)
         return reason();
@@ -132,14 +166,14 @@ const char *output_open_file(struct output *output, const char *path, enum namin
             close(descriptor);
             return "another process writes into this pipe";
         }
-        return take_pieces(output, descriptor, room);
+        return take_pieces(output, descriptor, window);
     }
     void *bytes = MAP_FAILED;
     if (fallocate(descriptor, 0, 0, (off_t)backed) == 0)
-        bytes = mmap(NULL, room, PROT_READ | PROT_WRITE, MAP_SHARED | MAP_NORESERVE, descriptor, 0);
+        bytes = map_file(window, descriptor);
     if (bytes == MAP_FAILED) {
         if (errno == EOPNOTSUPP || errno == ENOSYS || errno == ENODEV)
-            return take_pieces(output, descriptor, room);
+            return take_pieces(output, descriptor, window);
         const char *why = reason();
         unlink(output->path);
         close(descriptor);
@@ -176,10 +210,20 @@ static bool connect_patiently(int descriptor, const struct sockaddr_un *address,
     return true;
 }
 
-const char *output_connect(struct output *output, const char *path, bool has_abstract, uint64_t room, int patience_ms)
+/* An abstract name is anybody's who takes it, and may be another user's by now. */
+static bool is_trusted(int descriptor)
+{
+    struct ucred listener;
+    socklen_t size = sizeof listener;
+    return getsockopt(descriptor, SOL_SOCKET, SO_PEERCRED, &listener, &size) == 0
+           && (listener.uid == 0 || listener.uid == geteuid());
+}
+
+const char *output_connect(struct output *output, const char *path, bool has_abstract, struct window window,
+                           int patience_ms)
 {
     struct sockaddr_un address;
-    clear(output, room);
+    clear(output, window.room);
     output->is_socket = true;
     if (strlen(path) >= sizeof address.sun_path)
         return strerrordesc_np(ENAMETOOLONG);
@@ -188,10 +232,13 @@ const char *output_connect(struct output *output, const char *path, bool has_abs
     if (descriptor < 0)
         return reason();
     if (connect_patiently(descriptor, &address, name_socket(&address, path, false), &patience_ms))
-        return take_pieces(output, descriptor, room);
+        return take_pieces(output, descriptor, window);
     const char *why = reason();
-    if (has_abstract && connect_patiently(descriptor, &address, name_socket(&address, path, true), &patience_ms))
-        return take_pieces(output, descriptor, room);
+    if (has_abstract && connect_patiently(descriptor, &address, name_socket(&address, path, true), &patience_ms)) {
+        if (is_trusted(descriptor))
+            return take_pieces(output, descriptor, window);
+        why = "its name is another user's";
+    }
     close(descriptor);
     return why;
 }
@@ -207,23 +254,23 @@ void output_knock(const char *path)
     close(descriptor);
 }
 
-const char *output_open_memory(struct output *output, uint64_t room)
+const char *output_open_memory(struct output *output, struct window window)
 {
-    clear(output, room);
+    clear(output, window.room);
     output->path[0] = 0;
     int descriptor = memfd_create("asancol", MFD_CLOEXEC | MFD_ALLOW_SEALING);
     if (descriptor < 0)
         return reason();
     void *bytes = MAP_FAILED;
-    if (ftruncate(descriptor, (off_t)room) == 0
+    if (ftruncate(descriptor, (off_t)window.room) == 0
         && fcntl(descriptor, F_ADD_SEALS, F_SEAL_SHRINK | F_SEAL_GROW | F_SEAL_SEAL) == 0)
-        bytes = mmap(NULL, room, PROT_READ | PROT_WRITE, MAP_SHARED | MAP_NORESERVE, descriptor, 0);
+        bytes = map_file(window, descriptor);
     if (bytes == MAP_FAILED) {
         const char *why = reason();
         close(descriptor);
         return why;
     }
-    madvise(bytes, room, MADV_DONTDUMP);
+    madvise(bytes, window.room, MADV_DONTDUMP);
     output->bytes = bytes;
     output->descriptor = descriptor;
     return NULL;
@@ -352,42 +399,33 @@ const char *output_send(struct output *output, uint64_t length, bool all, int pa
     return why;
 }
 
-/* Puts plain memory, of zeros, in the place of what is mapped. */
-static bool put_memory(const struct output *output)
-{
-    return mmap(output->bytes, output->room, PROT_READ | PROT_WRITE,
-                MAP_PRIVATE | MAP_ANONYMOUS | MAP_NORESERVE | MAP_FIXED, -1, 0) == output->bytes;
-}
-
 bool output_lose(struct output *output, const void *address)
 {
     const unsigned char *at = address;
     if (!output->is_mapped || at < output->bytes || at >= output->bytes + output->room)
         return false;
-    output->is_lost = put_memory(output);
+    output->is_lost = put_memory((struct window){output->bytes, output->room});
     return output->is_lost;
+}
+
+void output_leave(struct output *output)
+{
+    if (output->bytes != NULL)
+        put_memory((struct window){output->bytes, output->room});
+    if (output->descriptor >= 0 && is_still(output, output->descriptor))
+        close(output->descriptor);
+    output->bytes = NULL;
+    output->descriptor = -1;
 }
 
 void output_close(struct output *output)
 {
-    if (output->bytes != NULL)
-        munmap(output->bytes, output->room);
-    if (output->descriptor >= 0)
-        close(output->descriptor);
+    output_leave(output);
     clear(output, 0);
 }
 
-void output_drop(struct output *output)
+void output_discard(struct output *output)
 {
-    if (output->old_bytes != NULL)
-        munmap(output->old_bytes, output->old_room);
-    output->old_bytes = NULL;
-    /* Where a signal handler has forked, the record that it had interrupted will still be written. */
-    if (output->bytes != NULL && put_memory(output)) {
-        output->old_bytes = output->bytes;
-        output->old_room = output->room;
-    }
-    if (output->descriptor >= 0 && is_still(output, output->descriptor))
-        close(output->descriptor);
-    clear(output, 0);
+    unlink(output->path);
+    output_close(output);
 }

@@ -17,39 +17,52 @@ struct output {
     uint64_t sent;   /* a descriptor was given this many */
     bool is_lost;    /* the mapped file was cut by somebody else */
     uint64_t room;
-    unsigned char *bytes;
-    unsigned char *old_bytes; /* of the parent's output, in its child */
-    uint64_t old_room;
+    unsigned char *bytes; /* plain memory before and after */
     char path[PATH_MAX];
+    unsigned number; /* that its name has got, since the name was taken; or 0 */
 };
 
+/* Where an output lies: memory that was reserved for it (windows.h). */
+struct window {
+    unsigned char *bytes;
+    uint64_t room;
+};
+
+/* The name with a number, if that is not 0: run.trace, run.1.trace, run.2.trace. False: it is too long. */
+bool output_number(char *name, const char *path, unsigned number);
+/* The name of a later segment: run.trace, run.segment-002.trace. False: it is too long. */
+bool output_name_segment(char *name, const char *path, uint64_t number);
 /* Where there is a file of the name: the next name that is free is taken, or this file is thrown away. */
 enum naming { NAME_NUMBERED, NAME_TAKEN_OVER };
 
 /* Each answers null, or what went wrong. */
-const char *output_open_file(struct output *output, const char *path, enum naming naming, uint64_t room,
+const char *output_open_file(struct output *output, const char *path, enum naming naming, struct window window,
                              uint64_t backed);
 /* To a socket: by its path, or else, where `has_abstract`, by the abstract name of the same text. */
-const char *output_connect(struct output *output, const char *path, bool has_abstract, uint64_t room, int patience_ms);
+const char *output_connect(struct output *output, const char *path, bool has_abstract, struct window window,
+                           int patience_ms);
 /* Connects to a hub by either name, as far as it can, and sends nothing. */
 void output_knock(const char *path);
 /* Memory of zeros that another process can map. Nobody can change its size. */
-const char *output_open_memory(struct output *output, uint64_t room);
+const char *output_open_memory(struct output *output, struct window window);
 /* Sends the first bytes of a socket, and the descriptor of that memory with them, which is closed here. */
 const char *output_send_first(struct output *output, uint64_t length, struct output *memory, int patience_ms);
 /* Backs a mapped file up to this length. */
 const char *output_extend(struct output *output, uint64_t length);
 /* Backs a part of a mapped file, which may leave a hole before it. */
 const char *output_back(struct output *output, uint64_t offset, uint64_t length);
+/* Puts plain memory in its place, and closes the descriptor. What it has stays; a file can be trimmed. */
+void output_leave(struct output *output);
 /* Cuts a mapped file to this length. */
 void output_trim(struct output *output, uint64_t length);
 /* Sends what is not sent yet of the first bytes: at once what a socket takes, or all of it, with patience. */
 const char *output_send(struct output *output, uint64_t length, bool all, int patience_ms);
 /* Whether the address lies in a mapped file. Then the file is gone, and plain memory takes its place. */
 bool output_lose(struct output *output, const void *address);
-/* Forgets an output that was opened in vain. */
+/* Takes a file away that was opened in vain. */
+void output_discard(struct output *output);
+/* Forgets an output: one that was opened in vain, or a parent's in its child. Plain memory takes its place, since a
+   record may still be written there: a signal handler that forks may have interrupted that. */
 void output_close(struct output *output);
-/* Forgets a parent's output in its child. */
-void output_drop(struct output *output);
 
 #endif

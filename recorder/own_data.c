@@ -44,18 +44,27 @@ static void look_at_table(struct search *search, const Elf64_Shdr *table, const 
     struct view view = search->view;
     if (!is_inside(view, table->sh_offset, table->sh_size) || !is_inside(view, texts->sh_offset, texts->sh_size))
         return;
-    const Elf64_Sym *symbols = (const Elf64_Sym *)(view.bytes + table->sh_offset);
     const char *text = view.bytes + texts->sh_offset;
     if (texts->sh_size == 0 || text[texts->sh_size - 1] != 0)
         return;
     bool has_file = true;
-    for (const Elf64_Sym *it = symbols; it < symbols + table->sh_size / sizeof *symbols; it++) {
-        const char *name = text + (it->st_name < texts->sh_size ? it->st_name : texts->sh_size - 1);
-        if (ELF64_ST_TYPE(it->st_info) == STT_FILE)
+    for (uint64_t at = 0; table->sh_size - at >= sizeof(Elf64_Sym); at += sizeof(Elf64_Sym)) {
+        Elf64_Sym it;
+        memcpy(&it, view.bytes + table->sh_offset + at, sizeof it); /* it may lie anywhere */
+        const char *name = text + (it.st_name < texts->sh_size ? it.st_name : texts->sh_size - 1);
+        if (ELF64_ST_TYPE(it.st_info) == STT_FILE)
             has_file = name[0] != 0;
-        else if (is_variable(it) && !is_of_one_file(it, has_file))
+        else if (is_variable(&it) && !is_of_one_file(&it, has_file))
             look_for(search, name);
     }
+}
+
+/* The section header of this number. */
+static Elf64_Shdr section_at(struct view view, const Elf64_Ehdr *header, size_t number)
+{
+    Elf64_Shdr section;
+    memcpy(&section, view.bytes + header->e_shoff + number * sizeof section, sizeof section);
+    return section;
 }
 
 bool own_data_find(const char *path, const char *const *names, size_t count, bool *is_own)
@@ -66,11 +75,12 @@ bool own_data_find(const char *path, const char *const *names, size_t count, boo
     bool is_elf = view.size >= sizeof *header && memcmp(view.bytes, ELFMAG, SELFMAG) == 0
                   && header->e_ident[EI_CLASS] == ELFCLASS64 && header->e_shentsize == sizeof(Elf64_Shdr)
                   && is_inside(view, header->e_shoff, header->e_shnum * sizeof(Elf64_Shdr));
-    if (is_elf) {
-        const Elf64_Shdr *sections = (const Elf64_Shdr *)(view.bytes + header->e_shoff);
-        for (size_t i = 0; i < header->e_shnum; i++)
-            if (sections[i].sh_type == SHT_SYMTAB && sections[i].sh_link < header->e_shnum)
-                look_at_table(&search, &sections[i], &sections[sections[i].sh_link]);
+    for (size_t i = 0; is_elf && i < header->e_shnum; i++) {
+        Elf64_Shdr table = section_at(view, header, i);
+        if (table.sh_type == SHT_SYMTAB && table.sh_link < header->e_shnum) {
+            Elf64_Shdr texts = section_at(view, header, table.sh_link);
+            look_at_table(&search, &table, &texts);
+        }
     }
     view_unmap(view);
     return search.has_found;

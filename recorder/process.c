@@ -67,14 +67,17 @@ static bool open_stream(void)
     return stream_begin(&process.settings);
 }
 
-static bool begin(bool all_held)
+/* A child has the newest of the blocks that its parent holds, and no more of them. */
+enum { HELD_BY_CHILD = 4096 };
+
+static bool begin(uint64_t most_held)
 {
     if (process.settings.with_side)
         heap_keep_places();
     if (!open_stream())
         return false;
     heap_set_bound(process.settings.quarantine);
-    heap_record_all(all_held);
+    heap_restate(most_held, stream_restating_room());
     /* What comes next may be an exec, after all descriptors were closed. */
     stream_look_at_clock(true);
     return true;
@@ -108,7 +111,7 @@ void recorder_start(void)
     enum halt halt = process.settings.halt;
     heap_lock();
     halt_set(halt != HALT_NEVER, wanted && halt == HALT_AND_RECORD);
-    if (!wanted || halt == HALT_AND_RECORD || !begin(false)) {
+    if (!wanted || halt == HALT_AND_RECORD || !begin(UINT64_MAX)) {
         atomic_store(&recorder_state, STATE_OFF);
         be_idle();
     }
@@ -126,7 +129,7 @@ bool recorder_begin_late(void)
     struct disturbance before;
     undisturbed_begin(&before);
     heap_lock();
-    bool has_begun = begin(true);
+    bool has_begun = begin(UINT64_MAX);
     heap_unlock();
     undisturbed_end(&before);
     return has_begun;
@@ -160,23 +163,23 @@ void recorder_finish_in_handler(int number)
 
 bool recorder_before_exec(void)
 {
-    enum state state = atomic_load(&recorder_state);
     if (!recorder_is_own_process()) {
         leave_vfork();
         return false;
     }
-    if (state != STATE_RECORDING && state != STATE_AT_LIMIT)
+    if (atomic_load(&recorder_state) == STATE_OFF)
         return false;
-    if (state == STATE_AT_LIMIT) {
-        stream_end(FINISH_CLOSED, ENDING_EXEC, 0);
-        stream_say_left_out();
-        return true;
-    }
+    /* Nobody switches to another segment from here on. */
     heap_lock();
-    if (stream_suspend())
+    enum state state = atomic_load(&recorder_state);
+    if (state == STATE_RECORDING && stream_suspend())
         return true;
     heap_unlock();
-    return false;
+    if (state != STATE_AT_LIMIT)
+        return false;
+    stream_end(FINISH_CLOSED, ENDING_EXEC, 0);
+    stream_say_left_out();
+    return true;
 }
 
 void recorder_exec_failed(void)
@@ -233,7 +236,7 @@ static void after_fork_in_child(void)
         say_unrecorded(why_unrecorded());
         recorded = false;
     }
-    if (!recorded || !begin(false)) {
+    if (!recorded || !begin(HELD_BY_CHILD)) {
         atomic_store(&recorder_state, STATE_OFF);
         be_idle();
     }

@@ -2,12 +2,21 @@
 #define _GNU_SOURCE
 #include "globals.h"
 #include "hooks.h"
+#include "library.h"
 #include "signals.h"
 #include "stream.h"
+#include "unwinding.h"
 
 static void access_from_object(enum code code, unsigned width, uint64_t address, uintptr_t caller)
 {
     record_access(code, width, address, caller);
+}
+
+static void modules_changed(void)
+{
+    library_look_again();
+    unwinding_modules_changed();
+    stream_write_modules();
 }
 
 const struct recorder_hooks asancol_hooks = {
@@ -19,7 +28,7 @@ const struct recorder_hooks asancol_hooks = {
     .finish = recorder_finish,
     .before_exec = recorder_before_exec,
     .exec_failed = recorder_exec_failed,
-    .modules_changed = stream_write_modules,
+    .modules_changed = modules_changed,
     .set_action = signals_set_action,
     .found_checks = recorder_found_checks,
     .stream = &stream_page.stream,

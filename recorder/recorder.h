@@ -34,11 +34,12 @@ struct stream {
     _Atomic uint64_t cursor; /* CURSOR_ON, the number of events, the offset; or without CURSOR_ON: off */
     uint64_t events_end;     /* the next event that is unusual, as a part of the cursor: mostly that at the limit */
     _Atomic uint64_t ready;  /* below this offset bytes can be stored */
-    unsigned char *bytes;    /* room for LARGEST_STREAM bytes, backed up to `ready` */
+    unsigned char *bytes;    /* where offsets count from: the windows of streams (windows.h) */
     uint64_t unused;         /* shared objects know where the next one lies */
     _Atomic bool is_idle;    /* nothing is recorded, and nothing will be */
     bool is_watched;         /* each access is looked at for a fault, or by the clock */
     bool has_side;           /* faults are noted */
+    _Atomic unsigned window; /* in which the stream lies: another one from segment to segment */
 };
 
 _Static_assert(offsetof(struct stream, is_idle) == 40, "shared objects of older recorders find it");
@@ -94,6 +95,8 @@ bool stream_wake(void) OWN_NAME(stream_wake);
 
 /* Brings the stream up to what the shadow says of the granules that an access meets, outside the allocator's memory. */
 void stated_bring_up(uint64_t address, unsigned width) OWN_NAME(stated_bring_up);
+/* Nothing is stated any more. */
+void stated_forget(void);
 
 /* Whether the stream states already what the shadow says, as far as an access goes: of a good access in the last bytes
    of a variable, or where nothing was ever poisoned. */
@@ -105,7 +108,7 @@ static inline bool is_stated(uint64_t address, unsigned width)
 
 /* What remains to be done for an access where something is unusual. */
 void record_access_slowly(uint64_t place, unsigned code_and_width, uint64_t address) OWN_NAME(record_access_slowly);
-/* An access to a stream that is watched. */
+/* An access to a stream that is watched, or where that does not state what the shadow says. */
 void record_watched_access(unsigned code_and_width, uint64_t address, uintptr_t caller)
     OWN_NAME(record_watched_access);
 
@@ -146,9 +149,7 @@ static inline void record_access(enum code code, unsigned width, uint64_t addres
         halt_if_bad(code, width, address, caller);
         return;
     }
-    if (!is_in_arena(address) && UNLIKELY(!is_stated(address, width)))
-        stated_bring_up(address, width);
-    if (UNLIKELY(stream->is_watched)) {
+    if (UNLIKELY(stream->is_watched) || (!is_in_arena(address) && UNLIKELY(!is_stated(address, width)))) {
         record_watched_access(code_and_width, address, caller);
     } else {
         uint64_t place = stream_take(&stream->cursor, CURSOR_EVENT + ACCESS_LENGTH);
@@ -164,7 +165,8 @@ static inline void record_access(enum code code, unsigned width, uint64_t addres
 void record_range(enum code code, uint64_t address, uint64_t size, uintptr_t caller) OWN_NAME(record_range);
 /* The pieces of it that the shadow holds for bad. */
 void record_bad_range(enum code code, uint64_t address, uint64_t size, uintptr_t caller) OWN_NAME(record_bad_range);
-/* A malloc or an unpoison, and a poison. A region that can't be spelled is left out. */
+/* A malloc or an unpoison, and a poison. A region that can't be spelled is left out. Mallocs and frees are recorded in
+   the allocator, when it is in order. */
 void record_region(enum code code, uint64_t address, uint64_t size);
 void record_poison(enum kind kind, uint64_t address, uint64_t size);
 /* What the process poisons and unpoisons, of any size: in the shadow, and in the allocator's memory as records too. */
@@ -229,9 +231,10 @@ void heap_lock(void);
 void heap_unlock(void);
 /* Whether this thread is in the allocator. */
 bool heap_is_entered(void);
-/* Records a malloc for each block that is live with what is poisoned of it, and a malloc and a free for those that are
-   held, or for the newest of them. The heap is locked. */
-void heap_record_all(bool all_held);
+/* Records what stands: a malloc for each block that is live, a malloc and a free for each that is held, and poison for
+   what was released and for what the process has poisoned. Of the held blocks the oldest are released first, as far as
+   they are more than so many, or the events more than there is room for. The heap is locked. */
+void heap_restate(uint64_t most_held, uint64_t room);
 /* Whether the shadow shows the state of blocks from now on. If nothing is recorded it need not, */
 void heap_paint(bool is_painted);
 /* until the process poisons a part of one. */

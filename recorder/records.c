@@ -52,7 +52,7 @@ static void look_at_clock(void)
 
 void record_region(enum code code, uint64_t address, uint64_t size)
 {
-    unsigned char *at = can_be_spelled(address, size) ? stream_reserve(REGION_LENGTH) : NULL;
+    unsigned char *at = can_be_spelled(address, size) ? stream_reserve(REGION_LENGTH, code == CODE_MALLOC) : NULL;
     if (at == NULL)
         return;
     put_number(at + 1, address);
@@ -63,7 +63,7 @@ void record_region(enum code code, uint64_t address, uint64_t size)
 
 void record_poison(enum kind kind, uint64_t address, uint64_t size)
 {
-    unsigned char *at = can_be_spelled(address, size) ? stream_reserve(POISON_LENGTH) : NULL;
+    unsigned char *at = can_be_spelled(address, size) ? stream_reserve(POISON_LENGTH, false) : NULL;
     if (at == NULL)
         return;
     at[1] = (unsigned char)kind;
@@ -84,9 +84,14 @@ static void record_piece(enum code code, uint64_t address, uint64_t size)
         if (is_in_arena(address))
             record_poison(KIND_USER, address, size);
     } else {
-        if (is_in_arena(address))
-            record_region(code, address, size);
-        shadow_unpoison(address, size);
+        unsigned window;
+        do {
+            window = atomic_load(&stream_page.stream.window);
+            if (is_in_arena(address))
+                record_region(code, address, size);
+            shadow_unpoison(address, size);
+            /* A segment that has begun before the shadow was changed does not know of it. */
+        } while (window != atomic_load(&stream_page.stream.window));
     }
 }
 
@@ -106,7 +111,7 @@ void record_regions(enum code code, uint64_t address, uint64_t size)
 
 void record_free(uint64_t address)
 {
-    unsigned char *at = address < ADDRESS_END ? stream_reserve(PLACE_LENGTH) : NULL;
+    unsigned char *at = address < ADDRESS_END ? stream_reserve(PLACE_LENGTH, true) : NULL;
     if (at == NULL)
         return;
     put_number(at + 1, address);

@@ -16,6 +16,7 @@ static const char *const names[] = {
     "ASANCOL_TRACE",    "ASANCOL_HUB",      "ASANCOL_SOCKET", "ASANCOL_WHERE", "ASANCOL_QUARANTINE",
     "ASANCOL_LIMIT",    "ASANCOL_PATIENCE", "ASANCOL_LOG",    "ASANCOL_ALL",   "ASANCOL_CC",
     "ASANCOL_CXX",      "ASANCOL_HALT",     "ASANCOL_STOP",   "ASANCOL_REPORT", "ASANCOL_SYMBOLIZER",
+    "ASANCOL_SEGMENTS",
 };
 
 enum { NAMES = sizeof names / sizeof *names, LONGEST_NAME = 32 };
@@ -125,8 +126,12 @@ static void say_no_number(const char *name, const char *value, uint64_t least, u
     add(why, sizeof why, " to ");
     add_number(why, sizeof why, most);
     add(why, sizeof why, ", and ");
-    add_number(why, sizeof why, otherwise);
-    add(why, sizeof why, " holds");
+    if (otherwise == ALL_SEGMENTS) {
+        add(why, sizeof why, "all are kept");
+    } else {
+        add_number(why, sizeof why, otherwise);
+        add(why, sizeof why, " holds");
+    }
     recorder_say("ignored: ", name, why);
 }
 
@@ -230,6 +235,7 @@ void settings_read(struct settings *settings)
     read_outputs(settings);
     settings->stop = number_of("ASANCOL_STOP", 1, EVENT_LIMIT, 0);
     settings->limit = number_of("ASANCOL_LIMIT", 1, EVENT_LIMIT, EVENT_LIMIT);
+    settings->segments = number_of("ASANCOL_SEGMENTS", 0, MOST_SEGMENTS_KEPT, ALL_SEGMENTS);
     settings->quarantine = number_of("ASANCOL_QUARANTINE", 0, (uint64_t)1 << 40, QUARANTINE_BOUND);
     settings->patience_ms = (int)number_of("ASANCOL_PATIENCE", 0, 86400, 60) * 1000;
     settings->with_side = number_of("ASANCOL_WHERE", 0, 1, 0) == 1 || settings->hub != NULL;

@@ -5,6 +5,10 @@
 #include <stdbool.h>
 #include <stdint.h>
 
+/* Of so many segments the oldest can be thrown away, or of none. */
+enum { MOST_SEGMENTS_KEPT = 1000 };
+#define ALL_SEGMENTS UINT64_MAX
+
 /* Whether the process ends at its first fault; and whether nothing is recorded until then. */
 enum halt { HALT_NEVER, HALT, HALT_AND_RECORD };
 
@@ -13,7 +17,8 @@ struct settings {
     const char *trace;  /* the name of the trace with %p, from the root, or null; with a hub, where it goes if the hub
                            can't be reached */
     const char *socket; /* or null */
-    uint64_t limit;
+    uint64_t limit;    /* of events in a stream */
+    uint64_t segments; /* how many of a process are kept; 0: the limit ends the recording */
     uint64_t stop; /* the event at which the process stops; 0: none */
     uint64_t quarantine;
     int patience_ms;

@@ -46,11 +46,11 @@ struct recorder_hooks;
 
 struct meeting {
     const struct recorder_hooks *hooks; /* of the program (hooks.h), or null if it has no recorder */
-    /* The code whose functions are checked when they are called: the C library's, and what the system has of it
-       (library.c). Zeros if no call is checked. */
+    /* The code whose functions are checked when they are called: the C library's, what the system has of it, and that
+       of its mathematics (library.c). Zeros if no call is checked. */
     struct code_range {
         uintptr_t start, size;
-    } library, system;
+    } library, system, mathematics;
 };
 
 /* The codes of granules without an addressable byte. Which of them it is matters to nobody but for the kind of the

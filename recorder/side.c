@@ -41,23 +41,45 @@ static void read_words(struct side *side)
         strncpy(side->words, program_invocation_name, SIDE_WORDS - 2);
 }
 
-static _Atomic uint64_t *needed_in(struct side *side)
+static struct side_progress *progress_in(struct side *side)
 {
-    return (_Atomic uint64_t *)&((struct side_progress *)((unsigned char *)side + SIDE_PROGRESS))->needed;
+    return (struct side_progress *)((unsigned char *)side + SIDE_PROGRESS);
 }
 
-void side_begin(unsigned char *bytes, uint64_t quarantine)
+static _Atomic uint64_t *needed_in(struct side *side)
+{
+    return (_Atomic uint64_t *)&progress_in(side)->needed;
+}
+
+/* Who the process is: the same in all its segments. */
+static void note_process(struct side *side, uint64_t segment)
+{
+    static uint32_t process, parent;
+    static uint64_t started;
+    struct timespec now;
+    if (segment == 0) {
+        clock_gettime(CLOCK_REALTIME, &now);
+        process = (uint32_t)getpid();
+        parent = (uint32_t)getppid();
+        started = (uint64_t)now.tv_sec * 1000000000 + (uint64_t)now.tv_nsec;
+    }
+    side->process = process;
+    side->parent = parent;
+    side->started = started;
+    progress_in(side)->segment = segment;
+}
+
+void side_forget(void)
+{
+    atomic_store(&current, NULL);
+}
+
+void side_begin(unsigned char *bytes, unsigned window, uint64_t segment, uint64_t quarantine)
 {
     struct side *side = (struct side *)bytes;
-    struct timespec now;
-    atomic_store(&current, NULL);
-    faults_begin(bytes);
-    if (side == NULL)
-        return;
-    clock_gettime(CLOCK_REALTIME, &now);
-    side->process = (uint32_t)getpid();
-    side->parent = (uint32_t)getppid();
-    side->started = (uint64_t)now.tv_sec * 1000000000 + (uint64_t)now.tv_nsec;
+    side_forget();
+    faults_begin(bytes, window);
+    note_process(side, segment);
     side->has_checks = recorder_has_checks();
     side->quarantine = quarantine;
     read_words(side);
@@ -269,6 +291,13 @@ void side_note_needed(uint64_t event)
     uint64_t before = atomic_load_explicit(needed, memory_order_relaxed);
     while (before <= event && !atomic_compare_exchange_weak(needed, &before, event + 1))
         ;
+}
+
+void side_note_restated(uint64_t events)
+{
+    struct side *side = side_now();
+    if (side != NULL)
+        progress_in(side)->restated = events;
 }
 
 void side_note_left_out(void)

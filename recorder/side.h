@@ -8,9 +8,12 @@
 #include "format.h"
 #include "stacks.h"
 
-/* Begins a new one in these bytes, which are zeros, with who the process is and how many bytes of freed blocks it holds;
-   or forgets it, if they are null. */
-void side_begin(unsigned char *bytes, uint64_t quarantine);
+/* Begins a new one in these bytes, which are zeros, with who the process is, how many segments of it came before, and
+   how many bytes of freed blocks it holds. The stream lies in this window. */
+void side_begin(unsigned char *bytes, unsigned window, uint64_t segment, uint64_t quarantine);
+void side_forget(void);
+/* So many events have restated what stood at the end of the segment before. */
+void side_note_restated(uint64_t events);
 /* Up to where it has something. */
 uint64_t side_length(void);
 /* Copies the map of modules from the system, with the build id of each. */

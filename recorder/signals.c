@@ -64,13 +64,19 @@ void signals_note_abort(uintptr_t caller)
 static void note_last(int number, const siginfo_t *info, const ucontext_t *context)
 {
     const greg_t *registers = context->uc_mcontext.gregs;
-    uintptr_t instruction = (uintptr_t)registers[REG_RIP], stack = (uintptr_t)registers[REG_RSP];
+    struct registers now = {
+        .instruction = (uintptr_t)registers[REG_RIP],
+        .stack = (uintptr_t)registers[REG_RSP],
+        .frame = (uintptr_t)registers[REG_RBP],
+    };
     uint64_t address = (uintptr_t)info->si_addr;
     bool has_address = (number == SIGSEGV || number == SIGBUS) && info->si_code > 0 && info->si_code != SI_KERNEL;
     /* A call to where no code is: what lies on top of the stack leads to it. */
-    if (has_address && address == instruction && stack_top(stack) != 0)
-        instruction = *(const uintptr_t *)stack - 1;
-    place_word last = place_at(instruction, (uintptr_t)registers[REG_RBP]);
+    if (has_address && address == now.instruction && stack_top(now.stack) != 0) {
+        now.instruction = *(const uintptr_t *)now.stack - 1;
+        now.stack += sizeof(uintptr_t);
+    }
+    place_word last = place_at(&now);
     side_note_last(number == SIGABRT && aborting != 0 ? aborting : last, has_address ? &address : NULL);
 }
 

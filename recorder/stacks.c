@@ -4,7 +4,6 @@
 #include <stdbool.h>
 #include <string.h>
 
-#include "recorder.h"
 
 /* A stack is a word and then its frames. The word has its number in the lower half, and over it for which recording
    that was given, and how many frames there are. */
@@ -30,30 +29,6 @@ static uint64_t words[STACK_WORDS];
 /* The upper bits of a hash, and the number of the first word. */
 static _Atomic uint64_t known[STACKS];
 
-/* Our own frames lie between here and the call that is looked for. */
-enum { OWN_FRAMES = 24 };
-
-/* Follows frame pointers: each points to the one before it, with the address after the call beside it. What
-   lies on the thread's own stack above this frame can be read, whatever it is. Of the frames there are some already, or
-   they begin with the call from which we came to `caller`. */
-static unsigned walk(uintptr_t frame, uintptr_t caller, uint64_t *frames, unsigned count)
-{
-    uintptr_t top = stack_top(frame);
-    for (unsigned steps = 0; count < MOST_FRAMES && (count > 0 || steps < OWN_FRAMES); steps++) {
-        if (frame % sizeof(uintptr_t) != 0 || top < 2 * sizeof(uintptr_t) || frame > top - 2 * sizeof(uintptr_t))
-            break;
-        const uintptr_t *at = (const uintptr_t *)frame;
-        if (count > 0 && at[1] == 0)
-            break;
-        if (count > 0 || at[1] == caller)
-            frames[count++] = at[1];
-        if (at[0] <= frame)
-            break;
-        frame = at[0];
-    }
-    return count;
-}
-
 static uint64_t hash_of(const uint64_t *frames, unsigned count)
 {
     uint64_t hash = count;
@@ -66,7 +41,12 @@ static uint64_t hash_of(const uint64_t *frames, unsigned count)
 
 static bool is_stack_at(uint64_t first, const uint64_t *frames, unsigned count)
 {
-    return words[first] >> COUNT_SHIFT == count && memcmp(&words[first + 1], frames, count * sizeof *frames) == 0;
+    if (words[first] >> COUNT_SHIFT != count)
+        return false;
+    for (unsigned i = 0; i < count; i++)
+        if (words[first + 1 + i] != frames[i])
+            return false;
+    return true;
 }
 
 /* Keeps a new one. Answers its first word; 0: there is no room. */
@@ -117,14 +97,17 @@ static place_word place_of_frames(const uint64_t *frames, unsigned count)
 
 place_word place_from(uintptr_t frame, uintptr_t caller)
 {
-    uint64_t frames[MOST_FRAMES] = {caller};
-    return place_of_frames(frames, walk(frame != 0 ? frame : (uintptr_t)__builtin_frame_address(0), caller, frames, 0));
+    uint64_t frames[MOST_FRAMES];
+    uintptr_t first = frame != 0 ? frame : (uintptr_t)__builtin_frame_address(0);
+    frames[0] = caller;
+    return place_of_frames(frames, unwind_from_call(first, caller, frames, MOST_FRAMES));
 }
 
-place_word place_at(uintptr_t instruction, uintptr_t frame)
+place_word place_at(const struct registers *registers)
 {
-    uint64_t frames[MOST_FRAMES] = {instruction + 1};
-    return place_of_frames(frames, walk(frame, 0, frames, 1));
+    uint64_t frames[MOST_FRAMES];
+    frames[0] = registers->instruction + 1;
+    return place_of_frames(frames, unwind_from_registers(registers, frames, MOST_FRAMES));
 }
 
 uintptr_t place_address(place_word of)

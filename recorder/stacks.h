@@ -5,19 +5,21 @@
 
 #include <stdint.h>
 
+#include "unwinding.h"
+
 /* The most frames of a stack. */
 enum { MOST_FRAMES = 32 };
 
 /* A place is the address after a call, as it is if nothing else is known; or it stands for a stack. 0: not known. */
 typedef uint64_t place_word;
 
-/* The place of the call from which we came to `caller`: with the frames round it, as far as frame pointers lead. They
-   do in code of asancol-cc. At any time, and in a signal handler too. */
+/* The place of the call from which we came to `caller`, with the calls that led there (unwinding.h). At any time, and
+   in a signal handler too. */
 place_word place_of(uintptr_t caller);
 /* Likewise, if between here and that call lies code without frame pointers: from a frame beyond that, or 0. */
 place_word place_from(uintptr_t frame, uintptr_t caller);
-/* The place of an instruction, which the calls have come to that a frame pointer leads to. */
-place_word place_at(uintptr_t instruction, uintptr_t frame);
+/* The place of an instruction at which a signal has come. */
+place_word place_at(const struct registers *registers);
 /* The address after the innermost call. */
 uintptr_t place_address(place_word of);
 /* Its frames, the innermost first, and how many there are; 0: it has no stack. They stay. */

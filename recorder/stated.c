@@ -1,4 +1,7 @@
 /* What the stream states of memory outside the allocator's: brought up to the shadow when an access comes to it. */
+#define _GNU_SOURCE
+#include <sys/mman.h>
+
 #include "recorder.h"
 
 /* How often to look again at a granule that another thread is bringing up. A signal handler that has interrupted that
@@ -44,17 +47,23 @@ static void state(uint64_t granule, unsigned char before, unsigned char now)
 static unsigned char bring_up(uint64_t granule)
 {
     _Atomic unsigned char *stated = stated_of(granule);
+    bool is_unknown = false;
     for (int looks = 0;; looks++) {
+        unsigned window = atomic_load(&stream_page.stream.window);
         unsigned char before = atomic_load_explicit(stated, memory_order_acquire), now = *shadow_of(granule);
-        if (before == now)
+        if (before == now && !is_unknown)
             return now;
         if (before == STATED_BUSY && looks < LOOKS)
             continue;
         if (!atomic_compare_exchange_strong(stated, &before, STATED_BUSY))
             continue;
         now = *shadow_of(granule);
-        if (before != now)
-            state(granule, before, now);
+        if (before != now || is_unknown)
+            state(granule, is_unknown ? STATED_BUSY : before, now);
+        /* The record may stand in the next segment, of which nothing was stated just now, or not. */
+        is_unknown = atomic_load(&stream_page.stream.window) != window;
+        if (is_unknown)
+            continue;
         /* Unless another thread has gone on in the place of this one. */
         unsigned char busy = STATED_BUSY;
         atomic_compare_exchange_strong(stated, &busy, now);
@@ -69,4 +78,14 @@ void stated_bring_up(uint64_t address, unsigned width)
     bool is_bad = address % GRANULE + width > has;
     if (has != 0 && has < GRANULE && is_bad && next < ADDRESS_END && !is_in_arena(next))
         bring_up(next);
+}
+
+void stated_forget(void)
+{
+    void *start = (void *)STATED_START;
+    /* Memory that the process has locked can't be given back to the system. */
+    if (madvise(start, SHADOW_BYTES, MADV_DONTNEED) != 0) {
+        munlock(start, SHADOW_BYTES);
+        madvise(start, SHADOW_BYTES, MADV_DONTNEED);
+    }
 }

@@ -1,26 +1,31 @@
 #define _GNU_SOURCE
 #include "stream.h"
 
+#include <errno.h>
 #include <pthread.h>
 #include <sched.h>
 #include <string.h>
 #include <sys/mman.h>
+#include <sys/syscall.h>
 #include <time.h>
 #include <unistd.h>
 
 #include "faults.h"
 #include "output.h"
+#include "segments.h"
 #include "side.h"
 #include "signals.h"
 #include "unseen.h"
+#include "windows.h"
 
 union stream_page stream_page __attribute__((aligned(4096)));
 _Atomic enum state recorder_state;
 
-/* By how much a file grows, and after how many bytes a socket is given what there is. */
-enum { FILE_STEP = 1 << 20, PIECES_STEP = 1 << 16 };
-/* How often to look again at a record that another thread has not written yet. */
-enum { LOOKS = 1000 };
+/* After how many bytes a socket is given what there is. */
+enum { PIECES_STEP = 1 << 16 };
+/* How often to look again at a record that another thread has not written yet, or at a lock; and then, if there is
+   time, how often again after a nap of so many nanoseconds. */
+enum { LOOKS = 1000, NAPS = 1000, NAP = 100000 };
 /* How many records in a row may be missing. */
 enum { MOST_HOLES = 8 };
 /* After so many nanoseconds a socket gets what there is; and at once, as after a fault, so often in this time. */
@@ -31,10 +36,17 @@ static struct {
     struct disturbance before; /* of who has it */
     struct output trace;
     struct output side; /* a file, or memory */
+    unsigned window;   /* in which both lie */
+    uint64_t start;    /* the offset at which the stream begins */
     bool has_side;
+    bool is_hub;       /* who reads it */
     _Atomic bool is_side_full;
     _Atomic uint64_t sent_at;      /* nanoseconds of the coarse clock: when a socket was given what there was */
     _Atomic unsigned sent_at_once; /* how often, since then */
+    const struct settings *settings;
+    uint64_t segment;      /* how many came before this one */
+    bool is_overfull;      /* there was no room for all that it had to restate, */
+    bool is_restating;     /* as it does just now */
     int patience_ms;
     uint64_t limit;        /* of events */
     _Atomic uint64_t stop; /* the event to stop at; 0: none, or no more */
@@ -44,6 +56,7 @@ static struct {
     _Atomic bool is_suspended; /* for an exec */
     _Atomic bool has_missed;   /* other threads' events meanwhile */
     _Atomic uint64_t left_out;
+    _Atomic bool is_cut; /* some of it from this segment */
 } keeper = {.lock = PTHREAD_MUTEX_INITIALIZER, .trace = {.descriptor = -1}, .side = {.descriptor = -1}};
 
 #define STREAM (&stream_page.stream)
@@ -75,14 +88,36 @@ static bool lock_at_once(void)
     return false;
 }
 
-/* Takes the lock if it comes free while this looks. */
-static bool lock_soon(void)
+/* How long to wait for another thread. */
+enum patience { NONE, SHORT, LONG };
+
+/* Waits a little. Nobody is cancelled here, as by a call of nanosleep. */
+static void rest(int looks)
 {
-    for (int looks = 0; looks < LOOKS; looks++) {
+    struct timespec nap = {0, NAP};
+    int before = errno;
+    if (looks < LOOKS)
+        sched_yield();
+    else
+        syscall(SYS_nanosleep, &nap, NULL);
+    errno = before;
+}
+
+/* Likewise, if there was not enough of it. */
+static bool wait_again(int looks, enum patience patience)
+{
+    bool is_enough = patience == NONE || looks >= LOOKS + (patience == LONG ? NAPS : 0);
+    if (!is_enough)
+        rest(looks);
+    return !is_enough;
+}
+
+/* Takes the lock if it comes free by then. */
+static bool lock_within(enum patience patience)
+{
+    for (int looks = 0; wait_again(looks, patience); looks++)
         if (lock_at_once())
             return true;
-        sched_yield();
-    }
     return false;
 }
 
@@ -91,12 +126,17 @@ static bool lock_for_end(bool certain)
 {
     if (certain)
         stream_lock();
-    return certain || lock_soon();
+    return certain || lock_within(LONG);
 }
 
 static bool is_on(void)
 {
     return (atomic_load(&STREAM->cursor) & CURSOR_ON) != 0;
+}
+
+static bool is_on_or_switching(void)
+{
+    return is_on() || atomic_load(&recorder_state) == STATE_SWITCHING;
 }
 
 /* Whether bytes can be stored up to this offset. */
@@ -108,6 +148,12 @@ static bool has_room(uint64_t end)
 static uint64_t limit_of_stream(void)
 {
     return keeper.limit;
+}
+
+/* How long the stream is up to an offset. */
+static uint64_t length_to(uint64_t offset)
+{
+    return offset - keeper.start;
 }
 
 /* The fast path looks at one number: that of the event to stop at, as long as the process has not come there. */
@@ -149,81 +195,106 @@ static bool looks_sound(uint64_t offset, uint64_t end)
     return offset <= end;
 }
 
+/* Records that say nothing, by their lengths. */
+static const struct {
+    enum code code;
+    unsigned length;
+} fillers[] = {{CODE_LOAD, ACCESS_LENGTH}, {CODE_UNPOISON, REGION_LENGTH}, {CODE_POISON, POISON_LENGTH},
+               {CODE_FREE, PLACE_LENGTH}};
+
+enum { FILLERS = sizeof fillers / sizeof *fillers };
+
+static void put_nothing(unsigned char *at, unsigned length)
+{
+    unsigned i = 0;
+    while (fillers[i].length != length)
+        i++;
+    memset(at, 0, length);
+    if (fillers[i].code == CODE_LOAD)
+        at[1] = 1;
+    put_code(at, fillers[i].code);
+}
+
 /* A record that was begun and will never be written, as when a signal handler left by a jump: puts one there that says
    nothing. Answers its length, 0 where that can't be known. */
 static unsigned fill_hole(uint64_t offset, uint64_t end)
 {
-    static const struct {
-        enum code code;
-        unsigned length;
-    } fillers[] = {{CODE_LOAD, ACCESS_LENGTH}, {CODE_UNPOISON, REGION_LENGTH}, {CODE_POISON, POISON_LENGTH},
-                   {CODE_FREE, PLACE_LENGTH}};
-    for (unsigned i = 0; i < sizeof fillers / sizeof *fillers; i++) {
+    for (unsigned i = 0; i < FILLERS; i++) {
         unsigned length = fillers[i].length;
         if (offset + length > end || !looks_sound(offset + length, end))
             continue;
-        unsigned char *at = STREAM->bytes + offset;
-        memset(at, 0, length);
-        if (fillers[i].code == CODE_LOAD)
-            at[1] = 1;
-        put_code(at, fillers[i].code);
+        put_nothing(STREAM->bytes + offset, length);
         return length;
     }
     return 0;
 }
 
-/* Goes on over the records that are whole, up to `end`, which is a border. With `patience` it waits for others to
-   finish theirs, and then fills holes. */
-static void check_records(uint64_t end, uint64_t limit, bool patience)
+/* Goes on over the records that are whole, up to `end`, which is a border. With patience it waits for others to finish
+   theirs, and then fills holes. Answers how many these were. */
+static unsigned check_records(uint64_t end, uint64_t limit, enum patience patience)
 {
     int looks = 0;
+    unsigned holes = 0;
     while (keeper.checked < end && keeper.checked_events < limit) {
         unsigned char code = code_at(keeper.checked);
         /* The common case is a branch of its own: the processor then need not wait for one record to find the next. */
         unsigned length = LIKELY(code == CODE_LOAD || code == CODE_STORE) ? ACCESS_LENGTH : record_length(code);
         if (UNLIKELY(length == 0)) {
-            if (!patience)
-                return;
             /* With one thread there is nobody to wait for: a signal handler has left by a jump. */
-            if (!__libc_single_threaded && ++looks < LOOKS) {
-                sched_yield();
+            if (!__libc_single_threaded && wait_again(looks++, patience))
                 continue;
-            }
-            length = fill_hole(keeper.checked, end);
+            length = patience != NONE ? fill_hole(keeper.checked, end) : 0;
             if (length == 0)
-                return;
+                return holes;
+            holes++;
         }
         looks = 0;
         keeper.checked += length;
         keeper.checked_events++;
     }
+    return holes;
+}
+
+/* What is stored late, into a stream that has ended, meets plain memory. */
+static void leave_outputs(void)
+{
+    output_leave(&keeper.trace);
+    output_leave(&keeper.side);
 }
 
 /* Cuts the files after the last record or the close, and the last fault. */
-static void trim_files(uint64_t length)
+static void trim_files(uint64_t end, enum ending ending)
 {
-    output_trim(&keeper.trace, length);
+    if (keeper.has_side && side_length() > SIDE_INDEX)
+        side_write_modules(); /* with those that came by other ways than dlopen */
+    uint64_t side_end = side_length();
+    /* No thread that is late may store past the end of a file. */
+    if (ending == ENDING_SEGMENT && keeper.trace.is_mapped)
+        leave_outputs();
+    output_trim(&keeper.trace, length_to(end));
     if (!keeper.has_side)
         return;
-    if (side_length() > SIDE_INDEX)
-        side_write_modules(); /* with those that came by other ways than dlopen */
-    output_trim(&keeper.side, side_length());
+    output_trim(&keeper.side, side_end);
     faults_are_cut();
 }
 
-/* No more is recorded. The stream ends after its last whole record, without a close. */
-static void give_up(const char *why)
+/* No more is recorded. The stream, which had this cursor, ends after its last whole record, without a close. */
+static void lose(uint64_t cursor, const char *why)
 {
-    uint64_t cursor = atomic_exchange(&STREAM->cursor, 0);
     uint64_t end = (uint32_t)cursor, ready = atomic_load(&STREAM->ready);
     atomic_store(&recorder_state, STATE_OFF);
     heap_set_bound(0);
     if (cursor & CURSOR_ON)
-        check_records(end < ready ? end : ready, limit_of_stream(), true);
+        check_records(end < ready ? end : ready, limit_of_stream(), SHORT);
     side_note_ending(ENDING_LOST, 0, keeper.checked_events);
-    if (cursor & CURSOR_ON)
-        trim_files(keeper.checked);
+    if ((cursor & CURSOR_ON) || keeper.is_restating)
+        trim_files(keeper.checked, ENDING_LOST);
     recorder_say("recording ends: ", keeper.trace.path, why);
+}
+
+static void give_up(const char *why)
+{
+    lose(atomic_exchange(&STREAM->cursor, 0), why);
 }
 
 void stream_stop(const char *why)
@@ -239,15 +310,15 @@ void stream_stop(const char *why)
 static const char *send_pieces(void)
 {
     uint64_t reserved = (uint32_t)atomic_load(&STREAM->cursor), ready = atomic_load(&STREAM->ready);
-    check_records(reserved < ready ? reserved : ready, EVENT_LIMIT, false);
-    return output_send(&keeper.trace, keeper.checked, false, 0);
+    check_records(reserved < ready ? reserved : ready, EVENT_LIMIT, NONE);
+    return output_send(&keeper.trace, length_to(keeper.checked), false, 0);
 }
 
 static const char *grow(void)
 {
     bool is_file = keeper.trace.is_mapped;
     uint64_t next = atomic_load(&STREAM->ready) + (is_file ? FILE_STEP : PIECES_STEP);
-    const char *why = is_file ? output_extend(&keeper.trace, next) : send_pieces();
+    const char *why = is_file ? output_extend(&keeper.trace, length_to(next)) : send_pieces();
     if (why == NULL)
         atomic_store_explicit(&STREAM->ready, next, memory_order_release);
     return why;
@@ -302,34 +373,57 @@ static enum finish as_seen(enum finish finish)
     return FINISH_OPEN;
 }
 
-/* How a stream ends whose cursor this was: at the limit, if an event has found no place. */
+static void leave_out(void)
+{
+    atomic_fetch_add_explicit(&keeper.left_out, 1, memory_order_relaxed);
+    atomic_store(&keeper.is_cut, true);
+    side_note_left_out();
+}
+
+/* Whether it goes on in another stream at its limit: in another file, or in another connection to the hub. */
+static bool has_segments(void)
+{
+    return keeper.settings->segments != 0 && (keeper.trace.is_mapped || keeper.is_hub);
+}
+
+/* How a stream ends whose cursor this was: at the limit, if an event has found no place. If it could go on in its next
+   segment, that event is of a thread that has not got there, and its access is still to be made. */
 static enum finish finish_of(uint64_t cursor, enum finish finish)
 {
-    return (cursor - CURSOR_ON) >> 32 > limit_of_stream() ? FINISH_AT_LIMIT : finish;
+    if (!has_segments())
+        return (cursor - CURSOR_ON) >> 32 > limit_of_stream() ? FINISH_AT_LIMIT : finish;
+    return atomic_load(&keeper.is_cut) ? FINISH_OPEN : finish;
 }
 
 /* Writes what stands after the last record, and leaves nothing after that. The lock is held and the cursor off. The
-   ending is noted before the last bytes are sent: a hub that has all of them finds it. */
-static void finish_at(uint64_t end, uint64_t limit, enum finish finish, enum ending ending, int number)
+   ending is noted before the last bytes are sent: a hub that has all of them finds it. False: it was lost. */
+static bool finish_at(uint64_t end, uint64_t limit, enum finish finish, enum ending ending, int number)
 {
     if (!grow_to(end))
-        return;
-    check_records(end, limit, true);
+        return false;
+    unsigned holes = check_records(end, limit, ending == ENDING_SEGMENT ? LONG : SHORT);
     bool whole = keeper.checked == end || keeper.checked_events == limit;
-    uint64_t length = keeper.checked;
+    /* The thread is not gone: it was interrupted by what has brought this end, or it sleeps. */
+    if (ending == ENDING_SEGMENT && holes != 0) {
+        leave_out();
+        whole = false;
+    }
+    end = keeper.checked;
     finish = whole ? as_seen(finish) : FINISH_OPEN;
     unsigned more = length_of_ending(finish);
-    if (more != 0 && grow_to(length + more)) {
-        put_ending(length, finish);
-        length += more;
+    if (more != 0 && grow_to(end + more)) {
+        put_ending(end, finish);
+        end += more;
     }
     side_note_ending(ending, number, keeper.checked_events);
-    trim_files(length);
-    const char *why = keeper.trace.is_mapped ? NULL : output_send(&keeper.trace, length, true, keeper.patience_ms);
+    trim_files(end, ending);
+    const char *why =
+        keeper.trace.is_mapped ? NULL : output_send(&keeper.trace, length_to(end), true, keeper.patience_ms);
     if (why != NULL) {
         side_note_ending(ENDING_LOST, 0, keeper.checked_events);
         recorder_say("the end of the recording is lost: ", keeper.trace.path, why);
     }
+    return why == NULL;
 }
 
 /* The event whose record would begin here is one too many. The records before it get their room first: other threads
@@ -349,43 +443,31 @@ static void end_at_limit(uint64_t end)
     stream_unlock();
 }
 
-static void leave_out(void)
+/* Whether a stream that was off is on again. Who switches to the next segment is waited for, and another one may
+   follow. If it stays off, it has this state. */
+static bool comes_on(enum state *state)
 {
-    atomic_fetch_add_explicit(&keeper.left_out, 1, memory_order_relaxed);
-    side_note_left_out();
-}
-
-/* Whether the place that was taken can be written. */
-static bool make_room(uint64_t place, unsigned length)
-{
-    if (!(place & CURSOR_ON))
-        return false; /* it was turned off just now */
-    uint64_t end = (uint32_t)place + length, count = (place - CURSOR_ON) >> 32;
-    if (count >= limit_of_stream()) {
-        if (count == limit_of_stream())
-            end_at_limit((uint32_t)place);
-        leave_out();
-        return false;
-    }
-    stop_at(count);
-    /* Who has the lock may be waiting for this record, and has made room for it. */
-    for (int looks = 0; !has_room(end) && is_on(); looks++) {
-        if (looks >= LOOKS)
+    for (;;) {
+        unsigned window = atomic_load(&STREAM->window);
+        *state = atomic_load(&recorder_state);
+        if (*state == STATE_SWITCHING) {
             stream_lock();
-        else if (!lock_at_once()) {
-            sched_yield();
-            continue;
+            stream_unlock();
         }
         if (is_on())
-            grow_to(end);
-        stream_unlock();
+            return true;
+        bool is_same = window == atomic_load(&STREAM->window) && *state == atomic_load(&recorder_state);
+        if (is_same && *state != STATE_SWITCHING)
+            return false;
     }
-    return has_room(end);
 }
 
 bool stream_wake(void)
 {
-    switch (atomic_load_explicit(&recorder_state, memory_order_relaxed)) {
+    enum state state;
+    if (comes_on(&state))
+        return true;
+    switch (state) {
     case STATE_UNSTARTED:
         /* Too early; and in the allocator the start would record a block that its malloc then records again. */
         if (environ == NULL || heap_is_entered())
@@ -407,70 +489,87 @@ bool stream_wake(void)
     }
 }
 
-static const char *open_side_file(void)
+static const char *open_side_file(struct output *side, const char *trace, unsigned number)
 {
     static char path[PATH_MAX + 8]; /* the lock is held; and a stack may be small */
-    size_t length = strlen(keeper.trace.path);
-    memcpy(path, keeper.trace.path, length);
+    size_t length = strlen(trace);
+    memcpy(path, trace, length);
     strcpy(path + length, ".where");
-    const char *why = output_open_file(&keeper.side, path, NAME_TAKEN_OVER, SIDE_ROOM, SIDE_INDEX);
-    if (why == NULL && !keeper.side.is_mapped)
+    struct window window;
+    if (!windows_of_side(number, &window))
+        return "there is no room for it";
+    const char *why = output_open_file(side, path, NAME_TAKEN_OVER, window, SIDE_INDEX);
+    if (why == NULL && !side->is_mapped)
         why = "it can't be mapped";
     return why;
 }
 
-/* Without it the trace is no worse. */
-static void open_side(void)
+/* Opens what stands beside a trace, in a window. Without it the trace is no worse. */
+static bool open_side(struct output *side, const struct output *trace, unsigned number)
 {
-    const char *of = keeper.trace.path, *why = "it is no file";
-    if (keeper.trace.is_mapped) {
-        why = open_side_file();
-        of = keeper.side.path;
+    const char *of = trace->path, *why = "it is no file";
+    if (trace->is_mapped) {
+        why = open_side_file(side, trace->path, number);
+        of = side->path;
     }
-    keeper.has_side = why == NULL;
     if (why != NULL)
         recorder_say("nothing is kept beside the trace: ", of, why);
+    return why == NULL;
+}
+
+static void begin_side(void)
+{
+    side_begin(keeper.side.bytes, keeper.window, keeper.segment, keeper.settings->quarantine);
 }
 
 /* The header goes to a hub at once, and the side memory with it. */
 static const char *open_hub(const struct settings *settings)
 {
-    uint64_t room = LARGEST_STREAM + FILE_STEP;
-    const char *why = output_connect(&keeper.trace, settings->hub, true, room, settings->patience_ms);
+    struct window window = windows_of_stream(keeper.window);
+    const char *why = output_connect(&keeper.trace, settings->hub, true, window, settings->patience_ms);
     if (why != NULL)
         return why;
     memcpy(keeper.trace.bytes, HEADER, HEADER_LENGTH);
-    const char *why_not = output_open_memory(&keeper.side, SIDE_ROOM);
+    bool has_room = windows_of_side(keeper.window, &window);
+    const char *why_not = has_room ? output_open_memory(&keeper.side, window) : "there is no room for it";
     if (why_not != NULL) {
         recorder_say("nothing is kept beside the trace: ", settings->hub, why_not);
         return output_send(&keeper.trace, HEADER_LENGTH, true, settings->patience_ms);
     }
     keeper.has_side = true;
-    side_begin(keeper.side.bytes, settings->quarantine);
+    begin_side();
     return output_send_first(&keeper.trace, HEADER_LENGTH, &keeper.side, settings->patience_ms);
+}
+
+static void close_outputs(void)
+{
+    side_forget();
+    output_close(&keeper.trace);
+    output_close(&keeper.side);
+    keeper.has_side = false;
 }
 
 static const char *open_output(const struct settings *settings)
 {
-    uint64_t room = LARGEST_STREAM + FILE_STEP;
     const char *why;
-    keeper.has_side = false;
+    keeper.has_side = keeper.is_hub = false;
+    if (windows_start() == NULL)
+        return "there is no room for it";
+    struct window window = windows_of_stream(keeper.window);
     if (settings->hub != NULL) {
         why = open_hub(settings);
+        keeper.is_hub = why == NULL;
         if (why == NULL || settings->trace == NULL)
             return why;
-        side_begin(NULL, 0);
-        output_close(&keeper.trace);
-        output_close(&keeper.side);
-        keeper.has_side = false;
+        close_outputs();
         recorder_say("the hub can't be reached, so the trace goes to a file: ", settings->hub, why);
     }
     if (settings->trace != NULL)
-        why = output_open_file(&keeper.trace, settings->trace, NAME_NUMBERED, room, FILE_STEP);
+        why = output_open_file(&keeper.trace, settings->trace, NAME_NUMBERED, window, FILE_STEP);
     else
-        why = output_connect(&keeper.trace, settings->socket, false, room, settings->patience_ms);
+        why = output_connect(&keeper.trace, settings->socket, false, window, settings->patience_ms);
     if (why == NULL && settings->with_side)
-        open_side();
+        keeper.has_side = open_side(&keeper.side, &keeper.trace, keeper.window);
     return why;
 }
 
@@ -481,8 +580,33 @@ static uint64_t coarse_clock(void)
     return (uint64_t)now.tv_sec * 1000000000 + (uint64_t)now.tv_nsec;
 }
 
+/* A stream begins in the output that is open. */
+static void begin_segment(void)
+{
+    keeper.start = keeper.window * WINDOW_BYTES;
+    keeper.checked = keeper.start + HEADER_LENGTH;
+    keeper.checked_events = 0;
+    keeper.is_overfull = false;
+    atomic_store(&keeper.has_missed, false);
+    atomic_store(&keeper.is_cut, false);
+    atomic_store(&keeper.is_side_full, false);
+    atomic_store(&keeper.sent_at, coarse_clock());
+    atomic_store(&keeper.sent_at_once, 0);
+    memcpy(keeper.trace.bytes, HEADER, HEADER_LENGTH);
+    if (!keeper.has_side)
+        side_forget();
+    else if (keeper.side.is_mapped)
+        begin_side();
+    STREAM->has_side = keeper.has_side;
+    STREAM->is_watched = keeper.has_side || keeper.trace.is_socket;
+    atomic_store(&STREAM->ready, keeper.start + (keeper.trace.is_mapped ? FILE_STEP : PIECES_STEP));
+}
+
 bool stream_begin(const struct settings *settings)
 {
+    keeper.settings = settings;
+    keeper.segment = 0;
+    keeper.window = (keeper.window + 1) % WINDOWS;
     const char *why = open_output(settings);
     if (why != NULL) {
         const char *of = settings->trace ? settings->trace : settings->hub ? settings->hub : settings->socket;
@@ -492,33 +616,198 @@ bool stream_begin(const struct settings *settings)
     }
     madvise(&stream_page, sizeof stream_page, MADV_WIPEONFORK);
     keeper.patience_ms = settings->patience_ms;
-    keeper.checked = HEADER_LENGTH;
-    keeper.checked_events = 0;
     keeper.said_unseen = false;
     atomic_store(&keeper.is_suspended, false);
-    atomic_store(&keeper.has_missed, false);
     atomic_store(&keeper.left_out, 0);
-    atomic_store(&keeper.is_side_full, false);
-    atomic_store(&keeper.sent_at, coarse_clock());
-    atomic_store(&keeper.sent_at_once, 0);
-    STREAM->bytes = keeper.trace.bytes;
+    STREAM->bytes = windows_start();
     keeper.limit = settings->limit;
     atomic_store(&keeper.stop, settings->stop);
     set_events_end(settings->stop);
-    memcpy(STREAM->bytes, HEADER, HEADER_LENGTH);
-    if (keeper.has_side && keeper.side.is_mapped)
-        side_begin(keeper.side.bytes, settings->quarantine);
-    STREAM->has_side = keeper.has_side;
-    STREAM->is_watched = keeper.has_side || keeper.trace.is_socket;
-    atomic_store(&STREAM->ready, keeper.trace.is_mapped ? FILE_STEP : PIECES_STEP);
+    if (keeper.trace.is_mapped)
+        segments_begin(&keeper.trace);
+    begin_segment();
+    atomic_store(&STREAM->window, keeper.window);
     atomic_store(&recorder_state, STATE_RECORDING);
-    atomic_store(&STREAM->cursor, CURSOR_ON | HEADER_LENGTH);
+    atomic_store(&STREAM->cursor, CURSOR_ON | keeper.checked);
     return true;
+}
+
+/* Segments. */
+
+static _Thread_local bool is_switching;
+
+uint64_t stream_restating_room(void)
+{
+    return keeper.limit / 2;
+}
+
+/* The place of a record that restates. No other thread has one in this stream yet. */
+static unsigned char *reserve_restated(unsigned length)
+{
+    bool is_full = keeper.checked_events >= stream_restating_room();
+    keeper.is_overfull |= is_full;
+    if (is_full || atomic_load(&recorder_state) != STATE_SWITCHING || !grow_to(keeper.checked + length))
+        return NULL;
+    unsigned char *at = STREAM->bytes + keeper.checked;
+    keeper.checked += length;
+    keeper.checked_events++;
+    return at;
+}
+
+/* What a segment lies in. */
+struct outputs {
+    struct output trace, side;
+    bool has_side;
+};
+
+/* The files of the next segment are there before the one before is closed: so who finds that closed finds the next. */
+static const char *open_next(struct outputs *next, unsigned window)
+{
+    static char name[PATH_MAX];
+    next->has_side = false;
+    if (!segments_name(keeper.segment + 1, name))
+        return strerrordesc_np(ENAMETOOLONG);
+    const char *why = output_open_file(&next->trace, name, NAME_NUMBERED, windows_of_stream(window), FILE_STEP);
+    if (why != NULL)
+        return why;
+    if (!next->trace.is_mapped) {
+        output_close(&next->trace);
+        return "it can't be mapped";
+    }
+    next->has_side = keeper.settings->with_side && open_side(&next->side, &next->trace, window);
+    return NULL;
+}
+
+static bool finish_segment(uint64_t cursor)
+{
+    return finish_at((uint32_t)cursor, limit_of_stream(), finish_of(cursor, FINISH_CLOSED), ENDING_SEGMENT, 0);
+}
+
+/* Ends the segment whose cursor this was, and opens the next. False: the recording has ended. */
+static bool leave_file(uint64_t cursor, unsigned window)
+{
+    static struct outputs next; /* the lock is held */
+    const char *why = open_next(&next, window);
+    if (why != NULL) {
+        lose(cursor, why);
+        return false;
+    }
+    if (!finish_segment(cursor)) {
+        output_discard(&next.trace);
+        if (next.has_side)
+            output_discard(&next.side);
+        return false;
+    }
+    keeper.trace = next.trace;
+    keeper.side = next.side;
+    keeper.has_side = next.has_side;
+    keeper.window = window;
+    keeper.segment++;
+    return true;
+}
+
+/* Likewise. A hub may take no more than so many connections at a time, so this one ends first. What it has at its end
+   says that there has to be a next one. */
+static bool leave_connection(uint64_t cursor, unsigned window)
+{
+    bool has_ended = finish_segment(cursor);
+    leave_outputs();
+    keeper.has_side = false;
+    keeper.window = window;
+    keeper.segment++;
+    const char *why = has_ended ? open_hub(keeper.settings) : NULL;
+    if (has_ended && why == NULL)
+        return true;
+    close_outputs();
+    STREAM->has_side = false;
+    atomic_store(&recorder_state, STATE_OFF);
+    heap_set_bound(0);
+    if (why != NULL)
+        recorder_say("recording ends: ", keeper.settings->hub, why);
+    return false;
+}
+
+/* Threads that have looked at something in the segment before see that there is another one once its window is known,
+   and look again. By then nothing is left of what they have looked at. */
+static void begin_next(void)
+{
+    stated_forget();
+    begin_segment();
+    if (keeper.trace.is_mapped)
+        segments_keep(keeper.segment, &keeper.trace, keeper.settings->segments);
+    /* Events are numbered anew. */
+    atomic_store(&keeper.stop, 0);
+    set_events_end(0);
+    atomic_store(&STREAM->window, keeper.window);
+    is_switching = keeper.is_restating = true;
+    heap_restate(UINT64_MAX, stream_restating_room());
+    is_switching = keeper.is_restating = false;
+    side_note_restated(keeper.checked_events);
+}
+
+/* The allocator's lock is held too. */
+static void switch_segment(void)
+{
+    enum state switching = STATE_SWITCHING;
+    atomic_store(&recorder_state, STATE_SWITCHING);
+    uint64_t cursor = atomic_exchange(&STREAM->cursor, 0);
+    if (!(cursor & CURSOR_ON)) {
+        atomic_store(&recorder_state, STATE_OFF); /* the process ends just now */
+        return;
+    }
+    unsigned next = (keeper.window + 1) % WINDOWS;
+    if (keeper.is_hub ? !leave_connection(cursor, next) : !leave_file(cursor, next))
+        return;
+    begin_next();
+    if (keeper.is_overfull) {
+        atomic_store(&recorder_state, STATE_AT_LIMIT);
+        finish_at(keeper.checked, keeper.checked_events, FINISH_AT_LIMIT, ENDING_NONE, 0);
+        heap_set_bound(0);
+        return;
+    }
+    atomic_store(&STREAM->cursor, CURSOR_ON | keeper.checked_events << 32 | keeper.checked);
+    /* Unless a signal handler has found it lost. */
+    if (!atomic_compare_exchange_strong(&recorder_state, &switching, STATE_RECORDING))
+        atomic_store(&STREAM->cursor, 0);
+}
+
+/* Goes on in the next segment, unless another thread has done so. */
+static void go_on_in_next(void)
+{
+    struct disturbance before;
+    bool is_in_heap = heap_is_entered();
+    undisturbed_begin(&before);
+    if (!is_in_heap)
+        heap_lock();
+    stream_lock();
+    uint64_t cursor = atomic_load(&STREAM->cursor);
+    if ((cursor & CURSOR_ON) && (cursor - CURSOR_ON) >> 32 > limit_of_stream())
+        switch_segment();
+    stream_unlock();
+    if (!is_in_heap)
+        heap_unlock();
+    undisturbed_end(&before);
+}
+
+/* Turns the stream off. Answers its cursor; without CURSOR_ON: it was off. A switch to the next segment is waited for,
+   in a handler not for ever. */
+static uint64_t turn_off(bool in_handler)
+{
+    for (;;) {
+        unsigned window = atomic_load(&STREAM->window);
+        uint64_t cursor = atomic_exchange(&STREAM->cursor, 0);
+        bool is_going_on = atomic_load(&recorder_state) == STATE_SWITCHING;
+        if ((cursor & CURSOR_ON) || (!is_going_on && window == atomic_load(&STREAM->window)))
+            return cursor;
+        if (!lock_for_end(!in_handler))
+            return 0;
+        stream_unlock();
+    }
 }
 
 void stream_end(enum finish finish, enum ending ending, int number)
 {
-    uint64_t cursor = atomic_exchange(&STREAM->cursor, 0);
+    uint64_t cursor = turn_off(ending == ENDING_SIGNAL);
     bool was_on = (cursor & CURSOR_ON) != 0;
     /* At the limit another thread may be ending it. */
     if (!was_on && atomic_load(&recorder_state) != STATE_AT_LIMIT) {
@@ -556,7 +845,7 @@ bool stream_suspend(void)
 static void go_on(void)
 {
     bool is_file = keeper.trace.is_mapped;
-    const char *why = is_file ? output_extend(&keeper.trace, atomic_load(&STREAM->ready)) : NULL;
+    const char *why = is_file ? output_extend(&keeper.trace, length_to(atomic_load(&STREAM->ready))) : NULL;
     if (why != NULL) {
         give_up(why);
         return;
@@ -581,10 +870,7 @@ bool stream_resume(void)
 void stream_forget(void)
 {
     atomic_store(&STREAM->cursor, 0);
-    side_begin(NULL, 0);
-    output_drop(&keeper.trace);
-    output_drop(&keeper.side);
-    keeper.has_side = false;
+    close_outputs();
 }
 
 bool stream_has_lost(const void *address)
@@ -613,7 +899,7 @@ bool stream_back_side(uint64_t offset, uint64_t length)
     if (!keeper.side.is_mapped)
         return true;
     /* Who has the lock may be waiting for a record of this thread. */
-    if (atomic_load(&keeper.is_side_full) || !lock_soon())
+    if (atomic_load(&keeper.is_side_full) || !lock_within(SHORT))
         return false;
     const char *why = output_back(&keeper.side, offset, length);
     if (why != NULL && !atomic_exchange(&keeper.is_side_full, true))
@@ -656,52 +942,123 @@ void stream_say_left_out(void)
     recorder_say("at the limit, further events left out of ", keeper.trace.path, digits + first);
 }
 
-/* Where the record of a place goes, or null where it is not recorded. */
-static unsigned char *open_place(uint64_t place, unsigned length)
+/* Whether the place that was taken can be written; or whether there may be room for the record in another place. */
+enum room { NO_ROOM, ROOM_HERE, ROOM_IN_ANOTHER };
+
+/* The place is past the limit. */
+static enum room pass_limit(uint64_t place, bool is_of_heap)
 {
-    uint64_t event = place - CURSOR_ON;
-    bool fits = event < STREAM->events_end && (uint32_t)place + length <= atomic_load(&STREAM->ready);
-    if (!fits && !make_room(place, length))
-        return NULL;
-    return STREAM->bytes + (uint32_t)place;
+    if (has_segments()) {
+        /* A handler may have interrupted the allocator, so that the heap can't be restated just now. What a child of
+           vfork connects to is no connection of its parent's. */
+        if ((is_of_heap || !heap_is_entered()) && (!keeper.is_hub || recorder_is_own_process())) {
+            go_on_in_next();
+            return ROOM_IN_ANOTHER;
+        }
+    } else if ((place - CURSOR_ON) >> 32 == limit_of_stream()) {
+        end_at_limit((uint32_t)place);
+    }
+    leave_out();
+    return NO_ROOM;
 }
 
-unsigned char *stream_reserve(unsigned length)
+static bool is_in_stream(uint64_t place)
 {
-    if (!(atomic_load_explicit(&STREAM->cursor, memory_order_relaxed) & CURSOR_ON) && !stream_wake())
-        return NULL;
+    return window_of((uint32_t)place) == atomic_load(&STREAM->window);
+}
+
+static enum room make_room(uint64_t place, unsigned length, bool is_of_heap)
+{
+    /* It was turned off just now, or went on in its next segment. */
+    if (!(place & CURSOR_ON) || !is_in_stream(place))
+        return ROOM_IN_ANOTHER;
+    uint64_t end = (uint32_t)place + length, count = (place - CURSOR_ON) >> 32;
+    if (count >= limit_of_stream())
+        return pass_limit(place, is_of_heap);
+    stop_at(count);
+    /* Who has the lock may be waiting for this record, and makes room for it. */
+    for (int looks = 0; !has_room(end) && is_in_stream(place) && is_on_or_switching(); looks++) {
+        if (!lock_at_once()) {
+            rest(looks);
+            continue;
+        }
+        if (is_on() && is_in_stream(place))
+            grow_to(end);
+        stream_unlock();
+    }
+    return !is_in_stream(place) ? ROOM_IN_ANOTHER : has_room(end) ? ROOM_HERE : NO_ROOM;
+}
+
+/* Where the record of a place goes, or null where it is not recorded. Where the stream goes on in its next segment, it
+   is another place. */
+static unsigned char *open_place(uint64_t *place, unsigned length, bool is_of_heap)
+{
+    while (stream_is_unusual(*place, length) || !is_in_stream(*place)) {
+        enum room room = make_room(*place, length, is_of_heap);
+        if (room == ROOM_IN_ANOTHER && stream_wake())
+            *place = stream_take(&STREAM->cursor, CURSOR_EVENT + length);
+        else if (room != ROOM_HERE)
+            return NULL;
+        else
+            break;
+    }
+    return STREAM->bytes + (uint32_t)*place;
+}
+
+unsigned char *stream_reserve(unsigned length, bool is_of_heap)
+{
+    if (!(atomic_load_explicit(&STREAM->cursor, memory_order_relaxed) & CURSOR_ON)) {
+        if (is_switching)
+            return reserve_restated(length);
+        if (!stream_wake())
+            return NULL;
+    }
     uint64_t place = stream_take(&STREAM->cursor, CURSOR_EVENT + length);
     if (LIKELY(!stream_is_unusual(place, length)))
         return STREAM->bytes + (uint32_t)place;
-    return open_place(place, length);
+    return open_place(&place, length, is_of_heap);
 }
 
 void record_access_slowly(uint64_t place, unsigned code_and_width, uint64_t address)
 {
-    unsigned char *at = open_place(place, ACCESS_LENGTH);
+    unsigned char *at = open_place(&place, ACCESS_LENGTH, false);
     if (at != NULL)
         put_access(at, code_and_width, address);
 }
 
-/* Takes the place of a record that has this fault, or none (0). The fault is noted before the record is written: who
-   reads the record finds it. */
-static unsigned char *reserve_with(uint32_t fault, unsigned length)
+/* Takes the place of a record in the stream of a window, with this fault, or none (0). The fault is noted before the
+   record is written: who reads the record finds it. False: the stream has gone on in its next segment. What was looked
+   at may not stand there, so a record that says nothing has that place. */
+static bool reserve_with(uint32_t fault, unsigned window, unsigned length, bool is_of_heap, unsigned char **at)
 {
     uint64_t place = stream_take(&STREAM->cursor, CURSOR_EVENT + length);
-    unsigned char *at = open_place(place, length);
     uint64_t event = ((place - CURSOR_ON) >> 32) + 1;
-    if (at != NULL)
-        side_note_needed(event);
-    if (at != NULL && fault != 0)
-        fault_note(fault, event);
-    return at;
+    *at = open_place(&place, length, is_of_heap);
+    if (*at == NULL)
+        return true;
+    if (window_of((uint32_t)place) != window) {
+        put_nothing(*at, length);
+        return false;
+    }
+    side_note_needed(event);
+    if (fault != 0)
+        fault_note(window, fault, event);
+    return true;
 }
 
 void record_watched_access(unsigned code_and_width, uint64_t address, uintptr_t caller)
 {
-    bool is_bad = STREAM->has_side && shadow_is_bad(address, code_and_width >> 8);
-    uint32_t fault = is_bad ? fault_of(code_and_width, address, caller) : 0;
-    unsigned char *at = reserve_with(fault, ACCESS_LENGTH);
+    unsigned width = code_and_width >> 8, window;
+    unsigned char *at;
+    uint32_t fault;
+    bool is_bad;
+    do {
+        window = atomic_load(&STREAM->window);
+        if (!is_in_arena(address) && !is_stated(address, width))
+            stated_bring_up(address, width);
+        is_bad = STREAM->has_side && shadow_is_bad(address, width);
+        fault = is_bad ? fault_of(window, code_and_width, address, caller) : 0;
+    } while (!reserve_with(fault, window, ACCESS_LENGTH, false, &at));
     if (at == NULL)
         return;
     put_access(at, code_and_width, address);
@@ -713,7 +1070,13 @@ void record_bad_free(uint64_t address, uintptr_t caller)
     bool is_on = (atomic_load_explicit(&STREAM->cursor, memory_order_relaxed) & CURSOR_ON) != 0;
     if (address >= ADDRESS_END || (!is_on && !stream_wake()))
         return;
-    unsigned char *at = reserve_with(STREAM->has_side ? fault_of(CODE_FREE, address, caller) : 0, PLACE_LENGTH);
+    unsigned char *at;
+    unsigned window;
+    uint32_t fault;
+    do {
+        window = atomic_load(&STREAM->window);
+        fault = STREAM->has_side ? fault_of(window, CODE_FREE, address, caller) : 0;
+    } while (!reserve_with(fault, window, PLACE_LENGTH, true, &at));
     if (at == NULL)
         return;
     put_number(at + 1, address);

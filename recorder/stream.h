@@ -5,8 +5,9 @@
 #include "recorder.h"
 #include "settings.h"
 
-/* The ways a stream can have ended, so that events are not recorded. */
-enum state { STATE_UNSTARTED, STATE_STARTING, STATE_RECORDING, STATE_AT_LIMIT, STATE_OFF };
+/* While it is switching from one segment to the next, threads wait. The last two are the ways a stream can have ended,
+   so that events are not recorded. */
+enum state { STATE_UNSTARTED, STATE_STARTING, STATE_RECORDING, STATE_SWITCHING, STATE_AT_LIMIT, STATE_OFF };
 
 extern _Atomic enum state recorder_state;
 
@@ -28,8 +29,11 @@ void stream_unlock(void);
 bool stream_has_lost(const void *address);
 /* After a library was opened. */
 void stream_write_modules(void);
-/* The place of a record of so many bytes, or null if none is recorded. */
-unsigned char *stream_reserve(unsigned length);
+/* How many events may restate what came before a stream. */
+uint64_t stream_restating_room(void);
+/* The place of a record of so many bytes, or null if none is recorded. `is_of_heap`: the allocator records it, and is
+   in order, so that the stream may go on in its next segment here. */
+unsigned char *stream_reserve(unsigned length, bool is_of_heap);
 /* Backs a part of the side file, if there is one. False: it can't be, or not without waiting. */
 bool stream_back_side(uint64_t offset, uint64_t length);
 /* After a record: gives a socket what there is, if it is time for it; or at once, but only so often. */

@@ -13,9 +13,17 @@
 
 _Static_assert(offsetof(struct meeting, library) == 8, "as the stubs have it");
 _Static_assert(offsetof(struct meeting, system) == 24, "as the stubs have it");
+_Static_assert(offsetof(struct meeting, mathematics) == 40, "as the stubs have it");
 
-/* `label` goes to `check` if the code of `tested` is in one of the two ranges of the meeting page, and else to `real`.
-   */
+/* Goes to `check` if the code of `tested` is in the range of the meeting page that begins there. */
+#define GO_IF_IN(start, size, tested, check)                                                                           \
+    "\tmovq " tested "@GOTPCREL(%rip), %r11\n"                                                                         \
+    "\tsubq " start "(%r10), %r11\n"                                                                                   \
+    "\tcmpq " size "(%r10), %r11\n"                                                                                    \
+    "\tjb " check "\n"
+
+/* `label` goes to `check` if the code of `tested` is in one of the three ranges of the meeting page, and else to
+   `real`. */
 #define GUARD(label, tested, check, real)                                                                              \
     __asm__(".pushsection .text\n"                                                                                     \
             ".p2align 4\n"                                                                                             \
@@ -24,14 +32,9 @@ _Static_assert(offsetof(struct meeting, system) == 24, "as the stubs have it");
             "\t.cfi_startproc\n"                                                                                       \
             "\tendbr64\n"                                                                                              \
             "\tmovabsq $" TEXT(MEETING_START) ", %r10\n"                                                               \
-            "\tmovq " tested "@GOTPCREL(%rip), %r11\n"                                                                 \
-            "\tsubq 8(%r10), %r11\n"                                                                                   \
-            "\tcmpq 16(%r10), %r11\n"                                                                                  \
-            "\tjb " check "\n"                                                                                         \
-            "\tmovq " tested "@GOTPCREL(%rip), %r11\n"                                                                 \
-            "\tsubq 24(%r10), %r11\n"                                                                                  \
-            "\tcmpq 32(%r10), %r11\n"                                                                                  \
-            "\tjb " check "\n"                                                                                         \
+            GO_IF_IN("8", "16", tested, check)                                                                         \
+            GO_IF_IN("24", "32", tested, check)                                                                        \
+            GO_IF_IN("40", "48", tested, check)                                                                        \
             "\tjmp *" real "@GOTPCREL(%rip)\n"                                                                         \
             "\t.cfi_endproc\n"                                                                                         \
             ".size " label ", .-" label "\n"                                                                           \

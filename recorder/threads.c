@@ -8,6 +8,7 @@
 #include <sys/resource.h>
 #include <unwind.h>
 
+#include "cfi.h"
 #include "recorder.h"
 
 extern void *__libc_stack_end;
@@ -104,6 +105,7 @@ static void end_thread(void *unused)
 
 static void *run(void *of)
 {
+    IS_OWN_FRAME;
     struct start *start = of;
     void *(*routine)(void *) = start->routine;
     void *argument = start->argument;

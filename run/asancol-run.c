@@ -21,8 +21,8 @@
 #include "processes.h"
 #include "report.h"
 #include "say.h"
+#include "segments.h"
 #include "signals.h"
-#include "verdict.h"
 
 /* What all processes come to. */
 struct sum {
@@ -30,23 +30,33 @@ struct sum {
     size_t not_whole, abrupt, with_reports, recorded, marks, unchecked;
 };
 
+/* Whether it stands for its process: each process has one that does. */
+static bool is_lead(const struct process *process)
+{
+    return process->lead == process;
+}
+
+static void add_to(struct sum *sum, const struct process *joined)
+{
+    sum->events += joined->events;
+    sum->reports += joined->reports;
+    sum->with_reports += joined->reports > 0;
+    sum->not_whole += !joined->is_whole;
+    sum->abrupt += joined->is_abrupt;
+    sum->recorded += joined->has_checks;
+    sum->marks += joined->is_mark;
+    sum->unchecked += joined->is_unchecked;
+}
+
 static struct sum sum_up(void)
 {
     struct sum sum = {0};
     for (size_t i = 0; i < process_count(); i++) {
-        struct process *process = process_at(i);
-        if (verdict_again(process)) {
-            keep_again(process);
-            report_again(process);
-        }
-        sum.events += process->events;
-        sum.reports += process->reports;
-        sum.with_reports += process->reports > 0;
-        sum.not_whole += !process->is_whole;
-        sum.abrupt += process->is_abrupt;
-        sum.recorded += process->has_checks;
-        sum.marks += process->is_mark;
-        sum.unchecked += process->is_unchecked;
+        if (!is_lead(process_at(i)))
+            continue;
+        checker_sum_up(process_at(i));
+        struct process joined = segments_joined(process_at(i));
+        add_to(&sum, &joined);
     }
     return sum;
 }
@@ -56,20 +66,30 @@ static const char *plural(uint64_t count, const char *end)
     return count == 1 ? "" : end;
 }
 
+static void say_whole(const struct process *process)
+{
+    char segments[48] = "";
+    if (process->segments > 1)
+        snprintf(segments, sizeof segments, " in %zu segments", process->segments);
+    say("asancol: process %d %s: seen whole%s%s, %" PRIu64 " event%s%s, %" PRIu64 " report%s", process->own_number,
+        process->name, process->why[0] != 0 ? ": " : "", process->why, process->events, plural(process->events, "s"),
+        segments, process->reports, plural(process->reports, "s"));
+}
+
 /* The lines of processes: of those that were not seen whole or ended abruptly, if asancol-report does not print them,
    and of the others if all are wanted. */
 static void say_processes(bool is_reported, bool is_verbose, bool is_quiet)
 {
     for (size_t i = 0; i < process_count(); i++) {
-        const struct process *process = process_at(i);
-        if (!process->is_whole && !is_reported)
-            say("asancol: process %d %s: NOT SEEN WHOLE: %s", process->own_number, process->name, process->why);
-        else if (process->is_abrupt && !is_reported && !is_quiet)
-            say("asancol: process %d %s: %s: seen up to there", process->own_number, process->name, process->why);
-        else if (process->is_whole && is_verbose)
-            say("asancol: process %d %s: seen whole%s%s, %" PRIu64 " event%s, %" PRIu64 " report%s",
-                process->own_number, process->name, process->why[0] != 0 ? ": " : "", process->why, process->events,
-                plural(process->events, "s"), process->reports, plural(process->reports, "s"));
+        struct process process = segments_joined(process_at(i));
+        if (!is_lead(process_at(i)))
+            continue;
+        if (!process.is_whole && !is_reported)
+            say("asancol: process %d %s: NOT SEEN WHOLE: %s", process.own_number, process.name, process.why);
+        else if (process.is_abrupt && !is_reported && !is_quiet)
+            say("asancol: process %d %s: %s: seen up to there", process.own_number, process.name, process.why);
+        else if (process.is_whole && is_verbose)
+            say_whole(&process);
     }
 }
 
@@ -85,8 +105,9 @@ static void say_summary(const struct sum *sum, bool is_incomplete)
         snprintf(whole, sizeof whole, "NOT SEEN WHOLE");
     if (sum->abrupt > 0)
         snprintf(abrupt, sizeof abrupt, ", %zu ended abruptly", sum->abrupt);
-    say("asancol: %s; %zu process%s, %" PRIu64 " event%s; %s%s", reports, process_count(),
-        plural(process_count(), "es"), sum->events, plural(sum->events, "s"), whole, abrupt);
+    size_t count = segments_process_count();
+    say("asancol: %s; %zu process%s, %" PRIu64 " event%s; %s%s", reports, count, plural(count, "es"), sum->events,
+        plural(sum->events, "s"), whole, abrupt);
 }
 
 /* What holds of the run, and not of one process. */

@@ -17,6 +17,7 @@
 #include "names.h"
 #include "report.h"
 #include "say.h"
+#include "segments.h"
 #include "verdict.h"
 
 static struct {
@@ -116,6 +117,7 @@ static void meet(struct process *process)
     if (process->side == NULL)
         close_one(&process->side_memory);
     process_name(process);
+    segments_join(process);
 }
 
 /* As start, where what has begun can't be tried again from its beginning. */
@@ -140,6 +142,11 @@ bool checker_start(struct process *process)
 {
     meet(process);
     if (process->cut == CUT_NONE && has_sent_nothing(process)) {
+        if (segments_take_empty(process)) {
+            process_is_done(process);
+            close_one(&process->connection);
+            return true;
+        }
         process->is_mark = true;
         checker_give_up(process, "it was not recorded, or not by this run");
         return true;
@@ -165,6 +172,7 @@ bool checker_start_file(struct process *process)
         snprintf(path, sizeof path, "%s.where", process->trace);
         process->side = side_read(path);
         process_name(process);
+        segments_join(process);
     }
     int input = open(process->trace, O_RDONLY | O_CLOEXEC | O_NONBLOCK);
     if (input < 0) {
@@ -178,20 +186,57 @@ bool checker_start_file(struct process *process)
     return is_started;
 }
 
-/* It is done: what nobody asks for any more is given back. */
+static void let_side_go(struct process *process)
+{
+    if (process->is_settled)
+        side_unmap(process->side);
+    if (process->is_settled)
+        process->side = NULL;
+}
+
+/* Whether somebody may want to see the traces of a process. */
+static bool is_kept(const struct process *joined)
+{
+    return joined->reports > 0 || !joined->is_whole;
+}
+
+void checker_sum_up(struct process *process)
+{
+    struct process *front = process->lead->front;
+    if (process->lead->is_summed_up)
+        return;
+    bool has_changed = false;
+    for (struct process *at = front; at != NULL; at = at->next) {
+        has_changed |= !at->is_settled && at->kept != NULL;
+        has_changed |= verdict_again(at);
+    }
+    if (has_changed || segments_are_several(process)) {
+        struct process joined = segments_joined(process);
+        for (struct process *at = front; at != NULL; at = at->next)
+            keep_again(at, is_kept(&joined));
+        report_again(process);
+    }
+    for (struct process *at = front; at != NULL; at = at->next)
+        let_side_go(at);
+    process->lead->is_summed_up = true;
+}
+
+/* It is done: what nobody asks for any more is given back. The trace stays until it is known that no segment follows,
+   or what became of all. */
 static void finish(struct process *process)
 {
     process_is_done(process);
     close_one(&process->connection);
     verdict_read(process);
-    keep_end(process);
+    bool is_several = segments_are_several(process);
+    keep_end(process, is_several || !process->is_settled || is_kept(process));
     report_process(process);
     close_one(&process->verdicts);
     close_one(&process->side_memory);
-    if (process->is_settled) {
-        side_unmap(process->side);
-        process->side = NULL;
-    }
+    if (!is_several)
+        let_side_go(process);
+    else if (segments_are_complete(process))
+        checker_sum_up(process);
 }
 
 void checker_give_up(struct process *process, const char *why)

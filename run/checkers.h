@@ -13,6 +13,8 @@ void checkers_begin(const struct options *options);
 bool checker_start(struct process *process);
 /* Checks a trace that is in a file. Likewise. */
 bool checker_start_file(struct process *process);
+/* Judges all segments of a process again, at its end, and says what has changed. */
+void checker_sum_up(struct process *process);
 /* Gives up a process whose checker can't be started, for this cause. */
 void checker_give_up(struct process *process, const char *why);
 /* Takes the status of a checker or of a tee that has ended. */

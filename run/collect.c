@@ -19,14 +19,18 @@
 #include "descendants.h"
 #include "hub.h"
 #include "names.h"
+#include "peers.h"
 #include "processes.h"
 #include "report.h"
 #include "say.h"
+#include "segments.h"
 #include "signals.h"
 
 /* What a process holds here while it is checked, and how many more descriptors are kept free. */
 enum { HELD_BY_PROCESS = 3, KEPT_FREE = 12 };
 enum { MOST_DESCRIPTORS = 65536 };
+/* How many connections are accepted before anything else has its turn. */
+enum { MOST_AT_ONCE = 64 };
 /* How many traces in files are checked at once. */
 enum { FILES_AT_ONCE = 8 };
 
@@ -101,24 +105,60 @@ static void cut_process(struct process *process)
     shutdown(process->connection, SHUT_RD);
 }
 
+/* One of another user is gone, and nobody knows if the command had started it. However many such there are, they are
+   one process that was not seen. */
+static void note_unknown_peer(const struct ucred *peer)
+{
+    static bool is_noted;
+    char why[120];
+    if (is_noted)
+        return;
+    is_noted = true;
+    struct process *process = process_add();
+    process->is_mark = true;
+    process->peer = peer->pid;
+    snprintf(why, sizeof why, "it is of user %u, and had ended before it was seen who has started it",
+             (unsigned)peer->uid);
+    checker_give_up(process, why);
+}
+
+static void add_process(int connection, const struct ucred *peer)
+{
+    struct process *process = process_add();
+    process->connection = connection;
+    process->peer = peer->pid;
+    process->cut = run.has_timed_out ? CUT_BY_TIMEOUT : CUT_NONE;
+    add_pending(process);
+    if (run.cut != 0)
+        cut_process(process);
+}
+
+/* Answers false if there is no connection to accept now. */
+static bool accept_one(int listener)
+{
+    struct ucred peer;
+    int connection = hub_accept(listener, &peer);
+    if (connection < 0) {
+        if (errno != EAGAIN)
+            run.short_until = now() + SHORTAGE;
+        return false;
+    }
+    enum peer whose = peer_judge(&peer);
+    if (whose == PEER_OURS) {
+        add_process(connection, &peer);
+        return true;
+    }
+    close(connection);
+    peer_say_refused(&peer);
+    if (whose == PEER_UNKNOWN)
+        note_unknown_peer(&peer);
+    return true;
+}
+
 static void accept_from(int listener)
 {
-    while (has_room()) {
-        pid_t peer;
-        int connection = hub_accept(listener, &peer);
-        if (connection < 0) {
-            if (errno != EAGAIN)
-                run.short_until = now() + SHORTAGE;
-            return;
-        }
-        struct process *process = process_add();
-        process->connection = connection;
-        process->peer = peer;
-        process->cut = run.has_timed_out ? CUT_BY_TIMEOUT : CUT_NONE;
-        add_pending(process);
-        if (run.cut != 0)
-            cut_process(process);
-    }
+    for (int count = 0; count < MOST_AT_ONCE && has_room() && accept_one(listener); count++)
+        ;
 }
 
 /* Takes what has ended: the command, programs of ours, and processes that were left to us. */
@@ -262,8 +302,8 @@ static void show_progress(double time)
     if (run.ended == 0 || time < run.ended + PROGRESS || time < run.progress_at)
         return;
     run.progress_at = time + 0.2;
-    size_t live = process_live_count();
-    progress("asancol: waiting for processes: %zu checked, %zu to go", process_count() - live, live);
+    size_t live = process_live_count(), all = segments_process_count();
+    progress("asancol: waiting for processes: %zu checked, %zu to go", all > live ? all - live : 0, live);
 }
 
 /* Does what its time has come for, and answers how long nothing else will. */
@@ -395,6 +435,7 @@ struct collected collect(const struct options *options, pid_t command, int signa
     while (!is_over())
         turn(act());
     hub_stop();
+    peers_say_rest();
     check_files();
     run.cut = now();
     return (struct collected){run.status, descendants_left(), run.has_timed_out};

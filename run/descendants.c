@@ -23,7 +23,7 @@ void descendants_adopt(void)
 
 struct kin {
     pid_t number, parent, group;
-    bool is_descendant;
+    bool is_zombie;
 };
 
 static int by_number(const void *left, const void *right)
@@ -32,6 +32,7 @@ static int by_number(const void *left, const void *right)
     return (one > other) - (one < other);
 }
 
+/* False: it is gone. */
 static bool read_kin(const char *name, struct kin *kin)
 {
     char path[300], text[512], state;
@@ -44,11 +45,13 @@ static bool read_kin(const char *name, struct kin *kin)
     /* The name, in brackets, may have brackets itself. */
     const char *end = strrchr(text, ')');
     kin->number = atoi(name);
-    kin->is_descendant = false;
-    return end != NULL && sscanf(end + 1, " %c %d %d", &state, &kin->parent, &kin->group) == 3 && state != 'Z';
+    bool is_read = end != NULL && sscanf(end + 1, " %c %d %d", &state, &kin->parent, &kin->group) == 3;
+    kin->is_zombie = is_read && (state == 'Z' || state == 'X');
+    /* One that is just being taken away has no parent any more. */
+    return is_read && !(kin->is_zombie && kin->parent == 0);
 }
 
-/* All processes, in the order of their numbers. */
+/* All processes that run, in the order of their numbers. */
 static struct kin *read_all(size_t *count)
 {
     struct kin *all = NULL;
@@ -61,7 +64,7 @@ static struct kin *read_all(size_t *count)
             continue;
         if (*count == room)
             all = must(realloc(all, (room = room * 2 + 64) * sizeof *all));
-        *count += read_kin(entry->d_name, &all[*count]);
+        *count += read_kin(entry->d_name, &all[*count]) && !all[*count].is_zombie;
     }
     if (entries != NULL)
         closedir(entries);
@@ -87,19 +90,54 @@ static bool is_descendant(struct kin *all, size_t count, const struct kin *kin)
     return false;
 }
 
-bool descendants_include(pid_t number)
+/* Follows its line of parents. Unknown: one of the line was gone before it could be looked at. */
+static enum kinship follow(pid_t number)
 {
     for (int steps = 0; number > 1 && steps < 10000; steps++) {
         char name[16];
         struct kin kin;
         snprintf(name, sizeof name, "%d", number);
         if (!read_kin(name, &kin))
-            return false;
+            return KINSHIP_UNKNOWN;
         if (kin.parent == getpid())
-            return !child_is_ours(number);
+            return child_is_ours(number) ? KINSHIP_NONE : KINSHIP_OURS;
         number = kin.parent;
     }
-    return false;
+    return KINSHIP_NONE;
+}
+
+enum kinship descendants_kinship(pid_t number)
+{
+    /* If a parent has ended meanwhile, the child has another one. */
+    enum kinship found = KINSHIP_UNKNOWN;
+    for (int tries = 0; tries < 3 && found == KINSHIP_UNKNOWN; tries++)
+        found = follow(number);
+    return found;
+}
+
+static bool is_of_user(pid_t number, uid_t user)
+{
+    char path[64], line[256];
+    unsigned effective = 0;
+    bool is_found = false;
+    snprintf(path, sizeof path, "/proc/%d/status", number);
+    FILE *status = fopen(path, "re");
+    while (status != NULL && !is_found && fgets(line, sizeof line, status) != NULL)
+        is_found = sscanf(line, "Uid: %*u %u", &effective) == 1;
+    if (status != NULL)
+        fclose(status);
+    return is_found && effective == user;
+}
+
+bool descendants_have_user(uid_t user)
+{
+    size_t count;
+    struct kin *all = read_all(&count);
+    bool is_found = false;
+    for (size_t i = 0; i < count && !is_found; i++)
+        is_found = is_descendant(all, count, &all[i]) && is_of_user(all[i].number, user);
+    free(all);
+    return is_found;
 }
 
 /* Whether it is an asancol-run, as this is. */

@@ -9,8 +9,11 @@
 void descendants_adopt(void);
 /* Whether one is left. */
 bool descendants_left(void);
-/* Whether this process is one of them. */
-bool descendants_include(pid_t number);
+/* Whether this process is one of them. Of one that is gone nobody knows. */
+enum kinship { KINSHIP_NONE, KINSHIP_OURS, KINSHIP_UNKNOWN };
+enum kinship descendants_kinship(pid_t number);
+/* Whether one that runs is of this user. */
+bool descendants_have_user(uid_t user);
 /* Sends a signal to all of them. By gently, the checkers of a run inside this one are passed over, so that it can still
    report. */
 void descendants_signal(int number, bool gently);

@@ -14,7 +14,6 @@
 #include <sys/un.h>
 #include <unistd.h>
 
-#include "descendants.h"
 #include "say.h"
 
 /* A folder's name ends so, and the socket's name follows. */
@@ -113,26 +112,15 @@ const int *hub_listeners(void)
     return listeners;
 }
 
-/* Root may check others' processes, and what the command has started may have become another user's. */
-static bool is_ours(const struct ucred *peer)
-{
-    return peer->uid == getuid() || peer->uid == 0 || getuid() == 0 || descendants_include(peer->pid);
-}
-
-int hub_accept(int listener, pid_t *peer)
+int hub_accept(int listener, struct ucred *peer)
 {
     for (;;) {
-        struct ucred of_peer = {.uid = (uid_t)-1};
-        socklen_t size = sizeof of_peer;
+        socklen_t size = sizeof *peer;
         int connection = accept4(listener, NULL, NULL, SOCK_CLOEXEC);
         if (connection < 0 && (errno == ECONNABORTED || errno == EINTR))
             continue;
-        if (connection < 0)
-            return -1;
-        if (getsockopt(connection, SOL_SOCKET, SO_PEERCRED, &of_peer, &size) == 0 && is_ours(&of_peer)) {
-            *peer = of_peer.pid;
+        if (connection < 0 || getsockopt(connection, SOL_SOCKET, SO_PEERCRED, peer, &size) == 0)
             return connection;
-        }
         close(connection);
     }
 }

@@ -16,9 +16,9 @@ const char *hub_address(void);
 const char *hub_folder(void);
 /* Their descriptors; -1 is one that is not there. */
 const int *hub_listeners(void);
-/* The next connection, and the number of the process that made it. -1: there is none, errno says why. Those of other
-   users are refused, unless the command has started them. */
-int hub_accept(int listener, pid_t *peer);
+/* The next connection, and who has made it. -1: there is none, errno says why. */
+struct ucred;
+int hub_accept(int listener, struct ucred *peer);
 /* Connects to another hub and sends nothing, so that it knows of a process that it does not see. False: it is not
    there any more. */
 bool hub_knock(const char *of_hub);

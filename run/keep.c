@@ -3,6 +3,7 @@
 
 #include <errno.h>
 #include <fcntl.h>
+#include <inttypes.h>
 #include <limits.h>
 #include <stdio.h>
 #include <stdlib.h>
@@ -14,6 +15,9 @@
 #include "children.h"
 #include "names.h"
 #include "say.h"
+
+/* So many names are tried for a file. */
+enum { MOST_NAMES = 100000 };
 
 static const char *folder;
 static char *tee_program;
@@ -45,22 +49,58 @@ static void put_program(char *room, size_t size, const char *name)
         snprintf(room, size, "program");
 }
 
-/* Makes a new file PROGRAM.NUMBER.trace, or PROGRAM.NUMBER.1.trace, and so on. Answers its descriptor. */
+/* What stands before the end of a name that may be taken: nothing, .1, .2 and so on. */
+static const char *numbered(int number)
+{
+    static char room[16];
+    room[0] = 0;
+    if (number > 0)
+        snprintf(room, sizeof room, ".%d", number);
+    return room;
+}
+
+/* PROGRAM.NUMBER, with which the names of the traces of a process begin, or PROGRAM.NUMBER.1, and so on. */
+static char *make_stem(const struct process *process, int number)
+{
+    char program[80], *stem;
+    put_program(program, sizeof program, process->name);
+    if (asprintf(&stem, "%s/%s.%d%s", folder, program, (int)process->peer, numbered(number)) < 0)
+        must(NULL);
+    return stem;
+}
+
+/* Makes the new file STEM.trace; of the second segment STEM.segment-002.trace, and so on. Answers its descriptor. */
+static int open_new(struct process *process, const char *stem, int number)
+{
+    char segment[32] = "";
+    if (process->segment > 0)
+        snprintf(segment, sizeof segment, ".segment-%03" PRIu64, process->segment + 1);
+    if (asprintf(&process->kept, "%s%s%s.trace", stem, segment, numbered(number)) < 0)
+        must(NULL);
+    int made = open(process->kept, O_WRONLY | O_CREAT | O_EXCL | O_CLOEXEC, 0666);
+    if (made >= 0)
+        return made;
+    int error = errno;
+    free(process->kept);
+    process->kept = NULL;
+    errno = error;
+    return -1;
+}
+
+/* Makes a file for the trace whose name is free. The segments of a process have the same stem. */
 static int make_file(struct process *process)
 {
-    char program[80], more[16] = "";
-    put_program(program, sizeof program, process->name);
-    for (int number = 0; number < 100000; number++) {
-        if (number > 0)
-            snprintf(more, sizeof more, ".%d", number);
-        if (asprintf(&process->kept, "%s/%s.%d%s.trace", folder, program, (int)process->peer, more) < 0)
-            must(NULL);
-        int made = open(process->kept, O_WRONLY | O_CREAT | O_EXCL | O_CLOEXEC, 0666);
-        if (made >= 0)
+    char **stem = &process->lead->stem;
+    for (int number = 0; number < MOST_NAMES; number++) {
+        char *tried = *stem != NULL ? *stem : make_stem(process, number);
+        int made = open_new(process, tried, *stem != NULL ? number : 0);
+        if (made >= 0) {
+            *stem = tried;
             return made;
+        }
         int error = errno;
-        free(process->kept);
-        process->kept = NULL;
+        if (*stem == NULL)
+            free(tried);
         errno = error;
         if (error != EEXIST)
             return -1;
@@ -147,11 +187,11 @@ static void drop(struct process *process)
     process->kept = NULL;
 }
 
-void keep_end(struct process *process)
+void keep_end(struct process *process, bool is_needed)
 {
     if (process->kept == NULL)
         return;
-    if (process->reports == 0 && process->is_whole) {
+    if (!is_needed) {
         drop(process);
         return;
     }
@@ -162,9 +202,9 @@ void keep_end(struct process *process)
         close(from);
 }
 
-void keep_again(struct process *process)
+void keep_again(struct process *process, bool is_needed)
 {
-    if (process->kept != NULL && process->reports == 0 && process->is_whole) {
+    if (process->kept != NULL && !is_needed) {
         drop(process);
         return;
     }

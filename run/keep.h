@@ -11,9 +11,9 @@ void keep_begin(const char *folder);
 int keep_start(struct process *process);
 /* Copies a trace that is in a file. */
 void keep_file(struct process *process);
-/* Removes the trace, or puts the side memory beside it. */
-void keep_end(struct process *process);
-/* Writes again what has changed of it since. */
-void keep_again(struct process *process);
+/* Removes the trace if nobody needs it, or puts the side memory beside it. */
+void keep_end(struct process *process, bool is_needed);
+/* Likewise, at the end: writes what has changed since. */
+void keep_again(struct process *process, bool is_needed);
 
 #endif

@@ -19,8 +19,8 @@ struct process *process_add(void)
         processes = must(realloc(processes, room * sizeof *processes));
     }
     struct process *made = must(calloc(1, sizeof *made));
-    made->number = count;
     made->connection = made->side_memory = made->verdicts = -1;
+    made->lead = made->front = made;
     processes[count++] = made;
     live++;
     return made;
@@ -34,6 +34,14 @@ struct process *process_at(size_t number)
 size_t process_count(void)
 {
     return count;
+}
+
+size_t process_number(struct process *lead)
+{
+    static size_t numbered;
+    if (lead->number == 0)
+        lead->number = ++numbered;
+    return lead->number - 1;
 }
 
 size_t process_live_count(void)

@@ -1,4 +1,5 @@
-/* The recorded processes of the run, in the order in which they connected. */
+/* The recorded processes of the run, in the order in which they connected. One whose recording goes on in further
+   segments is here once for each of them: segments.h says what the whole of it came to. */
 #ifndef ASANCOL_RUN_PROCESSES_H
 #define ASANCOL_RUN_PROCESSES_H
 
@@ -19,7 +20,7 @@ enum stage {
 enum cut { CUT_NONE, CUT_BY_WAIT, CUT_BY_TIMEOUT };
 
 struct process {
-    size_t number; /* from 0 */
+    size_t number; /* of a lead: process_number has it */
     enum stage stage;
     pid_t peer;                         /* as the system numbers it for us; 0: not known */
     int own_number, parent;             /* as it knows them itself */
@@ -32,15 +33,28 @@ struct process {
     char *kept;                         /* the file in which its trace is kept, or null */
     enum cut cut;
     char *name;                         /* the first word of its command line */
+    /* Of a process in segments; what is one alone is its own lead and front: */
+    uint64_t segment;            /* how many segments came before this one */
+    uint64_t started;            /* when the process was begun */
+    struct process *lead;        /* the segment that connected first: it stands for the process */
+    struct process *front;       /* of a lead: the first of those that have come, in their order */
+    struct process *next;        /* the one after it, of those that have come; or null */
+    struct process *beside;      /* of a lead: another lead, in segments.c */
+    char *stem;                  /* of a lead: where its traces are kept, without what differs */
+    bool is_summed_up;           /* of a lead: all of its segments have come, and the outcome was said */
+    bool is_among_more;          /* of a lead: it is counted, since lines of it could not be kept */
     /* What is known once it is done: */
     char fate[32];
-    uint64_t events, reports, left_out;
+    uint64_t events, reports, left_out, restated;
+    uint32_t ending; /* enum ending */
+    bool is_cut_at_limit; /* it is not whole since it went on after the limit of events */
     unsigned signal; /* that has ended it, as the recorder saw; or 0 */
     bool is_crash;   /* and it is one of a mistake */
     bool is_abrupt;  /* the recorder did not see its end, and what it did up to there was seen all the same */
     bool is_whole, has_checks;
     bool is_unchecked; /* it is not whole since it has no checks, and for no other reason */
     bool is_settled; /* nothing of it can change any more */
+    size_t segments; /* what segments_joined answers: how many have come */
     char why[160];   /* it was not seen whole, or how it ended; or empty */
 };
 
@@ -48,6 +62,8 @@ struct process {
 struct process *process_add(void);
 struct process *process_at(size_t number);
 size_t process_count(void);
+/* The number of a process in the run, from 0, which its first segment to come gets if it has none yet. */
+size_t process_number(struct process *lead);
 /* How many are not done. */
 size_t process_live_count(void);
 /* Notes that it is done. */

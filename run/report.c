@@ -20,6 +20,7 @@
 #include "names.h"
 #include "nested.h"
 #include "say.h"
+#include "segments.h"
 #include "verdict.h"
 
 /* A packet has at most 65,536 bytes. So much of it may be the words of the command. */
@@ -49,7 +50,9 @@ static struct {
     char *texts[RAW_PROCESSES];
     uint64_t left_out[RAW_PROCESSES]; /* lines */
     int numbers[RAW_PROCESSES];
+    char segments[RAW_PROCESSES][32]; /* which one it is of, in words, if there are several */
     char *names[RAW_PROCESSES];
+    const struct process *leads[RAW_PROCESSES];
     size_t count, more;
 } raw;
 
@@ -139,21 +142,27 @@ static void put_words(FILE *to, const struct process *process)
     json_list(to, list, MOST_PROCESS_WORDS);
 }
 
-static void put_process(FILE *to, const struct process *process)
+/* What is known of a process; and of its segments the one whose descriptors come with it, if that is not null. */
+static void put_process(FILE *to, struct process *process, const struct process *segment)
 {
+    const char *trace = segment != NULL ? segment->trace : process->trace;
     fprintf(to,
             "{\"type\":\"process\",\"n\":%zu,\"pid\":%d,\"parent\":%d,\"fate\":\"%s\",\"events\":%" PRIu64
             ",\"reports\":%" PRIu64 ",\"whole\":%s,\"left_out\":%" PRIu64 ",\"signal\":%u,\"why\":",
-            process->number, process->own_number, process->parent, process->fate, process->events, process->reports,
-            process->is_whole ? "true" : "false", process->left_out, process->signal);
+            process_number(process), process->own_number, process->parent, process->fate, process->events,
+            process->reports, process->is_whole ? "true" : "false", process->left_out, process->signal);
     json_text(to, process->why);
     if (process->is_abrupt)
         fputs(",\"abrupt\":true", to);
     fputs(",\"command\":", to);
     put_words(to, process);
-    if (process->trace != NULL) {
+    if (process->segments > 1)
+        fprintf(to, ",\"segments\":%zu", process->segments);
+    if (segment != NULL && segments_are_several(segment))
+        fprintf(to, ",\"segment\":%" PRIu64, segment->segment + 1);
+    if (trace != NULL) {
         fputs(",\"trace\":", to);
-        json_text(to, process->trace);
+        json_text(to, trace);
     }
     if (process->kept != NULL) {
         fputs(",\"kept\":", to);
@@ -162,12 +171,24 @@ static void put_process(FILE *to, const struct process *process)
     fputc('}', to);
 }
 
+/* Counts lines that are not kept: with those of an earlier segment, or the process if there are none of it. */
+static void count_more(struct process *process)
+{
+    for (size_t i = raw.count; i > 0; i--)
+        if (raw.leads[i - 1] == process->lead) {
+            raw.left_out[i - 1] += process->reports;
+            return;
+        }
+    raw.more += !process->lead->is_among_more;
+    process->lead->is_among_more = true;
+}
+
 /* Keeps the first lines of what the checker has printed, for the case that asancol-report cannot. */
-static void keep_raw(const struct process *process)
+static void keep_raw(struct process *process)
 {
     char text[RAW_BYTES];
     if (raw.count == RAW_PROCESSES) {
-        raw.more++;
+        count_more(process);
         return;
     }
     ssize_t length = pread(process->verdicts, text, sizeof text - 1, 0);
@@ -180,23 +201,36 @@ static void keep_raw(const struct process *process)
     raw.texts[raw.count] = must(strdup(text));
     raw.left_out[raw.count] = process->reports - lines;
     raw.names[raw.count] = process->name;
+    raw.leads[raw.count] = process->lead;
+    if (segments_are_several(process))
+        snprintf(raw.segments[raw.count], sizeof *raw.segments, ", segment %" PRIu64, process->segment + 1);
     raw.numbers[raw.count++] = process->own_number;
+}
+
+static void take_descriptors(struct message *message, struct process *process)
+{
+    lseek(process->verdicts, 0, SEEK_SET);
+    message->descriptors[message->count++] = process->verdicts;
+    process->verdicts = -1;
+    if (process->side_memory >= 0)
+        message->descriptors[message->count++] = process->side_memory;
+    process->side_memory = -1;
 }
 
 void report_process(struct process *process)
 {
     struct message *message;
+    bool has_crash = process->is_crash && report.shows_crashes && process->verdicts >= 0;
+    bool is_shown = process->reports > 0 || has_crash;
+    if (!is_shown && segments_are_several(process))
+        return; /* what all of them come to is said once they are there */
+    struct process joined = segments_joined(process);
     FILE *to = new_message(&message);
-    put_process(to, process);
+    put_process(to, &joined, is_shown ? process : NULL);
     if (process->reports > 0)
         keep_raw(process);
-    if (process->reports > 0 || (process->is_crash && report.shows_crashes && process->verdicts >= 0)) {
-        lseek(process->verdicts, 0, SEEK_SET);
-        message->descriptors[message->count++] = process->verdicts;
-        process->verdicts = -1;
-        if (process->side_memory >= 0)
-            message->descriptors[message->count++] = process->side_memory;
-        process->side_memory = -1;
+    if (is_shown) {
+        take_descriptors(message, process);
         report_start();
     }
     enqueue(message, to);
@@ -205,8 +239,9 @@ void report_process(struct process *process)
 void report_again(const struct process *process)
 {
     struct message *message;
+    struct process joined = segments_joined(process);
     FILE *to = new_message(&message);
-    put_process(to, process);
+    put_process(to, &joined, NULL);
     enqueue(message, to);
 }
 
@@ -398,7 +433,7 @@ void report_print_raw(const char *kept)
         say("asancol-run: asancol-report ended with status %d%s", WEXITSTATUS(report.status),
             report.is_broken ? ", and did not read all" : "");
     for (size_t i = 0; i < raw.count; i++) {
-        say("asancol: process %d %s:", raw.numbers[i], raw.names[i]);
+        say("asancol: process %d %s%s:", raw.numbers[i], raw.names[i], raw.segments[i]);
         say_text(raw.texts[i], strlen(raw.texts[i]));
         if (raw.left_out[i] > 0)
             say("and %" PRIu64 " more lines", raw.left_out[i]);

@@ -24,9 +24,10 @@ enum answer { ANSWER_CLEAN, ANSWER_REPORTS, ANSWER_ARGUMENTS, ANSWER_NOT_WHOLE, 
 
 /* The first message: what is run. */
 void report_begin(const struct options *options);
-/* A process is done. The message takes copies of its descriptors. */
+/* A process is done, or a segment of it. The message takes its descriptors, if there is something to see in them. A
+   segment without that has none. */
 void report_process(struct process *process);
-/* What was said of a process has changed. */
+/* What was said of a process has changed, or is known since all of its segments are. */
 void report_again(const struct process *process);
 
 /* How many descriptors wait to be sent. */

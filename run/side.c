@@ -83,8 +83,9 @@ void side_unmap(const struct side *side)
         munmap((void *)(uintptr_t)side, SIDE_MAPPED);
 }
 
-uint64_t side_needed(const struct side *side)
+struct side_progress side_progress(const struct side *side)
 {
     const unsigned char *bytes = (const unsigned char *)side;
-    return ((const volatile struct side_progress *)(const void *)(bytes + SIDE_PROGRESS))->needed;
+    const volatile struct side_progress *progress = (const volatile void *)(bytes + SIDE_PROGRESS);
+    return (struct side_progress){progress->needed, progress->segment, progress->restated};
 }

@@ -10,8 +10,8 @@ int side_receive(int connection);
 const struct side *side_map(int descriptor);
 /* Reads the first part from a file; or answers null. */
 const struct side *side_read(const char *path);
-/* One more than the number of the last event that may be bad; 0: the recorder does not say it. */
-uint64_t side_needed(const struct side *side);
+/* How far the process has come. */
+struct side_progress side_progress(const struct side *side);
 void side_unmap(const struct side *side);
 
 #endif

@@ -60,9 +60,9 @@ static void read_end_line(struct process *process)
 
 #define WHY(...) snprintf(process->why, sizeof process->why, __VA_ARGS__)
 
-/* It went on after the limit of events. */
-static void blame_limit(struct process *process)
+void verdict_blame_limit(struct process *process)
 {
+    process->is_cut_at_limit = true;
     /* One more than the limit stands in the stream, and says nothing. A checker with a greater limit has counted it. */
     bool has_mark = strcmp(process->fate, "no-close") == 0 && process->events > 0;
     if (process->left_out == 0)
@@ -85,10 +85,16 @@ static void say_abrupt_end(struct process *process, const char *more)
         WHY("ended abruptly, as by SIGKILL or an _exit in a library%s", more);
 }
 
+/* One more than the number of the last event that may be bad; 0: nobody says it. */
+static uint64_t needed_of(const struct process *process)
+{
+    return process->side != NULL ? side_progress(process->side).needed : 0;
+}
+
 /* What was recorded and did not come, at least. */
 static void blame_abrupt_end(struct process *process)
 {
-    uint64_t needed = process->side != NULL ? side_needed(process->side) : 0, next = process->events + 1;
+    uint64_t needed = needed_of(process), next = process->events + 1;
     char more[96] = ": what came last was not seen";
     if (needed > next)
         snprintf(more, sizeof more, ": its last events were not seen, at least %" PRIu64, needed - next);
@@ -134,7 +140,7 @@ static bool has_all(const struct process *process, uint32_t ending)
 static bool has_all_needed(const struct process *process, uint32_t ending)
 {
     int status;
-    uint64_t needed = process->side != NULL ? side_needed(process->side) : 0;
+    uint64_t needed = needed_of(process);
     bool is_cut = strcmp(process->fate, "no-close") == 0 || strcmp(process->fate, "truncated") == 0
                   || (process->trace != NULL && strcmp(process->fate, "malformed code") == 0);
     return ending == ENDING_NONE && is_cut && needed != 0 && needed - 1 <= process->events
@@ -151,26 +157,39 @@ static bool is_crash(unsigned number)
     return false;
 }
 
+/* Takes what the recorder says of its end, and of what the stream has. */
+static void read_side(struct process *process)
+{
+    const struct side *side = process->side;
+    process->ending = side != NULL ? side->ending : ENDING_NONE;
+    process->left_out = side != NULL ? side->left_out : 0;
+    process->restated = side != NULL ? side_progress(side).restated : 0;
+    if (process->restated > process->events)
+        process->restated = process->events;
+}
+
 static void judge(struct process *process)
 {
     const struct side *side = process->side;
-    uint32_t ending = side != NULL ? side->ending : ENDING_NONE;
     bool is_at_limit = side != NULL && side->is_at_limit != 0;
+    read_side(process);
+    uint32_t ending = process->ending;
     bool was_checked = strcmp(process->fate, "not-checked") != 0;
-    process->left_out = side != NULL ? side->left_out : 0;
     process->has_checks = !process->is_mark && (side == NULL || side->has_checks != 0);
-    process->is_whole = process->is_unchecked = process->is_abrupt = false;
+    process->is_whole = process->is_unchecked = process->is_abrupt = process->is_cut_at_limit = false;
     process->signal = ending == ENDING_SIGNAL ? side->signal : 0;
     process->is_crash = is_crash(process->signal);
-    /* What is read from a file does not change any more; what is past the limit may still grow. */
-    process->is_settled = side == NULL || process->trace != NULL || (!is_at_limit && ending != ENDING_NONE);
+    /* What is read from a file does not change any more; what is past the limit may still grow, and an event of a
+       segment may be left out as long as the process runs. */
+    bool is_over = !is_at_limit && ending != ENDING_NONE && ending != ENDING_SEGMENT;
+    process->is_settled = side == NULL || process->trace != NULL || is_over;
     process->why[0] = 0;
     if (process->cut == CUT_BY_WAIT && (!was_checked || !has_all(process, ending)))
         WHY("still ran at the end of asancol-run");
     else if (process->cut == CUT_BY_TIMEOUT && strcmp(process->fate, "closed") != 0 && ending != ENDING_EXEC)
         WHY("was ended by --timeout");
     else if (was_checked && is_at_limit)
-        blame_limit(process);
+        verdict_blame_limit(process);
     else if (was_checked && has_all_needed(process, ending))
         process->is_whole = process->is_abrupt = process->has_checks;
     else if (!was_checked || !has_all(process, ending))

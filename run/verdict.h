@@ -12,6 +12,9 @@ void verdict_read(struct process *process);
    something. */
 bool verdict_again(struct process *process);
 
+/* Says of one that is not whole that it went on after the limit of events. */
+void verdict_blame_limit(struct process *process);
+
 /* "SIGTERM", or "signal 40". */
 const char *signal_name(int number);
 

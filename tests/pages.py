@@ -33,6 +33,8 @@ ELSEWHERE = {
     "getprotoent_r",
     "random_r",
     "strict_string_checks",
+    "SO_PEERCRED",
+    "O_EXCL",
 }
 
 SPAN = re.compile(r"`([^`]+)`")

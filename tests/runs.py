@@ -11,6 +11,7 @@ unreadable.
 import fcntl
 import itertools
 import os
+import pty
 import re
 import resource
 import shutil
@@ -23,7 +24,7 @@ import threading
 import time
 
 import long_trace
-import thread_starts
+import refused_calls
 import worked
 from traces import CLOSE, HEADER, HEADER_2, closed, free, load, malloc, poison, store
 
@@ -303,6 +304,20 @@ def one_long_trace(program):
         status, output, faults = program.run(words)
         same(words, (status, faults), (1, b""))
         same_lines(words, output, "".join(long.text(process) for process in range(len(files))))
+
+
+def terminal(program):
+    """A terminal says only once that no more comes, so no read follows one that gave no byte."""
+    for words in [[], ["check", "-"], ["check", "-", "trace"], ["check", "--live", "-", "trace"]]:
+        put("trace", SOUND)
+        ours, theirs = pty.openpty()
+        # A line of five bytes, and that no more comes.
+        os.write(ours, b"ASTR\n\x04")
+        ran = program.run(words, stdin=theirs)
+        os.close(ours)
+        os.close(theirs)
+        text = "p0 end truncated events 0 offset 0 reports 0\n"
+        same(words, ran, (3, (text + sound(1) * ("trace" in words)).encode(), b""))
 
 
 def closing(*streams):
@@ -699,6 +714,19 @@ def no_memory_to_begin(program):
 # ---- a socket
 
 
+def connected(what):
+    """Connects a peer to the socket in this folder, once it listens."""
+    for _ in range(PATIENCE * 100):
+        peer = socket.socket(socket.AF_UNIX)
+        try:
+            peer.connect("socket")
+            return peer
+        except OSError:
+            peer.close()
+            time.sleep(0.01)
+    raise AssertionError(f"{what}\nno socket listens")
+
+
 class Served:
     """The program, serving a socket in this folder."""
 
@@ -718,15 +746,7 @@ class Served:
 
     def connect(self):
         """Connects a peer, once the socket listens."""
-        for _ in range(PATIENCE * 100):
-            peer = socket.socket(socket.AF_UNIX)
-            try:
-                peer.connect("socket")
-                return peer
-            except OSError:
-                peer.close()
-                time.sleep(0.01)
-        raise AssertionError(f"{self.words}\nno socket listens")
+        return connected(self.words)
 
     def send(self, *traces):
         """Connects a peer for each trace, in order, which sends it and closes."""
@@ -846,6 +866,29 @@ def checkers_that_work(program):
         served.expect(0, sound(0) + sound(1) + sound(2))
 
 
+def accepts_that_fail(program):
+    """An accept that fails is not tried again: it uses up one of the count, and the peer in line
+    is the next that arrives."""
+    words = ["serve", "--count", "3", "socket"]
+    for refused in [{1}, {2}, {3}, {1, 2}, {2, 3}, {1, 2, 3}]:
+
+        def come():
+            for peer in [connected(words) for _ in range(3 - len(refused))]:
+                peer.sendall(PAST_THE_END)
+                peer.close()
+
+        peers = threading.Thread(target=come)
+        peers.start()
+        ran = with_refused(program, words, refused_calls.ACCEPTS, refused.__contains__)
+        peers.join()
+        os.remove("socket")
+        text = "".join(
+            f"p{number - 1} end not-opened\n" if number in refused else past_the_end(number - 1)
+            for number in [1, 2, 3]
+        )
+        same(refused, ran, (3, text.encode(), b"", 3))
+
+
 def paths_that_cannot_be_served(program):
     put("there", SOUND)
     os.mkdir("folder")
@@ -948,6 +991,11 @@ def one_file_on_one_thread(program):
     same("no threads", two, (3, b"p0 end not-started\np1 end not-started\n", b""))
 
 
+def with_refused(program, words, calls, refuses):
+    """Runs it, where each of these calls fails whose number `refuses` chooses."""
+    return refused_calls.run([program.path, *words], calls, refuses, prepared(), PATIENCE)
+
+
 def without_starts(came, workers, is_live, refuses):
     """Which of the senders that came are not started, where the start of each thread fails whose
     number `refuses` chooses, and how many starts there are. The checkers that have a sender come
@@ -976,9 +1024,9 @@ def each_thread_that_does_not_start(program):
                 missing, starts = without_starts(came, workers, is_live, refuses)
                 lines = {**whole, **{f"p{i}": f"p{i} end not-started\n" for i in missing}}
                 said = [f"p{i} {name}: {ending_of(lines[f'p{i}'])}" for i, name in enumerate(names)]
-                ran = thread_starts.run([program.path, *words], refuses, prepared(), PATIENCE)
+                ran = with_refused(program, words, refused_calls.THREAD_STARTS, refuses)
                 what = (words, turn, refuses)
-                same(what, (ran.status, ran.starts), (3, starts))
+                same(what, (ran.status, ran.calls), (3, starts))
                 same(what, lines_of_each(ran.output), lines)
                 same(what, ran.faults.decode(), "" if is_live else "".join(said))
 
@@ -1046,6 +1094,7 @@ CASES = [
     headers_and_codes,
     header_of_the_other_version,
     input_that_cannot_be_read,
+    terminal,
     closed_streams,
     many_reports,
     one_long_trace,
@@ -1073,6 +1122,7 @@ CASES = [
     memory_of_each_process,
     peers_beside_closed_streams,
     checkers_that_work,
+    accepts_that_fail,
     paths_that_cannot_be_served,
     file_that_says_ready,
     live_files,

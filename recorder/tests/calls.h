@@ -2,20 +2,29 @@
 #define _GNU_SOURCE
 #include <arpa/inet.h>
 #include <dirent.h>
+#include <err.h>
 #include <errno.h>
+#include <error.h>
+#include <execinfo.h>
 #include <fcntl.h>
 #include <glob.h>
 #include <grp.h>
 #include <iconv.h>
 #include <ifaddrs.h>
+#include <libintl.h>
 #include <limits.h>
+#include <linux/capability.h>
 #include <locale.h>
+#include <mntent.h>
 #include <net/if.h>
 #include <netdb.h>
+#include <netinet/ether.h>
 #include <poll.h>
 #include <pthread.h>
 #include <pwd.h>
 #include <regex.h>
+#include <sched.h>
+#include <semaphore.h>
 #include <signal.h>
 #include <stdarg.h>
 #include <stdint.h>
@@ -24,15 +33,19 @@
 #include <string.h>
 #include <sys/epoll.h>
 #include <sys/eventfd.h>
+#include <sys/ioctl.h>
 #include <sys/msg.h>
+#include <sys/prctl.h>
 #include <sys/resource.h>
 #include <sys/sem.h>
+#include <sys/shm.h>
 #include <sys/socket.h>
 #include <sys/stat.h>
 #include <sys/statfs.h>
 #include <sys/statvfs.h>
 #include <sys/sysinfo.h>
 #include <sys/time.h>
+#include <sys/timeb.h>
 #include <sys/timerfd.h>
 #include <sys/times.h>
 #include <sys/uio.h>
@@ -40,10 +53,12 @@
 #include <sys/utsname.h>
 #include <sys/wait.h>
 #include <sys/xattr.h>
+#include <syslog.h>
 #include <termios.h>
 #include <time.h>
 #include <unistd.h>
 #include <utime.h>
+#include <utmpx.h>
 #include <wchar.h>
 #include <wordexp.h>
 
@@ -153,6 +168,11 @@ static iconv_t latin(void)
     return iconv_open("LATIN1", "UTF-8");
 }
 
+static locale_t latin_locale(void)
+{
+    return newlocale(LC_ALL_MASK, "C", NULL);
+}
+
 static void *in_root(void *p)
 {
     return chdir("/") == 0 ? p : NULL;
@@ -200,14 +220,97 @@ static int needed(int made)
     return made;
 }
 
+/* Where something is noted that was found. */
+static void *found(void)
+{
+    static void *noted;
+    return &noted;
+}
+
+static struct random_data *random_state(void)
+{
+    static struct random_data made;
+    static char bytes[64];
+    initstate_r(1, bytes, sizeof bytes, &made);
+    return &made;
+}
+
+static int shared_memory(void)
+{
+    static int made = -1;
+    if (made < 0 && (made = shmget(IPC_PRIVATE, 4096, 0600)) >= 0) {
+        shmat(made, NULL, 0); /* until the program ends */
+        shmctl(made, IPC_RMID, NULL);
+    }
+    return needed(made);
+}
+
+static struct __user_cap_header_struct *capability_head(void)
+{
+    static struct __user_cap_header_struct head;
+    head = (struct __user_cap_header_struct){_LINUX_CAPABILITY_VERSION_3, 0};
+    return &head;
+}
+
+/* Of a process that is none, so that nothing is set. */
+static struct __user_cap_header_struct *capability_head_of_none(void)
+{
+    capability_head()->pid = -1;
+    return capability_head();
+}
+
+static void *page_of(void *p)
+{
+    return (void *)((uintptr_t)p / 4096 * 4096 + 4096);
+}
+
+/* Nobody is noted as logged in. */
+static struct utmpx *no_accounts(struct utmpx *p)
+{
+    utmpxname("/no/such");
+    return p;
+}
+
+static void *ends_at_once(void *argument)
+{
+    return argument;
+}
+
+static pthread_t made_thread(void)
+{
+    pthread_t made;
+    if (pthread_create(&made, NULL, ends_at_once, NULL) != 0)
+        exit(9);
+    return made;
+}
+
+static pthread_attr_t *own_settings(void)
+{
+    static pthread_attr_t made;
+    pthread_getattr_np(pthread_self(), &made);
+    return &made;
+}
+
 static struct iovec *from_pieces(void)
 {
     static struct iovec made[2] = {{text, 3}, {text + 3, 23}};
     return made;
 }
 
+static struct iovec *to_pieces(void)
+{
+    static struct iovec made[2] = {{room, 3}, {room + 3, 23}};
+    return made;
+}
+
 /* What the program reads as its input. */
 static const char *after_input(const char *input, const char *format)
+{
+    stdin = stream(input);
+    return format;
+}
+
+static const wchar_t *after_wide_input(const char *input, const wchar_t *format)
 {
     stdin = stream(input);
     return format;

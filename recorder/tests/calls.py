@@ -3,11 +3,11 @@
 import glob
 import os
 import re
-from typing import Dict, List, NamedTuple, Sequence, Tuple, Union
+from typing import Dict, List, NamedTuple, Sequence, Set, Tuple, Union
 
 from support import RECORDER, TESTS, Compiler, Suite, Trace, expect, placed, reports, run, side_of, write
 
-ROW = re.compile(r"^(CALL|NO_RESULT|PRINT|SCAN)\((.*?)\)(?=\n(?! )|\Z)", re.M | re.S)
+ROW = re.compile(r"^(CALL|NO_RESULT|(?:WIDE_)?(?:PRINT|SCAN)|LOG|MESSAGE)\((.*?)\)(?=\n(?! )|\Z)", re.M | re.S)
 
 
 class Row(NamedTuple):
@@ -18,10 +18,19 @@ class Row(NamedTuple):
     rest: List[str]
 
     def parameters(self) -> str:
-        return self.rest[0] if self.word == "NO_RESULT" else self.rest[1]
+        return self.rest[0] if self.word in ("NO_RESULT", "MESSAGE") else self.rest[1]
 
     def result(self) -> str:
-        return {"CALL": self.rest[0], "NO_RESULT": "void"}.get(self.word, "int")
+        if self.word in ("NO_RESULT", "LOG", "MESSAGE"):
+            return "void"
+        return self.rest[0] if self.word == "CALL" else "int"
+
+    def has_format(self) -> bool:
+        return self.word not in ("CALL", "NO_RESULT")
+
+    def has_list(self) -> bool:
+        """Whether there is a function with a va_list beside it: the first of the rest."""
+        return self.has_format() and self.word != "MESSAGE"
 
 
 def split(text: str) -> List[str]:
@@ -97,6 +106,7 @@ USES: Dict[str, Sequence[Use]] = {
     "strncasecmp": [("abcdefg", 'p, "ABCDEFG", 20'), ("abcdefg", '"ABCDEFG", p, 8')],
     "strcoll": [("abcdefg", "p, text"), ("abcdefg", "text, p")],
     "strxfrm": [("abcdefg", "room, p, 20"), (8, 'p, "abcdefg", 8')],
+    "strxfrm_l": [("abcdefg", "room, p, 20, latin_locale()"), (8, 'p, "abcdefg", 8, latin_locale()')],
     "strchr": [("abcdefg", "p, 'z'"), ("abcdefg", "p, 0")],
     "strrchr": [("abcdefg", "p, 'a'")],
     "strchrnul": [("abcdefg", "p, 'z'")],
@@ -121,6 +131,28 @@ USES: Dict[str, Sequence[Use]] = {
     "atoi": [("1234567", "p"), (" +", "p")],
     "atol": [("1234567", "p")],
     "atof": [("1234.67", "p")],
+    # Random numbers.
+    "rand_r": [(4, "(unsigned *)p")],
+    "random_r": [(4, "random_state(), (int32_t *)p")],
+    "drand48_r": [(8, "(struct drand48_data *)zeros(), (double *)p"), (24, "(struct drand48_data *)p, (double *)room")],
+    "lrand48_r": [(8, "(struct drand48_data *)zeros(), (long *)p"), (24, "(struct drand48_data *)p, (long *)room")],
+    # Mathematics.
+    "frexp": [(4, "2.0, (int *)p")],
+    "frexpf": [(4, "2.0f, (int *)p")],
+    "frexpl": [(4, "2.0L, (int *)p")],
+    "modf": [(8, "2.5, (double *)p")],
+    "modff": [(4, "2.5f, (float *)p")],
+    "modfl": [(16, "2.5L, (long double *)p")],
+    "remquo": [(4, "7.0, 2.0, (int *)p")],
+    "remquof": [(4, "7.0f, 2.0f, (int *)p")],
+    "remquol": [(4, "7.0L, 2.0L, (int *)p")],
+    "lgamma_r": [(4, "2.5, (int *)p")],
+    "lgammaf_r": [(4, "2.5f, (int *)p")],
+    "lgammal_r": [(4, "2.5L, (int *)p")],
+    "sincos": [(8, "1.0, (double *)p, (double *)room"), (8, "1.0, (double *)room, (double *)p")],
+    "sincosf": [(4, "1.0f, (float *)p, (float *)room"), (4, "1.0f, (float *)room, (float *)p")],
+    "sincosl": [(16, "1.0L, (long double *)p, (long double *)room"),
+                (16, "1.0L, (long double *)room, (long double *)p")],
     # Wide strings, and those of several bytes a character.
     "wcslen": [(wide("abc"), "WIDE(p)")],
     "wcsnlen": [(wide("abc"), "WIDE(p), 20")],
@@ -143,6 +175,8 @@ USES: Dict[str, Sequence[Use]] = {
     "wcspbrk": [(wide("abc"), 'WIDE(p), L"z"'), (wide("abc"), 'L"xyz", WIDE(p)')],
     "wcsdup": [(wide("abc"), "WIDE(p)")],
     "wcsxfrm": [(wide("abc"), "WIDE(room), WIDE(p), 20"), (16, 'WIDE(p), L"abc", 4')],
+    "wcsxfrm_l": [(wide("abc"), "WIDE(room), WIDE(p), 20, latin_locale()"),
+                  (16, 'WIDE(p), L"abc", 4, latin_locale()')],
     "wmemcpy": [(16, "WIDE(room), WIDE(p), 4"), (16, "WIDE(p), WIDE(room), 4")],
     "__wmemcpy_chk": [(16, "WIDE(room), WIDE(p), 4, ANY"), (16, "WIDE(p), WIDE(room), 4, ANY")],
     "wmemset": [(16, "WIDE(p), 'a', 4")],
@@ -186,6 +220,9 @@ USES: Dict[str, Sequence[Use]] = {
     "pwritev": [(8, "null, pieces(p, 8), 2, 0")],
     "pwritev2": [(8, "null, pieces(p, 8), 2, 0, 0")],
     "process_vm_readv": [(8, "getpid(), pieces(p, 8), 2, from_pieces(), 2, 0")],
+    "process_vm_writev": [(8, "getpid(), pieces(p, 8), 2, to_pieces(), 2, 0")],
+    "ioctl": [(4, "pair[0], FIONREAD, p"), (4, "pair[0], FIONBIO, p"), (36, "terminal(), TCGETS, p"),
+              (8, "terminal(), TIOCGWINSZ, p"), (40, "pair[0], SIOCGIFINDEX, p"), (16, "pair[0], SIOCGIFCONF, p")],
     "getrandom": [(8, "p, 8, 0")],
     "getentropy": [(8, "p, 8")],
     "pipe": [(8, "(int *)p")],
@@ -230,6 +267,7 @@ USES: Dict[str, Sequence[Use]] = {
     "msgrcv": [(16, "queue(), p, 8, 0, 0")],
     "msgsnd": [(16, "-1, p, 8, 0")],
     "semop": [(6, "-1, (struct sembuf *)p, 1")],
+    "shmctl": [(112, "shared_memory(), IPC_STAT, (struct shmid_ds *)p"), (112, "-1, IPC_SET, (struct shmid_ds *)p")],
     # Streams.
     "fread": [(8, "p, 1, 8, stream(text)"), (8, "p, 4, 2, stream(text)")],
     "__fread_chk": [(8, "p, ANY, 1, 8, stream(text)")],
@@ -251,6 +289,7 @@ USES: Dict[str, Sequence[Use]] = {
     "fmemopen": [("r", "room, 8, p")],
     "open_memstream": [(8, "(char **)p, (size_t *)room"), (8, "(char **)room, (size_t *)p")],
     "open_wmemstream": [(8, "(wchar_t **)p, (size_t *)room")],
+    "getmntent_r": [(40, 'stream("a b c d 0 0\\n"), (struct mntent *)p, room, 99')],
     "setbuf": [(8192, "fdopen(dup(null), \"r\"), p")],
     "setbuffer": [(64, "fdopen(dup(null), \"r\"), p, 64")],
     "setvbuf": [(64, "fdopen(dup(null), \"r\"), p, _IOFBF, 64")],
@@ -314,6 +353,8 @@ USES: Dict[str, Sequence[Use]] = {
     "setxattr": [("/no", 'p, "user.a", room, 9, 0'), ("user.a", '"/no", p, room, 9, 0'),
                  (9, '"/no", "user.a", p, 9, 0')],
     "fsetxattr": [("user.a", "-1, p, room, 9, 0"), (9, '-1, "user.a", p, 9, 0')],
+    "name_to_handle_at": [("/no", "0, p, zeros(), (int *)room, 0"), (4, '0, "/no", (struct file_handle *)p, NULL, 0')],
+    "open_by_handle_at": [(8, "-1, (struct file_handle *)p, 0")],
     # Time.
     "time": [(8, "(time_t *)p")],
     "gettimeofday": [(16, "(struct timeval *)p, NULL")],
@@ -325,6 +366,8 @@ USES: Dict[str, Sequence[Use]] = {
     "setitimer": [(32, "ITIMER_REAL, (struct itimerval *)p, NULL"),
                   (32, "ITIMER_REAL, zeros(), (struct itimerval *)p")],
     "times": [(32, "(struct tms *)p")],
+    "ftime": [(16, "(struct timeb *)p")],
+    "clock_getcpuclockid": [(4, "0, (clockid_t *)p")],
     "gmtime_r": [(8, "(time_t *)p, (struct tm *)room"), (56, "zeros(), (struct tm *)p")],
     "gmtime": [(8, "(time_t *)p")],
     "ctime": [(8, "(time_t *)p")],
@@ -346,6 +389,10 @@ USES: Dict[str, Sequence[Use]] = {
     "sigwaitinfo": [(128, "waiting(), (siginfo_t *)p")],
     "sigtimedwait": [(128, "waiting(), (siginfo_t *)p, NULL"), (16, "waiting(), NULL, (struct timespec *)p")],
     "sigaltstack": [(24, "NULL, (stack_t *)p")],
+    "sigemptyset": [(128, "(sigset_t *)p")],
+    "sigandset": [(128, "(sigset_t *)p, zeros(), zeros()"), (128, "(sigset_t *)room, (sigset_t *)p, zeros()"),
+                  (128, "(sigset_t *)room, zeros(), (sigset_t *)p")],
+    "sigprocmask": [(128, "SIG_BLOCK, (sigset_t *)p, NULL"), (128, "SIG_BLOCK, NULL, (sigset_t *)p")],
     "system": [("true", "p")],
     "posix_spawn": [("/no", "(pid_t *)room, p, NULL, NULL, nothing, nothing"),
                     (4, '(pid_t *)p, "/bin/true", NULL, NULL, nothing, nothing')],
@@ -381,12 +428,40 @@ USES: Dict[str, Sequence[Use]] = {
     "getpwent_r": [(48, "(struct passwd *)p, room + 99, 999, (struct passwd **)room")],
     "fgetpwent_r": [(48, 'fopen("/etc/passwd", "r"), (struct passwd *)p, room + 99, 999, (struct passwd **)room')],
     "getpass": [("abcdefg", "after_input(\"secret\\n\", p)")],
+    "textdomain": [("name", "p")],
+    "prctl": [("name", "PR_SET_NAME, p, 0, 0, 0"), (16, "PR_GET_NAME, p, 0, 0, 0")],
+    "capget": [(8, "(struct __user_cap_header_struct *)p, NULL"),
+               (24, "capability_head(), (struct __user_cap_data_struct *)p")],
+    "capset": [(8, "(struct __user_cap_header_struct *)p, NULL"),
+               (24, "capability_head_of_none(), (struct __user_cap_data_struct *)p")],
+    "mincore": [(2, "page_of(room), 4097, (unsigned char *)p")],
+    "backtrace_symbols": [(8, "(void **)p, 1")],
+    "backtrace_symbols_fd": [(8, "(void **)p, 1, null")],
+    "pututxline": [(384, "no_accounts((struct utmpx *)p)")],
     "getgrnam_r": [("root", "p, (struct group *)room, room + 99, 999, (struct group **)room")],
     "getgrgid_r": [(32, "0, (struct group *)p, room + 99, 999, (struct group **)room")],
     "getgrent_r": [(32, "(struct group *)p, room + 99, 999, (struct group **)room")],
     "fgetgrent_r": [(32, 'fopen("/etc/group", "r"), (struct group *)p, room + 99, 999, (struct group **)room')],
+    # Threads.
+    "pthread_join": [(8, "made_thread(), (void **)p")],
     "pthread_setname_np": [("name", "pthread_self(), p")],
     "pthread_getname_np": [("name", "pthread_self(), p, 16")],
+    "pthread_setcancelstate": [(4, "0, (int *)p")],
+    "pthread_getcpuclockid": [(4, "pthread_self(), (clockid_t *)p")],
+    "pthread_getschedparam": [(4, "pthread_self(), (int *)p, (struct sched_param *)room"),
+                              (4, "pthread_self(), (int *)room, (struct sched_param *)p")],
+    "sched_getparam": [(4, "0, (struct sched_param *)p")],
+    "sched_getaffinity": [(128, "0, 128, p")],
+    "pthread_getaffinity_np": [(128, "pthread_self(), 128, p")],
+    "pthread_attr_getdetachstate": [(4, "zeros(), (int *)p")],
+    "pthread_attr_getguardsize": [(8, "zeros(), (size_t *)p")],
+    "pthread_attr_getschedparam": [(4, "zeros(), (struct sched_param *)p")],
+    "pthread_attr_getstack": [(8, "own_settings(), (void **)p, (size_t *)room"),
+                              (8, "own_settings(), (void **)room, (size_t *)p")],
+    "pthread_attr_getaffinity_np": [(128, "own_settings(), 128, p")],
+    "sem_getvalue": [(4, "zeros(), (int *)p")],
+    "sem_open": [("/no/such", "p, 0, 0, 0")],
+    "sem_unlink": [("/no/such", "p")],
     # Hosts and networks.
     "inet_ntop": [(4, "AF_INET, p, room, 99"), (16, "AF_INET6, p, room, 99"),
                   ("0.0.0.0", "AF_INET, clear(room), p, 99")],
@@ -404,11 +479,41 @@ USES: Dict[str, Sequence[Use]] = {
     "gethostbyname2_r": [("127.0.0.1", "p, AF_INET, (struct hostent *)room, room + 99, 999, (struct hostent **)room, "
                                        "(int *)room")],
     "gethostbyaddr": [(4, "p, 4, AF_UNSPEC")],
+    "gethostbyaddr_r": [(4, "p, 4, AF_UNSPEC, (struct hostent *)room, room + 99, 999, (struct hostent **)room, "
+                            "(int *)room")],
+    "gethostent_r": [(32, "(struct hostent *)p, room + 99, 999, (struct hostent **)found(), (int *)room"),
+                     (8, "(struct hostent *)room, room + 99, 999, (struct hostent **)p, (int *)room")],
+    "getnetbyname": [("loopback", "p")],
+    "getnetbyname_r": [("loopback", "p, (struct netent *)room, room + 99, 999, (struct netent **)found(), (int *)room"),
+                       (24, '"loopback", (struct netent *)p, room + 99, 999, (struct netent **)found(), (int *)room')],
+    "getnetbyaddr_r": [(24, "0x7f000000, AF_INET, (struct netent *)p, room + 99, 999, (struct netent **)found(), "
+                            "(int *)room")],
+    "getnetent_r": [(24, "(struct netent *)p, room + 99, 999, (struct netent **)found(), (int *)room")],
     "getprotobyname": [("tcp", "p")],
+    "getprotobyname_r": [("tcp", "p, (struct protoent *)room, room + 99, 999, (struct protoent **)found()"),
+                         (24, '"tcp", (struct protoent *)p, room + 99, 999, (struct protoent **)found()')],
+    "getprotobynumber_r": [(24, "6, (struct protoent *)p, room + 99, 999, (struct protoent **)found()")],
+    "getprotoent_r": [(24, "(struct protoent *)p, room + 99, 999, (struct protoent **)found()")],
     "getservbyname": [("http", 'p, "tcp"'), ("tcp", '"http", p')],
+    "getservbyname_r": [("http", 'p, "tcp", (struct servent *)room, room + 99, 999, (struct servent **)found()'),
+                        ("tcp", '"http", p, (struct servent *)room, room + 99, 999, (struct servent **)found()'),
+                        (32, '"http", "tcp", (struct servent *)p, room + 99, 999, (struct servent **)found()')],
+    "getservbyport": [("tcp", "htons(80), p")],
+    "getservbyport_r": [("tcp", "htons(80), p, (struct servent *)room, room + 99, 999, (struct servent **)found()"),
+                        (32, 'htons(80), "tcp", (struct servent *)p, room + 99, 999, (struct servent **)found()')],
+    "getservent_r": [(32, "(struct servent *)p, room + 99, 999, (struct servent **)found()")],
     "if_nametoindex": [("lo", "p")],
     "if_indextoname": [(64, "1, before_end_of_interface(p)")],
     "getifaddrs": [(8, "(struct ifaddrs **)p")],
+    "ether_aton": [("1:2:3:4:5:6", "p")],
+    "ether_aton_r": [("1:2:3:4:5:6", "p, (struct ether_addr *)room"), (6, '"1:2:3:4:5:6", (struct ether_addr *)p')],
+    "ether_ntoa": [(6, "(struct ether_addr *)p")],
+    "ether_ntoa_r": [(6, "(struct ether_addr *)p, room"), ("0:0:0:0:0:0", "zeros(), p")],
+    "ether_hostton": [("host", "p, (struct ether_addr *)room")],
+    "ether_ntohost": [(6, "room, (struct ether_addr *)p")],
+    "ether_line": [("1:2:3:4:5:6 abc", "p, (struct ether_addr *)room, room + 99"),
+                   (6, '"1:2:3:4:5:6 abc", (struct ether_addr *)p, room'),
+                   ("abc", '"1:2:3:4:5:6 abc", (struct ether_addr *)room, p')],
     # Patterns and arrays.
     "regcomp": [("a*", "(regex_t *)room, p, 0"), (64, '(regex_t *)p, "a*", 0')],
     "regexec": [("abc", "pattern(), p, 0, NULL, 0"), (16, 'pattern(), "abc", 2, (regmatch_t *)p, 0')],
@@ -430,13 +535,34 @@ USES: Dict[str, Sequence[Use]] = {
     "__sprintf_chk": [("abc", 'room, 1, 99, "%s", p'), (4, 'p, 1, 99, "%d", 123')],
     "__snprintf_chk": [("abc", 'room, 99, 1, 99, "%s", p'), (4, 'p, 99, 1, 99, "%d", 123')],
     "__asprintf_chk": [("abc", '(char **)room, 1, "%s", p')],
+    "wprintf": [(wide("abc"), 'L"%d%ls", 1, p'), ("abc", 'L"%Lf%5.*s", 1.0L, 9, p'), (wide("abc"), "WIDE(p)")],
+    "fwprintf": [(wide("abc"), 'wide_nowhere, L"%S", p'), (4, 'wide_nowhere, L"abc%n", p')],
+    "swprintf": [("abc", 'WIDE(room), 99, L"%s", p'), (16, 'WIDE(p), 99, L"%d", 123')],
+    "__wprintf_chk": [("abc", '1, L"%s", p')],
+    "__fwprintf_chk": [("abc", 'wide_nowhere, 1, L"%s", p')],
+    "__swprintf_chk": [("abc", 'WIDE(room), 99, 1, 99, L"%s", p'), (16, 'WIDE(p), 99, 1, 99, L"%d", 123')],
+    "syslog": [("abc", 'LOG_DEBUG, "%s", p'), ("abc", "LOG_DEBUG, p")],
+    "__syslog_chk": [("abc", 'LOG_DEBUG, 1, "%s", p')],
+    "warn": [("abc", '"%s", p'), ("abc", "p")],
+    "warnx": [("abc", '"%s", p')],
+    "err": [("abc", '0, "%s", p')],
+    "errx": [("abc", '0, "%s", p')],
+    "error": [("abc", '0, 0, "%s", p'), ("abc", "0, 0, p")],
+    "error_at_line": [("abc", '0, 0, "a", 1, "%s", p'), ("abc", '0, 0, p, 1, "a"')],
     "scanf": [(4, 'after_input("12", "%d"), p')],
     "fscanf": [(4, 'stream("12"), "%d", p'), (8, 'stream("12"), "%ld", p'), (4, 'stream("abc d"), "%s", p'),
                (2, 'stream("12"), "%hd", p'), (8, 'stream("1.5"), "%lf", p'), (4, 'stream("7 abc"), "%*d %[a-c]", p'),
                (3, 'stream("abcdef"), "%3c", p'), (16, 'stream("abc"), "%ls", p'), (8, 'stream("abc"), "%ms", p')],
     "sscanf": [("12 ", 'p, "%d", (int *)room'), (4, '"12", "%d", p'), (4, '"1 abc 3", "%d %s %d", room, p, room + 9')],
+    "wscanf": [(4, 'after_wide_input("12", L"%d"), p')],
+    "fwscanf": [(4, 'stream("12"), L"%d", p'), (4, 'stream("abc d"), L"%s", p'), (16, 'stream("abc"), L"%ls", p'),
+                (4, 'stream("7 abc"), L"%*d %[a-c]", p')],
+    "swscanf": [(wide("12 "), 'WIDE(p), L"%d", (int *)room'), (4, 'L"1 abc 3", L"%d %s %d", room, p, room + 9')],
 }
-for name in ("scanf", "fscanf", "sscanf"):
+# They end the process.
+ENDING = ("err", "errx")
+ENDING_FORMS = (*ENDING, "verr", "verrx")
+for name in ("scanf", "fscanf", "sscanf", "wscanf", "fwscanf", "swscanf"):
     USES[f"__isoc99_{name}"] = USES[f"__isoc23_{name}"] = USES[name]
 
 HEAD = f'#include "{TESTS}/calls.h"\n'
@@ -445,15 +571,19 @@ struct use {
     void (*run)(char *p);
     const char *holds;
     size_t size;
+    int ends;
 };
 static const struct use uses[] = {
 %s
 };
+/* How many bytes less each block has; and with another word that use alone, which may end the process. */
 int main(int count, char **words)
 {
-    size_t less = count > 1;
+    size_t less = words[1][0] - '0';
     prepare();
     for (size_t i = 0; i < sizeof uses / sizeof *uses; i++) {
+        if (count > 2 ? i != (size_t)atoi(words[2]) : uses[i].ends)
+            continue;
         size_t size = uses[i].size - less;
         char *p = malloc(size);
         for (size_t j = 0; j < size; j++)
@@ -497,8 +627,8 @@ def with_list(row: Row, name: str) -> str:
     """A function of this name that calls the form of a format that has a va_list."""
     parameters, arguments, last = row.parameters()[:-1], row.rest[2][:-1], row.rest[3]
     return (
-        f"static int {name}{parameters}, ...) {{ va_list list; {apart(name)} va_start(list, {last}); "
-        f"int result = call_{row.rest[0]}{arguments}, list); va_end(list); return result; }} "
+        f"static void {name}{parameters}, ...) {{ va_list list; {apart(name)} va_start(list, {last}); "
+        f"call_{row.rest[0]}{arguments}, list); va_end(list); }} "
     )
 
 
@@ -512,24 +642,39 @@ def source_of(names: Sequence[str]) -> Tuple[str, Dict[str, str]]:
     by_name = {name: row for row in table() for name in row.names}
     for name in names:
         row = by_name[name]
-        has_list = row.word in ("PRINT", "SCAN")
-        parameters = row.parameters()[:-1] + ", ...)" if has_list else row.parameters()
+        parameters = row.parameters()[:-1] + ", ...)" if row.has_format() else row.parameters()
         lines.append(declared(row.result(), name, parameters))
-        if has_list:
-            lines.append(declared("int", row.rest[0], row.parameters()[:-1] + ", va_list)"))
+        if row.has_list():
+            lines.append(declared(row.result(), row.rest[0], row.parameters()[:-1] + ", va_list)"))
         for use in uses_of(row, name):
-            for form in [f"call_{name}"] + [f"list_{len(lines) + 2}"] * has_list:
+            for form in [f"call_{name}"] + [f"list_{len(lines) + 2}"] * row.has_list():
                 number = len(lines) + 1
                 shared = with_list(row, form) if form.startswith("list_") else ""
                 lines.append(f"{shared}static void use_{number}(char *p) {{ {apart(number)} {form}({use[1]}); }}")
-                entries.append(f"    {{use_{number}, {quoted(holds(use))}, {len(holds(use))}}},")
+                entries.append(
+                    f"    {{use_{number}, {quoted(holds(use))}, {len(holds(use))}, {int(name in ENDING)}}},"
+                )
                 tried[f"calls.c:{number}"] = f"{row.rest[0] if shared else name}({use[1]})"
     return "\n".join(lines) + MAIN % "\n".join(entries), tried
 
 
 def names_there() -> List[str]:
     """The names that the C library has, by what the recorder was made with."""
-    return [name for row in table("out/calls.def") for name in row.names]
+    tables = ("out/calls.def", "out/mathematics.def")
+    return [name for of in tables for row in table(of) for name in row.names]
+
+
+def found_by(suite: Suite, folder: str, less: int, alone: Sequence[int]) -> Tuple[Set[str], Set[int]]:
+    """The lines that are found with so many bytes less, and the numbers of the uses that were left out."""
+    lines, left_out = set(), set()
+    for words in [[], *([str(number)] for number in alone)]:
+        trace = f"{folder}/calls.trace"
+        ran = run(["./calls", str(less), *words], folder, ASANCOL_TRACE=trace, ASANCOL_WHERE="1")
+        expect((ran.returncode, Trace(trace).is_closed), (0, True), f"status, and the close, of {less} {words}")
+        lines |= {it.line for it in placed(suite.asancol, trace)[0]}
+        left_out |= {int(number) for number in re.findall(rb"^left out (\d+)$", ran.stdout, re.M)}
+        os.unlink(trace)
+    return lines, left_out
 
 
 def check_rows(suite: Suite, folder: str, compiler: Compiler, level: str) -> None:
@@ -539,16 +684,12 @@ def check_rows(suite: Suite, folder: str, compiler: Compiler, level: str) -> Non
     write(folder, calls_c=source)
     # Each use keeps its place in the code.
     flags = ["-w", "-fno-builtin", "-fno-inline", "-fno-optimize-sibling-calls"]
-    compiler.c(folder, ["calls.c"], f"{folder}/calls", level, *flags)
-    good = run(["./calls"], folder, ASANCOL_TRACE="good.trace", ASANCOL_WHERE="1")
-    expect(good.returncode, 0, "status of good uses")
-    said, status = placed(suite.asancol, f"{folder}/good.trace")
-    expect([(it.line, tried.get(it.line)) for it in said], [], "reports of good uses")
-    expect((status, Trace(f"{folder}/good.trace").is_closed), (0, True), "status of the check, and the close")
-    bad = run(["./calls", "less"], folder, ASANCOL_TRACE="bad.trace", ASANCOL_WHERE="1")
-    expect(bad.returncode, 0, "status of bad uses")
-    found = {it.line for it in placed(suite.asancol, f"{folder}/bad.trace")[0]}
-    left_out = {list(tried)[int(number)] for number in re.findall(rb"^left out (\d+)$", bad.stdout, re.M)}
+    compiler.c(folder, ["calls.c"], f"{folder}/calls", level, *flags, "-lm")
+    ending = [number for number, use in enumerate(tried.values()) if use.split("(")[0] in ENDING_FORMS]
+    said, _ = found_by(suite, folder, 0, ending)
+    expect([(line, tried.get(line)) for line in said], [], "reports of good uses")
+    found, numbers = found_by(suite, folder, 1, ending)
+    left_out = {list(tried)[number] for number in numbers}
     for line in left_out:
         print(f"left out: {tried[line]} needs what this system does not have")
     expect([tried[line] for line in tried if line not in found | left_out], [], "what is not found")
@@ -706,6 +847,65 @@ def check_objects(suite: Suite, folder: str, compiler: Compiler) -> None:
         expect(run(["./plain"], folder).returncode, 0, "in a program that has no recorder")
 
 
+TURNED = """
+#define _GNU_SOURCE
+#include <math.h>
+#include <stdlib.h>
+double turned(double by)
+{
+    double *both = malloc(2 * sizeof *both - (by > 1));
+    volatile double sum;
+    sincos(by, &both[0], &both[1]);
+    sum = both[0];
+    free(both);
+    return sum;
+}
+"""
+PARTED = """
+#include <dlfcn.h>
+#include <math.h>
+#include <stdio.h>
+double turned(double by);
+int main(int count, char **words)
+{
+    double (*turn)(double) = NULL;
+    int power;
+    double volatile number = count * 0.75;
+#ifdef OPENS
+    void *library = dlopen("./libturned.so", RTLD_NOW);
+    turn = library ? (double (*)(double))dlsym(library, "turned") : NULL;
+#elif !defined ALONE
+    turn = turned;
+#endif
+    if (turn != NULL)
+        turn(number);
+    return frexp(number, &power) == 0.75 && power == count - 1 ? 0 : 9;
+}
+"""
+
+
+def check_mathematics(suite: Suite, folder: str, compiler: Compiler) -> None:
+    """The library of mathematics: also if the linker takes only what is needed of it, if it comes with a library that
+    is opened, and if it is not there."""
+    write(folder, turned_c=TURNED, parted_c=PARTED)
+    compiler.c(folder, ["-c", "turned.c"], f"{folder}/turned.o", "-fPIC", "-w")
+    compiler.c(folder, ["turned.o", "-lm"], f"{folder}/libturned.so", "-shared", "-Wl,-z,defs")
+    for flags in (["turned.o", "-lm"], ["turned.o", "-Wl,--as-needed", "-lm"], ["turned.o", "-l:libm.so.6"],
+                  ["-DOPENS", "-ldl"]):
+        compiler.c(folder, ["parted.c", *flags], f"{folder}/parted", "-w", "-fno-builtin")
+        for words, wanted in (([], []), (["less"], ["turned.c:9"])):
+            ran = run(["./parted", *words], folder, ASANCOL_TRACE="m.trace", ASANCOL_WHERE="1")
+            expect((ran.returncode, ran.stderr), (0, b""), f"{flags} {words}")
+            said = {it.line for it in placed(suite.asancol, f"{folder}/m.trace")[0]}
+            expect(sorted(said), wanted, f"{flags} {words}")
+            os.unlink(f"{folder}/m.trace")
+        expect(run(["./parted", "less"], folder).returncode, 0, f"{flags}, off")
+    compiler.c(folder, ["parted.c"], f"{folder}/parted", "-w", "-fno-builtin", "-DALONE")
+    expect(run(["./parted"], folder).returncode, 0, "without the library")
+    needed = run(["readelf", "-d", "parted"], folder).stdout
+    expect(b"libm.so" in needed, False, "that the library comes in")
+
+
 def check_page(suite: Suite, folder: str) -> None:
     """The page is what the rows say."""
     made = run([f"{TESTS}/calls_page.py"], folder)
@@ -726,4 +926,5 @@ def tests(suite: Suite, compiler: Compiler) -> None:
         suite.test(f"{compiler} calls, good ones {' '.join(flags)}", check_good_calls, compiler, flags)
     suite.test(f"{compiler} calls, own names", check_own_names, compiler)
     suite.test(f"{compiler} calls, shared objects", check_objects, compiler)
+    suite.test(f"{compiler} calls, mathematics", check_mathematics, compiler)
     suite.test(f"{compiler} calls, the page", check_page)

@@ -63,6 +63,8 @@ MEANINGS = {
     "WRITES_ADDRESS": "writes {0}, as far as `*{1}` says and there was room",
     "READS_SET": "reads the set {0}",
     "WRITES_FOUND": "writes {1}, and {0} if something was found",
+    "READS_REQUEST": "reads what the request takes, of the requests that are in calls.c",
+    "WRITES_REQUEST": "writes what the request gives, of these",
 }
 SILENT = ("ALLOCATES", "SENDS", "SENDS_PIECES")
 
@@ -165,15 +167,14 @@ def with_values(text: str) -> str:
 
 
 def line(row: Row) -> str:
-    names = list(row.names)
-    if row.word in ("PRINT", "SCAN"):
-        names.append(row.rest[0])
-        before, after = (row.rest[4:] + ["", ""])[:2]
-        if row.word == "PRINT":
-            before = "; ".join(filter(None, ["reads the format and what it says of its arguments", meaning(before)]))
-            after = meaning(after)
+    names = row.names + [row.rest[0]] * row.has_list()
+    if row.has_format():
+        before, after = (row.rest[3 + row.has_list() :] + ["", ""])[:2]
+        before, after = meaning(before), meaning(after)
+        if row.word.endswith("SCAN"):
+            after = "writes what the format says, as many values as the result"
         else:
-            before, after = meaning(before), "writes what the format says, as many values as the result"
+            before = "; ".join(filter(None, ["reads the format and what it says of its arguments", before]))
     else:
         before, after = row.rest[-2:]
         before, after = meaning(with_values(before)), meaning(after)

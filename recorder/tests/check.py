@@ -5,7 +5,8 @@ usage: recorder/tests/check.py ASANCOL [WORD..]
 
 With words, only tests whose names have one of them are run. The last line is 'N passed, M failed',
 and the status is 1 where a test failed. What is not there (a compiler, its AddressSanitizer) is
-said in a line, and left out.
+said in a line, and left out. If SANITIZE is set, the parsers of the recorder and of asancol-cc, and
+the stream under threads, run under the compilers' own sanitizers too.
 """
 
 import os
@@ -21,6 +22,7 @@ import time
 import calls
 import fuzzing
 import hub
+import segments
 import inline
 import seen_whole
 from support import (
@@ -33,6 +35,7 @@ from support import (
     expect,
     Failure,
     HELPER,
+    limited,
     MARK,
     one_mark,
     PAST_THE_END,
@@ -48,6 +51,9 @@ from support import (
     side_of,
     write,
 )
+
+sys.path.append(f"{os.path.dirname(RECORDER)}/tests")
+import fuzzers  # noqa: E402
 
 
 def has_sanitizer(compiler, folder):
@@ -201,7 +207,7 @@ def check_no_errors(suite, folder, program):
     """Nobody reads standard error, where a line would go."""
     reading, writing = os.pipe()
     os.close(reading)
-    settings = environment(ASANCOL_TRACE="t.trace", ASANCOL_LIMIT="100")
+    settings = environment(ASANCOL_TRACE="t.trace", **limited(100))
     words = [program, "many_events"]
     ran = subprocess.run(words, cwd=folder, stderr=writing, env=settings, timeout=PATIENCE, check=False)
     os.close(writing)
@@ -522,7 +528,8 @@ def check_builds(suite, folder, compiler):
         made = run([CC, *words], folder, stdin=stdin, ASANCOL_CC=compiler.name)
         if made.returncode != 0:
             raise Failure(f"{words}: {made.stderr.decode()}")
-        expect(made.stderr if "-v" not in words else b"", b"", f"{words}")
+        may_warn = "-v" in words or "-static" in words
+        expect(b"" if may_warn else made.stderr, b"", f"{words}")
         return made.stdout
 
     cc("-c", "main.c")
@@ -772,6 +779,9 @@ def main():
             calls.tests(suite, compiler)
             fuzzing.tests(suite, compiler, folder)
             hub.tests(suite, compiler, folder)
+            segments.tests(suite, compiler, folder)
+        if os.environ.get("SANITIZE") and (not suite.words or "fuzzers" in suite.words):
+            suite.add(*fuzzers.check(seconds=5, words=["recorder", "asancol-cc"]))
         return suite.finish()
     finally:
         shutil.rmtree(folder, ignore_errors=True)

@@ -5,7 +5,7 @@ import os
 import shutil
 from typing import List
 
-from support import CC, TESTS, Compiler, Suite, build, expect, reports, run, write
+from support import CC, TESTS, Compiler, Suite, build, expect, limited, reports, run, write
 
 # What ends the process, and the class of its one report.
 FAULTS = {
@@ -92,7 +92,7 @@ def check_threads(suite: Suite, folder: str, program: str) -> None:
 
 def check_limit(suite: Suite, folder: str, program: str) -> None:
     """A fault past the event limit ends the process too. The trace does not have it, and does not read as clean."""
-    ran = run([program, "after_many"], folder, ASANCOL_HALT="1", ASANCOL_TRACE="t.trace", ASANCOL_LIMIT="100")
+    ran = run([program, "after_many"], folder, ASANCOL_HALT="1", ASANCOL_TRACE="t.trace", **limited(100))
     expect(ran.returncode, ABORTED, ran.stderr)
     expect(reports(suite.asancol, f"{folder}/t.trace", ["--limit", "100"])[0], 3, "status")
     os.unlink(f"{folder}/t.trace")

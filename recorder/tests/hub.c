@@ -13,6 +13,7 @@
 #include <sys/time.h>
 #include <sys/wait.h>
 #include <time.h>
+#include <ucontext.h>
 #include <unistd.h>
 
 static volatile int sink;
@@ -127,6 +128,149 @@ static void calls(void)
     inner();
     deep(40);
     put(hide(strdup("word")), 5);
+}
+
+/* Stacks through code without frame pointers. */
+
+static char *watched;
+
+__attribute__((noinline)) static int compare(const void *one, const void *other)
+{
+    put(watched, 24);
+    return *(const int *)one - *(const int *)other;
+}
+
+static void sorts(void)
+{
+    int numbers[] = {2, 1};
+    watched = make(24);
+    qsort(numbers, 2, sizeof *numbers, compare);
+}
+
+__attribute__((noinline)) static char *make_text(void)
+{
+    char *text = NULL;
+    if (asprintf(&text, "%s %d", "a text that is longer than most", 5) < 0)
+        fail("asprintf");
+    return hide(text);
+}
+
+static void makes_text(void)
+{
+    char *text = make_text();
+    put(text, (long)strlen(text) + 1);
+}
+
+/* The library of the stream frees what it has allocated by itself. */
+__attribute__((noinline)) static FILE *open_stream(void)
+{
+    return fopen("/dev/null", "r");
+}
+
+static void opens_stream(void)
+{
+    FILE *stream = hide(open_stream());
+    put((char *)stream, -1);
+    fclose(stream);
+}
+
+static void on_signal(int number)
+{
+    (void)number;
+    put(watched, 24);
+    give_back(make(8));
+}
+
+__attribute__((noinline)) static void raise_signal(void)
+{
+    raise(SIGUSR1);
+}
+
+static void handles(void)
+{
+    struct sigaction ours = {.sa_handler = on_signal};
+    watched = make(24);
+    sigaction(SIGUSR1, &ours, NULL);
+    raise_signal();
+}
+
+static void handles_on_other_stack(void)
+{
+    stack_t stack = {.ss_sp = mmap(NULL, 1 << 16, PROT_READ | PROT_WRITE, MAP_PRIVATE | MAP_ANONYMOUS, -1, 0),
+                     .ss_size = 1 << 16};
+    struct sigaction ours = {.sa_handler = on_signal, .sa_flags = SA_ONSTACK};
+    watched = make(24);
+    sigaltstack(&stack, NULL);
+    sigaction(SIGUSR1, &ours, NULL);
+    raise_signal();
+}
+
+static ucontext_t caller, coroutine;
+
+__attribute__((noinline)) static void run_coroutine(void)
+{
+    for (int i = 0; i < 2; i++) {
+        put(make(24), 24);
+        swapcontext(&coroutine, &caller);
+    }
+}
+
+__attribute__((noinline)) static void run_on(char *stack, size_t size)
+{
+    getcontext(&coroutine);
+    coroutine.uc_stack.ss_sp = stack;
+    coroutine.uc_stack.ss_size = size;
+    coroutine.uc_link = &caller;
+    makecontext(&coroutine, run_coroutine, 0);
+    for (int i = 0; i < 3; i++)
+        swapcontext(&caller, &coroutine);
+}
+
+static void coroutine_of_program(void)
+{
+    static char room[1 << 16];
+    run_on(room, sizeof room);
+}
+
+static void coroutine_in_block(void)
+{
+    run_on(make(1 << 16), 1 << 16);
+}
+
+static void coroutine_in_mapping(void)
+{
+    run_on(mmap(NULL, 1 << 16, PROT_READ | PROT_WRITE, MAP_PRIVATE | MAP_ANONYMOUS, -1, 0), 1 << 16);
+}
+
+/* Almost all of a stack is used. */
+__attribute__((noinline)) static void go_down(const char *end)
+{
+    volatile char room[1000];
+    room[0] = 1;
+    if (room - end > 10000)
+        go_down(end);
+    else
+        put(make(24), 24);
+    room[1] = 1;
+}
+
+static void *uses_most(void *stack)
+{
+    go_down(stack);
+    return NULL;
+}
+
+static void uses_most_of_stack(void)
+{
+    enum { SIZE = 1 << 16 };
+    pthread_attr_t attributes;
+    pthread_t thread;
+    char *stack = mmap(NULL, SIZE, PROT_READ | PROT_WRITE, MAP_PRIVATE | MAP_ANONYMOUS, -1, 0);
+    pthread_attr_init(&attributes);
+    pthread_attr_setstack(&attributes, stack, SIZE);
+    if (pthread_create(&thread, &attributes, uses_most, stack) != 0)
+        fail("pthread_create");
+    pthread_join(thread, NULL);
 }
 
 /* Variables. */
@@ -289,6 +433,11 @@ static void segfaults(void)
 {
     put(make(8), 8);
     *(volatile int *)hide((void *)16) = 1;
+}
+
+static void segfaults_inside(void)
+{
+    sink = (int)strlen(hide((void *)16));
 }
 
 static void calls_nothing(void)
@@ -490,7 +639,10 @@ static const struct {
     NAMED(loops), NAMED(on_stack), NAMED(after_scope), NAMED(globals), NAMED(frees_variables), NAMED(forks),
     NAMED(forks_after_fault), NAMED(forks_and_closes), NAMED(vforks_and_closes), NAMED(execs),
     NAMED(execs_true), NAMED(execs_in_vain), NAMED(execs_in_vain_at_limit), NAMED(execs_at_limit),
-    NAMED(terminates), NAMED(aborts), NAMED(segfaults), NAMED(calls_nothing), NAMED(asserts), NAMED(uses_up_stack), NAMED(ends_by__exit), NAMED(many),
+    NAMED(terminates), NAMED(aborts), NAMED(segfaults), NAMED(segfaults_inside), NAMED(calls_nothing), NAMED(asserts),
+    NAMED(uses_up_stack), NAMED(ends_by__exit), NAMED(many), NAMED(sorts), NAMED(makes_text), NAMED(opens_stream),
+    NAMED(handles), NAMED(handles_on_other_stack), NAMED(coroutine_of_program), NAMED(coroutine_in_block),
+    NAMED(coroutine_in_mapping), NAMED(uses_most_of_stack),
     NAMED(is_killed_after_fault), NAMED(is_killed_after_a_while), NAMED(many_faults), NAMED(closes_all),
     NAMED(keeps_descriptors), NAMED(keeps_errno), NAMED(sleeps), NAMED(threads), NAMED(handlers),
     NAMED(loads), NAMED(closes_library), NAMED(changes_root),

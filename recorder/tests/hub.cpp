@@ -1,5 +1,7 @@
 // Faults of C++ programs, one a run: `hub NAME`.
+#include <cstddef>
 #include <cstring>
+#include <sstream>
 #include <string>
 #include <vector>
 
@@ -49,8 +51,61 @@ static void after_delete()
     array[four] = 1;
 }
 
+// What the library of C++ allocates.
+
+[[gnu::noinline]] static void put(const char *p, long offset)
+{
+    const_cast<volatile char *>(p)[offset] = 1;
+}
+
+[[gnu::noinline]] static std::string make_text(std::size_t length)
+{
+    std::string text("a");
+    text.append(length, 'b');
+    return text;
+}
+
+static void uses_text()
+{
+    std::string made = make_text(100);
+    put(made.data(), -1);
+}
+
+[[gnu::noinline]] static std::string make_words()
+{
+    std::ostringstream stream;
+    stream << "some words that are longer than most" << 5;
+    return stream.str();
+}
+
+static void uses_words()
+{
+    std::string made = make_words();
+    put(made.data(), -1);
+}
+
+[[gnu::noinline]] static std::vector<long> make_numbers(long count)
+{
+    std::vector<long> numbers;
+    for (long i = 0; i < count; i++)
+        numbers.push_back(i);
+    return numbers;
+}
+
+static void uses_numbers()
+{
+    std::vector<long> made = make_numbers(100);
+    put(reinterpret_cast<const char *>(made.data()), -1);
+}
+
 int main(int, char **words)
 {
+    if (std::strcmp(words[1], "text") == 0)
+        uses_text();
+    if (std::strcmp(words[1], "words") == 0)
+        uses_words();
+    if (std::strcmp(words[1], "numbers") == 0)
+        uses_numbers();
     if (std::strcmp(words[1], "past_new") == 0)
         past_new();
     if (std::strcmp(words[1], "after_delete") == 0)

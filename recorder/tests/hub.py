@@ -14,7 +14,7 @@ import socket
 import subprocess
 import threading
 import time
-from typing import Dict, List, Optional, Tuple
+from typing import Dict, List, Optional, Sequence, Tuple
 
 from support import (
     EXEC,
@@ -35,6 +35,7 @@ from support import (
     Trace,
     environment,
     expect,
+    limited,
     placed,
     reports,
     run,
@@ -44,7 +45,6 @@ from support import (
 
 # No call becomes a jump, so each has its place.
 FLAGS = ("-w", "-pthread", "-fno-optimize-sibling-calls")
-LIMIT = "ASANCOL_LIMIT"
 F_GET_SEALS = 1034
 # A name that is free again may still be held by a child that another test has just forked.
 NUMBERS = itertools.count()
@@ -241,6 +241,7 @@ def fault_tests(suite: Suite, compiler: Compiler, folder: str) -> None:
             suite.test(f"{compiler} hub variables", check_variables, program)
         if compiler.cxx:
             suite.test(f"{compiler} {level} hub c++", check_cpp, compiler, level)
+            suite.test(f"{compiler} {level} hub stacks of c++", check_cpp_stacks, compiler, level)
     program = f"{folder}/hub-{compiler}-static"
     compiler.c(folder, [f"{TESTS}/hub.c"], program, "-O0", *FLAGS, "-static")
     suite.test(f"{compiler} hub static blocks", check_blocks, program)
@@ -346,7 +347,7 @@ def check_limit(suite: Suite, folder: str, program: str) -> None:
     """Past the limit events are counted and not recorded, and the recorder leaves it to the hub to say so."""
     wanted = {"many": (0, EXIT), "execs_at_limit": (0, EXEC), "execs_in_vain_at_limit": (-9, NO_ENDING)}
     for name, (status, ending) in wanted.items():
-        peer = one(folder, [program, name], status, **{LIMIT: "100"})
+        peer = one(folder, [program, name], status, **limited(100))
         side = peer.side()
         expect((side.ending, side.is_at_limit, side.events), (ending, 1, 100), name)
         expect(side.left_out, 300, f"left out of {name}")
@@ -461,9 +462,70 @@ def check_stacks(suite: Suite, folder: str, program: str) -> None:
     expect(found, wanted, "stacks")
 
 
+def own_functions(side: Side, stack: int, program: str) -> List[str]:
+    """The functions of the program's own that a stack has: those with a line in its source."""
+    places = [place for place in side.stack(stack) if side.path(place) == program]
+    return [function for function, line in side.lines(places) if line.startswith("hub.c")]
+
+
+# By the test: the functions of the program in the stack of each access, and in that of the malloc of its block.
+THROUGH_LIBRARIES: Dict[str, List[Tuple[List[str], List[str]]]] = {
+    "sorts": [(["put", "compare", "sorts", "main"], ["make", "sorts", "main"])],
+    "makes_text": [(["put", "makes_text", "main"], ["make_text", "makes_text", "main"])],
+    "opens_stream": [(["put", "opens_stream", "main"], ["open_stream", "opens_stream", "main"])],
+    "handles": [(["put", "on_signal", "raise_signal", "handles", "main"], ["make", "handles", "main"])],
+    "handles_on_other_stack": [(["put", "on_signal", "raise_signal", "handles_on_other_stack", "main"],
+                                ["make", "handles_on_other_stack", "main"])],
+    "coroutine_of_program": [(["put", "run_coroutine"], ["make", "run_coroutine"])],
+    "coroutine_in_block": [(["put", "run_coroutine"], ["make", "run_coroutine"])],
+    "coroutine_in_mapping": [(["put", "run_coroutine"], ["make", "run_coroutine"])],
+    "uses_most_of_stack": [(["put"] + ["go_down"] * 31, ["make"] + ["go_down"] * 31)],
+}
+
+
+def check_through_libraries(suite: Suite, folder: str, program: str, names: Sequence[str]) -> None:
+    """Code without frame pointers, handlers, and stacks that are not the thread's or almost used up."""
+    for name in names:
+        wanted = THROUGH_LIBRARIES[name]
+        side = one(folder, [program, name]).side()
+        found = [tuple(own_functions(side, it, program) for it in (fault.stack, fault.allocated_stack))
+                 for fault in side.faults]
+        expect(found, wanted, name)
+
+
+# By the test: what the names of the functions of the malloc's stack have in them.
+CPP_STACKS = {
+    "text": ["make_text", "uses_text", "main"],
+    "words": ["make_words", "uses_words", "main"],
+    "numbers": ["make_numbers", "uses_numbers", "main"],
+}
+
+
+def check_cpp_stacks(suite: Suite, folder: str, compiler: Compiler, level: str) -> None:
+    """What the library of C++ allocates for a string, a stream and a vector has the functions that use them."""
+    compiler.cpp(folder, [f"{TESTS}/hub.cpp"], f"{folder}/program", level, "-fno-inline", *FLAGS)
+    for name, wanted in CPP_STACKS.items():
+        side = one(folder, ["./program", name]).side()
+        (fault,) = side.faults
+        functions = own_functions(side, fault.allocated_stack, f"{folder}/program")
+        found = [word for it in functions for word in wanted if word in it]
+        expect(found, wanted, f"{name}: {functions}")
+
+
+def check_stacks_of_handlers(suite: Suite, folder: str, program: str) -> None:
+    """A handler that interrupts anything: almost each stack leads from there to main. Not that out of the loader, where
+    it looks up a function for its first call."""
+    side = one(folder, [program, "handlers"]).side()
+    stacks = [own_functions(side, fault.stack, program) for fault in side.faults]
+    ticks = [it for it in stacks if it[:2] == ["put", "on_tick"]]
+    whole = [it for it in ticks if it[-2:] == ["handlers", "main"]]
+    expect(len(whole) > 0 and len(whole) >= 0.9 * len(ticks), True, f"{len(whole)} of {len(ticks)}: {ticks}")
+
+
 # The status, the address that could not be accessed, and the functions.
 LAST: Dict[str, Tuple[int, Optional[int], List[str]]] = {
     "segfaults": (-11, 16, ["segfaults", "main"]),
+    "segfaults_inside": (-11, 16, ["segfaults_inside", "main"]),
     "calls_nothing": (-11, 16, ["calls_nothing", "main"]),
     "asserts": (-6, None, ["asserts", "main"]),
     "aborts": (-6, None, ["aborts", "main"]),
@@ -475,7 +537,7 @@ def check_last(suite: Suite, folder: str, program: str) -> None:
     for name, (status, address, functions) in LAST.items():
         side = run_under(folder, [program, name], status)[0][0].side()
         expect((side.wrong_address, side.stack(side.last_stack)[0]), (address, side.last), name)
-        expect([it for it, _ in side.lines(side.stack(side.last_stack)[:-1])], functions, f"functions of {name}")
+        expect(own_functions(side, side.last_stack, program), functions, f"functions of {name}")
     side = one(folder, [program, "uses_up_stack"], -11).side()
     expect({it for it, _ in side.lines(side.stack(side.last_stack))}, {"uses_up"}, "a stack that is used up")
     ran = run([program, "segfaults"], folder, ASANCOL_TRACE="t.trace", ASANCOL_WHERE="1")
@@ -525,11 +587,11 @@ def check_files(suite: Suite, folder: str, program: str) -> None:
 
 def check_small_files(suite: Suite, folder: str, program: str) -> None:
     """Under a limit on the size of files there is no room for faults: a line says so, and the trace is whole."""
-    limited = ["sh", "-c", f"ulimit -f 4096; exec {program} loops"]
-    ran = run(limited, folder, ASANCOL_TRACE="t.trace", ASANCOL_WHERE="1")
+    small = ["sh", "-c", f"ulimit -f 4096; exec {program} loops"]
+    ran = run(small, folder, ASANCOL_TRACE="t.trace", ASANCOL_WHERE="1")
     expect((ran.returncode, len(ran.stderr.splitlines())), (0, 1), ran.stderr)
     expect(len(reports(suite.asancol, f"{folder}/t.trace")[1]), 100, "reports")
-    peers, said = run_under(folder, limited)
+    peers, said = run_under(folder, small)
     expect((peers[0].memory, len(said.splitlines())), (None, 1), said)
     expect(len(check(suite, folder, peers[0])[1]), 100, "reports of the hub")
 
@@ -607,6 +669,10 @@ def process_tests(suite: Suite, compiler: Compiler, folder: str) -> None:
     suite.test(f"{compiler} hub names", check_names, program)
     suite.test(f"{compiler} hub root", check_root, program)
     suite.test(f"{compiler} hub stacks", check_stacks, program)
+    suite.test(f"{compiler} hub stacks through libraries", check_through_libraries, program, list(THROUGH_LIBRARIES))
+    static = f"{folder}/hub-{compiler}-static", ["sorts", "makes_text", "opens_stream", "handles"]
+    suite.test(f"{compiler} hub stacks through libraries, static", check_through_libraries, *static)
+    suite.test(f"{compiler} hub stacks of handlers", check_stacks_of_handlers, program)
     suite.test(f"{compiler} hub last", check_last, program)
     suite.test(f"{compiler} hub fallback", check_fallback, program)
     suite.test(f"{compiler} hub word", check_word, program, f"{folder}/lives-{compiler}")

@@ -1,7 +1,9 @@
 /* Calls of the C library that do nothing wrong, and where what the caller sees could differ: results, errno, signals in
    the middle, cancellation, and what goes out to somebody who frees it. It prints what it sees. */
 #define _GNU_SOURCE
+#include <err.h>
 #include <errno.h>
+#include <error.h>
 #include <fcntl.h>
 #include <limits.h>
 #include <pthread.h>
@@ -74,6 +76,34 @@ static void formats(void)
     printf("%d %d\n", sscanf("5 6", "%*d %d", &other), other);
     printf("%d %s\n", sscanf("aabbc", "%7[ab]%n", word, &number), word);
     printf("%d\n", sscanf("x", "%d %s", &number, (char *)NULL));
+}
+
+static void wide_formats(void)
+{
+    wchar_t wide[8];
+    char small[3];
+    int number = 0;
+    printf("%d %ls\n", swprintf(wide, 8, L"%d%s%lc%.1ls", 1, "ab", L'c', L"de"), wide);
+    printf("%d\n", swprintf(wide, 2, L"%d", 12345));
+    printf("%d", swscanf(L"5 xyz", L"%d %2s", &number, small));
+    printf(" %d %s\n", number, small);
+}
+
+/* What goes to standard error, with the errno that was there. */
+static void messages(void)
+{
+    int kept = dup(2);
+    program_invocation_name = program_invocation_short_name = "calls";
+    dup2(1, 2);
+    errno = ENOENT;
+    error(0, EINTR, "%m: %s %d %g", "messages", 1, 2.5);
+    error_at_line(0, 0, "file", 3, "%s", "line");
+    errno = ENOENT;
+    warn("%s", "warned");
+    warn(NULL);
+    warnx("%d", 5);
+    dup2(kept, 2);
+    close(kept);
 }
 
 static void numbers(void)
@@ -177,6 +207,8 @@ int main(void)
     setvbuf(stdout, NULL, _IOLBF, 0);
     partial_results();
     formats();
+    wide_formats();
+    messages();
     numbers();
     keeps_errno();
     interrupted();

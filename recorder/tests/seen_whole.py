@@ -19,6 +19,7 @@ from support import (
     Trace,
     build,
     expect,
+    limited,
     one_mark,
     reports,
     run,
@@ -50,7 +51,7 @@ def expect_cut(suite: Suite, path: str, limit: int) -> None:
 
 
 def check_limit(suite: Suite, folder: str, program: str) -> None:
-    ran = run([program, "many_events"], folder, ASANCOL_TRACE="t.trace", ASANCOL_LIMIT="50000")
+    ran = run([program, "many_events"], folder, ASANCOL_TRACE="t.trace", **limited(50000))
     expect(ran.returncode, 0, "status of the program")
     expect_cut(suite, f"{folder}/t.trace", 50000)
     whole = run([program, "many_events"], folder, ASANCOL_TRACE="whole.trace")
@@ -60,7 +61,7 @@ def check_limit(suite: Suite, folder: str, program: str) -> None:
     expect(whole.stderr, b"", "standard error without a limit")
     # One event fewer, and as many as there are.
     less, exact = f"{folder}/less.trace", f"{folder}/exact.trace"
-    ran = run([program, "many_events"], folder, ASANCOL_TRACE=less, ASANCOL_LIMIT=str(events - 1))
+    ran = run([program, "many_events"], folder, ASANCOL_TRACE=less, **limited(events - 1))
     expect(len(lines_of(ran.stderr)), 1, ran.stderr)
     expect_cut(suite, less, events - 1)
     ran = run([program, "many_events"], folder, ASANCOL_TRACE=exact, ASANCOL_LIMIT=str(events))
@@ -71,20 +72,20 @@ def check_limit_in_threads(suite: Suite, folder: str, program: str) -> None:
     """The limit is just after what a file has at first, where some threads are waiting for more."""
     for limit in (104856, 104857, 104858, 104870, 105300):
         name = f"{limit}.trace"
-        ran = run([program, "many_events_in_threads"], folder, ASANCOL_TRACE=name, ASANCOL_LIMIT=str(limit))
+        ran = run([program, "many_events_in_threads"], folder, ASANCOL_TRACE=name, **limited(limit))
         expect((ran.returncode, len(lines_of(ran.stderr))), (0, 1), name)
         expect_cut(suite, f"{folder}/{name}", limit)
 
 
 def check_exec_after_limit(suite: Suite, folder: str, program: str) -> None:
-    ran = run([program, "execs_after_much"], folder, ASANCOL_TRACE="t.trace", ASANCOL_LIMIT="100")
+    ran = run([program, "execs_after_much"], folder, ASANCOL_TRACE="t.trace", **limited(100))
     expect((ran.returncode, len(lines_of(ran.stderr))), (0, 1), ran.stderr)
     expect_cut(suite, f"{folder}/t.trace", 100)
 
 
 def check_greatest_limit(suite: Suite, folder: str, program: str) -> None:
     """More events than any trace may have: `too-many`, with what came before."""
-    ran = run([program, "twenty_million_events"], folder, ASANCOL_TRACE="t.trace")
+    ran = run([program, "twenty_million_events"], folder, ASANCOL_TRACE="t.trace", **limited(1 << 24))
     expect((ran.returncode, len(lines_of(ran.stderr))), (0, 1), ran.stderr)
     checked = run([suite.asancol, "check", "t.trace"], folder)
     said = lines_of(checked.stdout)
@@ -96,7 +97,7 @@ def check_greatest_limit(suite: Suite, folder: str, program: str) -> None:
 def check_no_room_at_the_limit(suite: Suite, folder: str, program: str) -> None:
     """The records up to the limit fill the file as far as it may grow: `no-close`."""
     words = ["sh", "-c", f"ulimit -f 2048; exec {program} many_events_in_threads"]
-    ran = run(words, folder, ASANCOL_TRACE="t.trace", ASANCOL_LIMIT="209714")
+    ran = run(words, folder, ASANCOL_TRACE="t.trace", **limited(209714))
     expect(ran.returncode, 0, ran.stderr)
     expect(len(lines_of(ran.stderr)) >= 1, True, "that it says so")
     status, _, end = reports(suite.asancol, f"{folder}/t.trace")
@@ -195,9 +196,12 @@ def check_plain_objects(suite: Suite, folder: str, compiler: Compiler) -> None:
     names = [f"n{i}" for i in range(6)]
     write(folder, **{f"{name}_c": f"int {name};\n" for name in names})
     build([compiler.name, "-DVALUE=1", "-c", "main.c", "helper.c", *(f"{name}.c" for name in names)], folder)
-    for flags in ([], ["-static"], ["-no-pie"]):
+    for flags in ([], ["-no-pie"]):
         expect_warnings(warned(folder, compiler, *flags, "main.o", "helper.o", "-o", "program"), "main.o, helper.o")
         expect_unseen(suite, folder)
+    said = warned(folder, compiler, "-static", "main.o", "helper.o", "-o", "program")
+    expect_warnings(said, NO_CALLS, "main.o, helper.o")
+    expect_unseen(suite, folder)
     objects = [f"{name}.o" for name in names]
     said = warned(folder, compiler, "-DVALUE=1", "main.c", "helper.c", *objects, "-o", "program")
     expect_warnings(said, "n0.o, n1.o, n2.o, n3.o and 2 more")
@@ -243,9 +247,34 @@ def check_spellings(suite: Suite, folder: str, compiler: Compiler) -> None:
     flags = ["-fno-record-gcc-switches", "-DVALUE=1"]
     expect_warnings(warned(folder, compiler, *flags, "-c", "main.c", "helper.c"))
     libm = run([compiler.name, "-print-file-name=libm.so.6"], folder).stdout.decode().strip()
-    for words in ([libm], ["-nodefaultlibs", "-lgcc", "-lc"], ["-no-pie", "-Wl,-Bstatic", "-static-libgcc"]):
+    for words in ([libm], ["-nodefaultlibs", "-lgcc", "-lc"]):
         expect_warnings(warned(folder, compiler, "main.o", "helper.o", *words, "-o", "program"))
         one_mark(suite, folder)
+
+
+COPY = """
+#include <stdlib.h>
+#include <string.h>
+int main(void) { char *p = malloc(8); memcpy(p, "12345678", (size_t)atoi("9")); free(p); return 0; }
+"""
+NO_CALLS = "calls of the C library, as memcpy and strlen, are not recorded"
+
+
+def check_static(suite: Suite, folder: str, compiler: Compiler) -> None:
+    """With the C library inside, calls of it are not recorded, and each link says so: a bad memcpy is missed."""
+    write(folder, copy_c=COPY, main_c=PAST_THE_END, helper_c=HELPER)
+    both = ["-DVALUE=1", "main.c", "helper.c"]
+    for words, name in ((["-static"], "-static: "), (["-static-pie"], "-static: "), (["--static"], "-static: "),
+                        (["-no-pie", "-Wl,-Bstatic", "-static-libgcc"], "-Bstatic: ")):
+        expect_warnings(warned(folder, compiler, *both, *words, "-o", "program"), name + NO_CALLS)
+        one_mark(suite, folder)
+    expect_warnings(warned(folder, compiler, "-static", "-c", "main.c"))
+    expect_warnings(warned(folder, compiler, *both, "-Wl,-Bstatic", "-Wl,-Bdynamic", "-o", "program"))
+    for flags, wanted in (([], 1), (["-static"], 0)):
+        warned(folder, compiler, *flags, "-fno-builtin", "copy.c", "-o", "program")
+        expect(run(["./program"], folder, ASANCOL_TRACE="t.trace").returncode, 0, flags)
+        expect(reports(suite.asancol, f"{folder}/t.trace")[0], wanted, flags)
+        os.unlink(f"{folder}/t.trace")
 
 
 def check_nothing_to_see(suite: Suite, folder: str, compiler: Compiler) -> None:
@@ -255,7 +284,7 @@ def check_nothing_to_see(suite: Suite, folder: str, compiler: Compiler) -> None:
     for words in (["empty.c"], ["empty.o"], ["-static", "empty.o"], ["-O2", "-flto", "empty.c"]):
         if "-flto" in words and compiler.name == "clang":
             continue
-        expect_warnings(warned(folder, compiler, *words, "-o", "program"))
+        expect_warnings(warned(folder, compiler, *words, "-o", "program"), *[NO_CALLS] * ("-static" in words))
         ran = run(["./program"], folder, ASANCOL_TRACE="t.trace")
         expect((ran.returncode, ran.stderr), (0, b""), words)
         expect(reports(suite.asancol, f"{folder}/t.trace")[0], 0, words)
@@ -299,6 +328,7 @@ def seen_tests(suite: Suite, compiler: Compiler) -> None:
     suite.test(f"{compiler} refusals", check_refusals, compiler)
     suite.test(f"{compiler} plain objects", check_plain_objects, compiler)
     suite.test(f"{compiler} spellings", check_spellings, compiler)
+    suite.test(f"{compiler} linked with -static", check_static, compiler)
     suite.test(f"{compiler} nothing to see", check_nothing_to_see, compiler)
     suite.test(f"{compiler} plugins", check_plugins, compiler)
 
@@ -395,6 +425,7 @@ def check_settings(suite: Suite, folder: str, program: str) -> None:
         ({"ASANCOL_": "1"}, ["ASANCOL_: there is no such setting"]),
         ({"ASANCOL_WHERE": "yes"}, ["ASANCOL_WHERE: yes is no number from 0 to 1, and 0 holds"]),
         ({"ASANCOL_LIMIT": "0"}, ["ASANCOL_LIMIT: 0 is no number from 1 to 16777216, and 16777216 holds"]),
+        ({"ASANCOL_SEGMENTS": "1001"}, ["ASANCOL_SEGMENTS: 1001 is no number from 0 to 1000, and all are kept"]),
         ({"ASANCOL_LIMIT": "99999999999999999999"}, ["ASANCOL_LIMIT: 99999999999999999999 is no number"]),
         ({"ASANCOL_QUARANTINE": "1M"}, ["ASANCOL_QUARANTINE: 1M is no number from 0 to 1099511627776"]),
         ({"ASANCOL_PATIENCE": "-1"}, ["ASANCOL_PATIENCE: -1 is no number from 0 to 86400, and 60 holds"]),
@@ -413,15 +444,15 @@ def check_settings(suite: Suite, folder: str, program: str) -> None:
 
 def check_log(suite: Suite, folder: str, program: str) -> None:
     """ASANCOL_LOG takes what the recorder says, line after line."""
-    limited = {"ASANCOL_TRACE": "%p.trace", "ASANCOL_LIMIT": "100", "ASANCOL_LOG": "log"}
+    settings = {"ASANCOL_TRACE": "%p.trace", "ASANCOL_LOG": "log", **limited(100)}
     for _ in range(2):
-        ran = run([program, "many_events"], folder, **limited)
+        ran = run([program, "many_events"], folder, **settings)
         expect((ran.returncode, ran.stderr), (0, b""), "with a log")
     with open(f"{folder}/log", "rb") as file:
         expect_said(lines_of(file.read()), *["further events left out"] * 2)
-    run([program, "many_events"], folder, **{**limited, "ASANCOL_LOG": "log.%p"})
+    run([program, "many_events"], folder, **{**settings, "ASANCOL_LOG": "log.%p"})
     expect(len(glob.glob(f"{folder}/log.[0-9]*")), 1, "a log with the number of the process")
-    ran = run([program, "many_events"], folder, **{**limited, "ASANCOL_LOG": "none/log"})
+    ran = run([program, "many_events"], folder, **{**settings, "ASANCOL_LOG": "none/log"})
     expect_said(lines_of(ran.stderr), "the log can't be opened: ", "further events left out")
 
 
@@ -431,7 +462,7 @@ def check_other_folder(suite: Suite, folder: str, program: str) -> None:
     write(folder, chief_c='#include <stdlib.h>\nint main(void) { return system("cd other && exec $PROGRAM"); }\n')
     here = f"{folder}/50%p"
     build([CC, "chief.c", "-o", "chief"], folder, ASANCOL_CC="cc")
-    settings = {"ASANCOL_TRACE": "%p.trace", "ASANCOL_LOG": "log", "ASANCOL_LIMIT": "1"}
+    settings = {"ASANCOL_TRACE": "%p.trace", "ASANCOL_LOG": "log", **limited(1)}
     ran = run(["../chief"], here, PROGRAM=f"{program} many_events", **settings)
     expect((ran.returncode, ran.stderr), (0, b""), "the program")
     expect(len(glob.glob(f"{glob.escape(here)}/*.trace")), 2, f"traces beside each other: {os.listdir(here)}")

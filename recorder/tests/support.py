@@ -42,6 +42,11 @@ def environment(**settings):
     return {**kept, **settings}
 
 
+def limited(events):
+    """Settings under which a recording ends after so many events, since there is one segment."""
+    return {"ASANCOL_LIMIT": str(events), "ASANCOL_SEGMENTS": "0"}
+
+
 def run(words, folder, stdin=None, **settings):
     return subprocess.run(
         words,
@@ -158,16 +163,23 @@ class Side:
                 found[place] = (function, os.path.basename(line.split(" (")[0]))
         return [found[place] for place in places]
 
-    def module(self, place):
-        """The file that a place is in, and what to take away for its own address."""
+    def path(self, place):
+        """The file that a place is in, or an empty text."""
         for words in self.maps:
             start, end = (int(word, 16) for word in words[0].split("-"))
             if start <= place < end and len(words) == 6:
-                first = min(int(it[0].split("-")[0], 16) for it in self.maps if len(it) == 6 and it[5] == words[5])
-                with open(words[5], "rb") as file:
-                    is_at_fixed_place = file.read(18)[16] == 2
-                return words[5], 0 if is_at_fixed_place else first
-        raise Failure(f"no module is at {place:x}")
+                return words[5]
+        return ""
+
+    def module(self, place):
+        """The file that a place is in, and what to take away for its own address."""
+        path = self.path(place)
+        if not path:
+            raise Failure(f"no module is at {place:x}")
+        first = min(int(it[0].split("-")[0], 16) for it in self.maps if len(it) == 6 and it[5] == path)
+        with open(path, "rb") as file:
+            is_at_fixed_place = file.read(18)[16] == 2
+        return path, 0 if is_at_fixed_place else first
 
 
 def side_of(path):
@@ -294,6 +306,12 @@ class Suite:
             else:
                 self.failed += 1
                 print(f"FAILED {name}: {type(wrong).__name__}: {wrong}", flush=True)
+
+    def add(self, passed, failed):
+        """Counts tests that were run otherwise."""
+        with self.counting:
+            self.passed += passed
+            self.failed += failed
 
     def finish(self):
         self.pool.shutdown()

@@ -3,7 +3,8 @@
 In the order in which data flows:
 
 - `options` reads the command line.
-- `hub`, `traces` and `json_lines` read a run that goes on, traces in files, and earlier results.
+- `hub`, `traces` and `json_lines` read a run that goes on, traces in files, and earlier results. `segments` finds the
+  traces that are one process, and joins them.
 - `verdicts` and `side` read what a process left. `modules`, `elf` and `symbols` turn addresses into frames. `gather`
   puts them together to findings.
 - `findings` and `results` are what all of this comes to. `suppressions` and `baseline` say what of it counts.

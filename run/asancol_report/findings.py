@@ -54,7 +54,8 @@ class Tally(NamedTuple):
     processes: int
     process: int  # the first one's number in its run
     pid: int
-    event: int  # the first one's number in its process
+    event: int  # the first one's number in its segment
+    segment: int = 1  # the number of the first one's segment in its process
 
 
 class Finding:

@@ -14,7 +14,7 @@ from .results import Results
 from .side import ENDING_SIGNAL, Fault, Side, VARIABLE_NONE, VARIABLE_STACK
 from .sources import Sources
 from .symbols import Symbols
-from .verdicts import Group, Verdicts
+from .verdicts import Group, Report, Verdicts
 
 NO_PLACE = "its place was not recorded"
 NO_ALLOCATION = "before the trace began"
@@ -61,13 +61,13 @@ class Gatherer:
         # The processes of each finding that was seen, by its identity.
         self.seen_in: Dict[int, int] = {}
 
-    def take(self, process: int, pid: int, verdicts: int, side: Optional[Side]) -> Verdicts:
-        """Takes in the lines of a process, behind the descriptor `verdicts`."""
+    def take(self, process: int, pid: int, verdicts: int, side: Optional[Side], segment: int = 1) -> Verdicts:
+        """Takes in the lines of a process, or of a segment of it, behind the descriptor `verdicts`."""
         lines = Verdicts(verdicts, side.fault_of if side else lambda event: 0)
         for group in lines.groups.values():
             fault = side.fault(group.fault) if side and group.fault else None
-            places = self.places_of(side, fault)
-            self.sight(group, fault, places, process, pid)
+            first = Tally(0, 0, process, pid, group.first.event, segment)
+            self.sight(group, fault, self.places_of(side, fault), first)
             if self.modules.is_full():
                 self.symbols.look_up()
         if side is not None and side.ending == ENDING_SIGNAL:
@@ -107,19 +107,18 @@ class Gatherer:
                 module.wanted[linked] = None
         return Place(module, in_file, address - mapping.base)
 
-    def sight(self, group: Group, fault: Optional[Fault], places: Places, process: int, pid: int) -> None:
+    def sight(self, group: Group, fault: Optional[Fault], places: Places, tally: Tally) -> None:
         first = group.first
         size = None if first.access == "malloc" else first.size
         key = (first.class_name, first.access, size, *places, fault.name if fault else "")
         sighting = self.sightings.get(key)
         if sighting is None:
-            finding = Finding(first.class_name, first.access, first.size, first.address, first.bad)
-            finding.shadow = first.shadow
-            finding.block = block_of(fault)
-            tally = Tally(0, 0, process, pid, first.event)
-            sighting = self.sightings[key] = Sighting(finding, places, tally)
+            sighting = self.sightings[key] = Sighting(finding_of(first, fault), places, tally)
+        elif tally.process == sighting.first.process and tally.segment < sighting.first.segment:
+            # A later segment may be checked before an earlier one.
+            sighting.finding, sighting.first = finding_of(first, fault), tally
         sighting.count += group.count
-        sighting.processes |= 1 << process
+        sighting.processes |= 1 << tally.process
 
     def finish(self) -> List[Finding]:
         """Looks up the symbols of all that was taken in, adds it to the results, and returns what is new there."""
@@ -187,6 +186,13 @@ class Gatherer:
                           is_inlined=number < len(names) - 1, text=self.sources.line(it.file, it.line))
             for number, it in enumerate(names)
         )
+
+
+def finding_of(report: Report, fault: Optional[Fault]) -> Finding:
+    finding = Finding(report.class_name, report.access, report.size, report.address, report.bad)
+    finding.shadow = report.shadow
+    finding.block = block_of(fault)
+    return finding
 
 
 def bits_of(number: int) -> int:

@@ -5,7 +5,7 @@ from __future__ import annotations
 import json
 import os
 import socket
-from typing import Callable, Dict, List, Optional
+from typing import Callable, Dict, List, Optional, Set
 
 from .errors import Broken
 from .gather import Gatherer
@@ -31,6 +31,7 @@ class Hub:
         self.come = come  # is called when a process with reports was taken in
         self.gatherer: Optional[Gatherer] = None
         self.number = 0
+        self.lost: Set[int] = set()  # processes whose reports did not arrive
         self.commands: Commands = {}
 
     def read(self, descriptor: int) -> None:
@@ -81,20 +82,24 @@ class Hub:
         self.gatherer = self.new_gatherer(self.number)
 
     def take_process(self, entry: Dict[str, object], descriptors: List[int]) -> None:
+        """Takes in what is known of a process by now. A later packet replaces what an earlier one says, and may bring
+        the reports of another segment."""
         process = process_of(entry, self.commands)
+        segment = number_of(entry.get("segment"))
         processes = self.results.runs[self.number].processes
         before = processes.get(process.number)
-        is_first = before is None
+        if not descriptors and (segment or (process.reports and before is None)):
+            self.lost.add(process.number)
         if before is not None:
             process = process._replace(address=before.address, stack=before.stack)
-        if process.reports and is_first and not descriptors:
-            process = process._replace(is_whole=False, why="its reports did not arrive")
+        if process.number in self.lost:
+            process = process._replace(is_whole=False, is_abrupt=False, why="its reports did not arrive")
         processes[process.number] = process
         if not descriptors or self.gatherer is None or process.number >= MOST_PROCESSES:
             return
         side = self.side_of(text_of(entry.get("trace")), descriptors[1:])
         try:
-            self.gatherer.take(process.number, process.pid, descriptors[0], side)
+            self.gatherer.take(process.number, process.pid, descriptors[0], side, segment or 1)
         finally:
             if side is not None:
                 side.close()

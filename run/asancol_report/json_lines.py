@@ -57,6 +57,8 @@ def process_line(process: Process, run: int, encode: Callable[[object], str]) ->
         kept += f',"signal":{process.signal}'
     if process.is_abrupt:
         kept += ',"abrupt":true'
+    if process.segments > 1:
+        kept += f',"segments":{process.segments}'
     if process.address is not None:
         kept += f',"address":"{process.address:x}"'
     if process.stack:
@@ -69,8 +71,9 @@ def process_line(process: Process, run: int, encode: Callable[[object], str]) ->
 
 def finding_line(tally: Tally, run: int, rest: str) -> str:
     """Returns the line of a finding from what a run has of it, and from the rest, which is the same in all runs."""
+    segment = f'"segment":{tally.segment},' if tally.segment > 1 else ""
     return (f'{{"type":"finding","run":{run},"count":{tally.times},"processes":{tally.processes},'
-            f'"process":{tally.process},"pid":{tally.pid},"event":{tally.event},{rest[1:]}')
+            f'"process":{tally.process},"pid":{tally.pid},"event":{tally.event},{segment}{rest[1:]}')
 
 
 def frame_entry(frame: Frame) -> Entry:
@@ -220,7 +223,7 @@ def process_of(entry: Entry, commands: Commands) -> Process:
                    number_of(get("reports")), get("whole") is True, number_of(get("left_out")),
                    sys.intern(text_of(get("why"))), text_of(get("kept")), number_of(get("signal")),
                    address_of(get("address")) if "address" in entry else None, stack_of(get("stack")),
-                   get("abrupt") is True and get("whole") is True)
+                   get("abrupt") is True and get("whole") is True, number_of(get("segments")) or 1)
 
 
 def frame_of(entry: object) -> Frame:
@@ -260,7 +263,7 @@ def finding_of(entry: Entry) -> Finding:
 def tally_of(entry: Entry) -> Tally:
     get = entry.get
     return Tally(number_of(get("count")), number_of(get("processes")), number_of(get("process")), number_of(get("pid")),
-                 number_of(get("event")))
+                 number_of(get("event")), number_of(get("segment")) or 1)
 
 
 def line_of(entry: Entry) -> int:

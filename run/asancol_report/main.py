@@ -24,6 +24,7 @@ from .text import Colors, Text
 TYPE_CHECKING = False
 if TYPE_CHECKING:
     from .baseline import Baseline
+    from .segments import Segment
     from .traces import Traces
 
 Writer = Callable[[Results, TextIO, Options, Sources], None]
@@ -138,24 +139,25 @@ class Report:
 
     def check_traces(self, files: List[str]) -> None:
         from . import traces as of_traces
+        from .segments import processes_in
         self.results.are_traces = True
         traces = of_traces.Traces(of_traces.find_asancol(self.beside), self.options.check_words, self.results)
         gatherers = []
-        for path in files:
+        for segments in processes_in(files):
             try:
-                run = traces.begin(path)
+                run = traces.begin(segments)
             except Broken as error:
-                self.fail_to_read(path, error)
+                self.fail_to_read(segments[0].path, error)
                 continue
             if run is not None:
                 gatherers.append(self.new_gatherer(run))
-                self.check_trace(traces, path, gatherers[-1])
+                self.check_trace(traces, segments, gatherers[-1])
         for gatherer in gatherers:
             gatherer.finish()
 
-    def check_trace(self, traces: Traces, path: str, gatherer: Gatherer) -> None:
+    def check_trace(self, traces: Traces, segments: List[Segment], gatherer: Gatherer) -> None:
         try:
-            traces.check(path, gatherer)
+            traces.check(segments, gatherer)
         except Broken as error:
             self.fail(error)
             self.results.runs[gatherer.run].cut = str(error)

@@ -33,6 +33,7 @@ class Process(NamedTuple):
     address: Optional[int] = None  # which it could not access then
     stack: Stack = ()  # where it was then
     is_abrupt: bool = False  # nobody saw its end but the system; what it did up to there was seen
+    segments: int = 1  # how many of it came: a recording that reaches the limit of events goes on in another
 
     @property
     def is_crash(self) -> bool:

@@ -20,6 +20,7 @@ WORDS_AT, WORDS_ROOM = 72, 4000
 LAST_AT, LAST = 4072, struct.Struct("<QQII")
 BUILDS_AT = 4096
 BUILD = struct.Struct("<QB23s")
+PROGRESS_AT, PROGRESS = 7680, struct.Struct("<QQQ")
 MAPS_AT = 8192
 INDEX_AT = 1 << 18
 ENTRY_BYTES = 4
@@ -32,8 +33,8 @@ WORD = struct.Struct("<Q")
 MOST_STACK_WORDS = 1 << 22
 MOST_FRAMES = 32
 
-# How a process ended, as it says itself.
-ENDING_NONE, ENDING_EXIT, ENDING_EXEC, ENDING_SIGNAL, ENDING_LOST = range(5)
+# How a process ended, as it says itself; or it goes on in another segment.
+ENDING_NONE, ENDING_EXIT, ENDING_EXEC, ENDING_SIGNAL, ENDING_LOST, ENDING_SEGMENT = range(6)
 # What a fault lies beside.
 VARIABLE_NONE, VARIABLE_STACK, VARIABLE_GLOBAL = range(3)
 
@@ -102,6 +103,9 @@ class Side:
         self.started, self.has_checks, self.is_at_limit, fault_count, stack_words, self.quarantine = fields[7:]
         self.fault_count = min(fault_count, MOST_FAULTS)
         self.stack_words = min(stack_words, MOST_STACK_WORDS)
+        progress = read_at(descriptor, PROGRESS_AT, PROGRESS.size) if self.is_good else b""
+        _, before, self.restated = PROGRESS.unpack(progress) if len(progress) == PROGRESS.size else (0, 0, 0)
+        self.segment = before + 1
         self.stacks: Dict[int, Calls] = {}
         self.maps = self.read_maps() if self.is_good else []
         self.lows = [mapping.low for mapping in self.maps]
@@ -132,7 +136,7 @@ class Side:
 
     def read_builds(self) -> Dict[int, str]:
         """Returns the build id of each module, by where its first part lies."""
-        text = read_at(self.descriptor, BUILDS_AT, MAPS_AT - BUILDS_AT)
+        text = read_at(self.descriptor, BUILDS_AT, PROGRESS_AT - BUILDS_AT)
         builds = {}
         for start, length, name in BUILD.iter_unpack(text[: len(text) // BUILD.size * BUILD.size]):
             if start == 0:

@@ -9,14 +9,14 @@ from typing import BinaryIO, List, Optional
 
 from .errors import Broken, reason
 from .gather import Gatherer
-from .results import Process, Results, Run
+from .results import Results, Run
 from .running import in_memory, start, wait
-from .side import ENDING_EXEC, ENDING_LOST, ENDING_SIGNAL, Side
+from .segments import CLOSED, joined, limit_text, Seen, Segment
+from .side import ENDING_EXEC, ENDING_LOST, ENDING_SEGMENT, ENDING_SIGNAL, Side
 from .symbols import on_path
 from .verdicts import End
-from .words import signal_name
 
-CLOSED, NO_CLOSE, TOO_MANY = "closed", "no-close", "too-many"
+NO_CLOSE, TOO_MANY = "no-close", "too-many"
 # What asancol answers if it has printed its verdicts.
 STATUSES_WITH_VERDICTS = (0, 1, 3)
 # How many bytes of freed blocks asancol holds if no option says otherwise.
@@ -59,7 +59,7 @@ def why_not_whole(end: End, side: Optional[Side]) -> str:
     """Returns why a trace does not show all that its process did; empty if it does."""
     left_out = side.left_out if side else 0
     if left_out:
-        return f"reached the event limit: {left_out} of {end.events + left_out} events were not recorded"
+        return limit_text(left_out, end.events)
     if end.fate == CLOSED or is_ended_otherwise(end, side):
         return ""
     if end.fate == TOO_MANY:
@@ -80,9 +80,12 @@ def number_in(trace: str) -> int:
     return int((re.findall(r"[0-9]{1,9}", os.path.basename(trace)) or ["0"])[-1])
 
 
-def identity_of(trace: str, status: os.stat_result) -> str:
-    """Returns what a trace is known by: checked twice, it is one run."""
-    words = [os.uname().nodename, os.path.realpath(trace), str(status.st_size), str(status.st_mtime_ns)]
+def identity_of(segments: List[Segment]) -> str:
+    """Returns what traces are known by: checked twice, they are one run. OSError, if one of them is not there."""
+    words = [os.uname().nodename]
+    for segment in segments:
+        status = os.stat(segment.path)
+        words += [os.path.realpath(segment.path), str(status.st_size), str(status.st_mtime_ns)]
     return hashlib.sha256("\0".join(words).encode("utf-8", "surrogateescape")).hexdigest()[:32]
 
 
@@ -94,35 +97,40 @@ class Traces:
         self.options = options
         self.results = results
 
-    def begin(self, trace: str) -> Optional[int]:
-        """Begins the run of a trace, and returns its number. None, if it was given before."""
+    def begin(self, segments: List[Segment]) -> Optional[int]:
+        """Begins the run of a process, and returns its number. None, if it was given before."""
+        trace = segments[0].path
         try:
-            status = os.stat(trace)
+            run = Run([trace], identity_of(segments))
+            run.time = float(int(os.stat(trace).st_mtime))
         except OSError as error:
-            raise Broken(f"{trace}: {reason(error)}") from None
-        run = Run([trace], identity_of(trace, status))
+            raise Broken(f"{error.filename}: {reason(error)}") from None
         run.host = os.uname().nodename
         run.directory = os.getcwd()
-        run.time = float(int(status.st_mtime))
         return self.results.add_run(run)
 
-    def check(self, trace: str, gatherer: Gatherer) -> None:
-        """Checks a trace, and adds its process and what was found to the run of the gatherer."""
+    def check(self, segments: List[Segment], gatherer: Gatherer) -> None:
+        """Checks the traces of a process, and adds it and what was found to the run of the gatherer."""
         run = self.results.runs[gatherer.run]
+        process = joined([self.check_one(segment, gatherer) for segment in segments])
+        run.processes[process.number] = process
+        run.signal = process.signal
+
+    def check_one(self, segment: Segment, gatherer: Gatherer) -> Seen:
+        trace = segment.path
         side = open_side(trace, self.results)
         try:
             command = (side.words() if side else []) or [trace]
             pid = side.process if side and side.process else number_in(trace)
             with in_memory() as verdicts:
                 self.run_checker(trace, verdicts, self.words_of(side))
-                lines = gatherer.take(0, pid, verdicts.fileno(), side)
+                lines = gatherer.take(0, pid, verdicts.fileno(), side, segment.number)
             end = lines.end or End("not checked", 0, 0)
+            ended_by = side.signal if side and is_ended_otherwise(end, side) else 0
+            parent, left_out, restated = (side.parent, side.left_out, side.restated) if side else (0, 0, 0)
+            goes_on = side is not None and side.ending == ENDING_SEGMENT
             why = why_not_whole(end, side)
-            run.signal = ended_by = side.signal if side and is_ended_otherwise(end, side) else 0
-            said = why or (f"ended by {signal_name(ended_by)}" if ended_by else "")
-            parent, left_out = (side.parent, side.left_out) if side else (0, 0)
-            run.processes[0] = Process(0, pid, parent, tuple(command), end.fate, end.events, end.reports, not why,
-                                       left_out, said, os.path.abspath(trace), ended_by)
+            return Seen(segment, pid, parent, tuple(command), end, why, left_out, restated, goes_on, ended_by)
         finally:
             if side is not None:
                 side.close()

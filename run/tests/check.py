@@ -18,12 +18,18 @@ import completions
 import feeds
 import lives
 import mutations
+import peers
 import recipes
 import report
 import rooms
+import segments
+import service
 import statuses
 import whole
-from support import Suite
+from support import TOP, Suite
+
+sys.path.append(f"{TOP}/tests")
+import fuzzers  # noqa: E402
 
 
 def main() -> int:
@@ -36,13 +42,18 @@ def main() -> int:
     lives.tests(suite)
     abrupt.tests(suite)
     rooms.tests(suite)
+    peers.tests(suite)
     feeds.tests(suite)
+    segments.tests(suite)
     completions.tests(suite)
     recipes.tests(suite)
+    service.tests(suite)
     whole.tests(suite)
     suite.add(*report.run_tests(sys.argv[2:]))  # meanwhile
     if not suite.words or "mutations" in suite.words:
         suite.add(*mutations.damage(count=100, seed=1))
+    if not suite.words or "fuzzers" in suite.words:
+        suite.add(*fuzzers.check(seconds=2, words=["asancol-run"]))
     return suite.finish()
 
 

@@ -6,7 +6,7 @@ import signal
 import time
 from typing import Any, Dict, List
 
-from support import FAKE_REPORT, RUN, Failure, Suite, expect, expect_ran, finish, read_packets
+from support import FAKE_REPORT, RUN, SEGMENTED, Failure, Suite, expect, expect_ran, finish, read_packets
 
 
 def check_packets(suite: Suite, folder: str) -> None:
@@ -28,7 +28,8 @@ def check_packets(suite: Suite, folder: str) -> None:
 
 def check_second_message(suite: Suite, folder: str) -> None:
     """What is left out grows after the end of the check: a second message says it."""
-    packets = suite.packets(folder, "--json", f"{folder}/x", "--", suite.program, "many", "10000", ASANCOL_LIMIT="5000")
+    words = ["--json", f"{folder}/x", "--", suite.program, "many", "10000"]
+    packets = suite.packets(folder, *words, ASANCOL_LIMIT="5000", ASANCOL_SEGMENTS="0")
     of_process = [it for it in packets[1:] if it["type"] == "process"]
     last = of_process[-1]
     expect((last["n"], last["whole"], last["left_out"]), (0, False, 15001), "the last message")
@@ -155,13 +156,14 @@ def check_closed_log(suite: Suite, folder: str) -> None:
 
 
 def check_keep(suite: Suite, folder: str) -> None:
-    """Traces of processes with a report, or not seen whole, stay. Those of others go, also if they ended abruptly."""
+    """Traces of processes with a report, or not seen whole, stay. Those of others go, also after an abrupt end."""
     kept = f"{folder}/kept"
-    line = "".join(f"{suite.program} {words}; " for words in ("sound", "past", "many 200", "kills_itself 9"))
-    packets = suite.packets(folder, "--limit", "100", "--keep", kept, "--", "sh", "-c", line)
+    line = f"{suite.program} sound; {suite.program} past; {suite.program} kills_itself 9; {SEGMENTED} 1"
+    packets = suite.packets(folder, "--keep", kept, "--", "sh", "-c", line)
     names = sorted(os.listdir(kept))
     expect(len(names), 4, names)
-    paths = [it["kept"] for it in packets[1:] if "kept" in it]
+    last = {it["n"]: it for it in packets[1:] if it["type"] == "process"}
+    paths = [it["kept"] for it in last.values() if "kept" in it]
     expect(sorted(os.path.basename(it) for it in paths), [it for it in names if it.endswith(".trace")], "names")
     (past,) = [it["kept"] for it in packets[1:] if it.get("reports")]
     checked = suite.run_words([suite.asancol, "check", past])
@@ -175,8 +177,7 @@ def check_keep(suite: Suite, folder: str) -> None:
 
 def check_keep_names(suite: Suite, folder: str) -> None:
     """An exec keeps the number of the process, so that the name is taken."""
-    words = [suite.program, "execs", suite.program, "many", "200"]
-    suite.run("--limit", "100", "--keep", folder, "--", *words)
+    suite.run("--keep", folder, "--", suite.program, "execs", suite.program, "past")
     suite.run("--keep", folder, "--", suite.program, "past_and_sleeps", "0")
     traces = [it for it in os.listdir(folder) if it.endswith(".trace")]
     expect([it.split(".")[0] for it in traces], ["programs", "programs"], "names")

@@ -1,11 +1,12 @@
 """Under test harnesses, what the recipes of examples/farms do not have: what hides a report, and what starts programs."""
 
 import os
+import re
 import shutil
 import subprocess
 from typing import List
 
-from support import CC, REPORT, RUN, Suite, expect, expect_ran
+from support import CC, REPORT, RUN, TOP, Suite, expect, expect_ran
 
 SOURCE = """#include <stdlib.h>
 int main(void) { volatile char *block = malloc(8); block[WHERE] = 1; free((void *)block); return 0; }
@@ -102,8 +103,25 @@ def check_make(suite: Suite, folder: str) -> None:
     expect(b"8 processes, 8 events; all seen whole" in ran.stderr, True, ran.stderr.decode())
 
 
+def check_scale(suite: Suite, folder: str) -> None:
+    """The commands of docs/SCALE.md keep the results that count, and merge them."""
+    with open(f"{TOP}/docs/SCALE.md", encoding="utf-8") as page:
+        commands = re.findall(r"^```sh\n(.*?)^```$", page.read(), re.M | re.S)
+    expect(len(commands), 1, "scripts on the page")
+    shutil.copytree(f"{TOP}/examples/farms/project", f"{folder}/project")
+    path = f"{TOP}/recorder:{TOP}/run:{os.environ.get('PATH', os.defpath)}"
+    ran = suite.run_words(["sh", "-c", commands[0]], f"{folder}/project", PATH=path, ASANCOL_REPORT=REPORT)
+    expect(ran.status, 1, ran.err)
+    kept = [f"{name}.jsonl" for name in ("child", "join", "vendor", "wait")]
+    expect(sorted(os.listdir(f"{folder}/project/results")), kept, "results")
+    with open(f"{folder}/project/statuses.txt", encoding="utf-8") as statuses:
+        expect(statuses.read().split()[1::2], ["0", "99", "99", "98", "98"], "statuses")
+    expect("2 reports at 2 places; 4 processes in 4 runs" in ran.out, True, ran.out)
+
+
 def tests(suite: Suite) -> None:
     suite.test("recipe: unittest", check_unittest)
+    suite.test("recipe: scale", check_scale)
     for tool, name, run_it in (
         ("make", "make -j", check_make),
         ("ctest", "ctest that hides a report", check_hidden),

@@ -12,6 +12,7 @@ TESTS = os.path.dirname(os.path.abspath(__file__))
 REPORT = os.path.join(os.path.dirname(TESTS), "asancol-report")
 
 # The layout, as recorder/format.h has it.
+QUARANTINE_AT, PROGRESS_AT = 64, 7680
 MAPS_AT, INDEX_AT = 8192, 1 << 18
 FAULTS_AT = INDEX_AT + 4 * (1 << 24)
 STACKS_AT = FAULTS_AT + 192 * (1 << 16)
@@ -92,13 +93,16 @@ def fault(place: int = 0, block: int = 0, size: int = 0, allocated: int = 0, fre
 def side(maps: str = "", builds: Sequence[Tuple[int, str]] = (), faults: Sequence[bytes] = (),
          index: Sequence[int] = (), process: int = 7, ending: int = 1, signal: int = 0, events: int = 0,
          left_out: int = 0, started: int = (1 << 63) - 1, words: Sequence[str] = ("./program",),
-         stacks: Sequence[int] = ()) -> Parts:
-    """Returns a side memory. The first word of the stacks is of none."""
-    head = struct.pack("<8sQQIIIIQIIII", b"ASWH\3\0\0\0", events, left_out, ending, signal, process, 1, started, 1, 0,
-                       len(faults), len(stacks))
+         stacks: Sequence[int] = (), needed: int = 0, segment: int = 1, restated: int = 0, is_at_limit: bool = False,
+         quarantine: int = 0) -> Parts:
+    """Returns a side memory. The first word of the stacks is of none. Segments are counted from 1."""
+    head = struct.pack("<8sQQIIIIQIIII", b"ASWH\3\0\0\0", events, left_out, ending, signal, process, 1, started, 1,
+                       is_at_limit, len(faults), len(stacks))
     names = b"".join(word.encode("utf-8", "surrogateescape") + b"\0" for word in words) + b"\0"
     ids = b"".join(struct.pack("<QB23s", start, len(text) // 2, bytes.fromhex(text)) for start, text in builds)
-    return [(0, head), (72, names), (4096, ids), (MAPS_AT, maps.encode() + b"\0"),
+    progress = struct.pack("<QQQ", needed, segment - 1, restated)
+    return [(0, head), (QUARANTINE_AT, struct.pack("<Q", quarantine)), (72, names), (4096, ids),
+            (PROGRESS_AT, progress), (MAPS_AT, maps.encode() + b"\0"),
             (INDEX_AT, struct.pack(f"<{len(index)}I", *index)), (FAULTS_AT, b"".join(faults)),
             (STACKS_AT, struct.pack(f"<{len(stacks)}Q", *stacks))]
 

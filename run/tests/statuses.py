@@ -221,7 +221,7 @@ def check_environment(suite: Suite, folder: str) -> None:
 
 
 def check_event_limit(suite: Suite, folder: str) -> None:
-    ran = suite.run("--", suite.program, "many", "10000", ASANCOL_LIMIT="5000")
+    ran = suite.run("--", suite.program, "many", "10000", ASANCOL_LIMIT="5000", ASANCOL_SEGMENTS="0")
     expect_ran(ran, 98, "NOT SEEN WHOLE: reached the event limit: 15001 of 20001 events were not recorded")
 
 

@@ -19,6 +19,7 @@ RUN = f"{TOP}/run/sanitized/asancol-run" if SANITIZE else f"{TOP}/run/asancol-ru
 CC = f"{TOP}/recorder/asancol-cc"
 REPORT = f"{TOP}/run/asancol-report"
 FAKE_REPORT = f"{TESTS}/fake_report.py"
+SEGMENTED = f"{TESTS}/segmented.py"
 
 # No run may take longer, in seconds. Nothing is measured by it.
 PATIENCE = 120
@@ -109,11 +110,11 @@ class Suite:
         )
         return Ran(ran.returncode, ran.stdout.decode(errors="replace"), ran.stderr.decode(errors="replace"))
 
-    def start(self, *words: str, **settings: str) -> "subprocess.Popen[str]":
-        """Starts asancol-run."""
+    def start(self, *words: str, user: Optional[int] = None, **settings: str) -> "subprocess.Popen[str]":
+        """Starts asancol-run, as another user if one is named."""
         environment = self.environment(**settings)
         pipes = {"stdout": subprocess.PIPE, "stderr": subprocess.PIPE}
-        return subprocess.Popen([RUN, *words], env=environment, stdin=subprocess.DEVNULL, text=True, **pipes)
+        return subprocess.Popen([RUN, *words], env=environment, stdin=subprocess.DEVNULL, text=True, user=user, **pipes)
 
     def packets(self, folder: str, *words: str, **settings: str) -> List[Any]:
         """Runs asancol-run, and returns what the report was sent; first its words."""

@@ -1,8 +1,8 @@
 -- What is left of a part of a list once its first item was taken.
-use Rattle.std.proofs.Common.{ℕ, ◌≡◌, ◌+◌, ◌-◌, ◌<◌, ◌≤◌, ◌++◌, Bool, true, false, cond, List, [], ◌∷◌, length, take}
+use Rattle.std.proofs.Common.{ℕ, ◌≡◌, ◌+◌, ◌-◌, ◌<◌, ◌≤◌, ◌++◌, List, [], ◌∷◌, length, take}
 use Rattle.std.proofs.Common.{drop, refl, ap, ◌∙◌, sym, arith, add-one, append_assoc, length-append, length-drop}
 use Rattle.std.proofs.Common.{drop-cons, slice_index_or}
-use Rattle.std.proofs.lemmas.List.{append-nil, take_at, length-take-le}
+use Rattle.std.proofs.lemmas.List.{take_at, length-take-le}
 use Rattle.trace_lane.specs.Pieces.{piece}
 
 -- the first item of a part, and the part after it
@@ -37,10 +37,3 @@ pub still_last : {T : Type 0} (all before s : List T) (i j : ℕ) (x : T) → al
 still_last all before s i j x is low high at =
     moved all before s i j x is low high at ∙ ap (λ l. l ++ piece (i + 1) j s)
     (sym (taken all before s i j x is low high at))
-
--- more items became known to wait in the ring, after those in the buffer
-pub more_known : {T : Type 0} (buffered known now more : List T) (settled : Bool) → known ++ more ≡ now
-    → (rest : List T) × (buffered ++ cond settled now [] ≡ (buffered ++ cond settled known []) ++ rest)
-more_known buffered known now more true e =
-    (more, ap (λ l. buffered ++ l) (sym e) ∙ sym (append_assoc buffered known more))
-more_known buffered known now more false e = ([], sym (append-nil (buffered ++ [])))

@@ -27,7 +27,7 @@ pub struct LaneOut<T: Copy + Send, A: Allocator + Copy = Global> {
 }
 
 impl<T: Copy + Send, A: Allocator + Copy> LaneOut<T, A> {
-    ghost use Rattle.std.specs.Prelude.{◌≡◌, ◌<◌, ◌≤◌, List, [], ◌∷◌, ◌++◌, length, take};
+    ghost use Rattle.std.specs.Prelude.{◌≡◌, ◌<◌, ◌≤◌, [], ◌∷◌, ◌++◌, length, take};
     ghost use Rattle.std.specs.Prelude.{IfSome, IfNone, IsSome, true, false};
     ghost use Rattle.rtrb.specs.Ring.{received};
     ghost use Rattle.trace_lane.specs.Lanes.{out_lane, end_lane, taken_list, waiting, end_list};
@@ -151,9 +151,10 @@ impl<T: Copy + Send, A: Allocator + Copy> LaneOut<T, A> {
     pub fn is_left(&mut self) -> bool
         ensures lane { out_lane self.new ≡ out_lane self.old }
         ensures taken { taken_list self.new ≡ taken_list self.old }
-        ensures waits { (more : List T) × (waiting self.new ≡ waiting self.old ++ more) }
+        ensures waits { waiting self.new ≡ waiting self.old }
     {
-        self.ring.is_abandoned()
+        // After `settle` the putting end is gone, and a look at the ring may show more items there.
+        self.settled || self.ring.is_abandoned()
     }
 
     /// How many items are left, now that the lane was finished.

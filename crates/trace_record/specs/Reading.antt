@@ -7,7 +7,7 @@ use Rattle.trace_record.specs.declared.end.Flaw.{Flaw}
 use Rattle.trace_record.specs.declared.fields.Fields.{Fields}
 use Rattle.trace_record.specs.declared.version.Version.{Version}
 use Rattle.trace_record.specs.Spelling.{record_length, spelling, spells_in}
-use Rattle.trace_record.specs.Stream.{IsFlawedRecord, IsOpen, IsDecided}
+use Rattle.trace_record.specs.Stream.{BeginsWith, IsFlawedRecord, IsOpen, IsDecided}
 
 -- numbers that a byte can be
 abbrev pub AreBytes : List ℕ → Type 0
@@ -23,6 +23,11 @@ IsWholeRecord v (code ∷ more) =
 abbrev pub Says : Version → List ℕ → Result Event Flaw → Type 0
 Says v part (Ok event) = IsTrue (spells_in v event) × (part ≡ spelling v event)
 Says v part (Err f) = (x : Fields) × IsFlawedRecord v part f x
+
+-- the bytes begin with no whole good record of a version
+abbrev pub HasNoRecord : Version → List ℕ → Type 0
+HasNoRecord v bytes =
+    (event : Event) → IsTrue (spells_in v event) → ¬ BeginsWith (spelling v event) bytes
 
 -- a reading of a text: it is open and holds these events, or is decided with these events and this
 -- fate

@@ -10,6 +10,7 @@ use Rattle.trace_record.specs.declared.decoder.Step.{Step}
 use Rattle.trace_record.specs.declared.version.Version.{Version}
 use Rattle.trace_record.specs.Stream.{IsOpenWith, IsDecidedFate, IsDecidedByLast, Spells}
 use Rattle.trace_record.specs.Stream.{version_of, offset_of, close_length}
+use Rattle.trace_record.specs.Reading.{HasNoRecord}
 
 -- what a contract sees of a decoder: its event limit, the version of the text once its header is
 -- whole, the counts of good events and of the bytes of header and good records, the unfinished rest
@@ -29,6 +30,16 @@ pub record StandsAt (d : Standing) (text : List ℕ) (events : List Event) : Typ
   pub count : d.events ≡ length events
   pub offset : d.offset ≡ offset_of text events
   pub version : 8 ≤ length text → version_of text ≡ Some d.version
+
+-- the next byte is the first of a record
+pub record IsBetweenRecords (d : Standing) : Type 0 where
+  pub running : d.stop ≡ None
+  pub in_records : 8 ≤ d.offset
+  pub none_cut : d.rest ≡ []
+
+-- no whole good record comes next, or the limit leaves no room for its event
+abbrev pub HasNoneToRead : Standing → List ℕ → Type 0
+HasNoneToRead d bytes = d.events < d.limit → HasNoRecord d.version bytes
 
 -- the end with this fate at what the decoder has read
 abbrev pub end_of : Standing → Fate → End

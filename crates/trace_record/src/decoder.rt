@@ -1,10 +1,10 @@
 //! The decoder: it reads one stream, whose bytes come in pieces, and gives its events and its end.
 
 ghost use Rattle.std.specs.Prelude.{◌≡◌, ◌≢◌, ◌<◌, ◌≤◌, ◌↔◌, ◌⊎◌, [], ◌∷◌, ◌++◌};
-ghost use Rattle.std.specs.Prelude.{ℕ, List, length, slice_index, take};
+ghost use Rattle.std.specs.Prelude.{ℕ, List, drop, length, slice_index, take};
 ghost use Rattle.std.specs.Prelude.{IsTrue, IsSome, IfSome, IfNone, IfOk, Some, None, Ok};
 ghost use Rattle.trace_record.specs.Ranges.{largest_limit};
-ghost use Rattle.trace_record.specs.Reading.{Says};
+ghost use Rattle.trace_record.specs.Reading.{HasNoRecord, Says};
 ghost use Rattle.trace_record.specs.Spelling.{record_length, spelling};
 
 use crate::end::{End, Fate, Flaw};
@@ -78,6 +78,7 @@ pub struct Ahead {
 
 impl Decoder {
     ghost use Rattle.trace_record.specs.Standing.{StandsAt, Answers, Takes, stop_of, end_of};
+    ghost use Rattle.trace_record.specs.Standing.{IsBetweenRecords, HasNoneToRead};
     ghost use Rattle.trace_record.specs.Stream.{Spells};
 
     /// A decoder at the start of a stream that may have at most `limit` events, or `None` unless
@@ -142,6 +143,8 @@ impl Decoder {
         ensures answers { (text : List ℕ) (events : List Event) → StandsAt self.old text events →
             StandsAt self.new (text ++ take result.used piece.now)
             (events ++ take result.count out.new) }
+        ensures stops { IsBetweenRecords self.old → result.count < length out.old →
+            HasNoneToRead self.new (drop result.used piece.now) }
         ensures stopped { IfSome self.old.stop
             (λ _. (result ≡ record { count = 0; used = 0 }) × (self.new ≡ self.old)) }
     {
@@ -191,8 +194,7 @@ impl Decoder {
     /// Whether the next byte is the first of a record.
     #[inline(always)]
     fn is_between_records(&self) -> bool
-        ensures { IsTrue result →
-            (self.now.stop ≡ None) × (8 ≤ self.now.offset) × (self.now.rest ≡ []) }
+        ensures { IsTrue result ↔ IsBetweenRecords self.now }
     {
         self.stop.is_none() && self.offset >= HEADER_LENGTH as u64 && self.partial.is_empty()
     }
@@ -349,6 +351,7 @@ impl Decoder {
         requires none_cut { self.old.rest ≡ [] }
         requires begun { 0 < length piece.now }
         ensures none { IfNone result (self.new ≡ self.old) }
+        ensures stops { IfNone result (HasNoneToRead self.old piece.now) }
         ensures between { (self.new.stop ≡ None) × (8 ≤ self.new.offset) × (self.new.rest ≡ []) }
         ensures limit { self.new.limit ≡ self.old.limit }
         ensures some { IfSome result (λ front. (0 < front.size) × (front.size ≤ length piece.now)
@@ -454,8 +457,9 @@ struct Front {
 #[inline(always)]
 fn read_front(version: Version, bytes: &[u8]) -> Option<Front>
     requires { 0 < length bytes.now }
-    ensures { IfSome result (λ front. (front.size ≤ length bytes.now)
+    ensures some { IfSome result (λ front. (front.size ≤ length bytes.now)
         × Says version (take front.size bytes.now) (Ok front.event)) }
+    ensures none { IfNone result (HasNoRecord version bytes.now) }
 {
     match bytes[0] {
         // Most records are these, and their length is a constant.
@@ -470,8 +474,9 @@ fn read_front(version: Version, bytes: &[u8]) -> Option<Front>
 fn read_whole(version: Version, bytes: &[u8], size: usize) -> Option<Front>
     requires begun { 0 < length bytes.now }
     requires size { size ≡ record_length version (slice_index bytes.now 0) }
-    ensures { IfSome result (λ front. (front.size ≤ length bytes.now)
+    ensures some { IfSome result (λ front. (front.size ≤ length bytes.now)
         × Says version (take front.size bytes.now) (Ok front.event)) }
+    ensures none { IfNone result (HasNoRecord version bytes.now) }
 {
     if size == 0 || bytes.len() < size {
         return None;

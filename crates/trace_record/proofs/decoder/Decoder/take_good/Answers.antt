@@ -13,8 +13,8 @@ invariant_of-self c =
     let le : 8 ≤ c.self.inside.offset = rw (← c.self.view_is) at c.requires.in_records in
     let none : c.self.inside.partial ≡ [] = rw (← c.self.view_is) at c.requires.none_cut in
     let size : front.size ≡ length (spelling c.self.inside.version front.event) =
-    sym (length-take-le front.size c.args.piece.now c.in_ok-front.ensures.0)
-    ∙ ap length c.in_ok-front.ensures.1.1 in
+    sym (length-take-le front.size c.args.piece.now c.in_ok-front.ensures.some.0)
+    ∙ ap length c.in_ok-front.ensures.some.1.1 in
     let small = spelling_small c.self.inside.version front.event in
     record {
       limited = was.limited;
@@ -29,8 +29,8 @@ returns-clause-some c =
     let front = c.in_ok-front.front in
     let v = c.self.inside.version in
     let part = take front.size c.args.piece.now in
-    let fits : front.size ≤ length c.args.piece.now = c.in_ok-front.ensures.0 in
-    let says : Says v part (Ok front.event) = c.in_ok-front.ensures.1 in
+    let fits : front.size ≤ length c.args.piece.now = c.in_ok-front.ensures.some.0 in
+    let says : Says v part (Ok front.event) = c.in_ok-front.ensures.some.1 in
     let size : front.size ≡ length (spelling v front.event) = sym (length-take-le front.size c.args.piece.now fits)
     ∙ ap length says.1 in
     let some = spelling_some v front.event in (
@@ -45,3 +45,7 @@ returns-clause-some c =
           let more = event_more _ part text events at le front.event whole room in
           rw none (rw (← size) at more),
     )
+
+pub returns-in_err-front-clause-stops : goal.returns-in_err-front-clause-stops
+returns-in_err-front-clause-stops c =
+    rw (c.from_residual.ensures, ← c.self.view_is) (λ room. c.in_err-front.ensures.none)

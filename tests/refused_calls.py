@@ -1,11 +1,11 @@
-"""Runs a program in which some threads can't be started, for runs.py.
+"""Runs a program some of whose system calls fail, for runs.py.
 
-The program's first thread is traced (ptrace(2)). Each system call of it that would start a thread
-is counted, and those that are chosen fail with EAGAIN, as they do where the system has no more
-threads. All else is as without.
+The program's first thread is traced (ptrace(2)). Its calls of one kind are counted, and those that
+are chosen fail, as they do where the system can't carry them out. All else is as without.
 """
 
 import ctypes
+import errno
 import os
 import signal
 import subprocess
@@ -16,8 +16,7 @@ from typing import Callable, List, NamedTuple, Tuple
 TRACEME, PEEK, POKE, TO_NEXT_CALL, SET_OPTIONS = 0, 3, 6, 24, 0x4200
 MARKS_CALLS, KILLS_AT_EXIT = 1, 1 << 20
 RESULT, CALL = 8 * 10, 8 * 15
-CLONE, CLONE3 = 56, 435
-NO_CALL, EAGAIN = -1, 11
+NO_CALL = -1
 
 CALL_STOP = signal.SIGTRAP | 0x80
 
@@ -34,45 +33,61 @@ def ptrace(request: int, process: int, at: int = 0, value: int = 0) -> int:
     return answer
 
 
+class Calls(NamedTuple):
+    """Calls of one kind: their numbers on x86-64, and the error of one that fails."""
+
+    numbers: Tuple[int, int]
+    error: int
+
+
+# clone and clone3, and accept and accept4.
+THREAD_STARTS = Calls((56, 435), errno.EAGAIN)
+ACCEPTS = Calls((43, 288), errno.ECONNABORTED)
+
+
 class Ran(NamedTuple):
-    """What a program wrote, how it ended, and how many threads it tried to start."""
+    """What a program wrote, how it ended, and how many calls of the kind it tried."""
 
     status: int
     output: bytes
     faults: bytes
-    starts: int
+    calls: int
 
 
-def follow(process: int, refuses: Callable[[int], bool]) -> Tuple[int, int]:
-    """Follows a program up to its end. Returns how it ended, and the number of thread starts."""
+def follow(process: int, calls: Calls, refuses: Callable[[int], bool]) -> Tuple[int, int]:
+    """Follows a program up to its end. Returns how it ended, and the number of these calls."""
     os.waitpid(process, 0)
     ptrace(SET_OPTIONS, process, 0, MARKS_CALLS | KILLS_AT_EXIT)
-    starts, is_inside, is_refused, passed_on = 0, False, False, 0
+    count, is_inside, is_refused, passed_on = 0, False, False, 0
     while True:
         ptrace(TO_NEXT_CALL, process, 0, passed_on)
         _, status = os.waitpid(process, 0)
         if not os.WIFSTOPPED(status):
-            return os.waitstatus_to_exitcode(status), starts
+            return os.waitstatus_to_exitcode(status), count
         passed_on = os.WSTOPSIG(status)
         if passed_on != CALL_STOP:
             continue
         passed_on, is_inside = 0, not is_inside
-        if is_inside and ptrace(PEEK, process, CALL) in (CLONE, CLONE3):
-            starts += 1
-            is_refused = refuses(starts)
+        if is_inside and ptrace(PEEK, process, CALL) in calls.numbers:
+            count += 1
+            is_refused = refuses(count)
             if is_refused:
                 ptrace(POKE, process, CALL, NO_CALL)
         elif is_refused and not is_inside:
-            ptrace(POKE, process, RESULT, -EAGAIN)
+            ptrace(POKE, process, RESULT, -calls.error)
             is_refused = False
 
 
 def run(
-    words: List[str], refuses: Callable[[int], bool], prepare: Callable[[], None], patience: int
+    words: List[str],
+    calls: Calls,
+    refuses: Callable[[int], bool],
+    prepare: Callable[[], None],
+    patience: int,
 ) -> Ran:
-    """Runs a program, where the start of each thread fails whose number `refuses` chooses: they
-    are counted from 1. `prepare` is called in its process just before. It is killed after
-    `patience` seconds. What it writes has to fit into a pipe."""
+    """Runs a program, where each of these calls fails whose number `refuses` chooses: they are
+    counted from 1. `prepare` is called in its process just before. It is killed after `patience`
+    seconds. What it writes has to fit into a pipe."""
 
     def begin() -> None:
         prepare()
@@ -87,7 +102,7 @@ def run(
     ) as program:
         clock = threading.Timer(patience, program.kill)
         clock.start()
-        program.returncode, starts = follow(program.pid, refuses)
+        program.returncode, count = follow(program.pid, calls, refuses)
         clock.cancel()
         output, faults = program.communicate()
-        return Ran(program.returncode, output, faults, starts)
+        return Ran(program.returncode, output, faults, count)

@@ -1,0 +1,48 @@
+/* Call frame information: what compilers write in .eh_frame of each instruction, so that an exception finds its way
+   from there to the caller. It leads through code without frame pointers, such as that of libraries. */
+#ifndef ASANCOL_CFI_H
+#define ASANCOL_CFI_H
+
+#include <stdint.h>
+
+enum cfi_kind {
+    CFI_UNKNOWN,  /* nothing is said that could be followed */
+    CFI_LAST,     /* nobody has called this */
+    CFI_BY_STACK, /* the frame ends `offset` bytes above the stack pointer */
+    CFI_BY_FRAME, /* above the frame pointer */
+    CFI_POINTER,  /* the frame pointer leads to the caller's, with the address after the call beside it */
+    CFI_SAVED,    /* where it ends stands `offset` bytes above the frame pointer */
+    CFI_SIGNAL,   /* the end of a handler: the system has called that */
+};
+
+/* Where the caller's frame pointer is: so many words below the end of the frame, or one of these. */
+enum {
+    CFI_FRAME_KEPT = 0,     /* in its register */
+    CFI_FRAME_LINKED = 254, /* where the frame pointer leads to */
+    CFI_FRAME_LOST = 255,   /* nobody knows */
+};
+
+enum {
+    CFI_OWN = 1,    /* the recorder's own code */
+    CFI_MAIN = 2,   /* a part of `main` */
+    CFI_CALLED = 4, /* for who keeps the rule */
+};
+
+/* How to go on from an instruction to the caller: the address after its call lies below the end of the frame. */
+struct cfi_rule {
+    unsigned char kind, frame, flags, unused;
+    int32_t offset;
+};
+
+_Static_assert(sizeof(struct cfi_rule) == sizeof(uint64_t), "it is kept as one word");
+
+/* The rule of an instruction. At any time: nothing is locked or allocated. */
+struct cfi_rule cfi_find(uintptr_t instruction);
+
+/* Stands in a function of the recorder that calls code which may call the program, or allocate. Stacks pass over it.
+   It is an instruction of its description: the size of arguments, which says nothing in C, as no compiler would have
+   it. */
+#define IS_OWN_FRAME __asm__ volatile(".cfi_escape 0x2e, 0xad, 0x4f")
+#define CFI_OWN_MARK 10157
+
+#endif

@@ -1,0 +1,46 @@
+/* What is linked, and what was linked: objects, archives and programs, in which asancol-cc looks for its mark and for
+   names of variables. */
+#include <stdbool.h>
+#include <stdint.h>
+#include <stdlib.h>
+#include <string.h>
+
+#include "../../linked.h"
+#include "../../own_data.h"
+#include "../../view.h"
+
+static const uint8_t *bytes;
+static size_t count;
+
+int LLVMFuzzerTestOneInput(const uint8_t *data, size_t size);
+
+/* In the place of view.c: with nothing readable behind its end. */
+struct view view_map(const char *path)
+{
+    struct view view = {malloc(count), count};
+    (void)path;
+    if (view.bytes != NULL)
+        memcpy((void *)(uintptr_t)view.bytes, bytes, count);
+    return view.bytes != NULL && count > 0 ? view : (struct view){NULL, 0};
+}
+
+void view_unmap(struct view view)
+{
+    free((void *)(uintptr_t)view.bytes);
+}
+
+int LLVMFuzzerTestOneInput(const uint8_t *data, size_t size)
+{
+    static const char *const names[] = {"read", "write", "environ"};
+    bool is_own[3] = {false};
+    struct linked linked = {0};
+    bytes = data;
+    count = size;
+    linked_takes("a.o");
+    linked_look_at(&linked, "a.o");
+    own_data_find("a.out", names, 3, is_own);
+    for (unsigned i = 0; i < linked.unmarked && i < NAMES_SHOWN; i++)
+        free((char *)(uintptr_t)linked.names[i]);
+    free((char *)(uintptr_t)linked.unmarked_lto);
+    return 0;
+}

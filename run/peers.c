@@ -1,0 +1,49 @@
+#define _GNU_SOURCE
+#include "peers.h"
+
+#include <stddef.h>
+#include <unistd.h>
+
+#include "descendants.h"
+#include "say.h"
+
+/* How many other users are remembered, and how many that are refused have a line. */
+enum { MOST_USERS = 16, MOST_LINES = 8 };
+
+static uid_t users[MOST_USERS]; /* as which the command's processes have connected */
+static size_t user_count, refused;
+
+static bool is_remembered(uid_t user)
+{
+    for (size_t i = 0; i < user_count; i++)
+        if (users[i] == user)
+            return true;
+    return false;
+}
+
+enum peer peer_judge(const struct ucred *peer)
+{
+    if (peer->uid == getuid() || peer->uid == 0)
+        return PEER_OURS;
+    enum kinship kinship = descendants_kinship(peer->pid);
+    if (kinship == KINSHIP_NONE)
+        return PEER_STRANGER;
+    /* Of one that is gone only the user is known: the command has others of this user, or it hasn't. */
+    bool is_ours = kinship == KINSHIP_OURS || is_remembered(peer->uid) || descendants_have_user(peer->uid);
+    if (is_ours && user_count < MOST_USERS && !is_remembered(peer->uid))
+        users[user_count++] = peer->uid;
+    return is_ours ? PEER_OURS : PEER_UNKNOWN;
+}
+
+void peer_say_refused(const struct ucred *peer)
+{
+    if (refused++ < MOST_LINES)
+        say("asancol: a connection was refused: process %d of user %u was not started by this command", (int)peer->pid,
+            (unsigned)peer->uid);
+}
+
+void peers_say_rest(void)
+{
+    if (refused > MOST_LINES)
+        say("asancol: %zu more connections were refused", refused - MOST_LINES);
+}

@@ -1,0 +1,202 @@
+"""Who may connect to a run: its user, root, and what the command has started, whoever that is by now."""
+
+import os
+import re
+import shutil
+import signal
+import subprocess
+import time
+from typing import List
+
+from support import Suite, expect, expect_ran, finish, wait_until
+
+NOBODY, OTHER = 65534, 65533
+
+# Connects to the hub that is named, in a child that is gone once it has; what it has connected stays open.
+GONE = """
+import os, socket, sys, time
+peer = socket.socket(socket.AF_UNIX)
+child = os.fork()
+if child == 0:
+    peer.connect(sys.argv[1])
+    os._exit(0)
+os.waitpid(child, 0)
+print("gone", flush=True)
+time.sleep(float(sys.argv[2]))
+"""
+
+
+# Sends what is no memory of a recorder with the first bytes of a trace. Its words name the hub and what it sends.
+SENDER = """
+import array, ctypes, os, socket, sys
+hub, what = sys.argv[1:]
+shrink = 0x0002
+memory = os.memfd_create("side", os.MFD_ALLOW_SEALING)
+os.ftruncate(memory, 1 << 20)
+text = b"ASWH\\3\\0\\0\\0" + bytes(56) + b"\\x1b]0;x\\x07" * 500
+if what in ("sealed", "garbage"):
+    os.pwrite(memory, text if what == "sealed" else text[:8] + os.urandom(8184), 0)
+    __import__("fcntl").fcntl(memory, 1033, shrink)
+if what == "short":
+    os.ftruncate(memory, 100)
+if what == "unsealed":
+    os.pwrite(memory, text, 0)
+others = {"pipe": os.pipe()[0], "device": os.open("/dev/zero", os.O_RDONLY), "folder": os.open("/", os.O_RDONLY)}
+sent = [others.get(what, memory)] * (200 if what == "many" else 1)
+peer = socket.socket(socket.AF_UNIX)
+peer.connect(hub)
+rights = [(socket.SOL_SOCKET, socket.SCM_RIGHTS, array.array("i", sent))]
+peer.sendmsg([b"ASTR\\2\\0\\0\\0"], rights)
+if what == "unsealed":
+    os.ftruncate(memory, 0)
+peer.sendmsg([b"\\7"], rights)
+"""
+
+
+def as_user(user: int) -> List[str]:
+    return ["setpriv", f"--reuid={user}", f"--regid={user}", "--clear-groups"]
+
+
+class Run:
+    """A run that goes on until it may end, and the name of its hub."""
+
+    def __init__(self, suite: Suite, folder: str, user: int = 0) -> None:
+        os.chmod(folder, 0o777)
+        self.suite, self.end_mark, named = suite, f"{folder}/end", f"{folder}/hub"
+        line = f"{suite.program} sound; echo $ASANCOL_HUB > {named}.new; mv {named}.new {named}; "
+        line += f"while [ ! -e {self.end_mark} ]; do sleep 0.05; done"
+        self.program = suite.start("-v", "--", "sh", "-c", line, user=user, TMPDIR=folder)
+        wait_until(lambda: os.path.exists(named), "the name of the hub")
+        with open(named, encoding="utf-8") as file:
+            self.hub = file.read().strip()
+
+    def connect(self, user: int, *words: str) -> str:
+        """Runs a recorded program of a user that this run has not started, and returns what it says."""
+        return self.suite.run_words([*as_user(user), *words], ASANCOL_HUB=self.hub).err
+
+    def end(self, status: int, *texts: str, **more: List[str]) -> str:
+        with open(self.end_mark, "w", encoding="utf-8"):
+            pass
+        ran = finish(self.program)
+        expect_ran(ran, status, *texts, **more)
+        return ran.err
+
+
+def check_stranger(suite: Suite, folder: str, user: int) -> None:
+    """Another user's process is refused, with a line, and the run is as without it."""
+    run = Run(suite, folder, user)
+    run.connect(OTHER, suite.program, "past_and_sleeps", "0.5")
+    private = os.path.dirname(run.hub)
+    for words in (["touch", f"{private}/mark"], ["ls", private]):
+        expect("Permission denied" in run.connect(OTHER, *words), True, " ".join(words))
+    refused = rf"asancol: a connection was refused: process \d+ of user {OTHER} was not started by this command\n"
+    text = run.end(0, "1 process, ", "all seen whole", absent=["the report"])
+    expect(re.search(refused, text) is not None, True, text)
+
+
+def check_same_user(suite: Suite, folder: str) -> None:
+    """Processes of the user of the run, and of root, are let in, whoever has started them."""
+    run = Run(suite, folder, NOBODY)
+    for user in (NOBODY, 0):
+        expect(run.connect(user, suite.program, "sound"), "", f"user {user}")
+    run.end(0, "3 processes, ", "all seen whole", absent=["refused"])
+
+
+def check_descendant(suite: Suite, folder: str) -> None:
+    """What the command has started is let in, whoever it has become."""
+    words = " ".join(as_user(NOBODY))
+    ran = suite.run("--", "sh", "-c", f"{words} {suite.program} sound; {words} sh -c '{suite.program} child; true'")
+    expect_ran(ran, 99, absent=["refused"])
+
+
+def check_many_strangers(suite: Suite, folder: str) -> None:
+    """However often strangers connect, there are few lines."""
+    run = Run(suite, folder)
+    line = ("import socket, sys, time\nfor _ in range(300):\n"
+            "    peer = socket.socket(socket.AF_UNIX)\n    peer.connect(sys.argv[1])\ntime.sleep(2)")
+    expect(run.connect(OTHER, "python3", "-c", line, run.hub), "", "the stranger")
+    text = run.end(0, "asancol: 292 more connections were refused", "1 process, ", "all seen whole")
+    expect(text.count("was refused"), 8, text)
+
+
+def check_gone(suite: Suite, folder: str) -> None:
+    """Of a process that is gone nobody knows who has started it: it may have been the command. So not all was seen; but
+    if the command has others of this user, it is let in."""
+    run = Run(suite, folder)
+    why = f"NOT SEEN WHOLE: it is of user {OTHER}, and had ended before it was seen who has started it"
+    os.kill(run.program.pid, signal.SIGSTOP)
+    connected = subprocess.Popen([*as_user(OTHER), "python3", "-c", GONE, run.hub, "1"], stdout=subprocess.PIPE)
+    expect(connected.communicate()[0], b"gone\n", "the process that has connected")
+    os.kill(run.program.pid, signal.SIGCONT)
+    run.end(98, why, "a connection was refused", "2 processes, ")
+
+
+def check_gone_of_known_user(suite: Suite, folder: str) -> None:
+    """As when root's tests run as another user: one that has ended soon is the command's, like the others."""
+    gone, words = f"{folder}/gone.py", " ".join(as_user(OTHER))
+    with open(gone, "w", encoding="utf-8") as file:
+        file.write(GONE)
+    os.chmod(folder, 0o755)
+    line = f"{suite.program} sound; kill -STOP $PPID; {words} python3 {gone} $ASANCOL_HUB 1.5"
+    run = suite.start("--", "sh", "-c", line)
+    time.sleep(1)
+    os.kill(run.pid, signal.SIGCONT)
+    expect_ran(finish(run), 98, "it was not recorded, or not by this run", absent=["refused"])
+
+
+# Listens under an abstract name, and says what it gets.
+SQUATTER = """
+import socket, sys
+hub = socket.socket(socket.AF_UNIX)
+hub.bind("\\0" + sys.argv[1])
+hub.listen()
+print("listens", flush=True)
+peer = hub.accept()[0]
+print(len(peer.recv(4096)), flush=True)
+"""
+
+
+def check_squatter(suite: Suite, folder: str) -> None:
+    """An abstract name may be another user's: a process does not tell him what it does, and leaves a file."""
+    os.chmod(folder, 0o777)
+    hub = f"{folder}/hub"
+    for user, gets in ((OTHER, "0"), (NOBODY, "8")):
+        words = [*as_user(user), "python3", "-c", SQUATTER, hub]
+        squatter = subprocess.Popen(words, stdout=subprocess.PIPE, text=True)
+        out = squatter.stdout
+        expect(out.readline() if out else "", "listens\n", "the other")
+        ran = suite.run_words([*as_user(NOBODY), suite.program, "sound"], ASANCOL_HUB=hub)
+        expect(out.readline() if out else "", f"{gets}\n", f"what user {user} gets")
+        squatter.communicate()
+        is_file = "so the trace goes to a file: " in ran.err and "its name is another user's" in ran.err
+        expect(is_file, gets == "0", ran.err)
+    expect(len([it for it in os.listdir(folder) if it.endswith(".trace")]), 1, "files")
+
+
+def check_descriptors(suite: Suite, folder: str) -> None:
+    """Whatever descriptors come with a trace, it is checked. Names are printed without what controls a terminal."""
+    sender = f"{folder}/sender.py"
+    with open(sender, "w", encoding="utf-8") as file:
+        file.write(SENDER)
+    for what in ("pipe", "device", "folder", "short", "unsealed", "many", "garbage", "sealed"):
+        line = f"{suite.program} sound; python3 {sender} $ASANCOL_HUB {what}; {suite.program} sound"
+        ran = suite.run("-v", "--", "sh", "-c", line)
+        # Without such a memory, a trace that is closed was seen whole.
+        status = 98 if what in ("garbage", "sealed") else 0
+        expect_ran(ran, status, "3 processes, 2 events", absent=["\x1b", "\x07"])
+
+
+def tests(suite: Suite) -> None:
+    suite.test("peer: descriptors", check_descriptors)
+    if os.geteuid() != 0 or not shutil.which("setpriv"):
+        print("left out: peers of other users: root alone can be another user, by setpriv")
+        return
+    os.chmod(suite.folder, 0o755)
+    suite.test("peer: stranger to root", check_stranger, 0)
+    suite.test("peer: stranger to a user", check_stranger, NOBODY)
+    suite.test("peer: same user", check_same_user)
+    suite.test("peer: of the command", check_descendant)
+    suite.test("peer: many strangers", check_many_strangers)
+    suite.test("peer: gone", check_gone)
+    suite.test("peer: gone, of a known user", check_gone_of_known_user)
+    suite.test("peer: squatter", check_squatter)
