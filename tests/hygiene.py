@@ -11,6 +11,7 @@ usage: tests/hygiene.py
 - Each name that a file imports is used there (`names.py`). `rt tidy` drops those that are not; it
   proves the crate again, so this does not call it.
 - Each function, clause, file, test and target of make that a page names is there (`pages.py`).
+- No two tests have one name: of the rows, of the crates, and of `runs.py` and `failures.py`.
 - The worked examples that MODEL.md shows, the stored traces and the lemmas of `Examples` are what
   the rows of their names say (`worked.py`).
 - The program says the release that VERSION says: it can't read the file, since it is proved.
@@ -91,6 +92,15 @@ def other_release() -> Iterator[Finding]:
             yield path, 1, f"VERSION says: {wanted}"
 
 
+def all_tests(sources: List[names.Source], rows: List[worked.Row]) -> Iterator[names.Test]:
+    """Goes over the worked examples, the tests of the crates and the runs of built programs."""
+    yield from (names.Test(row.name, row.path, row.line) for row in rows)
+    yield from names.tests_of(sources)
+    for path in ("tests/runs.py", "tests/failures.py"):
+        with open(f"{TOP}/{path}", encoding="utf-8") as file:
+            yield from names.tests_in(path, file.read(), names.CASE)
+
+
 def findings() -> Iterator[Finding]:
     files = files_of_tree()
     sources = sources_of(files)
@@ -99,7 +109,9 @@ def findings() -> Iterator[Finding]:
     yield from other_release()
     yield from names.uncited_lemmas(sources)
     yield from names.unused_imports(sources)
-    known = worked.by_name(worked.rows())
+    rows = worked.rows()
+    known = worked.by_name(rows)
+    yield from names.repeated_tests(all_tests(sources, rows))
     yield from worked.other_lemmas(known)
     yield from worked.other_traces(known)
     yield from pages.findings(pages.Tree(TOP, files), known)

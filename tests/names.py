@@ -1,5 +1,5 @@
-"""Names of the crates' sources, read as text: imports that nothing uses, and lemmas that nothing
-cites.
+"""Names of the crates' sources, read as text: imports that nothing uses, lemmas that nothing cites,
+and tests that have one name.
 
 A name of an .antt file reaches from one blank, bracket, comma or semicolon to the next. Of a path,
 as `event.Malloc`, the first part is the name that was imported. An operator is used where each of
@@ -9,7 +9,7 @@ an import there may be unused and pass here.
 
 import functools
 import re
-from typing import Dict, Iterator, List, NamedTuple, Set, Tuple
+from typing import Dict, Iterable, Iterator, List, NamedTuple, Set, Tuple
 
 # Modules of worked examples. They show what a definition means, and nothing cites them.
 EXAMPLES = ("Examples", "Refuted")
@@ -30,6 +30,9 @@ SIGNATURE = re.compile(
     r"([^\s:(){}\[\],;]+)\s*(?:[({][^:]*:[^)}]*[)}]\s*|\{[^}]*\}\s*)*:(?=\s|$)"
 )
 RULESET = re.compile(r"^((?:pub\s+)?ruleset\s+)([^\s=]+)\s*=")
+TEST = re.compile(r"#\s*\[\s*test\s*\]\s*fn\s+(\w+)")
+# A case of runs.py and its like.
+CASE = re.compile(r"^def (\w+)\(program\):", re.M)
 
 
 class Import(NamedTuple):
@@ -190,3 +193,32 @@ def uncited_lemmas(sources: List[Source]) -> Iterator[Tuple[str, int, str]]:
             for lemma in lemmas_of(source):
                 if not is_cited(lemma, source, sources):
                     yield source.path, lemma.begins, f"lemma that nothing cites: {lemma.name}"
+
+
+class Test(NamedTuple):
+    """A test, and where it stands."""
+
+    name: str
+    path: str
+    line: int
+
+
+def tests_in(path: str, text: str, pattern: "re.Pattern[str]") -> Iterator[Test]:
+    for found in pattern.finditer(text):
+        yield Test(found[1], path, line_of(text, found.start(1)))
+
+
+def tests_of(sources: List[Source]) -> Iterator[Test]:
+    """Goes over the tests of the crates."""
+    for source in sources:
+        if source.is_rust:
+            yield from tests_in(source.path, source.rest, TEST)
+
+
+def repeated_tests(tests: Iterable[Test]) -> Iterator[Tuple[str, int, str]]:
+    """Goes over the tests whose name is that of another one before them."""
+    places: Dict[str, str] = {}
+    for test in tests:
+        if test.name in places:
+            yield test.path, test.line, f"{places[test.name]} has a test of this name: {test.name}"
+        places.setdefault(test.name, test.path)

@@ -1,5 +1,5 @@
-//! Tests of a checker and of the lines that are printed of it: worked examples, streams, and a slow
-//! model beside it.
+//! Tests of a checker and of the lines that are printed of it: what it answers about bytes, which
+//! events it passes, refused memory, and a slow model beside it.
 #![tactic(auto)]
 
 #[cfg(test)]

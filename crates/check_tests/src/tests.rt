@@ -1,12 +1,10 @@
 //! Events, and the calls of a checker that the tests share.
 mod beside_the_model;
-mod examples;
-mod large;
 mod lines;
 mod model;
 mod passing;
+mod queries;
 mod refusals;
-mod streams;
 
 use asan_check::{Bound, Checker, Failed, Report};
 use std::alloc::Allocator;

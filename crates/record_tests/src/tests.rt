@@ -332,54 +332,6 @@ fn reading_ahead_leaves_the_rest_for_next(rt: HostRuntime) -> Result<(), Fail> {
 }
 
 #[test]
-fn ends_of_ranges(rt: HostRuntime) -> Result<(), Fail> {
-    let records: [(&[u8], End); 9] = [
-        (
-            &[1, 8, 0xf8, 0xff, 0xff, 0xff, 0xff, 0x7f, 0, 0],
-            an_end(Fate::Closed, 1, 19),
-        ),
-        (
-            &[1, 8, 0xf9, 0xff, 0xff, 0xff, 0xff, 0x7f, 0, 0],
-            an_end(Fate::Malformed(Flaw::Range), 0, 8),
-        ),
-        (
-            &[1, 3, 0, 0x10, 0, 0, 0, 0, 0, 0],
-            an_end(Fate::Malformed(Flaw::Width), 0, 8),
-        ),
-        (
-            &[1, 3, 0, 0, 0, 0, 0, 0x80, 0, 0],
-            an_end(Fate::Malformed(Flaw::Width), 0, 8),
-        ),
-        (
-            &[3, 4, 0x10, 0, 0, 0, 0, 0, 0, 0, 0, 0, 0x10, 0, 0, 0, 0],
-            an_end(Fate::Closed, 1, 26),
-        ),
-        (
-            &[3, 4, 0x10, 0, 0, 0, 0, 0, 0, 1, 0, 0, 0x10, 0, 0, 0, 0],
-            an_end(Fate::Malformed(Flaw::Size), 0, 8),
-        ),
-        (
-            &[
-                3, 0xe0, 0xff, 0xff, 0xff, 0xff, 0x7f, 0, 0, 8, 0, 0, 0, 0, 0, 0, 0,
-            ],
-            an_end(Fate::Closed, 1, 26),
-        ),
-        (
-            &[3, 0, 0, 0, 0, 0, 0x80, 0, 0, 0, 0, 0, 0, 0, 0, 0, 0],
-            an_end(Fate::Closed, 1, 26),
-        ),
-        (
-            &[4, 0, 0, 0, 0, 0, 0x80, 0, 0],
-            an_end(Fate::Malformed(Flaw::Range), 0, 8),
-        ),
-    ];
-    for (record, want) in records {
-        assert_eq!(rt; end_in(rt.alloc(), &HEADER, record)?, want);
-    }
-    Ok(())
-}
-
-#[test]
 fn encoded_events(rt: HostRuntime) -> Result<(), Fail> {
     let records: [(Made, &[u8]); 7] = [
         (
@@ -405,8 +357,13 @@ fn encoded_events(rt: HostRuntime) -> Result<(), Fail> {
             &[3, 4, 0x10, 0, 0, 0, 0, 0, 0, 0, 0, 0, 0x10, 0, 0, 0, 0],
         ),
     ];
-    for (event, record) in records {
-        expect_record(&rt, Version::One, &event?, record);
+    for (made, record) in records {
+        let event = made?;
+        expect_record(&rt, Version::One, &event, record);
+        // The record of a poison is another one in version 2.
+        if !matches!(event, Event::Poison(_)) {
+            expect_record(&rt, Version::Two, &event, record);
+        }
     }
     Ok(())
 }

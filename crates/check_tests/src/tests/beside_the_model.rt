@@ -1,11 +1,10 @@
 //! A checker and the plain model, driven by the same events.
 
 use super::model::{Model, State, state_of};
-use super::streams::add_reports;
 use super::{
     USUAL, free, load, malloc, new_checker, poison_of, reports_of, step, store, tally, unpoison,
 };
-use asan_check::{Checker, Report};
+use asan_check::{Checker, NoMemory, Report, report_text};
 use std::alloc::Global;
 use std::process::Abort;
 use std::test::Fail;
@@ -117,6 +116,14 @@ fn expect_same_bytes(
         }
     }
     assert_eq!(rt; first_of_window(rt, checker, base), Some(first));
+    Ok(())
+}
+
+/// Adds the lines of some reports to a text.
+fn add_reports(reports: &[Report], text: &mut String) -> Result<(), NoMemory> {
+    for report in reports {
+        report_text(0, report, text)?;
+    }
     Ok(())
 }
 

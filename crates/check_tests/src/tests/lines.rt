@@ -228,7 +228,7 @@ fn add_lines<A: Allocator + Copy>(bad: &Report, text: &mut String<A>) -> Result<
 }
 
 #[test]
-fn each_growth_refused_in_turn(rt: HostRuntime) -> Result<(), Fail> {
+fn each_growth_of_a_line_refused_in_turn(rt: HostRuntime) -> Result<(), Fail> {
     let bad = access(2, true, 4, 0x1004, 0x1005, Class::HeapBufferOverflow, 0x05);
     for turn in 1..20u64 {
         let heap = RefusingAllocator::at_turn(rt.alloc(), turn);

@@ -114,7 +114,7 @@ fn fails_at(
 }
 
 #[test]
-fn each_growth_refused_in_turn(rt: HostRuntime) -> Result<(), Fail> {
+fn each_growth_in_a_step_refused_in_turn(rt: HostRuntime) -> Result<(), Fail> {
     let events = growing()?;
     let ample = ample_of(&rt, rt.alloc(), &events)?;
     for turn in 1..100u64 {

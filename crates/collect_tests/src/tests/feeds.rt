@@ -2,7 +2,7 @@
 
 ghost use Rattle.std.specs.Prelude.{◌≡◌, ◌≤◌};
 
-use super::{LENGTH, LOADS, STREAM_AND_MORE, TEXT, feed_of, outcome_of_feed, text_and_status};
+use super::{LENGTH, STREAM_AND_MORE, TEXT, feed_of, outcome_of_feed, text_and_status};
 use asan_collect::{BadOption, Options, Outcome, check_feed};
 use std::alloc::Global;
 use std::process::Abort;
@@ -18,7 +18,7 @@ fn printed(alloc: Global, feed: MemFeed, options: Options) -> Result<(String, u8
 }
 
 #[test]
-fn cut_anywhere(rt: HostRuntime) -> Result<(), Fail> {
+fn printed_alike_wherever_it_is_cut(rt: HostRuntime) -> Result<(), Fail> {
     let alloc = rt.alloc();
     let options = Options::usual();
     for cut in 0..=56u64 {
@@ -47,7 +47,7 @@ fn cut_anywhere(rt: HostRuntime) -> Result<(), Fail> {
 }
 
 #[test]
-fn unknown_code(rt: HostRuntime) -> Result<(), Fail> {
+fn unknown_code_ends_a_feed(rt: HostRuntime) -> Result<(), Fail> {
     let alloc = rt.alloc();
     let mut bytes = STREAM_AND_MORE;
     bytes[25] = 9;
@@ -62,32 +62,6 @@ fn unknown_code(rt: HostRuntime) -> Result<(), Fail> {
             );
             assert_eq!(rt; status, 3);
         }
-    }
-    Ok(())
-}
-
-#[test]
-fn record_limit(rt: HostRuntime) -> Result<(), Fail> {
-    let alloc = rt.alloc();
-    let mut closed = LOADS;
-    closed[28] = 7;
-    let mut unknown = LOADS;
-    unknown[28] = 9;
-    for (bytes, text) in [
-        (&closed[..], "p0 end closed events 2 offset 29 reports 0\n"),
-        (&LOADS[..], "p0 end too-many events 2 offset 28 reports 0\n"),
-        (
-            &unknown[..],
-            "p0 end too-many events 2 offset 28 reports 0\n",
-        ),
-        (
-            &LOADS[..28],
-            "p0 end no-close events 2 offset 28 reports 0\n",
-        ),
-    ] {
-        let options = Options::new(1 << 28, 1024, 2, 2)?;
-        let (line, _) = printed(alloc, feed_of(alloc, bytes, &[], None)?, options)?;
-        assert_eq!(rt; line.as_str(), text);
     }
     Ok(())
 }
@@ -150,7 +124,7 @@ fn every_truncation(rt: HostRuntime) -> Result<(), Fail> {
 }
 
 #[test]
-fn refused_arguments(rt: HostRuntime) {
+fn refused_options(rt: HostRuntime) {
     for (quarantine, ring, workers, limit, bad) in [
         ((1 << 40) + 1, 0, 0, 0, Some(BadOption::Quarantine)),
         (0, 0, 0, 0, Some(BadOption::Ring)),

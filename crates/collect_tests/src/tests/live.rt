@@ -168,7 +168,7 @@ fn expect_last_write<R: Threads + Wait + Clock + Sync + Abort>(
 }
 
 #[test]
-fn a_failed_write_is_the_last(rt: HostRuntime) -> Result<(), Fail> {
+fn a_failed_live_write_is_the_last(rt: HostRuntime) -> Result<(), Fail> {
     for workers in [1, 3] {
         // The line of the report goes out by itself, and the end lines after it.
         for (failing, written) in [(1, 0), (2, 78)] {

@@ -49,7 +49,7 @@ fn read_ahead(stream: &[u8; 92], filler: Event) -> Result<(Ahead, [Event; 8]), F
 }
 
 #[test]
-fn stack_and_global_poison(rt: HostRuntime) -> Result<(), Fail> {
+fn redzones_cut_anywhere(rt: HostRuntime) -> Result<(), Fail> {
     let events = [
         poison(1, 0x2000, 16)?,
         poison(2, 0x2010, 16)?,
@@ -93,55 +93,6 @@ fn each_prefix_of_a_poison(rt: HostRuntime) -> Result<(), Fail> {
         let (decoder, _) = read(rt.alloc(), 1 << 24, prefix, 0)?;
         let end = an_end(failed, events, offset);
         assert_eq!(rt; at_fault(decoder), end, "{length} bytes");
-    }
-    Ok(())
-}
-
-#[test]
-fn version_2_flaws(rt: HostRuntime) -> Result<(), Fail> {
-    let records: [(&[u8], End); 7] = [
-        // A kind that is none, and too many bytes.
-        (
-            &[5, 3, 0, 0x10, 0, 0, 0, 0, 0, 0, 1, 0, 0, 0, 1, 0, 0, 0],
-            an_end(Fate::Malformed(Flaw::Kind), 0, 8),
-        ),
-        // A kind that is none, past the last address.
-        (
-            &[5, 0xff, 0, 0, 0, 0, 0, 0x80, 0, 0, 1, 0, 0, 0, 0, 0, 0, 0],
-            an_end(Fate::Malformed(Flaw::Kind), 0, 8),
-        ),
-        // Too many bytes, past the last address.
-        (
-            &[5, 2, 0, 0, 0, 0, 0, 0x80, 0, 0, 1, 0, 0, 0, 1, 0, 0, 0],
-            an_end(Fate::Malformed(Flaw::Size), 0, 8),
-        ),
-        // A byte past the last address.
-        (
-            &[
-                5, 1, 0xff, 0xff, 0xff, 0xff, 0xff, 0x7f, 0, 0, 2, 0, 0, 0, 0, 0, 0, 0,
-            ],
-            an_end(Fate::Malformed(Flaw::Range), 0, 8),
-        ),
-        // Up to the last address.
-        (
-            &[
-                5, 1, 0xff, 0xff, 0xff, 0xff, 0xff, 0x7f, 0, 0, 1, 0, 0, 0, 0, 0, 0, 0,
-            ],
-            an_end(Fate::Closed, 1, 27),
-        ),
-        // The most bytes that a poison may have.
-        (
-            &[5, 2, 0, 0x10, 0, 0, 0, 0, 0, 0, 0, 0, 0, 0, 1, 0, 0, 0],
-            an_end(Fate::Closed, 1, 27),
-        ),
-        // No byte, at the end of all addresses.
-        (
-            &[5, 0, 0, 0, 0, 0, 0, 0x80, 0, 0, 0, 0, 0, 0, 0, 0, 0, 0],
-            an_end(Fate::Closed, 1, 27),
-        ),
-    ];
-    for (record, want) in records {
-        assert_eq!(rt; end_in(rt.alloc(), &HEADER_2, record)?, want, "{record:?}");
     }
     Ok(())
 }

@@ -300,7 +300,7 @@ fn refuse_each(rt: &impl Abort, alloc: Global, calls: &[Call]) -> Result<u64, Fa
 }
 
 #[test]
-fn each_growth_refused_in_turn(rt: HostRuntime) -> Result<(), Fail> {
+fn each_growth_of_a_book_refused_in_turn(rt: HostRuntime) -> Result<(), Fail> {
     let calls = [
         Call::Admit(0x1000, 8),
         Call::Admit(0x1040, 8),

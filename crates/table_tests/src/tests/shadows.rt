@@ -61,7 +61,7 @@ fn shadow_calls(rt: HostRuntime) -> Result<(), Fail> {
 }
 
 #[test]
-fn last_granule(rt: HostRuntime) -> Result<(), Fail> {
+fn marks_in_the_last_granule(rt: HostRuntime) -> Result<(), Fail> {
     let mut shadow = Shadow::new(rt.alloc());
     let poison = Mark::Poison(0x7fff_ffff_fffc, 4, USER_POISON);
     mark_each(&rt, &mut shadow, &[poison])?;

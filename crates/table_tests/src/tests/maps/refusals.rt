@@ -95,7 +95,7 @@ fn calls_refused_at(alloc: Global, turn: u64, is_upward: bool) -> Result<Outcome
 }
 
 #[test]
-fn each_growth_refused_in_turn(rt: HostRuntime) -> Result<(), Fail> {
+fn each_growth_of_a_map_refused_in_turn(rt: HostRuntime) -> Result<(), Fail> {
     for is_upward in [true, false] {
         let mut refusals = 0;
         for turn in 1..200u64 {

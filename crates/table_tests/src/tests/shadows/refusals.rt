@@ -166,7 +166,7 @@ fn growths(rt: &impl Abort, alloc: Global, calls: Calls) -> Result<u64, Fail> {
 }
 
 #[test]
-fn each_growth_refused_in_turn(rt: HostRuntime) -> Result<(), Fail> {
+fn each_growth_of_a_shadow_refused_in_turn(rt: HostRuntime) -> Result<(), Fail> {
     // From turn 7 on, the left redzone is marked, and the block after it isn't.
     assert_eq!(rt; growths(&rt, rt.alloc(), Calls::Small)?, 11);
     // As many for the block, which has nothing around it, and six for its free and its release.
