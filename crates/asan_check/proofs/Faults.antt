@@ -22,10 +22,12 @@ module _ (bound : ℕ) (past : List Event) (at : ℕ) where
   free_of_null zero_is = rw (or_left (eqb at 0) (list_any (starts_at at) (live bound past)) (eq-eqb at 0 zero_is)) refl
 
   -- nor where a live block starts
+  pub free_of_any_live : list_any (starts_at at) (live bound past) ≡ true → free_fault bound past at ≡ None
+  free_of_any_live one = rw (or_right (eqb at 0) (list_any (starts_at at) (live bound past)) one) refl
+
   pub free_of_live : (b : Extent) → Contains (live bound past) b → b.at ≡ at → free_fault bound past at ≡ None
   free_of_live b has here =
-      rw (or_right (eqb at 0) (list_any (starts_at at) (live bound past))
-      (passes_any (starts_at at) (live bound past) b has (eq-eqb b.at at here))) refl
+      free_of_any_live (passes_any (starts_at at) (live bound past) b has (eq-eqb b.at at here))
 
   -- where a held block starts it is a double free
   pub free_of_held : 0 < at → list_any (starts_at at) (live bound past) ≡ false

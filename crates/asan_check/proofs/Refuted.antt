@@ -1,6 +1,7 @@
 -- Reports that no checker may give on worked histories.
 -- Each lemma is named for what would have gone wrong.
-use Rattle.std.proofs.Common.{◌≡◌, ℕ, Bool, true, false, List, [], ◌∷◌, ◌++◌, refl, sym, ap, ◌∙◌}
+use Rattle.std.proofs.Common.{◌≡◌, ℕ, ◌^◌, ◌≤◌, Bool, true, false, List, [], ◌∷◌, ◌++◌, length, refl}
+use Rattle.std.proofs.Common.{sym, ap, ◌∙◌, arith}
 use Rattle.std.specs.Prelude.{◌≢◌, ◌&&◌, ◌==◌}
 use Rattle.std.proofs.lemmas.Bool.{false≢true}
 use Rattle.asan_check.specs.declared.report.Class.{Class}
@@ -8,6 +9,8 @@ use Rattle.asan_check.specs.declared.report.Class.TheVariants as class
 use Rattle.asan_check.specs.declared.report.Fault.{Fault}
 use Rattle.asan_check.specs.declared.report.Fault.TheVariants as fault
 use Rattle.asan_check.specs.declared.report.Report.{Report}
+use Rattle.asan_check.specs.declared.checker.Checker.{Checker}
+use Rattle.asan_check.specs.Standing.{bound_of, report_room, reports_of}
 use Rattle.asan_check.specs.Verdicts.{verdicts}
 use Rattle.trace_record.specs.declared.shade.Kind.TheVariants as kind
 use Rattle.asan_check.proofs.Examples.{load, store, malloc, poison, poison_of, free, report, usual}
@@ -224,3 +227,18 @@ poison_keeps_the_first_kind :
     ∷ load 0x1000 1 refl ∷ [])
     ≢ report 3 (fault.Access false 1 0x1000 0x1000 class.StackBufferOverflow 0xf2) ∷ []
 poison_keeps_the_first_kind = differ _ _ refl refl
+
+-- ---- checkers, once a step has failed or not
+
+module _ {A : Type 0} (before after : Checker A) where
+  -- a step halves the bound of the quarantine
+  step_halves_the_bound :
+      bound_of before ≡ 2 ^ 28 → bound_of after ≡ 2 ^ 27 → ¬ (bound_of after ≡ bound_of before)
+  step_halves_the_bound was is same =
+      let halved : ◌≡◌ {A = ℕ} (2 ^ 27) (2 ^ 28) = sym is ∙ same ∙ was in absurd (omega arith)
+
+  -- a report is refused memory though there is room for another ten
+  report_is_refused_with_room :
+      report_room before ≡ 16_394 → length (reports_of before) ≡ 16_384 →
+      ¬ (report_room before ≤ length (reports_of before))
+  report_is_refused_with_room room many full = absurd (omega arith)

@@ -1,6 +1,6 @@
 -- Where a checker stands after a history.
 use Rattle.std.specs.Prelude.{◌≡◌, ℕ, ◌-◌, ◌<◌, ◌⊎◌, Bool, true, false, List, ◌∷◌, ◌++◌, length}
-use Rattle.std.specs.Prelude.{drop, take, reverse, IsPermutation, IsSome}
+use Rattle.std.specs.Prelude.{drop, take, reverse, vec_capacity, IsPermutation, IsSome}
 use Rattle.trace_record.specs.declared.event.Event.{Event}
 use Rattle.shadow_map.specs.Shows.{Shows}
 use Rattle.asan_check.specs.declared.checker.Checker.{Checker}
@@ -21,14 +21,19 @@ module _ {A : Type 0} where
   abbrev pub reports_of : Checker A → List Report
   reports_of c = c.reports.items
 
+  -- how many reports there is room for in the memory at hand
+  abbrev pub report_room : Checker A → ℕ
+  report_room c = vec_capacity c.reports
+
   abbrev pub bound_of : Checker A → ℕ
   bound_of c = c.book.bound
 
-  -- the counts, the reports and the bound are as they were
+  -- the counts, the reports with their room, and the bound are as they were
   pub record KeepsTally (old new : Checker A) : Type 0 where
     pub failed : has_failed new ≡ has_failed old
     pub checked : checked_of new ≡ checked_of old
     pub reports : reports_of new ≡ reports_of old
+    pub room : report_room new ≡ report_room old
     pub bound : bound_of new ≡ bound_of old
 
   -- the checker's shadow and its book show what the history has left

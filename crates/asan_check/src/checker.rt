@@ -56,7 +56,7 @@ impl<A: Allocator + Copy> Checker<A> {
     ghost use Rattle.asan_check.specs.Freeing.{IsFreeing};
     ghost use Rattle.asan_check.specs.Standing.{KeepsTally, ShowsHistory, Stands, FailedAt};
     ghost use Rattle.asan_check.specs.Standing.{has_failed, checked_of, reports_of, bound_of};
-    ghost use Rattle.asan_check.specs.Standing.{StopsForAReason};
+    ghost use Rattle.asan_check.specs.Standing.{report_room, StopsForAReason};
     ghost use Rattle.asan_check.specs.Thinning.{is_access};
 
     /// A checker that has checked no event, and whose quarantine holds spans of at most `bound`
@@ -89,7 +89,8 @@ impl<A: Allocator + Copy> Checker<A> {
     /// `Failed` where a growth was refused, in this call or in an earlier one. From then on every
     /// step answers `Failed`, and the reports and the count stay as they were before the first
     /// refused event. An event that lays no mark and that nothing is wrong with needs no memory:
-    /// such a step fails only after an earlier one.
+    /// such a step fails only after an earlier one. An event that something is wrong with needs
+    /// memory only for its report, if there is no room for one more in the memory at hand.
     #[inline]
     pub fn step(&mut self, event: &Event) -> Result<Option<Report>, Failed>
         requires room { checked_of self.old + 1 < 2 ^ 64 }
@@ -102,6 +103,10 @@ impl<A: Allocator + Copy> Checker<A> {
         ensures spared { OnErr result ((bound : ℕ) (past : List AnEvent) →
             Stands bound self.old past →
             marks_none event.now ≡ true → IsSome (fault_of bound past event.now)) }
+        ensures full { OnErr result ((bound : ℕ) (past : List AnEvent) →
+            Stands bound self.old past →
+            IsSome (fault_of bound past event.now) →
+            report_room self.old ≤ length (reports_of self.old)) }
         ensures count { OnOk result (checked_of self.new ≡ checked_of self.old + 1) }
         ensures kept { OnErr result ((has_failed self.new ≡ true)
             × (checked_of self.new ≡ checked_of self.old)
@@ -296,6 +301,10 @@ impl<A: Allocator + Copy> Checker<A> {
         ensures spared { OnErr result ((bound : ℕ) (past : List AnEvent) →
             Stands bound self.old past →
             marks_none event.now ≡ true → IsSome (fault_of bound past event.now)) }
+        ensures full { OnErr result ((bound : ℕ) (past : List AnEvent) →
+            Stands bound self.old past →
+            IsSome (fault_of bound past event.now) →
+            report_room self.old ≤ length (reports_of self.old)) }
         ensures others { (checked_of self.new ≡ checked_of self.old)
             × (has_failed self.new ≡ has_failed self.old)
             × (bound_of self.new ≡ bound_of self.old) }
@@ -318,6 +327,8 @@ impl<A: Allocator + Copy> Checker<A> {
             (fault ≡ fault_of bound past event.now)
             × ShowsHistory bound self.new (event.now ∷ past)) }
         ensures spared { OnErr result (marks_none event.now ≡ false) }
+        ensures good { OnErr result ((bound : ℕ) (past : List AnEvent) →
+            ShowsHistory bound self.old past → fault_of bound past event.now ≡ None) }
         ensures tally { KeepsTally self.old self.new }
     {
         match event {
@@ -369,6 +380,9 @@ impl<A: Allocator + Copy> Checker<A> {
             (fault ≡ malloc_fault bound past region.now.at region.now.size)
             × ShowsHistory bound self.new (event.Malloc region.now ∷ past)) }
         ensures spared { OnErr result (0 < region.now.at) }
+        ensures good { OnErr result ((bound : ℕ) (past : List AnEvent) →
+            ShowsHistory bound self.old past →
+            malloc_fault bound past region.now.at region.now.size ≡ None) }
         ensures tally { KeepsTally self.old self.new }
     {
         match self.book.admit(region.at(), region.size())? {
@@ -391,6 +405,8 @@ impl<A: Allocator + Copy> Checker<A> {
             (fault ≡ free_fault bound past place.now.at)
             × ShowsHistory bound self.new (event.Free place.now ∷ past)) }
         ensures spared { OnErr result (0 < place.now.at) }
+        ensures good { OnErr result ((bound : ℕ) (past : List AnEvent) →
+            ShowsHistory bound self.old past → free_fault bound past place.now.at ≡ None) }
         ensures tally { KeepsTally self.old self.new }
     {
         let at = place.at();

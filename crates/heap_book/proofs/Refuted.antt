@@ -1,6 +1,6 @@
 -- Wrong answers and wrong books that the definitions refuse, computed at blocks with their numbers
 -- written out.
-use Rattle.std.proofs.Common.{◌≡◌, ℕ, ◌<◌, ◌≤◌, ap, sym, true, List, [], ◌∷◌, arith}
+use Rattle.std.proofs.Common.{◌≡◌, ℕ, ◌<◌, ◌≤◌, ap, sym, true, List, [], ◌∷◌, length, arith}
 use Rattle.std.specs.Prelude.{◌≢◌}
 use Rattle.std.specs.List.{list_any}
 use Rattle.std.proofs.lemmas.Bool.{false≢true}
@@ -8,7 +8,7 @@ use Rattle.std.proofs.lemmas.List.Sorted.{length_permutation}
 use Rattle.heap_book.specs.declared.answers.Admit.TheVariants as admit
 use Rattle.heap_book.specs.declared.answers.Freed.TheVariants as freed
 use Rattle.heap_book.specs.Spans.{Extent, held_of, starts_at}
-use Rattle.heap_book.specs.Blocks.{Blocks, queued_bytes, ReleasesOldest}
+use Rattle.heap_book.specs.Blocks.{Blocks, queued_bytes, SameBlocks, ReleasesOldest}
 use Rattle.heap_book.specs.Admit.{IsAdmitAnswer, AfterAdmit}
 use Rattle.heap_book.specs.Freed.{IsFreeAnswer, AfterFree}
 
@@ -16,7 +16,7 @@ abbrev block : ℕ → ℕ → Extent
 block at size = record { at = at; size = size }
 
 abbrev book : List Extent → List Extent → ℕ → Blocks
-book live queue bound = record { live = live; queue = queue; bound = bound }
+book live queue bound = record { live = live; queue = queue; bound = bound; room = 4 }
 
 -- two blocks in quarantine, the first of which was freed first, and a bound that has room for one
 abbrev two_held : Blocks
@@ -92,6 +92,14 @@ freed_block_is_first_in_queue after = first_differs (ap first_at after.queue)
 free_of_no_block_runs_out_of_memory :
     ¬ ((0 < 0x3000) × (list_any (starts_at 0x3000) one_live.live ≡ true))
 free_of_no_block_runs_out_of_memory says = false≢true says.1
+
+-- and for one whose block has room in quarantine
+free_with_room_runs_out_of_memory : ¬ (one_live.room ≤ length one_live.queue)
+free_with_room_runs_out_of_memory full = absurd (omega arith)
+
+-- a free that was refused memory has moved its block
+refused_free_moves_the_block : ¬ SameBlocks one_live (book [] (block 0x1000 8 ∷ []) 72)
+refused_free_moves_the_block same = absurd (let e = same.live in cc)
 
 -- ---- releases
 

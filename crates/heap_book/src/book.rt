@@ -1,10 +1,10 @@
 //! The book of a process's blocks.
-ghost use Rattle.std.specs.Prelude.{◌≡◌, ◌+◌, ◌<◌, ◌≤◌, ◌↔◌, [], true};
+ghost use Rattle.std.specs.Prelude.{◌≡◌, ◌+◌, ◌<◌, ◌≤◌, ◌↔◌, [], length, true};
 ghost use Rattle.std.specs.Prelude.{IsErr, IfOk, OnErr, IfSome, IfNone};
 ghost use Rattle.std.specs.List.{IsDistinct, list_any};
 ghost use Rattle.asan_units.specs.Units.{address_end, largest_quarantine};
 ghost use Rattle.heap_book.specs.Spans.{Extent, held_of, may_be_admitted, meets, starts_at};
-ghost use Rattle.heap_book.specs.Blocks.{taken_blocks, queued_bytes, ReleasesOldest};
+ghost use Rattle.heap_book.specs.Blocks.{taken_blocks, queued_bytes, SameBlocks, ReleasesOldest};
 ghost use Rattle.heap_book.specs.Admit.{IsAdmitAnswer, AfterAdmit};
 ghost use Rattle.heap_book.specs.Freed.{IsFreeAnswer, AfterFree};
 
@@ -37,9 +37,14 @@ impl<A: Allocator + Copy> Model for Book<A> {
     ghost Value = { Blocks };
 
     ghost use Rattle.heap_book.specs.Slots.{live_of, IsKept};
+    ghost use Rattle.std.specs.VecDeque.{deque_capacity};
 
-    ghost view = { λ b.
-        record { live = live_of b.blocks; queue = b.queue.items; bound = b.bound } };
+    ghost view = { λ b. record {
+      live = live_of b.blocks;
+      queue = b.queue.items;
+      bound = b.bound;
+      room = deque_capacity b.queue;
+    } };
 
     ghost invariant = { λ b. IsKept b.blocks b.queue.items b.queued };
 }
@@ -53,7 +58,8 @@ impl<A: Allocator + Copy> Book<A> {
     /// `Bound` exactly if the bound is over 2^40.
     pub fn new(alloc: A, bound: u64) -> Result<Book<A>, Bound>
         ensures err { IsErr result ↔ (largest_quarantine < bound) }
-        ensures ok { IfOk result (λ book. book ≡ record { live = []; queue = []; bound = bound }) }
+        ensures ok { IfOk result (λ book.
+            (book.live ≡ []) × (book.queue ≡ []) × (book.bound ≡ bound)) }
     {
         if bound > LARGEST_QUARANTINE {
             return Err(Bound);
@@ -120,13 +126,15 @@ impl<A: Allocator + Copy> Book<A> {
     ///
     /// # Errors
     ///
-    /// `NoMemory` only where the answer would be `Held`. The book is then as it was.
+    /// `NoMemory` only where the answer would be `Held` and the quarantine has no room for one more
+    /// block in the memory at hand. The blocks and the bound are then as they were.
     pub fn free(&mut self, at: u64) -> Result<Freed, NoMemory>
         ensures answer { IfOk result (IsFreeAnswer self.old at) }
         ensures after { IfOk result (λ freed. AfterFree self.old freed self.new) }
         ensures no_memory { OnErr result
             ((0 < at) × (list_any (starts_at at) self.old.live ≡ true)) }
-        ensures unchanged { OnErr result (self.new ≡ self.old) }
+        ensures full { OnErr result (self.old.room ≤ length self.old.queue) }
+        ensures unchanged { OnErr result (SameBlocks self.old self.new) }
     {
         if at == 0 {
             return Ok(Freed::Ignored);

@@ -2,11 +2,12 @@ use Rattle.std.proofs.Common.{◌≡◌, true, false, [], ◌∷◌, ◌++◌, s
 use Rattle.std.specs.Prelude.{Contains, not}
 use Rattle.std.specs.List.{list_any}
 use Rattle.std.proofs.lemmas.List.Sorted.{list_any-IsPermutation, Contains-permutation}
+use Rattle.std.proofs.lemmas.Result.{err_from_is_err_and}
 use Rattle.heap_book.specs.Spans.{starts_at}
 use Rattle.heap_book.proofs.Permutations.{IsPermutation-filter}
 use Rattle.asan_check.specs.History.{live, held}
 use Rattle.asan_check.proofs.Blocks.{none_at_zero}
-use Rattle.asan_check.proofs.Faults.{free_of_null, free_of_live, free_of_held, free_of_none}
+use Rattle.asan_check.proofs.Faults.{free_of_null, free_of_any_live, free_of_live, free_of_held, free_of_none}
 use Rattle.asan_check.proofs.Frees as frees
 use Rattle.asan_check.proofs.Steps.{live_free}
 use Rattle.asan_check.proofs.checker.Checker.free.Goals as goal
@@ -85,3 +86,25 @@ returns-in-Stranger-clause-ok g c bound past shown =
         bound_is = rw same shown.bound_is;
       },
     )
+
+-- nothing is wrong with a free that was refused memory
+pub returns-in_err-free-clause-good : goal.returns-in_err-free-clause-good
+returns-in_err-free-clause-good g c =
+    let error = err_from_is_err_and c.from_residual.result c.from_residual.ensures.1 in
+    rw error.1 (λ bound past shown.
+    let p = c.args.place.now in
+    let one = rw c.at-at.ensures at c.in_err-free.ensures.no_memory.1 in
+    free_of_any_live bound past p.at
+    (sym (list_any-IsPermutation (starts_at p.at) c.args.self.now.book.live (live bound past) shown.live_blocks) ∙ one))
+
+pub returns-in_err-hold-in-Held-clause-good : goal.returns-in_err-hold-in-Held-clause-good
+returns-in_err-hold-in-Held-clause-good g c =
+    let error = err_from_is_err_and c.from_residual-in_err-hold-in-Held.result
+    c.from_residual-in_err-hold-in-Held.ensures.1 in
+    rw error.1 (λ bound past shown.
+    let p = c.args.place.now in
+    let b = c.in-Held.block in
+    let answer = rw c.in-Held.is at c.in_ok-free.ensures.answer in
+    free_of_live bound past p.at b
+    (Contains-permutation c.args.self.now.book.live (live bound past) b shown.live_blocks answer.2)
+    (answer.1 ∙ c.at-at.ensures))

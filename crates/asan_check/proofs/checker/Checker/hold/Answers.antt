@@ -8,7 +8,7 @@ use Rattle.asan_check.proofs.checker.Checker.hold.Goals as goal
 
 pub loop-oldest-init : goal.loop-oldest-init
 loop-oldest-init g c = record {
-  tally = record { failed = refl; checked = refl; reports = refl; bound = refl };
+  tally = record { failed = refl; checked = refl; reports = refl; room = refl; bound = refl };
   releasing = λ bound past p f. (
     [],
     rw f.queue (releasing_starts bound past p c.args.block.now f.was_live f.here),
@@ -28,6 +28,7 @@ loop-oldest-preserved g c =
         failed = kept.failed;
         checked = kept.checked;
         reports = kept.reports;
+        room = kept.room;
         bound = released.bound
             ∙ kept.bound;
       };

@@ -2,6 +2,7 @@ use Rattle.std.proofs.Common.{◌≡◌, ◌<◌, [], ◌∷◌, ◌++◌, sym, 
 use Rattle.std.specs.Prelude.{IsPermutation}
 use Rattle.std.proofs.lemmas.List.Sorted.{IsPermutation-sym, IsPermutation-trans, IsPermutation-append_comm}
 use Rattle.std.proofs.lemmas.List.Sorted.{IsPermutation-append_left}
+use Rattle.std.proofs.lemmas.Result.{err_from_is_err_and}
 use Rattle.asan_check.specs.History.{block_of, live, marks}
 use Rattle.asan_check.proofs.Blocks.{admits_by_any_order}
 use Rattle.asan_check.proofs.Faults.{malloc_admitted, malloc_refused}
@@ -50,3 +51,24 @@ returns-in-Refused-clause-ok g c bound past shown =
         bound_is = rw same shown.bound_is;
       },
     )
+
+-- nothing is wrong with a malloc that was refused memory
+pub returns-in_err-admit-clause-good : goal.returns-in_err-admit-clause-good
+returns-in_err-admit-clause-good g c =
+    let error = err_from_is_err_and c.from_residual.result c.from_residual.ensures.1 in
+    rw error.1 (λ bound past shown.
+    let r = c.args.region.now in
+    let may = rw (c.at.ensures, c.size.ensures, shown.queue) at c.in_err-admit.ensures.no_memory in
+    malloc_admitted bound past r.at r.size
+    (sym (admits_by_any_order bound past c.args.self.now.book.live (block_of r) shown.live_blocks) ∙ may))
+
+pub returns-in_err-block-in-Admitted-clause-good : goal.returns-in_err-block-in-Admitted-clause-good
+returns-in_err-block-in-Admitted-clause-good g c =
+    let error = err_from_is_err_and c.from_residual-in_err-block-in-Admitted.result
+    c.from_residual-in_err-block-in-Admitted.ensures.1 in
+    rw error.1 (λ bound past shown.
+    let r = c.args.region.now in
+    let answer = rw c.in-Admitted.is at c.in_ok-admit.ensures.answer in
+    let may = rw (c.at.ensures, c.size.ensures, shown.queue) at answer.2 in
+    malloc_admitted bound past r.at r.size
+    (sym (admits_by_any_order bound past c.args.self.now.book.live (block_of r) shown.live_blocks) ∙ may))

@@ -9,9 +9,9 @@ returns-clause-stands g c =
       running = refl;
       shown = record {
         shadow = c.new-2.ensures;
-        live_blocks = rw book (IsPermutation-refl _);
-        queue = rw book refl;
-        bound_is = rw book refl;
+        live_blocks = rw book.0 (IsPermutation-refl _);
+        queue = book.1;
+        bound_is = book.2;
       };
       count = refl;
       reports = c.new-3.ensures.items;

@@ -90,4 +90,5 @@ returns-clause-after g c =
           (live_of-insert b.at slot es (absent b es any) refl);
       queue = refl;
       bound = refl;
+      room = refl;
     }

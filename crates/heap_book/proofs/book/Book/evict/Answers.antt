@@ -49,6 +49,7 @@ returns-clause-released g c =
           (live_of-remove b.at (record { size = b.size; live = false }) es
           (oldest-found b rest es freed c.self.invariant.apart) refl);
       bound = refl;
+      room = c.in_ok-block.ensures.capacity;
     }
 
 pub returns-then-self-clause-apart : goal.returns-then-self-clause-apart

@@ -112,4 +112,5 @@ returns-clause-after g c =
           (live_of-set c.args.at s t es is (not-false c.in-Some.slot.live c.if-not-slot.false) refl));
       queue = rw (c.in_ok-push_back.ensures.items, c.from_parts-block.ensures) refl;
       bound = refl;
+      room = c.in_ok-push_back.ensures.capacity;
     }
