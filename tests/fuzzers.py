@@ -131,10 +131,11 @@ def check_fuzzer(target: Target, folder: str, seconds: float) -> None:
 
 
 def check_threads(compiler: str, folder: str) -> None:
-    """Four threads that write into a stream, under ThreadSanitizer."""
+    """Four threads that write into a stream, under ThreadSanitizer, and then under the others."""
     parts = ("stream", "output", "windows", "segments")
     sources = [f"{OURS}/threads.c"] + [f"{RECORDER}/{part}.c" for part in parts]
-    run([build(compiler, Target("threads", sources, []), "thread", ["-pthread"], folder)], folder)
+    for sanitizers in ("thread", SANITIZERS):
+        run([build(compiler, Target("threads", sources, []), sanitizers, ["-pthread"], folder)], folder)
 
 
 def has_fuzzer(folder: str) -> bool:
