@@ -1,5 +1,5 @@
-/* Four threads write into one stream: to a file, to files of a segment each, and to a socket. What is written has all
-   records of each thread in their order, and a close. ThreadSanitizer watches. Records of accesses are left out: their
+/* Four threads write into one stream: to a file and to a socket; and, if a word is given, to files of a segment each.
+   What is written has all records of each thread in their order, and a close. Records of accesses are left out: their
    first two bytes are stored at once, which this machine does in order, and the language need not. */
 #define _GNU_SOURCE
 #include <pthread.h>
@@ -197,12 +197,15 @@ static void check_socket(void)
     close(reader.listener);
 }
 
-int main(void)
+int main(int count, char **words)
 {
+    (void)words;
     check_file();
     stream_forget();
-    check_segments();
-    stream_forget();
     check_socket();
+    if (count > 1) {
+        stream_forget();
+        check_segments();
+    }
     return 0;
 }
