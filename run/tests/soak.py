@@ -37,7 +37,7 @@ CLASSES = {
     "poisoned": "use-after-poison",
 }
 REPORT = re.compile(r"^p0 #\d+ (?:load|store|free|malloc) .*?((?:[a-z]+-)+[a-z]+)(?: shadow [0-9a-f]{2})?$", re.M)
-END = re.compile(r"^p0 end ([a-z-]+(?: [a-z]+)?) (?:events|checked) \d+.* reports (\d+)$", re.M)
+END = re.compile(r"^p0 end ([a-z-]+(?: [a-z]+)?) (?:events|checked) (\d+).* reports (\d+)$", re.M)
 # Within so many seconds of the end of a process its verdict is there.
 PATIENCE = 120
 SAMPLES_PER_MINUTE = 12
@@ -50,6 +50,7 @@ WARM = 0.1
 class Verdict(NamedTuple):
     status: str
     end: str
+    events: int
     reports: Counter[str]
 
 
@@ -157,18 +158,19 @@ class Soak:
         end = END.findall(text)
         reports = collections.Counter(REPORT.findall(text))
         if status == "4":
-            return Verdict(status, "", reports)
-        if len(end) != 1 or int(end[0][1]) != sum(reports.values()):
+            return Verdict(status, "", 0, reports)
+        if len(end) != 1 or int(end[0][2]) != sum(reports.values()):
             raise Failure(f"process {process}: no good end line: status {status}, {text[-300:]!r}")
-        return Verdict(status, end[0][0], reports)
+        return Verdict(status, end[0][0], int(end[0][1]), reports)
 
-    def expect(self, process: int, end: str, bug: str, number: int = 1) -> None:
+    def expect(self, process: int, end: str, bug: str, number: int = 1) -> Verdict:
         """The verdict of a process has this end, and so many reports of this bug and no others."""
         verdict = self.verdict(process)
         self.expect_reports(process, verdict, bug, number)
         status = ("1" if verdict.reports else "0") if end == "closed" else "3"
-        if re.fullmatch(end, verdict.end) is None or verdict.status != status:
+        if verdict.end != end or verdict.status != status:
             raise Failure(f"process {process}: it ended as {verdict.end}, wanted {end}; status {verdict.status}")
+        return verdict
 
     def expect_reports(self, process: int, verdict: Verdict, bug: str, number: int = 1) -> None:
         planted = collections.Counter({CLASSES[bug]: number} if bug in CLASSES and number else {})
@@ -249,13 +251,25 @@ class Soak:
         self.expect(program.pid, "closed", "past_heap", number)
 
     def limit(self, draw: random.Random) -> None:
-        """At the event limit both say so."""
-        program = self.start("works", "past_heap", "3000", as_hub=False, ASANCOL_LIMIT="500")
+        """At the event limit the trace has no close, and without a hub the program says so."""
+        as_hub = draw.random() < 0.5
+        settings = {"ASANCOL_LIMIT": "500", "ASANCOL_SEGMENTS": "0" if as_hub else ""}
+        program = self.start("works", "past_heap", "3000", as_hub=as_hub, **settings)
         errors = program.communicate()[1]
         self.expect(program.pid, "no-close", "past_heap")
-        self.count("words")
-        if "at the limit, further events left out" not in errors:
+        self.count("words", 0 if as_hub else 1)
+        if not as_hub and "at the limit, further events left out" not in errors:
             raise Failure(f"no word of the limit: {errors!r}")
+
+    def segments(self, draw: random.Random) -> None:
+        """With a hub a process goes on past the limit in another connection: all but the last have as many events."""
+        limit = 500
+        program = self.start("works", "past_heap", "1000", as_hub=True, ASANCOL_LIMIT=str(limit))
+        program.communicate()
+        verdict = self.expect(program.pid, "closed", "past_heap")
+        while verdict.events == limit:
+            self.count("segments")
+            verdict = self.expect(program.pid, "closed", "-")
 
     def peer(self, data: bytes, seconds: float) -> int:
         """A process that connects, sends this, holds on and ends. Answers its number."""
@@ -318,8 +332,8 @@ class Soak:
 
     def scenarios(self) -> List[Callable[[random.Random], None]]:
         often = [self.works, self.crashes, self.threads, self.children, self.execs, self.killed, self.killed]
-        return [*often, *often, self.starts, self.flood, self.limit, self.silent, self.garbage, self.full_trace,
-                self.full_results]
+        return [*often, *often, self.starts, self.flood, self.limit, self.segments, self.silent, self.garbage,
+                self.full_trace, self.full_results]
 
     # The run.
 
@@ -386,7 +400,8 @@ class Soak:
             self.failures.append(f"memory grows by {growth:.0f} KB")
         of, last = self.counts, self.samples[-1]
         print(f"seed {self.seed}, {last.seconds / 60:.1f} minutes: {of['processes']} processes, of which "
-              f"{of['killed']} killed, {of['silent']} silent, {of['garbage']} garbage, {of['full']} with a full disk\n"
+              f"{of['killed']} killed, {of['silent']} silent, {of['garbage']} garbage, {of['full']} with a full disk; "
+              f"{of['segments']} further segments\n"
               f"verdicts {of['verdicts']}, words {of['words']}, longest wait {self.longest:.1f} s\n"
               f"planted {of['planted']}, found {of['found']}, false {of['false']}\n"
               f"service: {warm[0].kilobytes} KB warm, {last.kilobytes} KB at the end, most "

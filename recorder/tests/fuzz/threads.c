@@ -1,6 +1,6 @@
-/* Four threads write into one stream: to a file, to a socket, and to a file past the limit of events. What is written
-   has the records of each thread in its order, and ends as it should. ThreadSanitizer watches. Records of accesses are
-   left out: their first two bytes are stored at once, which this machine does in order, and the language need not. */
+/* Four threads write into one stream: to a file and to a socket; and, if a word is given, to files of a segment each.
+   What is written has all records of each thread in their order, and a close. Records of accesses are left out: their
+   first two bytes are stored at once, which this machine does in order, and the language need not. */
 #define _GNU_SOURCE
 #include <pthread.h>
 #include <stdio.h>
@@ -16,7 +16,7 @@
 #include "../../stream.h"
 #include "../../unseen.h"
 
-enum { THREADS = 4, RECORDS = 40000, LIMIT = 100000 };
+enum { THREADS = 4, RECORDS = 40000, LIMIT = 30000 };
 
 /* What the other parts of the recorder would do. */
 
@@ -99,39 +99,64 @@ static void write_all(const struct settings *settings)
     stream_say_left_out();
 }
 
-/* Looks at a trace: each record is whole, and those of a thread are in order. Answers how many there are. */
-static uint64_t look_at(const unsigned char *bytes, size_t size, bool is_closed)
+/* Of each thread, which record comes next. */
+static uint64_t next[THREADS];
+
+/* Looks at a trace that is closed: each record is whole, and those of a thread are in order. Answers how many there
+   are. */
+static uint64_t look_at(const unsigned char *bytes, size_t size)
 {
-    uint64_t next[THREADS] = {0}, count = 0;
+    uint64_t count = 0;
     size_t at = HEADER_LENGTH;
     expect(size > HEADER_LENGTH && memcmp(bytes, HEADER, HEADER_LENGTH) == 0, "the header");
     for (; at < size && bytes[at] != CODE_CLOSE; at += record_length(bytes[at]), count++) {
         uint64_t address;
         expect(record_length(bytes[at]) != 0 && at + record_length(bytes[at]) <= size, "a record");
         memcpy(&address, bytes + at + 1, sizeof address);
-        if (count == LIMIT && address == 0)
-            continue; /* the one that is one too many */
-        expect(address >> 32 < THREADS && (address & UINT32_MAX) >= next[address >> 32], "the order of a thread");
-        next[address >> 32] = (address & UINT32_MAX) + 1;
+        expect(address >> 32 < THREADS && (address & UINT32_MAX) == next[address >> 32], "the order of a thread");
+        next[address >> 32]++;
     }
-    expect(is_closed ? at + CLOSE_LENGTH == size : at == size, "the end");
+    expect(at + CLOSE_LENGTH == size, "the close");
     return count;
 }
 
-static void check_file(uint64_t limit)
+static uint64_t look_at_file(const char *path)
 {
-    struct settings settings = {.trace = "threads.trace", .limit = limit};
-    bool is_closed = limit > LIMIT;
-    unlink(settings.trace);
-    write_all(&settings);
-    FILE *file = fopen(settings.trace, "rb");
     unsigned char *bytes = malloc(LARGEST_STREAM);
+    FILE *file = fopen(path, "rb");
     expect(file != NULL && bytes != NULL, "the file");
     size_t size = fread(bytes, 1, LARGEST_STREAM, file);
     fclose(file);
-    uint64_t count = look_at(bytes, size, is_closed);
-    expect(count == (is_closed ? THREADS * RECORDS : LIMIT + 1), "the number of records");
+    unlink(path);
+    uint64_t count = look_at(bytes, size);
     free(bytes);
+    return count;
+}
+
+static void expect_all(uint64_t count)
+{
+    expect(count == THREADS * RECORDS, "the number of records");
+    memset(next, 0, sizeof next);
+}
+
+static void check_file(void)
+{
+    struct settings settings = {.trace = "threads.trace", .limit = EVENT_LIMIT};
+    write_all(&settings);
+    expect_all(look_at_file(settings.trace));
+}
+
+static void check_segments(void)
+{
+    struct settings settings = {.trace = "threads.trace", .limit = LIMIT, .segments = MOST_SEGMENTS_KEPT};
+    char path[64];
+    write_all(&settings);
+    uint64_t count = look_at_file(settings.trace);
+    for (int segment = 2; count < THREADS * RECORDS; segment++) {
+        snprintf(path, sizeof path, "threads.segment-%03d.trace", segment);
+        count += look_at_file(path);
+    }
+    expect_all(count);
 }
 
 static struct {
@@ -167,17 +192,20 @@ static void check_socket(void)
     write_all(&settings);
     stream_forget();
     pthread_join(thread, NULL);
-    expect(look_at(reader.bytes, reader.size, true) == THREADS * RECORDS, "the number of records");
+    expect_all(look_at(reader.bytes, reader.size));
     free(reader.bytes);
     close(reader.listener);
 }
 
-int main(void)
+int main(int count, char **words)
 {
-    check_file(EVENT_LIMIT);
-    stream_forget();
-    check_file(LIMIT);
+    (void)words;
+    check_file();
     stream_forget();
     check_socket();
+    if (count > 1) {
+        stream_forget();
+        check_segments();
+    }
     return 0;
 }
