@@ -239,7 +239,8 @@ def targets_of(tree: Tree) -> Dict[str, Set[str]]:
 
 def findings(tree: Tree, known: Dict[str, Row]) -> Iterator[Finding]:
     targets = targets_of(tree)
-    pages = ["README.md", "CHANGELOG.md"] + [it for it in tree.files if re.fullmatch(r"docs/[^/]+\.md", it)]
+    named = re.compile(r"(?:docs/[^/]+|crates/\w+/README|README|CHANGELOG)\.md")
+    pages = [it for it in tree.files if named.fullmatch(it)]
     for page in sorted(pages):
         text = tree.text_of(page)
         yield from bad_links(page, text, tree)
