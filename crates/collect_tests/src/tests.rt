@@ -18,7 +18,6 @@ mod large;
 mod live;
 mod overlap;
 mod own_memory;
-mod patience;
 mod reading;
 mod refusals;
 mod reports;

@@ -1,13 +1,10 @@
-//! Tests of `collect_within` and `collect_live_within`: each checker has the memory of its own
-//! allocator.
+//! Tests of `collect_within`: each checker has the memory of its own allocator.
 
 ghost use Rattle.std.specs.Prelude.{◌≡◌, ◌≤◌, ◌^◌, IfOk};
 
 use super::collect::misses;
 use super::{STREAM_AND_MORE, feed_of};
-use asan_collect::{
-    BadOption, MOST_SENDERS, OpenGate, Options, Outcome, collect_live_within, collect_within,
-};
+use asan_collect::{BadOption, MOST_SENDERS, OpenGate, Options, Outcome, collect_within};
 use refusing_allocator::RefusingAllocator;
 use std::alloc::{Allocator, Global};
 use std::process::Abort;
@@ -29,14 +26,12 @@ fn three_of_a_kind(alloc: Global) -> Result<ListDoor<MemFeed>, Fail>
     Ok(ListDoor::new(arrivals))
 }
 
-/// What becomes of the senders of a door, where each of the first has an allocator of its own, and
-/// the reports may be printed as they come.
+/// What becomes of the senders of a door, where each of the first has an allocator of its own.
 fn outcomes_within<'a, D: Door, R: Threads + Wait + Clock + Sync>(
     rt: &R,
     shared: &'a RefusingAllocator<Global>,
     own: &[&'a RefusingAllocator<Global>],
     door: &mut D,
-    text: Option<&mut Vec<u8>>,
 ) -> Result<
     Vec<Outcome<D::Feed, &'a RefusingAllocator<Global>>, &'a RefusingAllocator<Global>>,
     Fail,
@@ -45,12 +40,7 @@ where
     D::Feed: Send + Drop,
     requires { (D.seen door.old).refusals ≤ 2 ^ 32 }
 {
-    let options = Options::usual();
-    let Some(text) = text else {
-        return Ok(collect_within(rt, shared, own, door, &OpenGate, options)?);
-    };
-    let live = collect_live_within(rt, shared, own, door, &OpenGate, options, text)?;
-    Ok(live.outcomes)
+    Ok(collect_within(rt, shared, own, door, &OpenGate, Options::usual())?)
 }
 
 /// Asserts that a sender ran out of memory if it was short of it, and was settled else.
@@ -91,37 +81,23 @@ fn expect_one_short<A: Allocator + Copy>(
     }
 }
 
-/// Lets one of three senders run out of memory, and no other, where the reports may be printed as
-/// they come.
-fn expect_memory_runs_out<R: Threads + Wait + Clock + Sync + Abort>(
-    rt: &R,
-    alloc: Global,
-    short: usize,
-    text: Option<&mut Vec<u8>>,
-) -> Result<(), Fail> {
-    let ample = RefusingAllocator::counting(alloc);
-    let little = RefusingAllocator::with_bound(alloc, 100);
-    let shared = RefusingAllocator::counting(alloc);
-    let mut own = Vec::new(alloc);
-    for sender in 0..3 {
-        own.push(if sender == short { &little } else { &ample })?;
-    }
-    let mut door = three_of_a_kind(alloc)?;
-    let outcomes = outcomes_within(rt, &shared, &own, &mut door, text)?;
-    expect_one_short(rt, &outcomes, short);
-    // The reports are held until the outcomes are let go.
-    assert!(rt; ample.held() > 0);
-    drop(outcomes);
-    assert_eq!(rt; (ample.held(), little.held(), shared.held()), (0, 0, 0));
-    Ok(())
-}
-
 #[test]
 fn memory_runs_out_for_one_sender(rt: HostRuntime) -> Result<(), Fail> {
     for short in 0..3 {
-        expect_memory_runs_out(&rt, rt.alloc(), short, None)?;
-        let mut text = Vec::new(rt.alloc());
-        expect_memory_runs_out(&rt, rt.alloc(), short, Some(&mut text))?;
+        let ample = RefusingAllocator::counting(rt.alloc());
+        let little = RefusingAllocator::with_bound(rt.alloc(), 100);
+        let shared = RefusingAllocator::counting(rt.alloc());
+        let mut own = Vec::new(rt.alloc());
+        for sender in 0..3 {
+            own.push(if sender == short { &little } else { &ample })?;
+        }
+        let mut door = three_of_a_kind(rt.alloc())?;
+        let outcomes = outcomes_within(&rt, &shared, &own, &mut door)?;
+        expect_one_short(&rt, &outcomes, short);
+        // The reports are held until the outcomes are let go.
+        assert!(rt; ample.held() > 0);
+        drop(outcomes);
+        assert_eq!(rt; (ample.held(), little.held(), shared.held()), (0, 0, 0));
     }
     Ok(())
 }
@@ -138,7 +114,7 @@ fn senders_past_the_list_share_the_memory(rt: HostRuntime) -> Result<(), Fail> {
     let own = RefusingAllocator::counting(rt.alloc());
     let shared = RefusingAllocator::counting(rt.alloc());
     let mut door = three_of_a_kind(rt.alloc())?;
-    let outcomes = outcomes_within(&rt, &shared, &[&own], &mut door, None)?;
+    let outcomes = outcomes_within(&rt, &shared, &[&own], &mut door)?;
     expect_a_report_each(&rt, &outcomes);
     let of_one = own.held();
     assert!(rt; of_one > 0);
@@ -164,7 +140,7 @@ fn each_sender_has_its_own_memory(rt: HostRuntime) -> Result<(), Fail> {
     let own = heaps.iter().collect::<Vec<_>>(rt.alloc())?;
     let shared = RefusingAllocator::counting(rt.alloc());
     let mut door = misses(rt.alloc(), MOST_SENDERS as u32);
-    let outcomes = outcomes_within(&rt, &shared, &own, &mut door, None)?;
+    let outcomes = outcomes_within(&rt, &shared, &own, &mut door)?;
     assert_eq!(rt; outcomes.len(), MOST_SENDERS);
     // All senders send the same, so that their checkers ask for the same.
     expect_same_requests(&rt, &heaps);
