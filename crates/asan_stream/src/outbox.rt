@@ -1,6 +1,6 @@
 //! The way of a bench's reports to a printer.
 
-ghost use Rattle.std.specs.Prelude.{◌≡◌, ◌↔◌, List, [], IsTrue, IfSome, None, Some};
+ghost use Rattle.std.specs.Prelude.{◌≡◌, ◌↔◌, List, [], IsTrue, IfSome, None, Some, slice_get};
 ghost use Rattle.trace_lane.specs.Lanes.{put_list, end_lane, end_list};
 ghost use Rattle.asan_check.specs.declared.report.Report.{Report as AReport};
 
@@ -63,8 +63,13 @@ impl<A: Allocator + Copy> Outbox<A> {
         false
     }
 
-    /// The first report that waits.
-    pub fn first_waiting(&self, reports: &[Report]) -> Option<Report> {
+    /// The first report that waits: the one after those that were put. None waits where there is
+    /// no report lane.
+    pub fn first_waiting(&self, reports: &[Report]) -> Option<Report>
+        ensures first { IfSome self.now.lane
+            (λ _. result ≡ slice_get reports.now self.now.put) }
+        ensures none { self.now.lane ≡ None → result ≡ None }
+    {
         if self.lane.is_none() {
             return None;
         }
