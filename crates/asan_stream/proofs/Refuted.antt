@@ -1,6 +1,6 @@
 -- Outcomes and lists that the contracts refuse.
 -- Each lemma is named for what would have gone wrong.
-use Rattle.std.proofs.Common.{◌≡◌, inl, inr, ℕ, List, [], ◌∷◌, Some, refl, sym, ap, ◌∙◌, arith}
+use Rattle.std.proofs.Common.{◌≡◌, inl, inr, ℕ, List, [], ◌∷◌, Some, refl, sym, ap, subst, ◌∙◌, arith}
 use Rattle.std.specs.Prelude.{◌≢◌, ◌≤◌, IsTrue, length, Vec}
 use Rattle.std.specs.Coded.{le_prop}
 use Rattle.std.proofs.Math.Logic.{∥∥₁_elim}
@@ -18,9 +18,10 @@ use Rattle.asan_check.proofs.Examples.{malloc, store, free, report, usual}
 use Rattle.asan_check.proofs.Refuted.{differ, bad_access_is_passed_over}
 use Rattle.asan_stream.specs.declared.item.Item.{Item}
 use Rattle.asan_stream.specs.declared.item.Item.TheVariants as item
+use Rattle.asan_stream.specs.declared.bench.Bench.{Bench}
 use Rattle.asan_stream.specs.declared.bench.Turn.TheVariants as turn
 use Rattle.asan_stream.specs.declared.outcome.Outcome.TheVariants as outcome
-use Rattle.asan_stream.specs.Benches.{Takes}
+use Rattle.asan_stream.specs.Benches.{Takes, is_over, taken_of}
 use Rattle.asan_stream.specs.Checking.{StandsAfter}
 use Rattle.asan_stream.specs.Items.{items_of}
 use Rattle.asan_stream.specs.Outcomes.{IsSpelled, HasResults, is_read}
@@ -104,6 +105,17 @@ turn_takes_two x y took =
     let two_is_one : ◌≡◌ {A = ℕ} 2 1 = ap length took.1 in absurd (omega arith)
 
 -- ---- benches
+
+-- a bench takes an item after the end
+takes_on_after_the_end :
+    {A : Type 0} (before after : Bench A) (end : End) (x : Item) →
+    taken_of before ≡ item.End end ∷ [] → taken_of after ≡ item.End end ∷ x ∷ [] →
+    ¬ (IsTrue (is_over (taken_of before)) → taken_of after ≡ taken_of before)
+takes_on_after_the_end before after end x was is over =
+    let ended : IsTrue (is_over (taken_of before)) =
+    subst (λ items. IsTrue (is_over items)) (sym was) refl in
+    let same : item.End end ∷ x ∷ [] ≡ item.End end ∷ [] = sym is ∙ over ended ∙ was in
+    let two_is_one : ◌≡◌ {A = ℕ} 2 1 = ap length same in absurd (omega arith)
 
 module _ {A : Type 0} (c : Checker A) (bound : ℕ) (e : Event) where
   other_number_was_checked :

@@ -225,6 +225,8 @@ impl<A: Allocator + Copy> Bench<A> {
         ensures stays { (reports : List AReport) →
             HasReported self.old reports → HasReported self.new reports }
         ensures takes { result ≢ Found.Items → taken_of self.new ≡ taken_of self.old }
+        ensures over { IsTrue (is_over (taken_of self.old)) →
+            taken_of self.new ≡ taken_of self.old }
         ensures finds { result ≢ Found.Items → found_of self.new ≡ found_of self.old }
     {
         if self.is_done() {
@@ -244,10 +246,13 @@ impl<A: Allocator + Copy> Bench<A> {
     }
 
     /// Takes and checks a batch of items, unless a report waits, and answers whether there may be
-    /// more to do: not once it is over, or its lane was left and is empty, and no report waits.
+    /// more to do: not once it is over, or its lane was left and is empty, and no report waits. It
+    /// takes none once the end or 2^24 events were taken.
     pub(crate) fn work<G: Gate>(&mut self, gate: &G, room: &mut Room) -> Found
         ensures later { Later self.old self.new }
         ensures takes { result ≢ Found.Items → taken_of self.new ≡ taken_of self.old }
+        ensures over { IsTrue (is_over (taken_of self.old)) →
+            taken_of self.new ≡ taken_of self.old }
         ensures waits { result ≡ Found.Items → HasReported self.new (found_of self.old) }
         ensures ends { result ≡ Found.End → HasReported self.new (found_of self.new) }
     {

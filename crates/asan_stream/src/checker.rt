@@ -1,4 +1,4 @@
-//! A checker: it goes round its benches, a turn each, until all are done.
+//! A checker: it goes round its benches, a batch each, until all are done.
 
 ghost use Rattle.std.specs.Prelude.{IsTrue};
 ghost use Rattle.asan_stream.specs.Benches.{EachLater, EachReported};
@@ -11,7 +11,7 @@ use std::alloc::Allocator;
 use std::sync::Wait;
 use std::time::Clock;
 
-/// What a round of turns found.
+/// What a round of batches found.
 #[derive(Drop)]
 struct Round {
     /// Whether items were taken.
@@ -20,9 +20,10 @@ struct Round {
     ended: bool,
 }
 
-/// Goes round the benches, a turn each, until each is over, or its lane was left and is empty, and
-/// no report waits for room. Where it finds nothing to take or to put it waits. The benches come
-/// back in order, each with all its reports put into its report lane, where it still has one.
+/// Goes round the benches, a batch of items each, until each is over, or its lane was left and is
+/// empty, and no report waits for room. Where it finds nothing to take or to put it waits. The
+/// benches come back in order, each with all its reports put into its report lane, where it still
+/// has one.
 pub fn run_checker<A: Allocator + Copy, G: Gate, R: Wait + Clock>(
     rt: &R,
     benches: Vec<Bench<A>, A>,
@@ -61,7 +62,7 @@ fn check_to_the_end<A: Allocator + Copy, G: Gate, R: Wait + Clock>(
     unreachable!()
 }
 
-/// Gives each bench a turn.
+/// Has each bench take a batch.
 fn go_round<A: Allocator + Copy, G: Gate>(
     benches: &mut Vec<Bench<A>, A>,
     gate: &G,
