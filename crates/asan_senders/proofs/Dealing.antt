@@ -1,10 +1,11 @@
 -- The benches of each checker, as they go on.
 use Rattle.std.proofs.Common.{ℕ, suc, ◌≡◌, ◌<◌, ◌≤◌, ◌+◌, ◌*◌, ◌%◌, ◌/◌, ◌++◌, ◌∷◌, [], List, length, length-append}
-use Rattle.std.proofs.Common.{refl, ◌∙◌, sym, ap, arith, slice_index_or, slice_set, inl, inr}
+use Rattle.std.proofs.Common.{refl, ◌∙◌, sym, ap, arith, slice_index_or, slice_set, ◌⊎◌, inl, inr, ◌≢◌}
 use Rattle.std.specs.Vec.{vec_capacity}
 use Rattle.std.proofs.Math.Nat.{div-add-mod, mod-lt, mul-le-mul_left, lt_of_mul-lt-mul_left, mul-suc}
 use Rattle.std.proofs.lemmas.Bool.{cases_eq}
 use Rattle.std.proofs.lemmas.List.{length-set, get_or-set_same, get_or-set_other, get_or_append_left, get_or_at}
+use Rattle.std.proofs.lemmas.List.{get_or_default}
 use Rattle.trace_feed.specs.Feeds.{FeedState}
 use Rattle.asan_stream.specs.declared.bench.Bench.{Bench}
 use Rattle.asan_senders.specs.declared.sender.Sender.{Sender}
@@ -13,7 +14,7 @@ use Rattle.asan_senders.specs.declared.checker_thread.CheckerThread.{CheckerThre
 use Rattle.asan_senders.specs.declared.checker_thread.CheckerThread.TheVariants as running
 use Rattle.asan_senders.specs.Arrivals.{Pairwise}
 use Rattle.asan_senders.specs.Shares.{Share, ComesBack, GivesUp, Returns, SharesAt, AreEmpty, HasRoom, Deals}
-use Rattle.asan_senders.specs.Shares.{WillComeBack}
+use Rattle.asan_senders.specs.Shares.{WillComeBack, GivesUpWith, EachGivesUp}
 use Rattle.asan_senders.specs.Ranges.{most_senders}
 use Rattle.asan_senders.specs.Senders.{Each, Becomes, Ends, Keeps, IsAt, AreAt, IsFresh, AllFresh, WillBe}
 use Rattle.asan_senders.proofs.Senders.{at_kept, at_later, at_more, at_push, each_after}
@@ -98,22 +99,88 @@ module _ {A : Type 0} where
     room = h.room;
   }
 
-module _ {F A : Type 0} where
-  pub gives_up_same : (x : Sender F A) → GivesUp x x
-  gives_up_same sender.NotOpened = refl
-  gives_up_same sender.NotStarted = refl
-  gives_up_same (sender.Ready feed lane) = inl refl
-  gives_up_same (sender.Running h) = refl
-  gives_up_same (sender.Read d) = refl
-  gives_up_same (sender.Joined d b) = refl
+  -- the checker whose number is that of a sender mod their number, by whatever default it was found
+  pub checker_at : (checkers : List (CheckerThread A)) (i n : ℕ) (c d : CheckerThread A) → n ≡ length checkers
+      → 0 < length checkers → c ≡ slice_index_or checkers (i % n) c
+      → slice_index_or checkers (i % length checkers) d ≡ c
+  checker_at checkers i n c d same some is =
+      let some_here : 0 < n = omega arith in
+      let low : i % n < length checkers = rw (sym same) (mod-lt i some_here) in
+      rw (sym same) (sym (is ∙ get_or_default checkers (i % n) c d low))
 
-  pub gives_up_on : (x y z : Sender F A) → GivesUp x y → GivesUp y z → GivesUp x z
-  gives_up_on sender.NotOpened y z p q = rw p at q
-  gives_up_on sender.NotStarted y z p q = rw p at q
-  gives_up_on (sender.Ready feed lane) y z p q = elim p [ inl e ↦ rw e at q | inr e ↦ inr (rw e at q) ]
-  gives_up_on (sender.Running h) y z p q = rw p at q
-  gives_up_on (sender.Read d) y z p q = rw p at q
-  gives_up_on (sender.Joined d b) y z p q = rw p at q
+module _ {F A : Type 0} where
+  -- a sender whose checker may have been lost
+  abbrev pub StaysOrGivesUp : Sender F A → Sender F A → Type 0
+  StaysOrGivesUp x y = (y ≡ x) ⊎ GivesUp x y
+
+  stays_or_gives_up : (c : CheckerThread A) (x y : Sender F A) → GivesUpWith c x y → StaysOrGivesUp x y
+  stays_or_gives_up running.Lost x y p = inr p
+  stays_or_gives_up (running.Idle benches) x y p = inl p
+  stays_or_gives_up (running.Running h) x y p = inl p
+
+  pub each_stays_or_gives_up : (checkers : List (CheckerThread A)) (xs ys : List (Sender F A))
+      → EachGivesUp checkers xs ys → Each StaysOrGivesUp xs ys
+  each_stays_or_gives_up checkers xs ys p = record {
+    same_length = p.same_length;
+    each = λ i d below. stays_or_gives_up (slice_index_or checkers (i % length checkers) running.Lost)
+        (slice_index_or xs i d) (slice_index_or ys i d) (p.each i d running.Lost below);
+  }
+
+  pub stays_with : (c : CheckerThread A) (s : Sender F A) → c ≢ running.Lost → GivesUpWith c s s
+  stays_with running.Lost s n = absurd (n refl)
+  stays_with (running.Idle benches) s n = refl
+  stays_with (running.Running h) s n = refl
+
+  -- below a place each sender has given up with its checker, and from it on nothing changed
+  pub record GivenUpTo (checkers : List (CheckerThread A)) (to : ℕ) (xs ys : List (Sender F A)) : Type 0 where
+    pub same_length : length ys ≡ length xs
+    pub done :
+        (i : ℕ) (d : Sender F A) (c : CheckerThread A) → i < to → i < length xs →
+        GivesUpWith (slice_index_or checkers (i % length checkers) c) (slice_index_or xs i d) (slice_index_or ys i d)
+    pub rest : (i : ℕ) (d : Sender F A) → to ≤ i → slice_index_or ys i d ≡ slice_index_or xs i d
+
+  pub given_up_none : (checkers : List (CheckerThread A)) (xs : List (Sender F A)) → GivenUpTo checkers 0 xs xs
+  given_up_none checkers xs = record {
+    same_length = refl;
+    done = λ i d c low below. absurd (omega arith);
+    rest = λ i d above. refl;
+  }
+
+  -- the next sender stays as it is
+  pub given_up_same : (checkers : List (CheckerThread A)) (at : ℕ) (xs ys : List (Sender F A))
+      → ((c : CheckerThread A) (s : Sender F A) → GivesUpWith (slice_index_or checkers (at % length checkers) c) s s)
+      → GivenUpTo checkers at xs ys → GivenUpTo checkers (at + 1) xs ys
+  given_up_same checkers at xs ys stays r = record {
+    same_length = r.same_length;
+    done = λ i d c before below. elim (cases_eq i at) [
+      | inl e ↦ rw (e, r.rest at d (omega arith)) (stays c (slice_index_or xs at d))
+      | inr n ↦ r.done i d c (omega arith) below
+    ];
+    rest = λ i d above. r.rest i d (omega arith);
+  }
+
+  -- the next sender has become this one
+  pub given_up_set : (checkers : List (CheckerThread A)) (at : ℕ) (xs ys : List (Sender F A)) (z : Sender F A)
+      → at < length ys
+      → ((d : Sender F A) (c : CheckerThread A) →
+      GivesUpWith (slice_index_or checkers (at % length checkers) c) (slice_index_or ys at d) z)
+      → GivenUpTo checkers at xs ys → GivenUpTo checkers (at + 1) xs (slice_set ys at z)
+  given_up_set checkers at xs ys z low will r =
+      let len : length ys ≡ length xs = r.same_length in record {
+        same_length = length-set ys at z ∙ len;
+        done = λ i d c before below. elim (cases_eq i at) [
+          | inl e ↦ rw (e, get_or-set_same ys at z d low) (rw (r.rest at d (omega arith)) at (will d c))
+          | inr n ↦ rw (get_or-set_other ys at i z d n) (r.done i d c (omega arith) below)
+        ];
+        rest = λ i d above. get_or-set_other ys at i z d (λ e. omega arith) ∙ r.rest i d (omega arith);
+      }
+
+  pub given_up_all : (checkers : List (CheckerThread A)) (to : ℕ) (xs ys : List (Sender F A)) → length xs ≤ to
+      → GivenUpTo checkers to xs ys → EachGivesUp checkers xs ys
+  given_up_all checkers to xs ys all r = record {
+    same_length = r.same_length;
+    each = λ i d c below. r.done i d c (omega arith) below;
+  }
 
   pub shares_put : (bound : ℕ) (senders : List (Sender F A)) (shares : List (Share A)) (k : ℕ) (v : Share A)
       → k < length shares
@@ -181,23 +248,26 @@ module _ {F A : Type 0} where
 
 module _ {F A : Type 0} (seen : F → FeedState) where
   -- what gets no reader, or is left alone and then read
-  pub becomes_after : (limit : ℕ) (x y z : Sender F A) → GivesUp x y → Becomes seen limit y z → Becomes seen limit x z
-  becomes_after limit sender.NotOpened y z p q = rw p at q
-  becomes_after limit sender.NotStarted y z p q = rw p at q
-  becomes_after limit (sender.Ready feed lane) y z p q = elim p [ inl e ↦ rw e at q | inr e ↦ rw (rw e at q) tt ]
-  becomes_after limit (sender.Running h) y z p q = rw p at q
-  becomes_after limit (sender.Read d) y z p q = rw p at q
-  becomes_after limit (sender.Joined d b) y z p q = rw p at q
+  becomes_after : (limit : ℕ) (x y z : Sender F A) → StaysOrGivesUp x y → Becomes seen limit y z
+      → Becomes seen limit x z
+  becomes_after limit x y z (inl same) q = rw same at q
+  becomes_after limit sender.NotOpened y z (inr p) q = rw p at q
+  becomes_after limit sender.NotStarted y z (inr p) q = rw p at q
+  becomes_after limit (sender.Ready feed lane) y z (inr p) q = rw (rw p at q) tt
+  becomes_after limit (sender.Running h) y z (inr p) q = rw p at q
+  becomes_after limit (sender.Read d) y z (inr p) q = rw p at q
+  becomes_after limit (sender.Joined d b) y z (inr p) q = rw p at q
 
-  gives_up_fresh : (x y : Sender F A) → GivesUp x y → IsFresh seen x → IsFresh seen y
-  gives_up_fresh sender.NotOpened y p h = rw p tt
-  gives_up_fresh sender.NotStarted y p h = rw p tt
-  gives_up_fresh (sender.Ready feed lane) y p h = elim p [ inl e ↦ rw e h | inr e ↦ rw e tt ]
-  gives_up_fresh (sender.Running k) y p h = elim h [ ]
-  gives_up_fresh (sender.Read d) y p h = rw p tt
-  gives_up_fresh (sender.Joined d b) y p h = rw p tt
+  gives_up_fresh : (x y : Sender F A) → StaysOrGivesUp x y → IsFresh seen x → IsFresh seen y
+  gives_up_fresh x y (inl same) h = rw same h
+  gives_up_fresh sender.NotOpened y (inr p) h = rw p tt
+  gives_up_fresh sender.NotStarted y (inr p) h = rw p tt
+  gives_up_fresh (sender.Ready feed lane) y (inr p) h = rw p tt
+  gives_up_fresh (sender.Running k) y (inr p) h = elim h [ ]
+  gives_up_fresh (sender.Read d) y (inr p) h = rw p tt
+  gives_up_fresh (sender.Joined d b) y (inr p) h = rw p tt
 
-  pub fresh_left : (xs ys : List (Sender F A)) → Each GivesUp xs ys → AllFresh seen xs → AllFresh seen ys
+  pub fresh_left : (xs ys : List (Sender F A)) → Each StaysOrGivesUp xs ys → AllFresh seen xs → AllFresh seen ys
   fresh_left xs ys r h = record {
     each = λ i d below.
         let low : i < length xs = let e = r.same_length in omega arith in
@@ -205,7 +275,7 @@ module _ {F A : Type 0} (seen : F → FeedState) where
   }
 
   -- and while the readers run
-  pub will_after : (limit : ℕ) (x y z : Sender F A) → GivesUp x y → WillBe seen limit y z → WillBe seen limit x z
+  pub will_after : (limit : ℕ) (x y z : Sender F A) → StaysOrGivesUp x y → WillBe seen limit y z → WillBe seen limit x z
   will_after limit x y sender.NotOpened p q = becomes_after limit x y sender.NotOpened p q
   will_after limit x y sender.NotStarted p q = becomes_after limit x y sender.NotStarted p q
   will_after limit x y (sender.Ready feed lane) p q = becomes_after limit x y (sender.Ready feed lane) p q

@@ -3,6 +3,7 @@
 use Rattle.std.proofs.Common.{◌≡◌, ◌⊎◌, inl, inr, ℕ, true, false, List, [], ◌∷◌, Some, refl, sym, ap, ◌∙◌, arith}
 use Rattle.std.specs.Prelude.{◌≢◌, IsTrue, Vec}
 use Rattle.std.specs.Io.KnownBytes.{Appends}
+use Rattle.trace_lane.specs.declared.lane_in.LaneIn.{LaneIn}
 use Rattle.trace_record.specs.declared.end.End.{End}
 use Rattle.trace_record.specs.declared.end.Fate.TheVariants as fate
 use Rattle.trace_feed.specs.Feeds.{FeedState}
@@ -11,7 +12,12 @@ use Rattle.asan_check.specs.declared.report.Report.{Report}
 use Rattle.asan_check.specs.Lines.{end_line, report_line}
 use Rattle.asan_stream.specs.declared.options.Options.{Options}
 use Rattle.asan_stream.specs.declared.outcome.Outcome.TheVariants as outcome
+use Rattle.asan_stream.specs.declared.item.Item.{Item}
+use Rattle.asan_senders.specs.declared.checker_thread.CheckerThread.TheVariants as running
+use Rattle.asan_senders.specs.declared.sender.Sender.{Sender}
+use Rattle.asan_senders.specs.declared.sender.Sender.TheVariants as sender
 use Rattle.asan_senders.specs.Arrivals.{IsAnswerTo}
+use Rattle.asan_senders.specs.Shares.{EachGivesUp, Share}
 use Rattle.asan_senders.specs.Live.{ArePrintedOf}
 use Rattle.asan_stream.specs.Outcomes.{faults_of, ending_of}
 use Rattle.asan_stream.proofs.Refuted.{end_as}
@@ -44,6 +50,26 @@ not_opened_for_a_feed_that_came F A seen options feed answer = answer
 stops_asking_at_255 : ¬ (IsTrue false ⊎ ◌≡◌ {A = ℕ} 255 most_senders)
 stops_asking_at_255 (inl over) = absurd cc
 stops_asking_at_255 (inr all) = absurd (omega arith)
+
+-- ---- checkers that were lost
+
+module _ {F A : Type 0} (feed : F) (lane : LaneIn Item A) where
+  -- the checker was lost, and its sender waits for a reader on
+  nobody_gives_up :
+      ¬ EachGivesUp {F = F} {A = A} (running.Lost ∷ []) (sender.Ready feed lane ∷ [])
+      (sender.Ready feed lane ∷ [])
+  nobody_gives_up p =
+      let gone : ◌≡◌ {A = Sender F A} (sender.Ready feed lane) sender.NotStarted =
+      p.each 0 sender.NotStarted running.Lost (omega arith) in absurd cc
+
+  -- the second checker was lost, and the first one's sender gives up
+  sender_of_another_checker_gives_up :
+      (benches : Share A) →
+      ¬ EachGivesUp {F = F} {A = A} (running.Idle benches ∷ running.Lost ∷ [])
+      (sender.Ready feed lane ∷ []) (sender.NotStarted ∷ [])
+  sender_of_another_checker_gives_up benches p =
+      let same : ◌≡◌ {A = Sender F A} sender.NotStarted (sender.Ready feed lane) =
+      p.each 0 sender.NotStarted running.Lost (omega arith) in absurd cc
 
 -- ---- lines
 

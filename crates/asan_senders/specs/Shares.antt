@@ -1,5 +1,5 @@
 -- The benches of each checker.
-use Rattle.std.specs.Prelude.{◌≡◌, ℕ, ◌<◌, ◌≤◌, ◌+◌, ◌*◌, ◌⊎◌, ◌++◌, ◌∷◌, List, [], Vec, length}
+use Rattle.std.specs.Prelude.{◌≡◌, ℕ, ◌<◌, ◌≤◌, ◌+◌, ◌*◌, ◌%◌, ◌⊎◌, ◌++◌, ◌∷◌, List, [], Vec, length}
 use Rattle.std.specs.Prelude.{slice_index_or, slice_set, vec_capacity}
 use Rattle.asan_stream.specs.declared.bench.Bench.{Bench}
 use Rattle.asan_senders.specs.declared.checker_thread.CheckerThread.{CheckerThread}
@@ -58,14 +58,29 @@ module _ {A : Type 0} where
     pub capacity : vec_capacity (slice_index_or before at share) ≤ vec_capacity share
 
 module _ {F A : Type 0} where
-  -- the sender stays as it is, or gets no reader
+  -- a sender that is ready gets no reader, and any other stays as it is
   abbrev pub GivesUp : Sender F A → Sender F A → Type 0
   GivesUp sender.NotOpened s = s ≡ sender.NotOpened
   GivesUp sender.NotStarted s = s ≡ sender.NotStarted
-  GivesUp (sender.Ready feed lane) s = (s ≡ sender.Ready feed lane) ⊎ (s ≡ sender.NotStarted)
+  GivesUp (sender.Ready feed lane) s = s ≡ sender.NotStarted
   GivesUp (sender.Running h) s = s ≡ sender.Running h
   GivesUp (sender.Read d) s = s ≡ sender.Read d
   GivesUp (sender.Joined d b) s = s ≡ sender.Joined d b
+
+  -- a sender of this checker gives up if the checker was lost, and else stays as it is
+  abbrev pub GivesUpWith : CheckerThread A → Sender F A → Sender F A → Type 0
+  GivesUpWith running.Lost s t = GivesUp s t
+  GivesUpWith (running.Idle benches) s t = t ≡ s
+  GivesUpWith (running.Running h) s t = t ≡ s
+
+  -- each sender gives up with its checker: that of sender i is the checker i mod their number
+  pub record EachGivesUp
+      (checkers : List (CheckerThread A)) (before after : List (Sender F A)) : Type 0 where
+    pub same_length : length after ≡ length before
+    pub each :
+        (i : ℕ) (d : Sender F A) (c : CheckerThread A) → i < length before →
+        GivesUpWith (slice_index_or checkers (i % length checkers) c)
+        (slice_index_or before i d) (slice_index_or after i d)
 
   -- each bench of each checker has the lane of its sender, and this bound
   pub record SharesAt

@@ -2,8 +2,7 @@
 
 ghost use Rattle.std.specs.Prelude.{◌<◌, vec_len};
 ghost use Rattle.asan_stream.specs.Benches.{EachLater};
-ghost use Rattle.asan_senders.specs.Senders.{Each};
-ghost use Rattle.asan_senders.specs.Shares.{GivesUp};
+ghost use Rattle.asan_senders.specs.Shares.{GivesUp, EachGivesUp};
 
 use crate::sender::Sender;
 use asan_stream::Bench;
@@ -42,13 +41,14 @@ fn give_up<F: Feed + Drop, A: Allocator + Copy>(sender: &mut Sender<F, A>)
     }
 }
 
-/// Where a checker could not be started, its senders get no reader.
+/// Where a checker could not be started, its senders get no reader: those whose number has the
+/// checker's as its remainder. All others stay as they are.
 pub fn give_up_senders<F: Feed + Drop, A: Allocator + Copy>(
     senders: &mut Vec<Sender<F, A>, A>,
     checkers: &Vec<CheckerThread<A>, A>,
 )
     requires { 0 < vec_len checkers.now }
-    ensures { Each GivesUp senders.old.items senders.new.items }
+    ensures { EachGivesUp checkers.now.items senders.old.items senders.new.items }
 {
     for i in 0..senders.len() {
         if let CheckerThread::Lost = &checkers[i % checkers.len()] {
