@@ -1,17 +1,19 @@
 -- How far a sender may come.
-use Rattle.std.specs.Prelude.{◌≡◌, ℕ, ◌<◌, List, [], length, slice_index_or, IfSome}
+use Rattle.std.specs.Prelude.{◌≡◌, ℕ, ◌<◌, ◌⊎◌, List, [], length, slice_index_or, IfSome, IsTrue}
 use Rattle.trace_feed.specs.declared.door.Arrival.{Arrival}
 use Rattle.trace_feed.specs.declared.door.Arrival.TheVariants as arrival
 use Rattle.trace_feed.specs.Feeds.{FeedState}
 use Rattle.trace_lane.specs.Lanes.{Lane, in_lane, end_lane, put_list, end_list}
 use Rattle.asan_stream.specs.declared.options.Options.{Options}
 use Rattle.asan_stream.specs.declared.outcome.Outcome.{Outcome}
+use Rattle.asan_stream.specs.declared.outcome.Outcome.TheVariants as outcome
 use Rattle.asan_stream.specs.declared.bench.Bench.{Bench}
 use Rattle.asan_senders.specs.declared.sender.Sender.{Sender}
 use Rattle.asan_senders.specs.declared.sender.Sender.TheVariants as sender
 use Rattle.asan_stream.specs.declared.reader.ReaderDone.{ReaderDone}
 use Rattle.asan_stream.specs.Benches.{lane_of, process_of, bench_bound}
 use Rattle.asan_senders.specs.Arrivals.{IsAnswerTo}
+use Rattle.asan_stream.specs.Outcomes.{is_read}
 use Rattle.asan_stream.specs.Readers.{IsPut, IsReaderOf}
 
 -- each element has become that of the other list
@@ -115,6 +117,17 @@ module _ {F A : Type 0} where
 
   pub record AllJoined (senders : List (Sender F A)) : Type 0 where
     pub each : (i : ℕ) (d : Sender F A) → i < length senders → IsJoined (slice_index_or senders i d)
+
+  -- the outcome says how far the sender came: not opened where its feed was refused; not started
+  -- where it had no reader; unsettled where its bench did not come back; and where the bench did,
+  -- what was read, or unsettled
+  abbrev pub SaysHowFar : Sender F A → Outcome F A → Type 0
+  SaysHowFar sender.NotOpened result = result ≡ outcome.NotOpened
+  SaysHowFar sender.NotStarted result = result ≡ outcome.NotStarted
+  SaysHowFar (sender.Ready feed lane) result = result ≡ outcome.NotStarted
+  SaysHowFar (sender.Running h) result = Unit {0}
+  SaysHowFar (sender.Read d) result = result ≡ outcome.Unsettled
+  SaysHowFar (sender.Joined d b) result = IsTrue (is_read result) ⊎ (result ≡ outcome.Unsettled)
 
 module _ {F A : Type 0} (seen : F → FeedState) where
   -- a bench of this bound may have come to the sender, which keeps what was right of it, and its

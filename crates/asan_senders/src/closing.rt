@@ -5,7 +5,7 @@ ghost use Rattle.asan_print.specs.Logs.{Line, Printed, lines_of, report_lines};
 ghost use Rattle.asan_print.specs.Ports.{port_lane, taken_at};
 ghost use Rattle.asan_senders.specs.Closings.{Closes};
 ghost use Rattle.asan_senders.specs.ReportLanes.{Fits};
-ghost use Rattle.asan_senders.specs.Senders.{Gets, IsJoined};
+ghost use Rattle.asan_senders.specs.Senders.{Gets, IsJoined, SaysHowFar};
 
 use crate::returns::{Answer, settle_sender};
 use crate::sender::Sender;
@@ -26,6 +26,7 @@ pub fn close<F: Feed + Drop, W: Write, A: Allocator + Copy>(
     requires joined { IsJoined sender }
     requires port { IfSome port (λ p. Fits (Some (port_lane p)) sender) }
     ensures outcome { Gets F.seen sender result }
+    ensures far { SaysHowFar sender result }
     ensures lines { (start : Option (List ℕ)) (log : List Line) →
         Printed start (W.contents w.old) printer.old log →
         lines_of process log ≡ report_lines process (taken_at port) →

@@ -9,7 +9,7 @@ ghost use Rattle.asan_senders.specs.Closings.{WerePrinted};
 ghost use Rattle.asan_stream.specs.Outboxes.{KeepsLane};
 ghost use Rattle.asan_senders.specs.ReportLanes.{AllFit, AllHave, Fits, SharesHave};
 ghost use Rattle.asan_senders.specs.Senders.{AllJoined, AreAt, Each, Gets, HasLane, IsJoined};
-ghost use Rattle.asan_senders.specs.Senders.{Rejoins};
+ghost use Rattle.asan_senders.specs.Senders.{Rejoins, SaysHowFar};
 ghost use Rattle.asan_senders.specs.Shares.{SharesAt};
 
 use crate::sender::Sender;
@@ -111,6 +111,7 @@ fn settle_joined<F: Feed + Drop, A: Allocator + Copy>(
     requires joined { IsJoined (Sender.Joined done bench) }
     requires port { IfSome port (λ p. KeepsLane (Some (port_lane p)) (report_lane_of bench)) }
     ensures outcome { Gets F.seen (Sender.Joined done bench) result.outcome }
+    ensures far { SaysHowFar (Sender.Joined done bench) result.outcome }
     ensures printed { WerePrinted (taken_at port) result.printed result.outcome }
 {
     let mut bench = bench;
@@ -134,6 +135,7 @@ pub(crate) fn settle_sender<F: Feed + Drop, A: Allocator + Copy>(
     requires joined { IsJoined sender }
     requires port { IfSome port (λ p. Fits (Some (port_lane p)) sender) }
     ensures outcome { Gets F.seen sender result.outcome }
+    ensures far { SaysHowFar sender result.outcome }
     ensures printed { WerePrinted (taken_at port) result.printed result.outcome }
 {
     match sender {
@@ -153,7 +155,8 @@ pub fn settle_all<F: Feed + Drop, A: Allocator + Copy>(
     requires empty { room.items ≡ [] }
     requires room { vec_len senders ≤ vec_capacity room }
     requires joined { AllJoined senders.items }
-    ensures { Pairwise (Gets F.seen) senders.items result.items }
+    ensures outcomes { Pairwise (Gets F.seen) senders.items result.items }
+    ensures far { Pairwise SaysHowFar senders.items result.items }
 {
     let (mut senders, mut outcomes) = (senders, room);
     for i in 0..senders.len() {

@@ -11,7 +11,8 @@ returns g c =
     answered g.F.Feed.seen c.args.options c.args.arrivals.items
     c.open_all-opened.result.senders.items c.run_all-back.result.senders.items
     c.place_all.new.senders.items c.settle_all.result.items
-    c.open_all-opened.ensures.came c.run_all-back.ensures.senders c.place_all.ensures.rejoins c.settle_all.ensures
+    c.open_all-opened.ensures.came c.run_all-back.ensures.senders c.place_all.ensures.rejoins
+    c.settle_all.ensures.outcomes
 
 pub place_all-requires : goal.place_all-requires
 place_all-requires g c =

@@ -34,16 +34,23 @@ loop-i-preserved g c =
         rest = λ k d above. get_or-set_other now i k c.replace-sender.new.dest d (λ e. omega arith)
             ∙ inv.1.rest k d (omega arith);
         each = λ k d e below. elim (cases_eq k i) [
-          | inl same ↦ rw (same, ← is d, here e) c.settle_sender.ensures.outcome
+          | inl same ↦ rw (same, ← is d, here e)
+              (c.settle_sender.ensures.outcome, c.settle_sender.ensures.far)
           | inr other ↦ rw (c.in-Ok.ensures.by_index.0 k e (omega (arith, inv.1.done))) (inv.1.each k d e (omega arith))
         ];
       },
     )
 
-pub returns : goal.returns
-returns g c = record {
+pub returns-clause-outcomes : goal.returns-clause-outcomes
+returns-clause-outcomes g c = record {
   same_length = search rules;
-  each = λ i d e below. c.loop-i.invariant.1.each i d e (search rules);
+  each = λ i d e below. (c.loop-i.invariant.1.each i d e (search rules)).0;
+}
+
+pub returns-clause-far : goal.returns-clause-far
+returns-clause-far g c = record {
+  same_length = search rules;
+  each = λ i d e below. (c.loop-i.invariant.1.each i d e (search rules)).1;
 }
 
 pub loop-i-init : goal.loop-i-init
