@@ -27,6 +27,13 @@ is_input (arrival.Came (source.Input feed)) = true
 is_input arrival.Refused = false
 is_input arrival.Over = false
 
+-- where it is standard input that came, this holds of its feed
+abbrev pub IfInput : {F I : Type 0} → (I → Type 0) → Arrival (Source F I) → Type 0
+IfInput p (arrival.Came (source.File feed)) = Unit {0}
+IfInput p (arrival.Came (source.Input feed)) = p feed
+IfInput p arrival.Refused = Unit {0}
+IfInput p arrival.Over = Unit {0}
+
 -- the name of standard input
 abbrev pub input_name : List ℕ
 input_name = codes "-"
@@ -49,6 +56,11 @@ abbrev pub place_of : {I : Type 0} → Option I → ℕ → Option ℕ
 place_of None before = None
 place_of (Some input) before = Some before
 
+-- the bytes of an input that has not come, where they are known
+abbrev pub bytes_of : {I : Type 0} → (I → Option (List ℕ)) → Option I → Option (List ℕ)
+bytes_of remaining None = None
+bytes_of remaining (Some input) = remaining input
+
 -- the place of standard input among the names that are left after the first
 abbrev pub place_after : Option ℕ → Option ℕ
 place_after None = None
@@ -61,5 +73,7 @@ pub record NamedFiles : Type 0 where
   pub names : List (List ℕ)
   -- the place of standard input among them
   pub place : Option ℕ
+  -- its bytes, where they are known, until it has come
+  pub bytes : Option (List ℕ)
   -- how many files could not be opened
   pub refusals : ℕ

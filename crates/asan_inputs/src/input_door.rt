@@ -1,10 +1,11 @@
 //! A door over files, one of which may be standard input.
 
-ghost use Rattle.std.specs.Prelude.{◌≡◌, ◌==◌, ◌-◌, ◌<◌, ◌^◌, ◌↔◌, [], IfOk, IsTrue, Some};
+ghost use Rattle.std.specs.Prelude.{◌≡◌, ◌==◌, ◌-◌, ◌<◌, ◌^◌, ◌↔◌, [], IfOk, IsSome, IsTrue, Some};
+ghost use Rattle.std.specs.Prelude.{false};
 ghost use Rattle.std.specs.Prelude.{drop, length, map, string_bytes};
 ghost use Rattle.trace_feed.specs.Doors.{CountsDown, IfCame, is_over, refusals_after};
 ghost use Rattle.asan_inputs.specs.Sources.{input_place, is_input, names_with, place_after};
-ghost use Rattle.asan_inputs.specs.Sources.{source_seen};
+ghost use Rattle.asan_inputs.specs.Sources.{source_seen, IfInput};
 
 use crate::source::Source;
 use std::alloc::{AllocError, Global};
@@ -19,7 +20,7 @@ pub const INPUT: &str = "-";
 /// A door over files, which it opens one after the other, and an input that comes between them, if
 /// there is one.
 #[derive(Drop)]
-pub struct InputDoor<'a, R: Files, I> {
+pub struct InputDoor<'a, R: Files, I: Read> {
     door: PathDoor<'a, R>,
     /// The input, until it has come.
     input: Option<I>,
@@ -27,15 +28,16 @@ pub struct InputDoor<'a, R: Files, I> {
     before: usize,
 }
 
-impl<'a, R: Files, I> Model for InputDoor<'a, R, I> {
+impl<'a, R: Files, I: Read> Model for InputDoor<'a, R, I> {
     ghost use Rattle.std.specs.Prelude.{◌≤◌, IfSome, length};
-    ghost use Rattle.asan_inputs.specs.Sources.{NamedFiles, names_with, place_of};
+    ghost use Rattle.asan_inputs.specs.Sources.{NamedFiles, bytes_of, names_with, place_of};
 
     ghost Value = { NamedFiles };
 
     ghost view = { λ d. record {
       names = names_with (place_of d.input d.before) d.door.paths;
       place = place_of d.input d.before;
+      bytes = bytes_of I.remaining d.input;
       refusals = d.door.refusals;
     } };
 
@@ -52,6 +54,7 @@ pub fn door_of<'a, R: Files, I: Read + Drop>(
 ) -> Result<InputDoor<'a, R, I>, AllocError>
     ensures names { IfOk result (λ door. door.names ≡ map string_bytes names.now) }
     ensures place { IfOk result (λ door. door.place ≡ input_place names.now) }
+    ensures bytes { IfOk result (λ door. IsSome door.place → door.bytes ≡ I.remaining input) }
     ensures none_refused { IfOk result (λ door. door.refusals ≡ 0) }
 {
     let (paths, place) = paths_of(alloc, names)?;
@@ -116,6 +119,8 @@ impl<'a, R: Files, I: Read + Drop> Door for InputDoor<'a, R, I> {
         ensures ends { IsTrue (is_over result) ↔ (self.old.names ≡ []) }
         ensures in_turn { self.new.names ≡ drop 1 self.old.names }
         ensures input { IsTrue (is_input result) ↔ (self.old.place ≡ Some 0) }
+        ensures bytes { IfInput (λ f. f.to_come ≡ self.old.bytes) result }
+        ensures unread { is_input result ≡ false → self.new.bytes ≡ self.old.bytes }
         ensures place { self.new.place ≡ place_after self.old.place }
     {
         if self.before == 0
