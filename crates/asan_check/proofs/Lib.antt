@@ -19,5 +19,6 @@ pub mod Repeated
 pub mod Alike
 pub mod Restated
 pub mod Ways
+mod Quiet
 mod Digits
 mod Pieces

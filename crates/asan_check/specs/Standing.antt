@@ -63,6 +63,14 @@ module _ {A : Type 0} where
   abbrev pub StandsOrFailed : ℕ → Checker A → List Event → Type 0
   StandsOrFailed bound c past = Stands bound c past ⊎ FailedAt bound c past
 
+  -- the first so many of these events change nothing, and nothing is wrong with them: after any
+  -- history that the checker shows, it shows their history too, which has the same verdicts
+  abbrev pub AreQuiet : Checker A → List Event → ℕ → Type 0
+  AreQuiet c events count =
+      (bound : ℕ) (past : List Event) → ShowsHistory bound c past →
+      ShowsHistory bound c (reverse (take count events) ++ past)
+      × (verdicts_of bound (reverse (take count events) ++ past) ≡ verdicts_of bound past)
+
 -- of some events after a history, this many were passed: the next one, if there is one, is no load
 -- and no store, or something is wrong with it
 abbrev pub StopsForAReason : ℕ → List Event → List Event → ℕ → Type 0

@@ -13,7 +13,7 @@ ghost use Rattle.shadow_map.specs.States.{is_addressable, state_of, least_unaddr
 ghost use Rattle.shadow_map.specs.States.{bad_byte_of};
 ghost use Rattle.asan_check.specs.History.{marks};
 ghost use Rattle.asan_check.specs.Verdicts.{verdict, fault_of, access_fault, malloc_fault};
-ghost use Rattle.asan_check.specs.Verdicts.{free_fault, marks_none, verdicts_of};
+ghost use Rattle.asan_check.specs.Verdicts.{free_fault, marks_none};
 
 use crate::NoMemory;
 use crate::codes::{FREED, class_by, poison_code};
@@ -25,6 +25,10 @@ use shadow_map::{HEAP_REDZONE, Shadow, ShadowReader};
 use std::alloc::{Allocator, Global};
 use thiserror::Error;
 use trace_record::{Access, Event, Place, Region, Shade};
+
+/// How many loads and stores are checked before a reader of the shadow is made, which gains nothing
+/// for fewer.
+const FEW: usize = 2;
 
 /// There was no memory for this event or for an earlier one.
 #[derive(Clone, Copy, Debug, PartialEq, Eq, Error)]
@@ -55,6 +59,7 @@ pub struct Checker<A: Allocator + Copy = Global> {
 impl<A: Allocator + Copy> Checker<A> {
     ghost use Rattle.asan_check.specs.Freeing.{IsFreeing};
     ghost use Rattle.asan_check.specs.Standing.{KeepsTally, ShowsHistory, Stands, FailedAt};
+    ghost use Rattle.asan_check.specs.Standing.{AreQuiet};
     ghost use Rattle.asan_check.specs.Standing.{has_failed, checked_of, reports_of, bound_of};
     ghost use Rattle.asan_check.specs.Standing.{report_room, StopsForAReason};
     ghost use Rattle.asan_check.specs.Thinning.{is_access};
@@ -117,15 +122,12 @@ impl<A: Allocator + Copy> Checker<A> {
         if self.failed {
             return Err(Failed);
         }
-        let report = if self.is_good_access(&mut self.shadow.reader(), event) {
-            None
-        } else {
-            match self.check(event) {
-                Ok(report) => report,
-                Err(NoMemory) => {
-                    self.failed = true;
-                    return Err(Failed);
-                }
+        // A reader gains nothing for one event.
+        let report = match self.check(event) {
+            Ok(report) => report,
+            Err(NoMemory) => {
+                self.failed = true;
+                return Err(Failed);
             }
         };
         self.checked += 1;
@@ -251,24 +253,60 @@ impl<A: Allocator + Copy> Checker<A> {
     /// How many loads and stores that aren't bad the events begin with. They change nothing.
     fn count_good(&self, events: &[Event]) -> usize
         ensures most { result ≤ length events.now }
-        ensures shown { (bound : ℕ) (past : List AnEvent) → ShowsHistory bound self.now past →
-            ShowsHistory bound self.now (reverse (take result events.now) ++ past) }
-        ensures quiet { (bound : ℕ) (past : List AnEvent) → ShowsHistory bound self.now past →
-            verdicts_of bound (reverse (take result events.now) ++ past)
-            ≡ verdicts_of bound past }
+        ensures quiet { AreQuiet self.now events.now result }
+        ensures stops { (bound : ℕ) (past : List AnEvent) → ShowsHistory bound self.now past →
+            StopsForAReason bound past events.now result }
+    {
+        let few = events.len().min(FEW);
+        let mut count = 0;
+        while count < few && self.is_good(&events[count]) {
+            count += 1;
+        }
+        if count < FEW {
+            count
+        } else {
+            self.count_more_good(events, count)
+        }
+    }
+
+    /// The same, by a reader of the shadow, if so many of the events are known to be such.
+    #[inline(never)]
+    fn count_more_good(&self, events: &[Event], known: usize) -> usize
+        requires within { known ≤ length events.now }
+        requires known { AreQuiet self.now events.now known }
+        ensures most { result ≤ length events.now }
+        ensures quiet { AreQuiet self.now events.now result }
         ensures stops { (bound : ℕ) (past : List AnEvent) → ShowsHistory bound self.now past →
             StopsForAReason bound past events.now result }
     {
         let mut shadow = self.shadow.reader();
-        let mut count = 0;
+        let mut count = known;
         while count < events.len() && self.is_good_access(&mut shadow, &events[count]) {
             count += 1;
         }
         count
     }
 
-    /// Whether an event is a load or a store that isn't bad, by a reader of the checker's shadow.
-    /// Most are, and they change nothing.
+    /// Whether an event is a load or a store that isn't bad. Most are, and they change nothing.
+    #[inline(always)]
+    fn is_good(&self, event: &Event) -> bool
+        ensures good { IsTrue result → (bound : ℕ) (past : List AnEvent) →
+            ShowsHistory bound self.now past →
+            (fault_of bound past event.now ≡ None)
+            × ShowsHistory bound self.now (event.now ∷ past) }
+        ensures bad { result ≡ false → (bound : ℕ) (past : List AnEvent) →
+            ShowsHistory bound self.now past →
+            is_access event.now ≡ true → IsSome (fault_of bound past event.now) }
+    {
+        match event {
+            Event::Load(access) | Event::Store(access) => {
+                self.shadow.bad_byte(access.at(), access.width()).is_none()
+            }
+            _ => false,
+        }
+    }
+
+    /// The same, by a reader of the checker's shadow.
     #[inline(always)]
     fn is_good_access(&self, shadow: &mut ShadowReader<'_, A>, event: &Event) -> bool
         requires reads { shadow_of shadow.old ≡ self.now.shadow }

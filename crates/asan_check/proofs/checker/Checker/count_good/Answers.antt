@@ -1,34 +1,37 @@
-use Rattle.std.proofs.Common.{◌≡◌, ◌<◌, ◌+◌, ℕ, List, [], ◌∷◌, ◌++◌, None, length, take, ◌∙◌, refl, sym, ap, arith}
+use Rattle.std.proofs.Common.{◌≡◌, ◌<◌, ◌≤◌, ◌+◌, [], ◌∷◌, ◌++◌, length, take, ◌∙◌, refl, sym, ap, arith}
+use Rattle.std.proofs.lemmas.List.{take_more}
 use Rattle.std.specs.Prelude.{reverse}
-use Rattle.std.proofs.lemmas.List.{append-nil, take_more, reverse-append}
-use Rattle.trace_record.specs.declared.event.Event.{Event}
-use Rattle.asan_check.specs.Verdicts.{fault_of, verdicts_of}
+use Rattle.asan_check.proofs.Quiet.{one_more_quiet, next_is, none_next}
+use Rattle.asan_check.proofs.checker.Checker.count_good.Goals.{then-loop-count-test+else-is_good, else-loop-count-test}
 use Rattle.asan_check.proofs.checker.Checker.count_good.Goals as goal
-
--- a good event has no verdict
-quiet_more : (bound : ℕ) (past : List Event) (e : Event) → fault_of bound past e ≡ None
-    → verdicts_of bound (e ∷ past) ≡ verdicts_of bound past
-quiet_more bound past e none = rw none (append-nil (verdicts_of bound past))
 
 pub loop-count-preserved : goal.loop-count-preserved
 loop-count-preserved g c =
     let was = c.loop-count.invariant in
     let events = c.args.events.now in
     let i = c.loop-count.count in
-    let front = reverse (take i events) in
     let event = c.index-events-count.result in
-    let low : i < length events = c.loop-count-test.true in
+    let low : i < length events = omega (arith, c.loop-count-test.true, c.min-few.ensures) in
     let one : take (i + 1) events ≡ take i events ++ event ∷ [] = take_more events i event low
     ∙ ap (λ e. take i events ++ e ∷ []) (sym c.index-events-count.is) in
-    let newest : reverse (take (i + 1) events) ≡ event ∷ front = ap reverse one
-    ∙ reverse-append (take i events) (event ∷ []) in
     record {
-      reads = c.if-is_good_access.ensures.still_reads;
       within = omega arith;
-      shown = λ bound past shows. rw newest (c.if-is_good_access.ensures.good refl bound (front ++ past)
-          (was.shown bound past shows)).1;
-      quiet = λ bound past shows.
-          let good = c.if-is_good_access.ensures.good refl bound (front ++ past) (was.shown bound past shows) in
-          ap (λ es. verdicts_of bound (es ++ past)) newest ∙ quiet_more bound (front ++ past) event good.0
-          ∙ was.quiet bound past shows;
+      quiet = one_more_quiet c.args.self.now events i event one was.quiet (c.if-is_good.ensures.good refl);
     }
+
+pub returns-then-count-lt-FEW-clause-stops : goal.returns-then-count-lt-FEW-clause-stops
+returns-then-count-lt-FEW-clause-stops g c bound past shown next later rest access =
+    let events = c.args.events.now in
+    let i = c.loop-count.count in
+    elim c.loop-count-test.branch [
+      | then-loop-count-test+else-is_good w ↦
+          let low : i < length events = omega (arith, w.loop-count-test.true, c.min-few.ensures) in
+          let is : next ≡ w.index-events-count.result = next_is events i w.index-events-count.result next later low
+          w.index-events-count.is rest in
+          rw is (w.if-is_good.ensures.bad refl bound (reverse (take i events) ++ past)
+          (c.loop-count.invariant.quiet bound past shown).0 (rw is at access))
+      | else-loop-count-test w ↦
+          let all : length events ≤ i =
+          omega (arith, w.loop-count-test.false, c.min-few.ensures, c.if-count-lt-FEW.true) in
+          none_next events i next later all rest
+    ]

@@ -7,7 +7,8 @@ pub returns-clause-stands : goal.returns-clause-stands
 returns-clause-stands g c bound past at =
     let front = take c.count_good-count.result c.args.events.now in
     let good = c.count_good-count.ensures in
-    let shown = good.shown bound past at.shown in
+    let quiet = good.quiet bound past at.shown in
+    let shown = quiet.0 in
     record {
       running = at.running;
       shown = record {
@@ -22,7 +23,7 @@ returns-clause-stands g c bound past at =
         length-reverse front,
         length-take-le c.count_good-count.result c.args.events.now good.most,
       ));
-      reports = at.reports ∙ sym (good.quiet bound past at.shown);
+      reports = at.reports ∙ sym quiet.1;
     }
 
 pub returns-clause-stops : goal.returns-clause-stops
