@@ -68,6 +68,10 @@ GCC_FLAGS(gcc_all_flags, "0");
 CLANG_FLAGS(clang_flags, "1000000000", "1");
 CLANG_FLAGS(clang_all_flags, "0", "0");
 
+/* With Clang's inline checks, beside cold_reports.h: what is needed after such a call is kept on the stack before it, and
+   not in a register that the function has to save at each of its starts. The cost is that of one run in 2^14 of them. */
+static const char *const clang_cold_flags[] = {"-mllvm", "-regalloc-csr-first-time-cost=16384", "-fno-addrsig"};
+
 /* The functions that the linker wraps. */
 #define WRAP(name) #name,
 static const char *const wraps[] = {
@@ -98,9 +102,11 @@ struct wish {
     bool has_input;
     bool has_source;    /* an input that is compiled or assembled */
     bool has_compiled;  /* one that is compiled */
+    bool has_text;      /* one that is preprocessed and compiled */
     bool has_linked;    /* an input that comes to be linked: a header does not */
     bool names_language;
     bool names_assembly;
+    bool names_preprocessed;
     bool stops_early;   /* before the link */
     bool is_shared;
     bool is_partial;    /* a link of objects to an object */
@@ -178,6 +184,18 @@ static bool is_compiled_already(const struct wish *wish, const char *word)
     return false;
 }
 
+/* Whether what is compiled has been preprocessed. */
+static bool is_preprocessed(const struct wish *wish, const char *word)
+{
+    static const char *const suffixes[] = {".i", ".ii", ".mi", ".mii", ".pcm", ".ast"};
+    if (wish->names_language)
+        return wish->names_preprocessed;
+    for (size_t i = 0; i < COUNT(suffixes); i++)
+        if (ends(word, suffixes[i]))
+            return true;
+    return false;
+}
+
 static void take_input(struct wish *wish, const char *word)
 {
     bool is_header = ends(word, ".h") || ends(word, ".hh") || ends(word, ".hpp") || ends(word, ".hxx");
@@ -186,6 +204,7 @@ static void take_input(struct wish *wish, const char *word)
     wish->has_input = true;
     wish->has_source |= is_source;
     wish->has_compiled |= is_compiled;
+    wish->has_text |= is_compiled && !is_preprocessed(wish, word);
     wish->has_linked |= wish->names_language || !is_header;
     wish->has_libm |= begins(base_name(word), "libm.so");
     if (!is_compiled)
@@ -326,6 +345,7 @@ static void take_language(struct wish *wish, const char *language)
 {
     wish->names_language = strcmp(language, "none") != 0;
     wish->names_assembly = begins(language, "assembler") || strcmp(language, "ir") == 0;
+    wish->names_preprocessed = ends(language, "cpp-output");
     wish->stops_early |= ends(language, "-header");
 }
 
@@ -509,19 +529,15 @@ static bool is_clang(const struct command *command)
     return says_clang(command);
 }
 
-/* A file of the recorder's, as the linker is given it: beside this program, or in ../lib/asancol where it is
-   installed. */
+/* A file of the recorder's: beside this program, or in ../lib/asancol where it is installed. */
 static char *own_file(const char *self, const char *name)
 {
     static const char *const places[] = {"", "../lib/asancol/"};
     for (size_t i = 0; i < COUNT(places); i++) {
         char path[2 * PATH_MAX];
         snprintf(path, sizeof path, "%.*s%s%s", (int)(base_name(self) - self), self, places[i], name);
-        if (access(path, R_OK) == 0) {
-            char *flag = must(malloc(strlen(path) + 8));
-            sprintf(flag, "-Wl,%s", path);
-            return flag;
-        }
+        if (access(path, R_OK) == 0)
+            return must(strdup(path));
     }
     fail("not found beside the wrapper", name);
 }
@@ -543,6 +559,15 @@ static void add_all(struct line *line, const char *const *words, size_t count)
 {
     for (size_t i = 0; i < count; i++)
         add(line, words[i]);
+}
+
+static void link_own(struct line *line, const char *self, const char *name)
+{
+    static const char front[] = "-Wl,";
+    const char *path = own_file(self, name);
+    char *word = must(malloc(sizeof front + strlen(path)));
+    stpcpy(stpcpy(word, front), path);
+    add(line, word);
 }
 
 /* One word for all of them. What calls a function that is left alone by its other name still finds it. */
@@ -576,18 +601,18 @@ static void add_link(struct line *line, const struct wish *wish, const char *sel
     if (is_static_program(wish)) {
         add(line, "-Wl,--eh-frame-hdr"); /* by which stacks lead through the C library */
         add_all(line, program_flags, COUNT(program_flags));
-        add(line, own_file(self, "libasancol_static.a"));
-        add(line, own_file(self, "no-second-allocator.ld"));
+        link_own(line, self, "libasancol_static.a");
+        link_own(line, self, "no-second-allocator.ld");
         return;
     }
     add_wraps(line);
     if (wish->is_shared) {
         add(line, "-Wl,--undefined=asancol_map_early");
-        add(line, own_file(self, "libasancol_shared.a"));
+        link_own(line, self, "libasancol_shared.a");
     } else {
         if (!wish->is_bare || wish->has_libc)
             add_all(line, program_flags, COUNT(program_flags));
-        add(line, own_file(self, "libasancol_record.a"));
+        link_own(line, self, "libasancol_record.a");
         if (wish->has_libc)
             add(line, "-lc"); /* for what the recorder calls */
     }
@@ -610,12 +635,18 @@ static void warn(const struct wish *wish, bool links)
         linked_warn(&wish->linked, NAME);
 }
 
+/* Whether each access is a call, and not only one that its check finds bad. */
+static bool records_all(void)
+{
+    const char *setting = getenv("ASANCOL_ALL");
+    return setting != NULL && strcmp(setting, "1") == 0;
+}
+
 /* The calls before accesses: when compiling, and for GCC when linking too, since it compiles then what was made with
    -flto. It would do so with the settings of an object that was made without these flags. */
 static void add_checks(struct line *line, const struct wish *wish, const struct command *command)
 {
-    const char *setting = getenv("ASANCOL_ALL");
-    bool all = setting != NULL && strcmp(setting, "1") == 0;
+    bool all = records_all();
     if (wish->refusal != NULL)
         return;
     if (is_clang(command)) {
@@ -628,6 +659,21 @@ static void add_checks(struct line *line, const struct wish *wish, const struct 
     if (!wish->stops_early && wish->linked.unmarked_lto != NULL)
         fail("it was made with -flto, but not by " NAME ": compile it again", wish->linked.unmarked_lto);
     add_all(line, all ? gcc_all_flags : gcc_flags, COUNT(gcc_flags));
+}
+
+/* After the caller's words: if they name a precompiled header, it has to be the first that is included. */
+static void add_after_words(struct line *line, const struct wish *wish, const struct command *command, const char *self)
+{
+    if (!wish->has_source || wish->refusal != NULL)
+        return;
+    add(line, NOTE_SWITCHES); /* whatever the caller's words say of it */
+    if (!is_clang(command) || records_all() || !wish->has_compiled)
+        return;
+    add_all(line, clang_cold_flags, COUNT(clang_cold_flags));
+    if (wish->has_text) {
+        add(line, "-include");
+        add(line, own_file(self, "cold_reports.h"));
+    }
 }
 
 /* Whether the compiler gets this word when the link is only tried. */
@@ -648,8 +694,8 @@ static struct line make_line(const struct wish *wish, const struct command *comm
     for (char **word = words + 1; *word != NULL; word++)
         if (!is_try || keeps_symbols(*word))
             add(&line, *word);
-    if (takes_part && wish->has_source && wish->refusal == NULL)
-        add(&line, NOTE_SWITCHES); /* whatever the caller's words say of it */
+    if (takes_part)
+        add_after_words(&line, wish, command, self);
     if (takes_part && links)
         add_link(&line, wish, self);
     return line;

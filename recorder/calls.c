@@ -47,6 +47,7 @@
 #include <utmpx.h>
 #include <wordexp.h>
 
+#include "arena.h"
 #include "rows.h"
 
 __attribute__((noinline, cold)) void call_is_bad(enum code code, uintptr_t start, size_t size, uintptr_t caller)
@@ -89,10 +90,35 @@ static int lowered(int byte)
     return byte >= 'A' && byte <= 'Z' ? byte + ('a' - 'A') : byte;
 }
 
+/* Whether eight bytes lie in one page, so that they can be read also past the end of a string. */
+static bool is_in_page(const char *at)
+{
+    return ((uintptr_t)at & (PAGE - 1)) <= PAGE - sizeof(uint64_t);
+}
+
+/* How many of the first bytes, in steps of eight, are the same in both and not zero. It ends also where a page does. */
+__attribute__((no_sanitize("address"))) static size_t same_front(const char *one, const char *other, size_t most)
+{
+    const uint64_t low = UINT64_C(0x0101010101010101), high = low << 7;
+    size_t same = 0;
+    for (; most - same >= sizeof low && is_in_page(one + same) && is_in_page(other + same); same += sizeof low) {
+        uint64_t first, second;
+        __builtin_memcpy(&first, one + same, sizeof first);
+        __builtin_memcpy(&second, other + same, sizeof second);
+        if (first != second || ((first - low) & ~first & high) != 0)
+            break;
+    }
+    return same;
+}
+
 static inline void compares(const char *one, const char *other, size_t most, int fold(int), uintptr_t caller)
 {
     size_t read = 0;
     while (read < most) {
+        if (read % sizeof(uint64_t) == 0)
+            read += same_front(one + read, other + read, most - read);
+        if (read == most)
+            break;
         unsigned char first = (unsigned char)one[read], second = (unsigned char)other[read];
         read++;
         if (first == 0 || fold(first) != fold(second))

@@ -215,6 +215,7 @@ def package_is_whole(_: str, folder: str) -> None:
     """Pages, completions and documents are where they are looked for."""
     must(["dpkg-deb", "-x", package_of(folder), folder])
     wanted = ["lib/asancol/libasancol_record.a", "lib/asancol/libasancol_static.a", "lib/asancol/libasancol_shared.a"]
+    wanted += ["lib/asancol/no-second-allocator.ld", "lib/asancol/cold_reports.h"]
     for name in ("asancol", "asancol-cc", "asancol-c++", "asancol-run", "asancol-report"):
         wanted += [f"bin/{name}", f"share/man/man1/{name}.1.gz", f"share/bash-completion/completions/{name}"]
         wanted += [f"share/zsh/vendor-completions/_{name}", f"share/fish/vendor_completions.d/{name}.fish"]

@@ -528,7 +528,7 @@ def check_builds(suite, folder, compiler):
         made = run([CC, *words], folder, stdin=stdin, ASANCOL_CC=compiler.name)
         if made.returncode != 0:
             raise Failure(f"{words}: {made.stderr.decode()}")
-        may_warn = "-v" in words or "-static" in words
+        may_warn = any(it in words for it in ("-v", "-static", "one.S"))
         expect(b"" if may_warn else made.stderr, b"", f"{words}")
         return made.stdout
 
@@ -585,6 +585,24 @@ def check_builds(suite, folder, compiler):
     write(folder, one_h="extern int one;\n")
     cc("-x", "c-header", "one.h", "-o", "one.h.gch")
     cc("one.h", "-o", "one.h.gch")
+    # One that is precompiled, and then included first; what is preprocessed and what is assembled; all warnings.
+    write(folder, main_h="int helper(char *);\n")
+    cc("-x", "c-header", "main.h", "-o", "main.h.pch" if compiler.name == "clang" else "main.h.gch")
+    cc("-Winvalid-pch", "-include", "main.h", "main.c", "helper.o", "-o", "program")
+    one_mark(suite, folder)
+    cc("-DVALUE=1", "-E", "helper.c", "-o", "helper.i")
+    cc("main.c", "helper.i", "-o", "program")
+    one_mark(suite, folder)
+    cc("-c", "helper.i", "-o", "helper.o")
+    cc("-c", "-x", "cpp-output", "helper.i", "-o", "helper.o")
+    cc("main.o", "helper.o", "-o", "program")
+    one_mark(suite, folder)
+    write(folder, one_S="#define NAME one\n.globl NAME\nNAME: ret\n.section .note.GNU-stack,\"\",@progbits\n")
+    cc("-DVALUE=1", "main.c", "helper.c", "one.S", "-o", "program")
+    one_mark(suite, folder)
+    write(folder, sound_c="int main(void)\n{\n    return 0;\n}\n")
+    everything = ["-Weverything"] if compiler.name == "clang" else ["-Wextra", "-Wmissing-declarations"]
+    cc("-std=c89", "-Wall", "-Wpedantic", "-Werror", *everything, "sound.c", "-o", "sound")
     write(folder, undefined_c="int main(void) { return 0; }\n")
     if run([compiler.name, "-fsanitize=undefined", "undefined.c", "-o", "undefined"], folder).returncode == 0:
         cc("-fsanitize=undefined", "-DVALUE=1", "main.c", "helper.c", "-o", "program")

@@ -11,6 +11,7 @@
 #include <stdlib.h>
 #include <string.h>
 #include <strings.h>
+#include <sys/mman.h>
 
 #if defined __has_include
 #if __has_include(<sanitizer/asan_interface.h>)
@@ -270,6 +271,17 @@ FAULT(strcmp_after_free, "load 2 +0 heap-use-after-free")
     __asm__ volatile("movw $0x62, (%0)" : : "r"(p) : "memory");
     sink = (uint64_t)strcmp(hide(p), hide((char *)"b"));
 }
+FAULT(strcmp_past_a_long_block, "load 2 +44 bad +45 heap-buffer-overflow")
+{
+    char *p = block(45), *q = block(47);
+    memset(p, 'x', hide_size(45));
+    memset(q, 'x', hide_size(46));
+    q[46] = 0;
+    __asm__ volatile("movb $0, 45(%0)" : : "r"(p) : "memory");
+    sink = (uint64_t)strcmp(hide(q), hide(p));
+    drop(p);
+    drop(q);
+}
 FAULT(strdup_past, "store 1 +6 heap-buffer-overflow")
 {
     char *p = hide(strdup(hide((char *)"Alice")));
@@ -385,6 +397,27 @@ CLEAN(string_functions)
     sink = strspn(q, "Al") + strcspn(q, ",");
     drop(p);
     drop(q);
+}
+CLEAN(strings_up_to_the_end_of_a_page)
+{
+    enum { SIZE = 4096, LONGEST = 20 };
+    char *pages = mmap(NULL, 2 * SIZE, PROT_READ | PROT_WRITE, MAP_PRIVATE | MAP_ANONYMOUS, -1, 0);
+    char *same = block(LONGEST + 1);
+    if (pages == MAP_FAILED || mprotect(pages + SIZE, SIZE, PROT_NONE) != 0)
+        exit(9);
+    for (size_t length = 0; length <= LONGEST; length++) {
+        char *last = pages + SIZE - length - 1;
+        memset(last, 'a', hide_size(length));
+        last[length] = 0;
+        strcpy(same, hide(last));
+        if (strcmp(hide(last), hide(same)) != 0 || strcasecmp(hide(same), hide(last)) != 0)
+            exit(9);
+        same[length / 2] = 'b';
+        if (length > 0 && (strcmp(hide(last), hide(same)) >= 0 || strncmp(hide(same), hide(last), hide_size(30)) <= 0))
+            exit(9);
+    }
+    munmap(pages, 2 * SIZE);
+    drop(same);
 }
 CLEAN(no_terminator)
 {

@@ -6,6 +6,7 @@ import re
 from typing import List, Sequence, Tuple
 
 from support import (
+    CC,
     TESTS,
     Compiler,
     Suite,
@@ -255,6 +256,16 @@ def check_few_records(suite: Suite, folder: str, compiler: Compiler) -> None:
     expect((len(Trace(f"{folder}/t.trace").events), reports(suite.asancol, f"{folder}/t.trace")[0]), (0, 0), "events")
 
 
+def check_seldom_calls(suite: Suite, folder: str, compiler: Compiler) -> None:
+    """A short function saves no register for the calls that it makes only if an access is bad."""
+    write(folder, bump_c="long bump(long *number) { return ++*number; }\nint sum(int *a, int *b) { return *a + *b; }\n")
+    run([CC, "-O2", "-S", "bump.c"], folder, ASANCOL_CC=compiler.name)
+    with open(f"{folder}/bump.s", encoding="utf-8") as file:
+        text = file.read()
+    expect("__asan_report_" in text, True, "checks")
+    expect(re.findall(r"push\S*\s+%r(?:bx|1[2-5])", text), [], "registers that are saved")
+
+
 def tests(suite: Suite, compiler: Compiler) -> None:
     for source in SAME:
         for level in LEVELS:
@@ -267,6 +278,7 @@ def tests(suite: Suite, compiler: Compiler) -> None:
             suite.test(f"{compiler} inline beside {source}", check_beside, compiler, source, "-O0")
     for level in ("-O0", "-O2"):
         suite.test(f"{compiler} inline left {level}", check_left, compiler, level)
+    suite.test(f"{compiler} inline seldom calls", check_seldom_calls, compiler)
     suite.test(f"{compiler} inline sizes", check_sizes, compiler)
     suite.test(f"{compiler} inline layouts", check_layouts, compiler)
     suite.test(f"{compiler} inline mixed", check_mixed, compiler)

@@ -205,6 +205,23 @@ def check_no_room(suite: Suite, folder: str, program: str) -> None:
     expect([it.is_closed() for it in segments], [False], "closes")
 
 
+def check_full_disk(suite: Suite, folder: str, program: str) -> None:
+    """The disk is full at the first switch, and at a later one: the segments before are whole, the recording ends with a
+    line, and its last trace is not closed."""
+    for room, limit, mallocs, closed in (("1200k", 1000, 8000, 0), ("4m", 60000, 400000, 1)):
+        lines = (
+            f"mkdir {room} && mount -t tmpfs -o size={room} none {room} || exit 9",
+            f"ASANCOL_TRACE={room}/t.trace ASANCOL_LIMIT={limit} {program} blocks {mallocs} -1 || exit 8",
+            f"mkdir of-{room} && cp {room}/* of-{room}",
+        )
+        ran = run(["unshare", "-rm", "sh", "-c", "\n".join(lines)], folder)
+        expect((ran.returncode, len(ran.stderr.splitlines())), (0, 1), ran.stderr)
+        expect(b"recording ends" in ran.stderr and b"No space left" in ran.stderr, True, ran.stderr)
+        segments = segments_of(suite, f"{folder}/of-{room}/t.trace")
+        expect(len(segments) > closed, True, f"{len(segments)} segments in {room}")
+        expect([it.is_closed() for it in segments], [True] * (len(segments) - 1) + [False], f"closes in {room}")
+
+
 def check_threads(suite: Suite, folder: str, program: str) -> None:
     """Four threads: no report but that of the bug, in few segments and in many."""
     for limit, least in ((20000, 2), (2000, 15), (400, 100)):
@@ -287,5 +304,9 @@ def tests(suite: Suite, compiler: Compiler, folder: str) -> None:
         ("killed anywhere", check_killed_anywhere),
         ("no room", check_no_room),
     ]
+    if run(["unshare", "-rm", "true"], folder).returncode == 0:
+        cases.append(("full disk", check_full_disk))
+    else:
+        print("left out: segments on a full disk: no namespace of mounts can be made here")
     for name, check in cases:
         suite.test(f"{compiler} segments {name}", check, program)

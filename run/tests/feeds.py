@@ -10,9 +10,10 @@ from support import FAKE_REPORT, RUN, SEGMENTED, Failure, Suite, expect, expect_
 
 
 def check_packets(suite: Suite, folder: str) -> None:
-    """A run, its processes in the order of their ends, and the end."""
+    """A run, its processes, each when its check has ended, and the end."""
     line = f"{suite.program} sound; {suite.program} past 3; exit 5"
-    words, run, sound, past, end = suite.packets(folder, "--", "sh", "-c", line)
+    words, run, *processes, end = suite.packets(folder, "--", "sh", "-c", line)
+    sound, past = sorted(processes, key=lambda it: it["n"])
     expect(words[0], "--run", "words")
     expect((run["type"], run["version"], run["command"]), ("run", 1, ["sh", "-c", line]), "run")
     expect(sorted(run), ["command", "directory", "host", "id", "time", "type", "version"], "run")
