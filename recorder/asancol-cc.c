@@ -108,6 +108,7 @@ struct wish {
     bool names_assembly;
     bool names_preprocessed;
     bool stops_early;   /* before the link */
+    bool is_shown;      /* what is preprocessed is printed, and not compiled */
     bool is_shared;
     bool is_partial;    /* a link of objects to an object */
     bool is_bare;       /* without the C library */
@@ -312,11 +313,11 @@ static const struct {
     size_t field;
 } plain[] = {
 #define SAYS(field, word) {word, offsetof(struct wish, field)}
-    SAYS(stops_early, "-c"), SAYS(stops_early, "-S"), SAYS(stops_early, "-E"), SAYS(stops_early, "-M"),
-    SAYS(stops_early, "-MM"), SAYS(stops_early, "-fsyntax-only"), SAYS(stops_early, "--version"),
+    SAYS(stops_early, "-c"), SAYS(stops_early, "-S"), SAYS(is_shown, "-E"), SAYS(is_shown, "-M"),
+    SAYS(is_shown, "-MM"), SAYS(stops_early, "-fsyntax-only"), SAYS(stops_early, "--version"),
     SAYS(stops_early, "--help"), SAYS(stops_early, "--target-help"), SAYS(stops_early, "-dumpversion"),
     SAYS(stops_early, "-dumpfullversion"), SAYS(stops_early, "-dumpmachine"), SAYS(stops_early, "-dumpspecs"),
-    SAYS(stops_early, "--preprocess"), SAYS(stops_early, "--compile"), SAYS(stops_early, "--assemble"),
+    SAYS(is_shown, "--preprocess"), SAYS(stops_early, "--compile"), SAYS(stops_early, "--assemble"),
     SAYS(stops_early, "-emit-pch"), SAYS(stops_early, "--analyze"), SAYS(stops_early, "-emit-ast"),
     SAYS(stops_early, "-cc1"), SAYS(stops_early, "-cc1as"),
     SAYS(is_partial, "-r"), SAYS(is_partial, "-Wl,-r"), SAYS(is_partial, "-Wl,-i"),
@@ -670,7 +671,7 @@ static void add_after_words(struct line *line, const struct wish *wish, const st
     if (!is_clang(command) || records_all() || !wish->has_compiled)
         return;
     add_all(line, clang_cold_flags, COUNT(clang_cold_flags));
-    if (wish->has_text) {
+    if (wish->has_text && !wish->is_shown) {
         add(line, "-include");
         add(line, own_file(self, "cold_reports.h"));
     }
@@ -726,6 +727,7 @@ int main(int count, char **words)
     self[length < 0 ? 0 : length] = 0;
     for (int i = 1; i < count; i++)
         look_at(&wish, words[i]);
+    wish.stops_early |= wish.is_shown;
     if (!find_program(command.words[0], self, found))
         fail("there is no such compiler", command.words[0]);
     command.words[0] = found;

@@ -189,13 +189,16 @@ const char *output_open_file(struct output *output, const char *path, enum namin
 }
 
 /* The name of a socket, and how long it is. An abstract one needs no folder: it is seen from a changed root, and by
-   another user. */
+   another user. It has nothing of the secret, which follows a last dash in the folder of a run. */
 static socklen_t name_socket(struct sockaddr_un *address, const char *path, bool is_abstract)
 {
+    const char *slash = strrchr(path, '/'), *dash = strrchr(path, '-');
+    bool has_secret = is_abstract && slash != NULL && slash != path && dash > slash;
+    size_t length = has_secret ? (size_t)(dash - path) : strlen(path);
     memset(address, 0, sizeof *address);
     address->sun_family = AF_UNIX;
-    memcpy(address->sun_path + is_abstract, path, strlen(path));
-    return is_abstract ? (socklen_t)(offsetof(struct sockaddr_un, sun_path) + 1 + strlen(path)) : sizeof *address;
+    memcpy(address->sun_path + is_abstract, path, length);
+    return is_abstract ? (socklen_t)(offsetof(struct sockaddr_un, sun_path) + 1 + length) : sizeof *address;
 }
 
 /* Waits for a place in a queue that is full (EAGAIN): as long as there is patience. */

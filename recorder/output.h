@@ -38,7 +38,7 @@ enum naming { NAME_NUMBERED, NAME_TAKEN_OVER };
 /* Each answers null, or what went wrong. */
 const char *output_open_file(struct output *output, const char *path, enum naming naming, struct window window,
                              uint64_t backed);
-/* To a socket: by its path, or else, where `has_abstract`, by the abstract name of the same text. */
+/* To a socket: by its path, or else, where `has_abstract`, by the abstract name of the same text without its secret. */
 const char *output_connect(struct output *output, const char *path, bool has_abstract, struct window window,
                            int patience_ms);
 /* Connects to a hub by either name, as far as it can, and sends nothing. */

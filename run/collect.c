@@ -143,7 +143,7 @@ static bool accept_one(int listener)
             run.short_until = now() + SHORTAGE;
         return false;
     }
-    enum peer whose = peer_judge(&peer);
+    enum peer whose = peer_judge(&peer, hub_is_secret(listener));
     if (whose == PEER_OURS) {
         add_process(connection, &peer);
         return true;

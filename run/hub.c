@@ -16,19 +16,24 @@
 
 #include "say.h"
 
-/* A folder's name ends so, and the socket's name follows. */
+/* A folder's name ends so, and the socket's name follows: the one to which it is bound, and the one that it gets. */
 #define FOLDER_END "/asancol-XXXXXX"
 #define SOCKET_END "/hub"
+#define SECRET_END "-0123456789abcdef"
+enum { SECRET_BYTES = 8 };
 /* An address has room for 108 bytes, with the zero at one of the ends. */
 enum { ADDRESS_ROOM = 108 };
 
 static char folder[ADDRESS_ROOM], address[ADDRESS_ROOM + sizeof SOCKET_END];
 static int listeners[HUB_LISTENERS] = {-1, -1};
 
-/* Makes the name of a socket, and answers how long it is; 0: it has no room. */
+/* Makes the name of a socket, and answers how long it is; 0: it has no room. An abstract one has nothing of the secret,
+   which follows a last dash. */
 static socklen_t name_socket(struct sockaddr_un *name, const char *text, bool is_abstract)
 {
-    size_t length = strlen(text);
+    const char *slash = strrchr(text, '/'), *dash = strrchr(text, '-');
+    bool has_secret = is_abstract && slash != NULL && slash != text && dash > slash;
+    size_t length = has_secret ? (size_t)(dash - text) : strlen(text);
     _Static_assert(sizeof name->sun_path == ADDRESS_ROOM, "an address has this room");
     *name = (struct sockaddr_un){.sun_family = AF_UNIX};
     if (length + 1 > ADDRESS_ROOM)
@@ -37,10 +42,10 @@ static socklen_t name_socket(struct sockaddr_un *name, const char *text, bool is
     return (socklen_t)(offsetof(struct sockaddr_un, sun_path) + length + 1);
 }
 
-static bool listen_at(int *listener, bool is_abstract)
+static bool listen_at(int *listener, const char *text, bool is_abstract)
 {
     struct sockaddr_un name;
-    socklen_t size = name_socket(&name, address, is_abstract);
+    socklen_t size = name_socket(&name, text, is_abstract);
     if (size == 0)
         return false;
     int made = socket(AF_UNIX, SOCK_STREAM | SOCK_CLOEXEC | SOCK_NONBLOCK, 0);
@@ -55,34 +60,49 @@ static bool listen_at(int *listener, bool is_abstract)
     return false;
 }
 
+/* Adds what nobody guesses. */
+static void add_secret(void)
+{
+    unsigned char random[SECRET_BYTES];
+    size_t length = strlen(address);
+    if (getrandom(random, sizeof random, 0) != sizeof random)
+        fail(OWN_FAILURE, "no random bytes", strerror(errno));
+    length += (size_t)snprintf(address + length, sizeof address - length, "-");
+    for (size_t i = 0; i < sizeof random; i++)
+        length += (size_t)snprintf(address + length, sizeof address - length, "%02x", random[i]);
+}
+
 static bool try_folder(const char *base)
 {
-    if (base == NULL || base[0] != '/' || strlen(base) + sizeof FOLDER_END + sizeof SOCKET_END > ADDRESS_ROOM)
+    static const char ends[] = FOLDER_END SOCKET_END SECRET_END;
+    char bound[sizeof address];
+    if (base == NULL || base[0] != '/' || strlen(base) + sizeof ends > ADDRESS_ROOM)
         return false;
     snprintf(folder, sizeof folder, "%s" FOLDER_END, base);
     if (mkdtemp(folder) == NULL)
         return false;
-    /* What the command has started may be another user's, and have no network of ours: the path is its only way. */
+    /* What the command has started may be another user's, and have no network of ours: the path is its only way. Nobody
+       else can list the folder. */
     chmod(folder, 0711);
     snprintf(address, sizeof address, "%s" SOCKET_END, folder);
-    if (listen_at(&listeners[0], false)) {
-        chmod(address, 0777);
+    snprintf(bound, sizeof bound, "%s", address);
+    add_secret();
+    if (listen_at(&listeners[0], bound, false) && chmod(bound, 0777) == 0 && rename(bound, address) == 0)
         return true;
-    }
+    if (listeners[0] >= 0)
+        close(listeners[0]);
+    listeners[0] = -1;
+    unlink(bound);
     rmdir(folder);
     return false;
 }
 
-/* A name that nobody guesses. */
+/* Its name is only listed, and not guessed. */
 static void name_without_folder(void)
 {
-    unsigned char random[12];
     folder[0] = 0;
-    if (getrandom(random, sizeof random, 0) != sizeof random)
-        fail(OWN_FAILURE, "no random bytes", strerror(errno));
-    int length = snprintf(address, sizeof address, "/asancol-");
-    for (size_t i = 0; i < sizeof random; i++)
-        length += snprintf(address + length, sizeof address - (size_t)length, "%02x", random[i]);
+    snprintf(address, sizeof address, "/asancol");
+    add_secret();
 }
 
 void hub_open(void)
@@ -93,7 +113,7 @@ void hub_open(void)
         has_folder = try_folder(bases[i]);
     if (!has_folder)
         name_without_folder();
-    if (!listen_at(&listeners[1], true) && !has_folder)
+    if (!listen_at(&listeners[1], address, true) && !has_folder)
         fail(OWN_FAILURE, "no socket", strerror(errno));
 }
 
@@ -123,6 +143,11 @@ int hub_accept(int listener, struct ucred *peer)
             return connection;
         close(connection);
     }
+}
+
+bool hub_is_secret(int listener)
+{
+    return listener == listeners[0];
 }
 
 bool hub_knock(const char *of_hub)

@@ -1,5 +1,6 @@
-/* The sockets on which recorded processes connect: one in a private folder, and one under the same text as an abstract
-   name, which needs no folder. */
+/* The sockets on which recorded processes connect: one in a private folder, and one under an abstract name, which needs
+   no folder. The kernel lists the names to which sockets were bound. The one in the folder has another name since, with
+   a secret at its end: whoever connects there has it from the command's environment. */
 #ifndef ASANCOL_RUN_HUB_H
 #define ASANCOL_RUN_HUB_H
 
@@ -19,6 +20,8 @@ const int *hub_listeners(void);
 /* The next connection, and who has made it. -1: there is none, errno says why. */
 struct ucred;
 int hub_accept(int listener, struct ucred *peer);
+/* Whether who connects there knows the secret. */
+bool hub_is_secret(int listener);
 /* Connects to another hub and sends nothing, so that it knows of a process that it does not see. False: it is not
    there any more. */
 bool hub_knock(const char *of_hub);

@@ -21,18 +21,24 @@ static bool is_remembered(uid_t user)
     return false;
 }
 
-enum peer peer_judge(const struct ucred *peer)
+static void remember(uid_t user)
+{
+    if (user_count < MOST_USERS && !is_remembered(user))
+        users[user_count++] = user;
+}
+
+enum peer peer_judge(const struct ucred *peer, bool knows_secret)
 {
     if (peer->uid == getuid() || peer->uid == 0)
         return PEER_OURS;
-    enum kinship kinship = descendants_kinship(peer->pid);
+    enum kinship kinship = knows_secret ? KINSHIP_OURS : descendants_kinship(peer->pid);
     if (kinship == KINSHIP_NONE)
         return PEER_STRANGER;
     /* Of one that is gone only the user is known: the command has others of this user, or it hasn't. */
-    bool is_ours = kinship == KINSHIP_OURS || is_remembered(peer->uid) || descendants_have_user(peer->uid);
-    if (is_ours && user_count < MOST_USERS && !is_remembered(peer->uid))
-        users[user_count++] = peer->uid;
-    return is_ours ? PEER_OURS : PEER_UNKNOWN;
+    if (kinship == KINSHIP_UNKNOWN && !is_remembered(peer->uid) && !descendants_have_user(peer->uid))
+        return PEER_UNKNOWN;
+    remember(peer->uid);
+    return PEER_OURS;
 }
 
 void peer_say_refused(const struct ucred *peer)

@@ -1,5 +1,6 @@
-/* Whose the processes are that connect. Any of this machine can: the names of sockets are listed in /proc/net/unix. Let
-   in are those of our user and of root, and what the command has started, whoever that is by now. */
+/* Whose the processes are that connect. Let in is who knows the secret of the socket's path. The abstract name is
+   anybody's to use: by that, processes of our user and of root are let in, and what the command has started, whoever
+   that is by now. */
 #ifndef ASANCOL_RUN_PEERS_H
 #define ASANCOL_RUN_PEERS_H
 
@@ -13,7 +14,7 @@ enum peer {
 };
 
 struct ucred;
-enum peer peer_judge(const struct ucred *peer);
+enum peer peer_judge(const struct ucred *peer, bool knows_secret);
 /* A line that it is refused; after some of them they are only counted. */
 void peer_say_refused(const struct ucred *peer);
 /* A line with how many were only counted. */

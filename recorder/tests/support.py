@@ -151,14 +151,16 @@ class Side:
         return found
 
     def lines(self, places):
-        """Function and FILE:LINE of each place, by addr2line."""
+        """Function and FILE:LINE of each place. addr2line does not know all functions that Clang has inlined, and
+        llvm-addr2line does."""
+        tool = shutil.which("llvm-addr2line") or "addr2line"
         wanted = {}
         for place in set(places):
             wanted.setdefault(self.module(place), []).append(place)
         found = {}
         for (path, base), of_module in wanted.items():
             addresses = "\n".join(hex(place - 1 - base) for place in of_module)
-            said = run(["addr2line", "-f", "-e", path], ".", stdin=addresses.encode()).stdout.decode().splitlines()
+            said = run([tool, "-f", "-e", path], ".", stdin=addresses.encode()).stdout.decode().splitlines()
             for place, function, line in zip(of_module, said[::2], said[1::2]):
                 found[place] = (function, os.path.basename(line.split(" (")[0]))
         return [found[place] for place in places]

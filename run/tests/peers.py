@@ -12,19 +12,28 @@ from support import Suite, expect, expect_ran, finish, wait_until
 
 NOBODY, OTHER = 65534, 65533
 
-# Connects to the hub that is named, in a child that is gone once it has; what it has connected stays open.
+# Connects to a name, which may be abstract, so many times, and sends a bad free each time. It stays for some seconds.
+STAYS = """
+import contextlib, socket, sys, time
+peers = [socket.socket(socket.AF_UNIX) for _ in range(int(sys.argv[3]))]
+for peer in peers:
+    peer.connect(sys.argv[1].replace("@", "\\0"))
+    with contextlib.suppress(BrokenPipeError, ConnectionResetError):
+        peer.sendall(b"ASTR\\2\\0\\0\\0" + b"\\4" + b"\\1" * 6 + b"\\0\\0" + b"\\7")
+time.sleep(float(sys.argv[2]))
+"""
+# Likewise, in a child that is gone once it has; what it has connected stays open.
 GONE = """
 import os, socket, sys, time
 peer = socket.socket(socket.AF_UNIX)
 child = os.fork()
 if child == 0:
-    peer.connect(sys.argv[1])
+    peer.connect(sys.argv[1].replace("@", "\\0"))
     os._exit(0)
 os.waitpid(child, 0)
 print("gone", flush=True)
 time.sleep(float(sys.argv[2]))
 """
-
 
 # Sends what is no memory of a recorder with the first bytes of a trace. Its words name the hub and what it sends.
 SENDER = """
@@ -58,21 +67,22 @@ def as_user(user: int) -> List[str]:
 
 
 class Run:
-    """A run that goes on until it may end, and the name of its hub."""
+    """A run that goes on until it may end, and the names of its hub."""
 
     def __init__(self, suite: Suite, folder: str, user: int = 0) -> None:
         os.chmod(folder, 0o777)
-        self.suite, self.end_mark, named = suite, f"{folder}/end", f"{folder}/hub"
+        self.suite, self.end_mark, named = suite, f"{folder}/end", f"{folder}/named"
         line = f"{suite.program} sound; echo $ASANCOL_HUB > {named}.new; mv {named}.new {named}; "
         line += f"while [ ! -e {self.end_mark} ]; do sleep 0.05; done"
         self.program = suite.start("-v", "--", "sh", "-c", line, user=user, TMPDIR=folder)
         wait_until(lambda: os.path.exists(named), "the name of the hub")
         with open(named, encoding="utf-8") as file:
             self.hub = file.read().strip()
+        self.abstract = f"@{self.hub.rpartition('-')[0]}"
 
-    def connect(self, user: int, *words: str) -> str:
-        """Runs a recorded program of a user that this run has not started, and returns what it says."""
-        return self.suite.run_words([*as_user(user), *words], ASANCOL_HUB=self.hub).err
+    def run_as(self, user: int, *words: str) -> str:
+        """Runs a command of a user that this run has not started, and returns what it says on standard error."""
+        return self.suite.run_words([*as_user(user), *words]).err
 
     def end(self, status: int, *texts: str, **more: List[str]) -> str:
         with open(self.end_mark, "w", encoding="utf-8"):
@@ -85,59 +95,70 @@ class Run:
 def check_stranger(suite: Suite, folder: str, user: int) -> None:
     """Another user's process is refused, with a line, and the run is as without it."""
     run = Run(suite, folder, user)
-    run.connect(OTHER, suite.program, "past_and_sleeps", "0.5")
-    private = os.path.dirname(run.hub)
-    for words in (["touch", f"{private}/mark"], ["ls", private]):
-        expect("Permission denied" in run.connect(OTHER, *words), True, " ".join(words))
+    expect(run.run_as(OTHER, "python3", "-c", STAYS, run.abstract, "1", "1"), "", "the stranger")
     refused = rf"asancol: a connection was refused: process \d+ of user {OTHER} was not started by this command\n"
     text = run.end(0, "1 process, ", "all seen whole", absent=["the report"])
-    expect(re.search(refused, text) is not None, True, text)
+    expect(len(re.findall(refused, text)), 1, text)
+
+
+def check_secret(suite: Suite, folder: str) -> None:
+    """The path of the socket is nobody's to find but of the processes that have it in their environment."""
+    run = Run(suite, folder)
+    private = os.path.dirname(run.hub)
+    with open("/proc/net/unix", encoding="utf-8") as names:
+        listed = re.findall(rf"\S*{re.escape(private)}\S*", names.read())
+    expect(sorted(listed), [f"{private}/hub", f"@{private}/hub"], "names that the system lists")
+    for words in (["ls", private], ["touch", f"{private}/mark"], ["cat", f"/proc/{run.program.pid}/environ"]):
+        expect("Permission denied" in run.run_as(OTHER, *words), True, " ".join(words))
+    # Who has it may connect, whoever that is.
+    expect(run.run_as(OTHER, "python3", "-c", STAYS, run.hub, "0", "1"), "", "another user who has it")
+    run.end(99, absent=["refused"])
 
 
 def check_same_user(suite: Suite, folder: str) -> None:
     """Processes of the user of the run, and of root, are let in, whoever has started them."""
     run = Run(suite, folder, NOBODY)
     for user in (NOBODY, 0):
-        expect(run.connect(user, suite.program, "sound"), "", f"user {user}")
-    run.end(0, "3 processes, ", "all seen whole", absent=["refused"])
+        expect(run.run_as(user, "python3", "-c", STAYS, run.abstract, "0", "1"), "", f"user {user}")
+    run.end(99, absent=["refused"])
 
 
 def check_descendant(suite: Suite, folder: str) -> None:
-    """What the command has started is let in, whoever it has become."""
+    """What the command has started is let in, whoever it has become, and also if it ends at once. If it can't see the
+    folder it uses the abstract name."""
     words = " ".join(as_user(NOBODY))
-    ran = suite.run("--", "sh", "-c", f"{words} {suite.program} sound; {words} sh -c '{suite.program} child; true'")
-    expect_ran(ran, 99, absent=["refused"])
+    line = f"{words} {suite.program} sound; {words} sh -c '{suite.program} child; true'"
+    expect_ran(suite.run("--", "sh", "-c", line), 99, absent=["refused"])
+    line = f"ASANCOL_HUB=${{ASANCOL_HUB%-*}} {words} {suite.program} past_and_sleeps 0.5"
+    expect_ran(suite.run("--", "sh", "-c", line), 99, absent=["refused"])
 
 
 def check_many_strangers(suite: Suite, folder: str) -> None:
     """However often strangers connect, there are few lines."""
     run = Run(suite, folder)
-    line = ("import socket, sys, time\nfor _ in range(300):\n"
-            "    peer = socket.socket(socket.AF_UNIX)\n    peer.connect(sys.argv[1])\ntime.sleep(2)")
-    expect(run.connect(OTHER, "python3", "-c", line, run.hub), "", "the stranger")
+    expect(run.run_as(OTHER, "python3", "-c", STAYS, run.abstract, "2", "300"), "", "the stranger")
     text = run.end(0, "asancol: 292 more connections were refused", "1 process, ", "all seen whole")
     expect(text.count("was refused"), 8, text)
 
 
 def check_gone(suite: Suite, folder: str) -> None:
-    """Of a process that is gone nobody knows who has started it: it may have been the command. So not all was seen; but
-    if the command has others of this user, it is let in."""
+    """Of a process that is gone nobody knows who has started it: it may have been the command. So not all was seen."""
     run = Run(suite, folder)
     why = f"NOT SEEN WHOLE: it is of user {OTHER}, and had ended before it was seen who has started it"
     os.kill(run.program.pid, signal.SIGSTOP)
-    connected = subprocess.Popen([*as_user(OTHER), "python3", "-c", GONE, run.hub, "1"], stdout=subprocess.PIPE)
-    expect(connected.communicate()[0], b"gone\n", "the process that has connected")
+    gone = [*as_user(OTHER), "python3", "-c", GONE, run.abstract, "1"]
+    expect(suite.run_words(gone).out, "gone\n", "the process that has connected")
     os.kill(run.program.pid, signal.SIGCONT)
     run.end(98, why, "a connection was refused", "2 processes, ")
 
 
 def check_gone_of_known_user(suite: Suite, folder: str) -> None:
-    """As when root's tests run as another user: one that has ended soon is the command's, like the others."""
+    """If the command has others of this user, it is let in."""
     gone, words = f"{folder}/gone.py", " ".join(as_user(OTHER))
     with open(gone, "w", encoding="utf-8") as file:
         file.write(GONE)
     os.chmod(folder, 0o755)
-    line = f"{suite.program} sound; kill -STOP $PPID; {words} python3 {gone} $ASANCOL_HUB 1.5"
+    line = f"{suite.program} sound; kill -STOP $PPID; {words} python3 {gone} @${{ASANCOL_HUB%-*}} 1.5"
     run = suite.start("--", "sh", "-c", line)
     time.sleep(1)
     os.kill(run.pid, signal.SIGCONT)
@@ -194,6 +215,7 @@ def tests(suite: Suite) -> None:
     os.chmod(suite.folder, 0o755)
     suite.test("peer: stranger to root", check_stranger, 0)
     suite.test("peer: stranger to a user", check_stranger, NOBODY)
+    suite.test("peer: secret", check_secret)
     suite.test("peer: same user", check_same_user)
     suite.test("peer: of the command", check_descendant)
     suite.test("peer: many strangers", check_many_strangers)

@@ -366,7 +366,7 @@ class Soak:
     def run(self, hours: float, workers: int) -> None:
         before = self.service.sample(0)
         end = self.begun + hours * 3600
-        threads = [threading.Thread(target=self.run_worker, args=(it, end)) for it in range(workers)]
+        threads = [threading.Thread(target=self.run_worker, args=(it, end), daemon=True) for it in range(workers)]
         for thread in threads:
             thread.start()
         self.watch(end)

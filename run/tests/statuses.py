@@ -71,7 +71,7 @@ RUNS: Dict[str, Tuple[str, int, List[str]]] = {
         "programs: NOT SEEN WHOLE: ASANCOL_TRACE is set for it", "1 NOT SEEN WHOLE"
     ]),
     "an unknown fork": ("-- PROGRAM forks_unseen", 98, ["NOT SEEN WHOLE: it was not made by fork, but by _Fork"]),
-    "folder removed": ("-- sh -c 'PROGRAM sound; rm -r ${ASANCOL_HUB%/hub}; PROGRAM sound'", 98, [
+    "folder removed": ("-- sh -c 'PROGRAM sound; rm -r ${ASANCOL_HUB%/*}; PROGRAM sound'", 98, [
         "3 processes, 2 events", "(unknown): NOT SEEN WHOLE: the folder of the run was removed"
     ]),
     "not found": ("-- no-such-command", 127, ["asancol-run: no-such-command: No such file or directory"]),

@@ -98,7 +98,7 @@ def check_summaries_are_the_same(suite: Suite, folder: str) -> None:
         alone = run_real(suite, *words)
         both = run_real(suite, "--json", f"{folder}/x", *words)
         # Numbers of processes and names of sockets differ.
-        seen = [re.sub(r"process \d+|asancol-\w{6}/hub", "", ran.err) for ran in (alone, both)]
+        seen = [re.sub(r"process \d+|asancol-\w{6}/hub-\w+", "", ran.err) for ran in (alone, both)]
         expect((both.status, seen[1]), (alone.status, seen[0]), str(words))
 
 
