@@ -1,10 +1,13 @@
-//! Tests of `collect_within`: each checker has the memory of its own allocator.
+//! Tests of `collect_within` and `collect_live_within`: each checker has the memory of its own
+//! allocator.
 
 ghost use Rattle.std.specs.Prelude.{◌≡◌, ◌≤◌, ◌^◌, IfOk};
 
 use super::collect::misses;
 use super::{STREAM_AND_MORE, feed_of};
-use asan_collect::{BadOption, MOST_SENDERS, OpenGate, Options, Outcome, collect_within};
+use asan_collect::{
+    BadOption, MOST_SENDERS, OpenGate, Options, Outcome, collect_live_within, collect_within,
+};
 use refusing_allocator::RefusingAllocator;
 use std::alloc::{Allocator, Global};
 use std::process::Abort;
@@ -41,6 +44,26 @@ where
     requires { (D.seen door.old).refusals ≤ 2 ^ 32 }
 {
     Ok(collect_within(rt, shared, own, door, &OpenGate, Options::usual())?)
+}
+
+/// Does what [`outcomes_within`] does, where the lines are printed as they come.
+fn printed_within<'a, D: Door, R: Threads + Wait + Clock + Sync>(
+    rt: &R,
+    shared: &'a RefusingAllocator<Global>,
+    own: &[&'a RefusingAllocator<Global>],
+    door: &mut D,
+    text: &mut Vec<u8>,
+) -> Result<
+    Vec<Outcome<D::Feed, &'a RefusingAllocator<Global>>, &'a RefusingAllocator<Global>>,
+    Fail,
+>
+where
+    D::Feed: Send + Drop,
+    requires { (D.seen door.old).refusals ≤ 2 ^ 32 }
+{
+    let live = collect_live_within(rt, shared, own, door, &OpenGate, Options::usual(), text)?;
+    live.wrote?;
+    Ok(live.outcomes)
 }
 
 /// Asserts that a sender ran out of memory if it was short of it, and was settled else.
@@ -81,23 +104,41 @@ fn expect_one_short<A: Allocator + Copy>(
     }
 }
 
+/// Lets one of three senders run out of memory, and no other, where their lines may be printed as
+/// they come.
+fn expect_memory_runs_out<R: Threads + Wait + Clock + Sync + Abort>(
+    rt: &R,
+    alloc: Global,
+    short: usize,
+    is_live: bool,
+) -> Result<(), Fail> {
+    let ample = RefusingAllocator::counting(alloc);
+    let little = RefusingAllocator::with_bound(alloc, 100);
+    let shared = RefusingAllocator::counting(alloc);
+    let mut own = Vec::new(alloc);
+    for sender in 0..3 {
+        own.push(if sender == short { &little } else { &ample })?;
+    }
+    let mut door = three_of_a_kind(alloc)?;
+    let mut text = Vec::new(alloc);
+    let outcomes = if is_live {
+        printed_within(rt, &shared, &own, &mut door, &mut text)?
+    } else {
+        outcomes_within(rt, &shared, &own, &mut door)?
+    };
+    expect_one_short(rt, &outcomes, short);
+    // The reports are held until the outcomes are let go.
+    assert!(rt; ample.held() > 0);
+    drop(outcomes);
+    assert_eq!(rt; (ample.held(), little.held(), shared.held()), (0, 0, 0));
+    Ok(())
+}
+
 #[test]
 fn memory_runs_out_for_one_sender(rt: HostRuntime) -> Result<(), Fail> {
     for short in 0..3 {
-        let ample = RefusingAllocator::counting(rt.alloc());
-        let little = RefusingAllocator::with_bound(rt.alloc(), 100);
-        let shared = RefusingAllocator::counting(rt.alloc());
-        let mut own = Vec::new(rt.alloc());
-        for sender in 0..3 {
-            own.push(if sender == short { &little } else { &ample })?;
-        }
-        let mut door = three_of_a_kind(rt.alloc())?;
-        let outcomes = outcomes_within(&rt, &shared, &own, &mut door)?;
-        expect_one_short(&rt, &outcomes, short);
-        // The reports are held until the outcomes are let go.
-        assert!(rt; ample.held() > 0);
-        drop(outcomes);
-        assert_eq!(rt; (ample.held(), little.held(), shared.held()), (0, 0, 0));
+        expect_memory_runs_out(&rt, rt.alloc(), short, false)?;
+        expect_memory_runs_out(&rt, rt.alloc(), short, true)?;
     }
     Ok(())
 }
