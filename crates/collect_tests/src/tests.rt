@@ -18,6 +18,7 @@ mod large;
 mod live;
 mod overlap;
 mod own_memory;
+mod patience;
 mod reading;
 mod refusals;
 mod reports;
