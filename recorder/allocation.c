@@ -9,7 +9,8 @@
 #include <malloc.h>
 #include <stdio.h>
 
-#include "recorder.h"
+#include "compiler.h"
+#include "heap.h"
 
 #define REPLACES VISIBLE __attribute__((weak))
 

@@ -7,7 +7,8 @@
 #ifndef ASANCOL_CALLBACKS_H
 #define ASANCOL_CALLBACKS_H
 
-#include "hooks.h"
+#include "compiler.h"
+#include "process.h"
 
 #if defined IN_SHARED_OBJECT
 #define CALLBACK /* hidden: each shared object calls its own */

@@ -48,6 +48,7 @@
 #include <wordexp.h>
 
 #include "arena.h"
+#include "hooks.h"
 #include "rows.h"
 
 __attribute__((noinline, cold)) void call_is_bad(enum code code, uintptr_t start, size_t size, uintptr_t caller)

@@ -7,7 +7,9 @@
 #include <sys/uio.h>
 #include <wchar.h>
 
-#include "hooks.h"
+#include "compiler.h"
+#include "format.h"
+#include "shadow.h"
 
 /* Records the bad pieces of a range. errno stays as it is. */
 void call_is_bad(enum code code, uintptr_t start, size_t size, uintptr_t caller) OWN_NAME(call_is_bad);

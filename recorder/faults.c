@@ -9,6 +9,7 @@
 #include "frames.h"
 #include "globals.h"
 #include "memory.h"
+#include "record.h"
 #include "stream.h"
 #include "windows.h"
 

@@ -9,6 +9,8 @@
    The records of a malloc and a free are written with the lock held. So they stand in the stream in the order in which
    the blocks were taken and given back. */
 #define _GNU_SOURCE
+#include "heap.h"
+
 #include <errno.h>
 #include <malloc.h>
 #include <pthread.h>
@@ -17,8 +19,11 @@
 #include <sys/mman.h>
 
 #include "arena.h"
+#include "halt.h"
 #include "paint.h"
-#include "recorder.h"
+#include "record.h"
+#include "shadow.h"
+#include "stream.h"
 
 enum { LARGEST_SLOT = 1 << 14, FINE_STEP = 16, FINE_END = 1024, CLASSES = 64 + 16 };
 

@@ -1,14 +1,21 @@
 #define _GNU_SOURCE
+#include "process.h"
+
 #include <errno.h>
 #include <limits.h>
 #include <pthread.h>
 #include <stdlib.h>
 #include <unistd.h>
 
+#include "halt.h"
+#include "heap.h"
 #include "library.h"
+#include "record.h"
+#include "say.h"
 #include "side.h"
 #include "signals.h"
 #include "stream.h"
+#include "threads.h"
 #include "unseen.h"
 
 /* Who we are, and what the environment says. Written at the start and in a child after a fork. */

@@ -4,6 +4,7 @@
 
 #include "calls.h"
 #include "cfi.h"
+#include "hooks.h"
 #include "stubs.h"
 
 /* What is read and written. */

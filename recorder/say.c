@@ -1,5 +1,7 @@
 /* What the recorder has to say: a line on standard error, or in the file that ASANCOL_LOG names. */
 #define _GNU_SOURCE
+#include "say.h"
+
 #include <errno.h>
 #include <fcntl.h>
 #include <limits.h>
@@ -9,7 +11,6 @@
 #include <unistd.h>
 
 #include "signals.h"
-#include "stream.h"
 
 static struct {
     dev_t error_device; /* standard error as it was at the start */

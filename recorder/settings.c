@@ -7,7 +7,8 @@
 #include <sys/auxv.h>
 #include <unistd.h>
 
-#include "recorder.h"
+#include "format.h"
+#include "say.h"
 
 #define FRONT "ASANCOL_"
 

@@ -11,7 +11,7 @@
 
 #include "faults.h"
 #include "memory.h"
-#include "recorder.h"
+#include "process.h"
 
 static struct side *_Atomic current;
 

@@ -8,8 +8,10 @@
 #include <ucontext.h>
 #include <unistd.h>
 
+#include "process.h"
 #include "side.h"
 #include "stream.h"
+#include "threads.h"
 
 void undisturbed_begin(struct disturbance *before)
 {

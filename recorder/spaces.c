@@ -5,7 +5,7 @@
 #include <sys/mman.h>
 #include <ucontext.h>
 
-#include "hooks.h"
+#include "shadow.h"
 
 /* Before the call: after it another thread may have the addresses. */
 int __wrap_munmap(void *start, size_t size)

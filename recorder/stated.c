@@ -1,8 +1,10 @@
 /* What the stream states of memory outside the allocator's: brought up to the shadow when an access comes to it. */
 #define _GNU_SOURCE
+#include "stated.h"
+
 #include <sys/mman.h>
 
-#include "recorder.h"
+#include "record.h"
 
 /* How often to look again at a granule that another thread is bringing up. A signal handler that has interrupted that
    thread goes on after so many. */

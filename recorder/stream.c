@@ -11,10 +11,14 @@
 #include <unistd.h>
 
 #include "faults.h"
+#include "heap.h"
 #include "output.h"
+#include "record.h"
+#include "say.h"
 #include "segments.h"
 #include "side.h"
 #include "signals.h"
+#include "stated.h"
 #include "unseen.h"
 #include "windows.h"
 

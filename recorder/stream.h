@@ -1,8 +1,13 @@
-/* The stream from its header to its end. The functions of recorder.h write into it. */
+/* The stream from its header to its end. The functions of record.h write into it. */
 #ifndef ASANCOL_STREAM_H
 #define ASANCOL_STREAM_H
 
-#include "recorder.h"
+#include <stdatomic.h>
+#include <stdbool.h>
+#include <stdint.h>
+
+#include "format.h"
+#include "process.h"
 #include "settings.h"
 
 /* While it is switching from one segment to the next, threads wait. The last two are the ways a stream can have ended,
@@ -16,6 +21,8 @@ bool stream_begin(const struct settings *settings);
 /* Turns it off and ends it, with or without a close: at an exit, an exec, or the end by a signal, which has a number.
    The last is in a handler, which does not wait for the lock for ever. */
 void stream_end(enum finish finish, enum ending ending, int number);
+/* Ends the recording where it is, without a close, and says why. */
+void stream_stop(const char *why);
 /* For an exec: ends it with a close, keeping what is needed to go on. */
 bool stream_suspend(void);
 /* The exec has failed. False: the stream had ended before. */

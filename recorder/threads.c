@@ -2,14 +2,20 @@
    becomes memory for something else: redzones that stay would be those of nobody. To clear too much misses a fault;
    to clear too little reports one that is none. */
 #define _GNU_SOURCE
+#include "threads.h"
+
 #include <dlfcn.h>
 #include <errno.h>
 #include <pthread.h>
+#include <stdatomic.h>
+#include <stdbool.h>
 #include <sys/resource.h>
 #include <unwind.h>
 
 #include "cfi.h"
-#include "recorder.h"
+#include "compiler.h"
+#include "heap.h"
+#include "shadow.h"
 
 extern void *__libc_stack_end;
 

@@ -5,8 +5,9 @@
 #include <stddef.h>
 
 #include "cfi.h"
+#include "compiler.h"
 #include "memory.h"
-#include "recorder.h"
+#include "threads.h"
 
 /* Rules that are known. An instruction has a place of its own, and three more in the same line of the cache. */
 enum { PLACES = 1 << 16, WAYS = 4, PLACE_SHIFT = 2, FAR_SHIFT = 16, GENERATION_SHIFT = 48 };

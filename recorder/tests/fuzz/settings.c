@@ -6,6 +6,7 @@
 #define recorder_say recorder_say_line
 #include "../../say.c"
 #undef recorder_say
+#include "../../format.h"
 #include "../../settings.h"
 
 int LLVMFuzzerTestOneInput(const uint8_t *data, size_t size);

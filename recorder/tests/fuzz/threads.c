@@ -11,6 +11,9 @@
 #include <unistd.h>
 
 #include "../../faults.h"
+#include "../../heap.h"
+#include "../../record.h"
+#include "../../say.h"
 #include "../../side.h"
 #include "../../signals.h"
 #include "../../stream.h"

@@ -1,7 +1,9 @@
 /* The table that shared objects find in the program. */
 #define _GNU_SOURCE
-#include "globals.h"
 #include "hooks.h"
+
+#include "globals.h"
+#include "heap.h"
 #include "library.h"
 #include "signals.h"
 #include "stream.h"

@@ -1,4 +1,8 @@
 /* The records that are more than one access of a usual width. */
+#include "record.h"
+
+#include "heap.h"
+#include "shadow.h"
 #include "stream.h"
 
 /* The widest access at an address that is a multiple of its width, of so many bytes. */
