@@ -8,8 +8,8 @@
 #include <string.h>
 
 #include "process.h"
-#include "record.h"
 #include "say.h"
+#include "stream/record.h"
 
 _Atomic bool halt_is_on;
 

@@ -2,12 +2,12 @@
 #define _GNU_SOURCE
 #include "hooks.h"
 
+#include "calls/library.h"
 #include "globals.h"
-#include "heap.h"
-#include "library.h"
+#include "heap/heap.h"
 #include "signals.h"
-#include "stream.h"
-#include "unwinding.h"
+#include "stacks/unwinding.h"
+#include "stream/stream.h"
 
 static void access_from_object(enum code code, unsigned width, uint64_t address, uintptr_t caller)
 {

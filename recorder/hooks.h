@@ -10,8 +10,8 @@
 
 #include "halt.h"
 #include "process.h"
-#include "record.h"
 #include "shadow.h"
+#include "stream/record.h"
 #include "threads.h"
 
 struct sigaction;

@@ -7,14 +7,14 @@
 #include <stdlib.h>
 #include <unistd.h>
 
+#include "calls/library.h"
 #include "halt.h"
-#include "heap.h"
-#include "library.h"
-#include "record.h"
+#include "heap/heap.h"
 #include "say.h"
-#include "side.h"
 #include "signals.h"
-#include "stream.h"
+#include "stream/record.h"
+#include "stream/side.h"
+#include "stream/stream.h"
 #include "threads.h"
 #include "unseen.h"
 

@@ -12,7 +12,7 @@
 enum { SHADOW_PAGE = 4096 };
 
 #ifndef IN_SHARED_OBJECT
-#include "library.h"
+#include "calls/library.h"
 #include "settings.h"
 #include "unseen.h"
 

@@ -9,8 +9,8 @@
 #include <unistd.h>
 
 #include "process.h"
-#include "side.h"
-#include "stream.h"
+#include "stream/side.h"
+#include "stream/stream.h"
 #include "threads.h"
 
 void undisturbed_begin(struct disturbance *before)

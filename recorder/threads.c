@@ -12,10 +12,10 @@
 #include <sys/resource.h>
 #include <unwind.h>
 
-#include "cfi.h"
 #include "compiler.h"
-#include "heap.h"
+#include "heap/heap.h"
 #include "shadow.h"
+#include "stacks/cfi.h"
 
 extern void *__libc_stack_end;
 

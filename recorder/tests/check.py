@@ -9,6 +9,7 @@ said in a line, and left out. If SANITIZE is set, the parsers of the recorder an
 the stream under threads, run under the compilers' own sanitizers too.
 """
 
+import glob
 import os
 import re
 import shutil
@@ -623,10 +624,7 @@ def check_builds(suite, folder, compiler):
 def check_by_itself(suite, folder, compiler):
     """The recorder, built by the compiler without a warning."""
     copy = f"{folder}/recorder"
-    os.mkdir(copy)
-    for name in os.listdir(RECORDER):
-        if name == "Makefile" or name.endswith((".c", ".h", ".def", ".awk", ".ld")):
-            shutil.copy(f"{RECORDER}/{name}", copy)
+    shutil.copytree(RECORDER, copy, ignore=shutil.ignore_patterns("out", "tests", "*.a", "asancol-cc", "asancol-c++"))
     for name in ("install.mk", "VERSION"):
         shutil.copy(f"{RECORDER}/../{name}", folder)
     made = run(["make", "-s", f"CC={compiler.name}"], copy)
@@ -638,7 +636,7 @@ def check_by_itself(suite, folder, compiler):
 
 def check_own_names(suite, folder, compiler):
     """A program may have every name that the recorder has for itself."""
-    sources = [f"{RECORDER}/{name}" for name in os.listdir(RECORDER) if name.endswith(".c")]
+    sources = [it for it in glob.glob(f"{RECORDER}/**/*.c", recursive=True) if not it.startswith(f"{RECORDER}/tests/")]
     names = set()
     for source in sources:
         names |= set(re.findall(r"^(?:[\w ]+[ *])(\w+)\([^;]*\)$", open(source).read(), re.M))

@@ -11,7 +11,7 @@
 #define ASANCOL_SHADOW_H
 static bool shadow_is_clean(uintptr_t start, size_t size);
 
-#include "../../formats.c"
+#include "calls/formats.c"
 
 /* A string, and a wide one. */
 static wchar_t argument[4] = {'a', 'b'};
