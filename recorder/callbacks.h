@@ -7,7 +7,7 @@
 #ifndef ASANCOL_CALLBACKS_H
 #define ASANCOL_CALLBACKS_H
 
-#include "compiler.h"
+#include "platform.h"
 #include "process.h"
 
 #if defined IN_SHARED_OBJECT
@@ -15,7 +15,7 @@
 #elif defined IN_CHECKS
 #define CALLBACK VISIBLE
 #else
-#define CALLBACK VISIBLE __attribute__((weak))
+#define CALLBACK REPLACES
 #endif
 
 /* Notes that something compiled is here, which the member's presence does not say. */

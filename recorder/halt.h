@@ -6,8 +6,8 @@
 #include <stdbool.h>
 #include <stdint.h>
 
-#include "compiler.h"
 #include "format.h"
+#include "platform.h"
 #include "shadow.h"
 
 extern _Atomic bool halt_is_on OWN_NAME(halt_is_on);

@@ -18,8 +18,8 @@
 #include <stddef.h>
 #include <stdint.h>
 
-#include "compiler.h"
 #include "format.h"
+#include "platform.h"
 
 /* Where the maps lie: free in all layouts of a process on x86-64. Programs lie from 0x5555.. on, or below 2^32;
    libraries and stacks below 2^47; with an unlimited stack libraries lie below 0x1555.., and in the old layout

@@ -4,7 +4,7 @@
 
 #include <stdint.h>
 
-#include "compiler.h"
+#include "platform.h"
 
 /* In the first thread, at the start. */
 void stack_start(void);

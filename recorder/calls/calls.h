@@ -7,8 +7,8 @@
 #include <sys/uio.h>
 #include <wchar.h>
 
-#include "compiler.h"
 #include "format.h"
+#include "platform.h"
 #include "shadow.h"
 
 /* Records the bad pieces of a range. errno stays as it is. */

@@ -9,10 +9,8 @@
 #include <malloc.h>
 #include <stdio.h>
 
-#include "compiler.h"
 #include "heap/heap.h"
-
-#define REPLACES VISIBLE __attribute__((weak))
+#include "platform.h"
 
 /* 1: the parameter was taken. */
 REPLACES int mallopt(int parameter, int value)

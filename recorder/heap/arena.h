@@ -9,9 +9,10 @@
 #include <stdint.h>
 
 #include "format.h"
+#include "platform.h"
 #include "stacks/stacks.h"
 
-enum { UNIT = 1 << 16, SMALLEST_SLOT = 2 * REDZONE, SLOTS = UNIT / SMALLEST_SLOT, ALIGNMENT = 16, PAGE = 4096 };
+enum { UNIT = 1 << 16, SMALLEST_SLOT = 2 * REDZONE, SLOTS = UNIT / SMALLEST_SLOT, ALIGNMENT = 16 };
 /* There are 2^38 bytes in units, */
 enum { UNITS = 1 << 22 };
 /* and this many bytes for signal handlers. */

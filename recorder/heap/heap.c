@@ -692,8 +692,6 @@ struct heap_numbers heap_count(void)
 
 /* What the process calls. They are weak: a program with an allocator of its own keeps it. */
 
-#define REPLACES VISIBLE __attribute__((weak))
-
 REPLACES void *malloc(size_t size)
 {
     return allocate(size, ALIGNMENT, false, CALLER());

@@ -5,7 +5,7 @@
 #include <stdbool.h>
 #include <stdint.h>
 
-#include "compiler.h"
+#include "platform.h"
 
 /* How many bytes of freed spans are held from now on. */
 void heap_set_bound(uint64_t bytes);

@@ -4,8 +4,8 @@
 #include <stdbool.h>
 #include <stddef.h>
 
-#include "compiler.h"
 #include "memory.h"
+#include "platform.h"
 #include "stacks/cfi.h"
 #include "threads.h"
 

@@ -5,6 +5,7 @@
 #include <string.h>
 #include <sys/mman.h>
 
+#include "digits.h"
 #include "globals.h"
 #include "heap/arena.h"
 #include "memory.h"
@@ -128,19 +129,17 @@ static bool add(char *name, const char *text)
 static void add_location(char *name, const struct location *at)
 {
     struct location location;
-    char file[SIDE_NAME], line[16];
-    size_t first = sizeof line, length = strlen(name);
+    char file[SIDE_NAME], line[DIGITS_ROOM];
+    size_t length = strlen(name);
     if (at == NULL || !memory_read((uintptr_t)at, &location, sizeof location)
         || !memory_read_text((uintptr_t)location.file, file, sizeof file))
         return;
-    line[--first] = 0;
-    for (uint32_t rest = location.line; rest != 0; rest /= 10)
-        line[--first] = (char)('0' + rest % 10);
-    line[--first] = ':';
+    char *text = put_digits(line + sizeof line, location.line, 0);
+    *--text = ':';
     const char *last = strrchr(file, '/');
     const char *const files[] = {file, last != NULL ? last + 1 : file};
     for (int i = 0; i < 2; i++) {
-        if (add(name, " ") && add(name, files[i]) && add(name, line + first))
+        if (add(name, " ") && add(name, files[i]) && add(name, text))
             return;
         name[length] = 0;
     }

@@ -14,6 +14,8 @@
 #include <sys/un.h>
 #include <unistd.h>
 
+#include "digits.h"
+#include "platform.h"
 #include "signals.h"
 
 /* The name gets a text before its last dot, or at its end. */
@@ -31,18 +33,9 @@ static bool insert(char *name, const char *path, const char *text)
     return true;
 }
 
-/* Puts the digits of a number, as many as these at least, before the end of a text. Answers where they begin. */
-static char *put_digits(char *end, uint64_t number, unsigned least)
-{
-    *--end = 0;
-    for (unsigned count = 0; number != 0 || count < least; number /= 10, count++)
-        *--end = (char)('0' + number % 10);
-    return end;
-}
-
 bool output_number(char *name, const char *path, unsigned number)
 {
-    char text[24];
+    char text[DIGITS_ROOM];
     char *first = put_digits(text + sizeof text, number, 0);
     if (number != 0)
         *--first = '.';
@@ -52,7 +45,7 @@ bool output_number(char *name, const char *path, unsigned number)
 bool output_name_segment(char *name, const char *path, uint64_t number)
 {
     static const char front[] = ".segment-";
-    char text[48];
+    char text[sizeof front + DIGITS_ROOM];
     char *first = put_digits(text + sizeof text, number, 3) - strlen(front);
     memcpy(first, front, strlen(front));
     return insert(name, path, first);
@@ -362,8 +355,7 @@ void output_trim(struct output *output, uint64_t length)
 /* Gives whole pages that were sent back to the system. */
 static void release_sent(struct output *output, uint64_t from)
 {
-    uint64_t page = 4096;
-    uint64_t first = from / page * page, end = output->sent / page * page;
+    uint64_t first = from / PAGE * PAGE, end = output->sent / PAGE * PAGE;
     if (end > first)
         madvise(output->bytes + first, end - first, MADV_DONTNEED);
 }

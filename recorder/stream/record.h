@@ -15,9 +15,9 @@
 #include <stdint.h>
 #include <sys/single_threaded.h>
 
-#include "compiler.h"
 #include "format.h"
 #include "halt.h"
+#include "platform.h"
 #include "shadow.h"
 #include "stream/stated.h"
 
@@ -48,7 +48,7 @@ static inline bool stream_may_record(const struct stream *stream)
 /* Alone in its page, which is all zeros in a child after any kind of fork: there it is off. */
 extern union stream_page {
     struct stream stream;
-    unsigned char page[4096];
+    unsigned char page[PAGE];
 } stream_page OWN_NAME(stream_page);
 
 /* Adds to the cursor, and says what it was. */

@@ -6,7 +6,7 @@
 #include <stdbool.h>
 #include <stdint.h>
 
-#include "compiler.h"
+#include "platform.h"
 #include "shadow.h"
 
 /* Brings the stream up to what the shadow says of the granules that an access meets, outside the allocator's memory. */

@@ -10,6 +10,7 @@
 #include <time.h>
 #include <unistd.h>
 
+#include "digits.h"
 #include "heap/heap.h"
 #include "say.h"
 #include "signals.h"
@@ -22,7 +23,7 @@
 #include "stream/windows.h"
 #include "unseen.h"
 
-union stream_page stream_page __attribute__((aligned(4096)));
+union stream_page stream_page __attribute__((aligned(PAGE)));
 _Atomic enum state recorder_state;
 
 /* After how many bytes a socket is given what there is. */
@@ -935,15 +936,12 @@ void stream_look_at_clock(bool at_once)
 void stream_say_left_out(void)
 {
     uint64_t left_out = atomic_exchange(&keeper.left_out, 0);
-    char digits[24];
-    size_t first = sizeof digits;
+    char digits[DIGITS_ROOM];
     /* A hub says it by itself. */
     if (left_out == 0 || (keeper.has_side && !keeper.side.is_mapped))
         return;
-    digits[--first] = 0;
-    for (; left_out != 0; left_out /= 10)
-        digits[--first] = (char)('0' + left_out % 10);
-    recorder_say("at the limit, further events left out of ", keeper.trace.path, digits + first);
+    recorder_say("at the limit, further events left out of ", keeper.trace.path,
+                 put_digits(digits + sizeof digits, left_out, 1));
 }
 
 /* Whether the place that was taken can be written; or whether there may be room for the record in another place. */
