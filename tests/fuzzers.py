@@ -135,7 +135,7 @@ def check_fuzzer(target: Target, folder: str, seconds: float) -> None:
 def check_threads(compiler: str, folder: str) -> None:
     """Four threads that write into a stream, under ThreadSanitizer; and under the others also into segments, for whose
     switch a thread reads what another one may be changing."""
-    parts = ("stream", "output", "windows", "segments")
+    parts = ("stream", "keeper", "opening", "growing", "switching", "ending", "holes", "output", "windows", "segments")
     sources = [f"{OURS}/threads.c"] + [f"{RECORDER}/stream/{part}.c" for part in parts]
     for sanitizers, words in (("thread", []), (SANITIZERS, ["segments"])):
         run([build(compiler, Target("threads", sources, []), sanitizers, ["-pthread"], folder), *words], folder)

@@ -2,7 +2,6 @@
 #ifndef ASANCOL_STREAM_H
 #define ASANCOL_STREAM_H
 
-#include <stdatomic.h>
 #include <stdbool.h>
 #include <stdint.h>
 
@@ -14,7 +13,11 @@
    so that events are not recorded. */
 enum state { STATE_UNSTARTED, STATE_STARTING, STATE_RECORDING, STATE_SWITCHING, STATE_AT_LIMIT, STATE_OFF };
 
-extern _Atomic enum state recorder_state;
+/* In which state it is; and another one from now on. */
+enum state stream_state(void);
+void stream_go(enum state to);
+/* Likewise, if it is in a certain state. False: it is not. */
+bool stream_go_from(enum state from, enum state to);
 
 /* Opens the output, writes the header, and turns the stream on. False: one line said why not. */
 bool stream_begin(const struct settings *settings);
