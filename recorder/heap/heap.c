@@ -12,41 +12,24 @@
 #include "heap/heap.h"
 
 #include <errno.h>
-#include <malloc.h>
 #include <pthread.h>
-#include <stdlib.h>
 #include <string.h>
 #include <sys/mman.h>
 
 #include "halt.h"
 #include "heap/arena.h"
+#include "heap/blocks.h"
 #include "heap/paint.h"
 #include "shadow.h"
 #include "stream/record.h"
 #include "stream/stream.h"
-
-enum { LARGEST_SLOT = 1 << 14, FINE_STEP = 16, FINE_END = 1024, CLASSES = 64 + 16 };
 
 enum { LARGEST_OFFSET = (1 << 30) - 1 };
 
 /* What fits into the notes of a block. The format has one byte more. */
 #define LARGEST_BLOCK ((size_t)UINT32_MAX)
 
-struct class {
-    struct block *free;
-    uint32_t slab; /* where new slots are taken from; 0 is none */
-};
-
-static struct {
-    pthread_mutex_t lock;
-    bool is_locked; /* by the thread that is in here: one that is alone need not */
-    struct class classes[CLASSES];
-    struct block *oldest, *newest; /* the quarantine */
-    uint64_t held_bytes, held_count;
-    bool is_unpainted; /* the shadow shows no blocks */
-    _Atomic uint64_t bound;
-    _Atomic size_t spare_used;
-} heap = {.lock = PTHREAD_MUTEX_INITIALIZER};
+struct heap heap = {.lock = PTHREAD_MUTEX_INITIALIZER};
 
 /* The caller for whom the C library allocates, and the frame of the function that said so. */
 static _Thread_local struct {
@@ -131,24 +114,6 @@ static struct block *take_large(size_t bytes)
     return arena.blocks + (size_t)first * SLOTS;
 }
 
-static uint32_t unit_of(const struct block *block)
-{
-    return (uint32_t)((size_t)(block - arena.blocks) / SLOTS);
-}
-
-/* Where the slot or the run of a block begins. */
-static unsigned char *slot_start(const struct block *block)
-{
-    uint32_t unit = unit_of(block);
-    size_t slot = (size_t)(block - arena.blocks) % SLOTS;
-    return unit_start(unit) + slot * (arena.units[unit].kind == UNIT_SLAB ? arena.units[unit].slot_size : 0);
-}
-
-static unsigned char *block_start(const struct block *block)
-{
-    return (unsigned char *)block_address(block, (uintptr_t)slot_start(block));
-}
-
 /* The block that starts here, or null. */
 static struct block *find(const void *pointer)
 {
@@ -187,11 +152,6 @@ uintptr_t heap_end_around(uintptr_t address)
     return end > address ? end : address;
 }
 
-static size_t size_of(const struct block *block)
-{
-    return block->state == BLOCK_UNRECORDED ? block->large_size : block->size;
-}
-
 /* The quarantine. */
 
 static void release(struct block *block)
@@ -207,7 +167,7 @@ static void release(struct block *block)
     class->free = block;
 }
 
-static void release_oldest(void)
+void heap_release_oldest(void)
 {
     struct block *block = heap.oldest;
     heap.oldest = block->next;
@@ -223,7 +183,7 @@ static void release_oldest(void)
 static void release_down_to(uint64_t bound)
 {
     while (heap.held_bytes > bound)
-        release_oldest();
+        heap_release_oldest();
 }
 
 static void hold(struct block *block)
@@ -426,7 +386,7 @@ static void *place_block(size_t size, size_t alignment, uintptr_t caller)
     return (void *)address;
 }
 
-static void *allocate(size_t size, size_t alignment, bool zeroed, uintptr_t caller)
+void *heap_allocate(size_t size, size_t alignment, bool zeroed, uintptr_t caller)
 {
     void *address = NULL;
     caller = caller_or(caller);
@@ -449,7 +409,7 @@ static void *allocate(size_t size, size_t alignment, bool zeroed, uintptr_t call
     return address;
 }
 
-static void give_back(void *pointer, uintptr_t caller)
+void heap_give_back(void *pointer, uintptr_t caller)
 {
     caller = caller_or(caller);
     if (pointer == NULL)
@@ -470,8 +430,7 @@ static void give_back(void *pointer, uintptr_t caller)
     errno = before;
 }
 
-/* The size of a block that is live, or SIZE_MAX. */
-static size_t live_size(void *pointer)
+size_t heap_live_size(void *pointer)
 {
     size_t size = SIZE_MAX;
     if (is_spare(pointer))
@@ -485,29 +444,27 @@ static size_t live_size(void *pointer)
     return size;
 }
 
-/* A malloc of the new, and then a free of the old. */
-static void *move(void *old, size_t size, uintptr_t caller)
+void *heap_move(void *old, size_t size, uintptr_t caller)
 {
     caller = caller_or(caller);
     if (old == NULL)
-        return allocate(size, ALIGNMENT, false, caller);
-    size_t before = live_size(old);
+        return heap_allocate(size, ALIGNMENT, false, caller);
+    size_t before = heap_live_size(old);
     if (size == 0 || before == SIZE_MAX) {
-        give_back(old, caller);
+        heap_give_back(old, caller);
         if (size != 0)
             errno = EINVAL;
         return NULL;
     }
-    void *moved = allocate(size, ALIGNMENT, false, caller);
+    void *moved = heap_allocate(size, ALIGNMENT, false, caller);
     if (moved == NULL)
         return NULL;
     memcpy(moved, old, before < size ? before : size);
-    give_back(old, caller);
+    heap_give_back(old, caller);
     return moved;
 }
 
-/* Every slot and every run that is in use, or was. */
-static void for_each_slot(void (*visit)(const struct block *block, void *with), void *with)
+void heap_for_each(void (*visit)(const struct block *block, void *with), void *with)
 {
     for (uint32_t unit = 1; unit < arena.top; unit++) {
         const struct unit *at = &arena.units[unit];
@@ -515,125 +472,6 @@ static void for_each_slot(void (*visit)(const struct block *block, void *with), 
         for (uint32_t slot = 0; slot < count; slot++)
             visit(arena.blocks + (size_t)unit * SLOTS + slot, with);
     }
-}
-
-/* What a stream begins with, if there was something before it. So the checker holds the same blocks as the heap, and
-   finds the same wrong from here on. */
-
-struct restating {
-    bool is_counted;    /* nothing is recorded */
-    uint64_t events;    /* how many there were */
-    uintptr_t from, to; /* free memory that has no poison yet */
-};
-
-static void restate_poison(struct restating *restating, uintptr_t address, size_t size)
-{
-    restating->events++;
-    if (!restating->is_counted)
-        record_poison(KIND_USER, address, size);
-}
-
-static bool is_poison(unsigned char shade)
-{
-    return shade == SHADE_USER || shade == SHADE_CONTAINER;
-}
-
-/* What the process has poisoned in a live block, by its shadow. Redzones of a stack that lies in it are none. */
-static void restate_poison_of(struct restating *restating, uintptr_t address, size_t size)
-{
-    for (uintptr_t at = address, end = address + size; at < end;) {
-        uintptr_t bad = shadow_first_bad(at, end - at);
-        uintptr_t granule = bad / GRANULE * GRANULE, next = bad % GRANULE != 0 ? granule + GRANULE : granule;
-        uintptr_t good = next;
-        while (good < end && is_poison(*shadow_of(good)))
-            good += GRANULE;
-        if (bad < end && good > next)
-            restate_poison(restating, bad, (good < end ? good : end) - bad);
-        at = good > bad ? good : granule + GRANULE;
-    }
-}
-
-static void restate_live(const struct block *block, void *with)
-{
-    struct restating *restating = with;
-    if (block->state != BLOCK_LIVE)
-        return;
-    restating->events++;
-    if (!restating->is_counted)
-        record_region(CODE_MALLOC, (uintptr_t)block_start(block), block->size);
-}
-
-static void restate_poison_if_live(const struct block *block, void *with)
-{
-    if (block->state == BLOCK_LIVE || block->state == BLOCK_UNRECORDED)
-        restate_poison_of(with, (uintptr_t)block_start(block), size_of(block));
-}
-
-/* Poisons the free memory that was found. */
-static void restate_free(struct restating *restating)
-{
-    for (uint64_t piece; restating->from < restating->to; restating->from += piece) {
-        uint64_t rest = restating->to - restating->from;
-        piece = rest < LARGEST_REGION ? rest : LARGEST_REGION;
-        restate_poison(restating, restating->from, piece);
-    }
-}
-
-static void add_free(struct restating *restating, uintptr_t start, uint64_t size)
-{
-    if (restating->to != start) {
-        restate_free(restating);
-        restating->from = start;
-    }
-    restating->to = start + size;
-}
-
-/* A block that was released was redzone for the checker. It does not know it any more, and an access there is bad: one
-   poison stands for all that lie in a row. */
-static void restate_released(struct restating *restating)
-{
-    for (uint32_t unit = 1; unit < arena.top; unit++) {
-        const struct unit *at = &arena.units[unit];
-        const struct block *blocks = arena.blocks + (size_t)unit * SLOTS;
-        uintptr_t start = (uintptr_t)unit_start(unit);
-        for (uint32_t slot = 0; at->kind == UNIT_SLAB && slot < at->used; slot++)
-            if (blocks[slot].state == BLOCK_FREE)
-                add_free(restating, start + slot * (uintptr_t)at->slot_size, at->slot_size);
-        if (at->kind == UNIT_FREE || (at->kind == UNIT_RUN && blocks->state == BLOCK_FREE))
-            add_free(restating, start, (uint64_t)at->count * UNIT);
-        if (at->kind == UNIT_FREE || at->kind == UNIT_RUN)
-            unit += at->count - 1;
-    }
-    restate_free(restating);
-}
-
-/* The events but for those of the quarantine. */
-static uint64_t count_restated(void)
-{
-    struct restating counted = {.is_counted = true};
-    for_each_slot(restate_live, &counted);
-    if (!heap.is_unpainted)
-        for_each_slot(restate_poison_if_live, &counted);
-    restate_released(&counted);
-    return counted.events;
-}
-
-/* Releases the oldest blocks of the quarantine until the rest can be restated, with all else, in so many events. What
-   is released is poison, so it may need events too. */
-static void fit_quarantine(uint64_t most_held, uint64_t room)
-{
-    uint64_t most = most_held;
-    do {
-        while (heap.held_count > most)
-            release_oldest();
-        /* A few are no matter, and need no count of all others. */
-        if (heap.held_count <= room / 16)
-            return;
-        uint64_t others = count_restated(), fit = others < room ? (room - others) / 2 : 0;
-        if (heap.held_count <= fit)
-            return;
-        most = fit < heap.held_count / 4 * 3 ? fit : heap.held_count / 4 * 3;
-    } while (heap.held_count != 0);
 }
 
 void heap_paint(bool is_painted)
@@ -656,20 +494,6 @@ void heap_is_poisoned(void)
     heap.is_unpainted = false;
 }
 
-void heap_restate(uint64_t most_held, uint64_t room)
-{
-    struct restating restating = {0};
-    fit_quarantine(most_held, room);
-    for_each_slot(restate_live, &restating);
-    for (const struct block *block = heap.oldest; block != NULL; block = block->next) {
-        record_region(CODE_MALLOC, (uintptr_t)block_start(block), block->size);
-        record_free((uintptr_t)block_start(block));
-    }
-    restate_released(&restating);
-    if (!heap.is_unpainted)
-        for_each_slot(restate_poison_if_live, &restating);
-}
-
 static void add_if_used(const struct block *block, void *numbers)
 {
     struct heap_numbers *sums = numbers;
@@ -684,155 +508,8 @@ struct heap_numbers heap_count(void)
     struct heap_numbers numbers = {0};
     bool alone = enter();
     numbers.system_bytes = (uint64_t)arena.committed * UNIT;
-    for_each_slot(add_if_used, &numbers);
+    heap_for_each(add_if_used, &numbers);
     if (alone)
         leave();
     return numbers;
-}
-
-/* What the process calls. They are weak: a program with an allocator of its own keeps it. */
-
-REPLACES void *malloc(size_t size)
-{
-    return allocate(size, ALIGNMENT, false, CALLER());
-}
-
-REPLACES void free(void *pointer)
-{
-    give_back(pointer, CALLER());
-}
-
-static void *allocate_array(size_t count, size_t size, uintptr_t caller)
-{
-    size_t bytes;
-    if (__builtin_mul_overflow(count, size, &bytes)) {
-        errno = ENOMEM;
-        return NULL;
-    }
-    return allocate(bytes, ALIGNMENT, true, caller);
-}
-
-REPLACES void *calloc(size_t count, size_t size)
-{
-    return allocate_array(count, size, CALLER());
-}
-
-REPLACES void *realloc(void *old, size_t size)
-{
-    return move(old, size, CALLER());
-}
-
-static void *move_array(void *old, size_t count, size_t size, uintptr_t caller)
-{
-    size_t bytes;
-    if (__builtin_mul_overflow(count, size, &bytes)) {
-        errno = ENOMEM;
-        return NULL;
-    }
-    return move(old, bytes, caller);
-}
-
-REPLACES void *reallocarray(void *old, size_t count, size_t size)
-{
-    return move_array(old, count, size, CALLER());
-}
-
-static size_t power_of_two(size_t least)
-{
-    size_t power = ALIGNMENT;
-    while (power < least && power < (size_t)1 << 62)
-        power *= 2;
-    return power;
-}
-
-REPLACES void *memalign(size_t alignment, size_t size)
-{
-    return allocate(size, power_of_two(alignment), false, CALLER());
-}
-
-REPLACES void *aligned_alloc(size_t alignment, size_t size)
-{
-    return allocate(size, power_of_two(alignment), false, CALLER());
-}
-
-REPLACES int posix_memalign(void **result, size_t alignment, size_t size)
-{
-    int before = errno;
-    if (alignment < sizeof(void *) || (alignment & (alignment - 1)) != 0)
-        return EINVAL;
-    void *address = allocate(size, power_of_two(alignment), false, CALLER());
-    errno = before;
-    if (address == NULL)
-        return ENOMEM;
-    *result = address;
-    return 0;
-}
-
-REPLACES void *valloc(size_t size)
-{
-    return allocate(size, PAGE, false, CALLER());
-}
-
-static void *allocate_pages(size_t size, uintptr_t caller)
-{
-    size_t pages = size / PAGE + (size % PAGE != 0);
-    size_t bytes;
-    if (__builtin_mul_overflow(pages, PAGE, &bytes)) {
-        errno = ENOMEM;
-        return NULL;
-    }
-    return allocate(bytes, PAGE, false, caller);
-}
-
-REPLACES void *pvalloc(size_t size)
-{
-    return allocate_pages(size, CALLER());
-}
-
-REPLACES size_t malloc_usable_size(void *pointer)
-{
-    size_t size = pointer == NULL ? 0 : live_size(pointer);
-    return size == SIZE_MAX ? 0 : size;
-}
-
-/* The names by which a program calls the C library's own allocator, under one of its own. */
-
-REPLACES void *__libc_malloc(size_t size)
-{
-    return allocate(size, ALIGNMENT, false, CALLER());
-}
-
-REPLACES void __libc_free(void *pointer)
-{
-    give_back(pointer, CALLER());
-}
-
-REPLACES void *__libc_calloc(size_t count, size_t size)
-{
-    return allocate_array(count, size, CALLER());
-}
-
-REPLACES void *__libc_realloc(void *old, size_t size)
-{
-    return move(old, size, CALLER());
-}
-
-REPLACES void *__libc_reallocarray(void *old, size_t count, size_t size)
-{
-    return move_array(old, count, size, CALLER());
-}
-
-REPLACES void *__libc_memalign(size_t alignment, size_t size)
-{
-    return allocate(size, power_of_two(alignment), false, CALLER());
-}
-
-REPLACES void *__libc_valloc(size_t size)
-{
-    return allocate(size, PAGE, false, CALLER());
-}
-
-REPLACES void *__libc_pvalloc(size_t size)
-{
-    return allocate_pages(size, CALLER());
 }
