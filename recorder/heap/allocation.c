@@ -1,6 +1,6 @@
-/* The rest of malloc.h: what a program asks of its allocator besides blocks. With these and those of heap.c a program
-   that is linked with -static finds all of the C library's interface here, so that the library's own allocator does not
-   come in beside the recorder's.
+/* The rest of malloc.h: what a program asks of its allocator besides blocks. With these and those of replaced.c a
+   program that is linked with -static finds all of the C library's interface here, so that the library's own allocator
+   does not come in beside the recorder's.
 
    A member of its own, that comes in where it is asked for. What sets something has no effect. */
 #define _GNU_SOURCE

@@ -26,6 +26,7 @@ import hub
 import segments
 import inline
 import seen_whole
+import sources
 from support import (
     EXIT,
     build,
@@ -796,6 +797,8 @@ def main():
             fuzzing.tests(suite, compiler, folder)
             hub.tests(suite, compiler, folder)
             segments.tests(suite, compiler, folder)
+            sources.tests(suite, compiler)
+        sources.tests_of_objects(suite)
         if os.environ.get("SANITIZE") and (not suite.words or "fuzzers" in suite.words):
             suite.add(*fuzzers.check(seconds=5, words=["recorder", "asancol-cc"]))
         return suite.finish()
