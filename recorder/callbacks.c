@@ -3,6 +3,8 @@
    and without as by -fsanitize=address. */
 #include "callbacks.h"
 
+#include "hooks.h"
+
 #if defined IN_SHARED_OBJECT || defined IN_CHECKS
 /* The wrapper asks for this one by name if it knows that what it links was compiled by it. */
 const char asancol_checks = 1;

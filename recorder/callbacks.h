@@ -7,14 +7,15 @@
 #ifndef ASANCOL_CALLBACKS_H
 #define ASANCOL_CALLBACKS_H
 
-#include "hooks.h"
+#include "platform.h"
+#include "process.h"
 
 #if defined IN_SHARED_OBJECT
 #define CALLBACK /* hidden: each shared object calls its own */
 #elif defined IN_CHECKS
 #define CALLBACK VISIBLE
 #else
-#define CALLBACK VISIBLE __attribute__((weak))
+#define CALLBACK REPLACES
 #endif
 
 /* Notes that something compiled is here, which the member's presence does not say. */

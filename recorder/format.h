@@ -45,6 +45,8 @@ enum {
 #define REDZONE 32
 #define GRANULE 8
 #define QUARANTINE_BOUND ((uint64_t)1 << 28)
+/* The most that it can be asked to hold. */
+#define MOST_QUARANTINE ((uint64_t)1 << 40)
 
 /* How many bytes the record has that begins with this byte; 0 where none does. */
 static inline unsigned record_length(unsigned char code)

@@ -8,7 +8,6 @@
 #include <sys/mman.h>
 
 #include "memory.h"
-#include "recorder.h"
 
 enum { ENTRIES = 100 };
 /* So far from a table an address may be nearest to one of its globals. */

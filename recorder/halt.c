@@ -2,10 +2,14 @@
 
    With 1 the recording ends there, with a close if it has everything. With 2 it begins there: with what stands, and
    this one event. So only a process that fails leaves a trace, and asancol judges it without a second run. */
+#include "halt.h"
+
 #include <stdlib.h>
 #include <string.h>
 
-#include "stream.h"
+#include "process.h"
+#include "say.h"
+#include "stream/record.h"
 
 _Atomic bool halt_is_on;
 

@@ -3,7 +3,42 @@
 #ifndef ASANCOL_HOOKS_H
 #define ASANCOL_HOOKS_H
 
-#include "recorder.h"
+#include <stdatomic.h>
+#include <stdbool.h>
+#include <stddef.h>
+#include <stdint.h>
+
+#include "halt.h"
+#include "process.h"
+#include "shadow.h"
+#include "stream/record.h"
+#include "threads.h"
+
+struct sigaction;
+struct global;
+
+/* What shared objects find in the program. They are built with the small libasancol_shared.a, whose functions do
+   nothing where no recorder is there. */
+struct recorder_hooks {
+    size_t size; /* of this table: an object may be newer than its program */
+    void (*access)(enum code code, unsigned width, uint64_t address, uintptr_t caller);
+    void (*range)(enum code code, uint64_t address, uint64_t size, uintptr_t caller);
+    void (*regions)(enum code code, uint64_t address, uint64_t size);
+    void (*called_from)(uintptr_t caller);
+    void (*finish)(enum finish finish);
+    bool (*before_exec)(void);
+    void (*exec_failed)(void);
+    void (*modules_changed)(void);
+    int (*set_action)(int number, const struct sigaction *action, struct sigaction *old);
+    void (*found_checks)(void);
+    const struct stream *stream;
+    void (*bad_range)(enum code code, uint64_t address, uint64_t size, uintptr_t caller);
+    void (*frames_left)(uintptr_t frame);
+    void (*on_death)(void (*callback)(void));
+    bool (*is_first_crash)(void);
+    void (*globals)(const struct global *table, uint64_t count, bool is_there);
+    void (*aborts)(uintptr_t caller);
+};
 
 #ifdef IN_SHARED_OBJECT
 

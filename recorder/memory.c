@@ -7,6 +7,8 @@
 #include <sys/uio.h>
 #include <unistd.h>
 
+#include "platform.h"
+
 /* The system copies it, and answers where a load of our own would fault. */
 bool memory_read(uint64_t from, void *to, size_t size)
 {
@@ -41,8 +43,6 @@ bool memory_read_text(uint64_t from, char *to, size_t room)
     return true;
 }
 
-enum { MEMORY_PAGE = 4096 };
-
 /* A call that changes nothing: it reads the set of signals first, and then finds that it does not know what to do. It
    is quick, and no sandbox refuses it. */
 static bool is_page_there(uintptr_t page)
@@ -56,10 +56,10 @@ static bool is_page_there(uintptr_t page)
 
 bool memory_is_there(struct known_page *known, uintptr_t address, size_t size)
 {
-    for (uintptr_t page = address / MEMORY_PAGE * MEMORY_PAGE; page < address + size; page += MEMORY_PAGE) {
+    for (uintptr_t page = address / PAGE * PAGE; page < address + size; page += PAGE) {
         if (page == known->start)
             continue;
-        if (page == 0 || page > UINTPTR_MAX - 2 * MEMORY_PAGE || !is_page_there(page))
+        if (page == 0 || page > UINTPTR_MAX - 2 * PAGE || !is_page_there(page))
             return false;
         known->start = page;
     }

@@ -1,14 +1,21 @@
 #define _GNU_SOURCE
+#include "process.h"
+
 #include <errno.h>
 #include <limits.h>
 #include <pthread.h>
 #include <stdlib.h>
 #include <unistd.h>
 
-#include "library.h"
-#include "side.h"
+#include "calls/library.h"
+#include "halt.h"
+#include "heap/heap.h"
+#include "say.h"
 #include "signals.h"
-#include "stream.h"
+#include "stream/record.h"
+#include "stream/side.h"
+#include "stream/stream.h"
+#include "threads.h"
 #include "unseen.h"
 
 /* Who we are, and what the environment says. Written at the start and in a child after a fork. */
@@ -98,9 +105,8 @@ static void be_idle(void)
 
 void recorder_start(void)
 {
-    enum state unstarted = STATE_UNSTARTED;
     struct disturbance before;
-    if (!atomic_compare_exchange_strong(&recorder_state, &unstarted, STATE_STARTING))
+    if (!stream_go_from(STATE_UNSTARTED, STATE_STARTING))
         return;
     undisturbed_begin(&before);
     process.process = getpid();
@@ -112,7 +118,7 @@ void recorder_start(void)
     heap_lock();
     halt_set(halt != HALT_NEVER, wanted && halt == HALT_AND_RECORD);
     if (!wanted || halt == HALT_AND_RECORD || !begin(UINT64_MAX)) {
-        atomic_store(&recorder_state, STATE_OFF);
+        stream_go(STATE_OFF);
         be_idle();
     }
     heap_unlock();
@@ -138,7 +144,7 @@ bool recorder_begin_late(void)
 void recorder_say_child(void)
 {
     static const char why[] = "it was not made by fork, but by _Fork or clone";
-    atomic_store(&recorder_state, STATE_OFF);
+    stream_go(STATE_OFF);
     recorder_say("a child is not recorded: ", output_name(), why);
     unseen_note(process.settings.hub, why);
 }
@@ -167,11 +173,11 @@ bool recorder_before_exec(void)
         leave_vfork();
         return false;
     }
-    if (atomic_load(&recorder_state) == STATE_OFF)
+    if (stream_state() == STATE_OFF)
         return false;
     /* Nobody switches to another segment from here on. */
     heap_lock();
-    enum state state = atomic_load(&recorder_state);
+    enum state state = stream_state();
     if (state == STATE_RECORDING && stream_suspend())
         return true;
     heap_unlock();
@@ -224,7 +230,7 @@ static void say_unrecorded(const char *why)
 
 static void after_fork_in_child(void)
 {
-    enum state state = atomic_load(&recorder_state);
+    enum state state = stream_state();
     bool recorded = state == STATE_RECORDING || state == STATE_AT_LIMIT;
     struct disturbance before;
     process.process = getpid();
@@ -237,7 +243,7 @@ static void after_fork_in_child(void)
         recorded = false;
     }
     if (!recorded || !begin(HELD_BY_CHILD)) {
-        atomic_store(&recorder_state, STATE_OFF);
+        stream_go(STATE_OFF);
         be_idle();
     }
     undisturbed_end(&before);
@@ -256,7 +262,7 @@ __attribute__((constructor(101))) void asancol_start(void)
     stack_start();
     recorder_start();
     pthread_atfork(before_fork, after_fork_in_parent, after_fork_in_child);
-    if (atomic_load(&recorder_state) != STATE_OFF) {
+    if (stream_state() != STATE_OFF) {
         at_quick_exit(finish_quickly);
         signals_handle();
     }

@@ -1,5 +1,7 @@
 /* What the recorder has to say: a line on standard error, or in the file that ASANCOL_LOG names. */
 #define _GNU_SOURCE
+#include "say.h"
+
 #include <errno.h>
 #include <fcntl.h>
 #include <limits.h>
@@ -8,8 +10,8 @@
 #include <sys/stat.h>
 #include <unistd.h>
 
+#include "digits.h"
 #include "signals.h"
-#include "stream.h"
 
 static struct {
     dev_t error_device; /* standard error as it was at the start */
@@ -62,16 +64,14 @@ void say_again(void)
 
 bool name_of_pattern(const char *pattern, char *name, size_t room)
 {
-    char digits[12];
-    size_t first = sizeof digits, length = 0;
-    digits[--first] = 0;
-    for (unsigned rest = (unsigned)getpid(); rest != 0; rest /= 10)
-        digits[--first] = (char)('0' + rest % 10);
+    char digits[DIGITS_ROOM];
+    const char *process = put_digits(digits + sizeof digits, (unsigned)getpid(), 1);
+    size_t length = 0;
     for (const char *from = pattern; *from != 0; from++) {
         char one[2] = {*from, 0};
         const char *piece = one;
         if (*from == '%' && from[1] == 'p')
-            piece = digits + first;
+            piece = process;
         if (*from == '%' && (from[1] == 'p' || from[1] == '%'))
             from++;
         while (*piece != 0 && length < room)

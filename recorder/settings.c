@@ -7,7 +7,9 @@
 #include <sys/auxv.h>
 #include <unistd.h>
 
-#include "recorder.h"
+#include "digits.h"
+#include "format.h"
+#include "say.h"
 
 #define FRONT "ASANCOL_"
 
@@ -107,13 +109,8 @@ static bool add(char *text, size_t room, const char *more)
 
 static void add_number(char *text, size_t room, uint64_t number)
 {
-    char digits[24];
-    size_t first = sizeof digits;
-    digits[--first] = 0;
-    do
-        digits[--first] = (char)('0' + number % 10);
-    while ((number /= 10) != 0);
-    add(text, room, digits + first);
+    char digits[DIGITS_ROOM];
+    add(text, room, put_digits(digits + sizeof digits, number, 1));
 }
 
 /* "VALUE is no number from LEAST to MOST, and OTHERWISE holds" */
@@ -236,7 +233,7 @@ void settings_read(struct settings *settings)
     settings->stop = number_of("ASANCOL_STOP", 1, EVENT_LIMIT, 0);
     settings->limit = number_of("ASANCOL_LIMIT", 1, EVENT_LIMIT, EVENT_LIMIT);
     settings->segments = number_of("ASANCOL_SEGMENTS", 0, MOST_SEGMENTS_KEPT, ALL_SEGMENTS);
-    settings->quarantine = number_of("ASANCOL_QUARANTINE", 0, (uint64_t)1 << 40, QUARANTINE_BOUND);
+    settings->quarantine = number_of("ASANCOL_QUARANTINE", 0, MOST_QUARANTINE, QUARANTINE_BOUND);
     settings->patience_ms = (int)number_of("ASANCOL_PATIENCE", 0, 86400, 60) * 1000;
     settings->with_side = number_of("ASANCOL_WHERE", 0, 1, 0) == 1 || settings->hub != NULL;
     settings->halt = (enum halt)number_of("ASANCOL_HALT", HALT_NEVER, HALT_AND_RECORD, HALT_NEVER);

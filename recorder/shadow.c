@@ -9,10 +9,8 @@
 #include <sys/mman.h>
 #include <unistd.h>
 
-enum { SHADOW_PAGE = 4096 };
-
 #ifndef IN_SHARED_OBJECT
-#include "library.h"
+#include "calls/library.h"
 #include "settings.h"
 #include "unseen.h"
 
@@ -66,7 +64,7 @@ static void map_meeting(void)
 {
     int flags = MAP_PRIVATE | MAP_ANONYMOUS | MAP_FIXED_NOREPLACE;
     void *at = (void *)MEETING_START;
-    void *page = mmap(at, SHADOW_PAGE, PROT_READ | PROT_WRITE, flags, -1, 0);
+    void *page = mmap(at, PAGE, PROT_READ | PROT_WRITE, flags, -1, 0);
     if (page == MAP_FAILED && errno == EEXIST)
         return; /* another object was here */
     if (page != at)
@@ -75,7 +73,7 @@ static void map_meeting(void)
     library_find(page);
     ((struct meeting *)page)->hooks = &asancol_hooks;
 #endif
-    mprotect(page, SHADOW_PAGE, PROT_READ);
+    mprotect(page, PAGE, PROT_READ);
 }
 
 void shadow_map(void)
@@ -98,9 +96,9 @@ void shadow_map(void)
 static void fill(uint64_t address, uint64_t size, unsigned char shade)
 {
     unsigned char *first = (unsigned char *)shadow_of(address), *end = (unsigned char *)shadow_of(address + size);
-    if (shade == 0 && end - first > 2 * SHADOW_PAGE) {
-        uintptr_t mask = ~(uintptr_t)(SHADOW_PAGE - 1);
-        unsigned char *pages = (unsigned char *)(((uintptr_t)first + SHADOW_PAGE - 1) & mask);
+    if (shade == 0 && end - first > 2 * PAGE) {
+        uintptr_t mask = ~(uintptr_t)(PAGE - 1);
+        unsigned char *pages = (unsigned char *)(((uintptr_t)first + PAGE - 1) & mask);
         unsigned char *pages_end = (unsigned char *)((uintptr_t)end & mask);
         int before = errno;
         if (madvise(pages, (size_t)(pages_end - pages), MADV_DONTNEED) == 0) {

@@ -19,9 +19,7 @@
 #include <stdint.h>
 
 #include "format.h"
-
-/* For what several members of an archive use: a program may have the name itself. */
-#define OWN_NAME(name) __asm__("asancol_" #name)
+#include "platform.h"
 
 /* Where the maps lie: free in all layouts of a process on x86-64. Programs lie from 0x5555.. on, or below 2^32;
    libraries and stacks below 2^47; with an unlimited stack libraries lie below 0x1555.., and in the old layout

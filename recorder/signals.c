@@ -8,8 +8,10 @@
 #include <ucontext.h>
 #include <unistd.h>
 
-#include "side.h"
-#include "stream.h"
+#include "process.h"
+#include "stream/side.h"
+#include "stream/stream.h"
+#include "threads.h"
 
 void undisturbed_begin(struct disturbance *before)
 {

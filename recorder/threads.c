@@ -2,25 +2,30 @@
    becomes memory for something else: redzones that stay would be those of nobody. To clear too much misses a fault;
    to clear too little reports one that is none. */
 #define _GNU_SOURCE
+#include "threads.h"
+
 #include <dlfcn.h>
 #include <errno.h>
 #include <pthread.h>
+#include <stdatomic.h>
+#include <stdbool.h>
 #include <sys/resource.h>
 #include <unwind.h>
 
-#include "cfi.h"
-#include "recorder.h"
+#include "heap/heap.h"
+#include "platform.h"
+#include "shadow.h"
+#include "stacks/cfi.h"
 
 extern void *__libc_stack_end;
 
-enum { STACK_PAGE = 4096 };
 /* A stack that is not known is cleared so far upwards, or to the end of the block that it lies in, */
 enum { UNKNOWN_REACH = 8 << 20 };
 /* and the first thread's so far down. */
 enum { USUAL_STACK = 8 << 20 };
 #define MOST_STACK ((uint64_t)1 << 30)
 /* What a thread has above its frames, and its guard below. */
-enum { STACK_MARGIN = 4 * STACK_PAGE };
+enum { STACK_MARGIN = 4 * PAGE };
 
 static _Thread_local struct {
     uintptr_t low, top; /* 0 if it is not known */
@@ -29,7 +34,7 @@ static _Thread_local struct {
 
 static uintptr_t page_above(uintptr_t address)
 {
-    return address / STACK_PAGE * STACK_PAGE + STACK_PAGE;
+    return address / PAGE * PAGE + PAGE;
 }
 
 void stack_start(void)
@@ -58,7 +63,7 @@ uintptr_t stack_top(uintptr_t frame)
 /* Of a stack in a block nothing beyond the block: there are others. */
 static void clear_other_stack(uintptr_t frame)
 {
-    uintptr_t here = frame / STACK_PAGE * STACK_PAGE, end = here + UNKNOWN_REACH;
+    uintptr_t here = frame / PAGE * PAGE, end = here + UNKNOWN_REACH;
     if (is_in_arena(frame)) {
         here = frame / GRANULE * GRANULE;
         end = heap_end_around(here) / GRANULE * GRANULE;
@@ -70,7 +75,7 @@ static void clear_other_stack(uintptr_t frame)
 void stack_frames_left(uintptr_t frame)
 {
     if (is_on_own_stack(frame)) {
-        uintptr_t here = frame / STACK_PAGE * STACK_PAGE;
+        uintptr_t here = frame / PAGE * PAGE;
         shadow_clear(here, stack.top - here);
         return;
     }
@@ -138,9 +143,6 @@ static size_t stack_size(const pthread_attr_t *attributes)
     }
     return size;
 }
-
-/* Weak, and exported: libraries find these too. */
-#define REPLACES VISIBLE __attribute__((weak))
 
 typedef void *routine_of(void *);
 typedef int create(pthread_t *, const pthread_attr_t *, routine_of *, void *);

@@ -6,8 +6,8 @@
 #include <string.h>
 #include <unistd.h>
 
-#include "output.h"
-#include "recorder.h"
+#include "say.h"
+#include "stream/output.h"
 
 /* A mark has a name as long as that of a socket may be, and then some; and what it says is short. */
 enum { NAME_ROOM = 256, TEXT_ROOM = 512, MOST_OF_PROGRAM = 200 };

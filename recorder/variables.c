@@ -3,6 +3,7 @@
 
 #include "callbacks.h"
 #include "globals.h"
+#include "hooks.h"
 
 /* A constructor of the compilers' calls this, which may come before the recorder's. */
 CALLBACK void __asan_register_globals(const struct global *globals, uintptr_t count)

@@ -97,7 +97,7 @@ def sample_is_printed(program: str) -> None:
 
 def settings_are_there(_: str) -> None:
     """Each variable that the recorder and the wrappers read is in the page of the wrappers."""
-    known = set(re.findall(r'"(ASANCOL_\w+)"', text_of("recorder/settings.c") + text_of("recorder/asancol-cc.c")))
+    known = set(re.findall(r'"(ASANCOL_\w+)"', text_of("recorder/settings.c") + text_of("recorder/wrapper/asancol-cc.c")))
     of_run = {"ASANCOL_REPORT", "ASANCOL_SYMBOLIZER"}
     page = set(re.findall(r"ASANCOL_\w+", text_of("recorder/man/asancol-cc.1")))
     expect(page, known - of_run, "variables")

@@ -20,6 +20,7 @@ from typing import List, NamedTuple, Sequence, Tuple
 
 TOP = os.path.dirname(os.path.dirname(os.path.abspath(__file__)))
 RECORDER, RUN = f"{TOP}/recorder", f"{TOP}/run"
+WRAPPER = f"{RECORDER}/wrapper"
 OURS, THEIRS = f"{RECORDER}/tests/fuzz", f"{RUN}/tests/fuzz"
 
 WARNINGS = ["-Wall", "-Wextra", "-Wconversion", "-Wno-unused-parameter"]
@@ -57,11 +58,11 @@ TARGETS = [
     Target("recorder: settings", [f"{OURS}/settings.c", f"{RECORDER}/settings.c"], ENVIRONMENT,
            [b"ASANCOL_", b"TRACE=", b"QUARANTINE=", b"SOCKET=", b"HUB=", b"%p", b"%%"]),
     Target("recorder: formats", [f"{OURS}/formats.c"], FORMATS, [b"%", b"*", b"hh", b"ll", b"%[", b"^]", b"%1$d"]),
-    Target("recorder: frames", [f"{OURS}/frames.c", f"{RECORDER}/frames.c"],
+    Target("recorder: frames", [f"{OURS}/frames.c", f"{RECORDER}/stacks/frames.c"],
            [b"2 32 16 4 name 64 8 9 other:123", b"18446744073709551616 0 99999999999999999999 5 a"]),
-    Target("asancol-cc: words", [f"{OURS}/words.c", *(f"{RECORDER}/{it}.c" for it in ("linked", "own_data", "view"))],
+    Target("asancol-cc: words", [f"{OURS}/words.c", *(f"{WRAPPER}/{it}.c" for it in ("linked", "own_data", "view"))],
            COMPILES, [b"-Xlinker", b"-fsanitize=", b"@response", b"-Wl,", b"-x"], ["-Wno-conversion"]),
-    Target("asancol-cc: objects", [f"{OURS}/objects.c", f"{RECORDER}/linked.c", f"{RECORDER}/own_data.c"], [],
+    Target("asancol-cc: objects", [f"{OURS}/objects.c", f"{WRAPPER}/linked.c", f"{WRAPPER}/own_data.c"], [],
            [b"\x7fELF\2\1\1\0", b"!<arch>\n", b"BC\xc0\xde", b"-fsanitize=kernel-address", b".gnu.lto_"]),
     Target("asancol-run: hub",
            [f"{THEIRS}/hub.c", *(f"{RUN}/{it}.c" for it in ("side", "processes", "verdict", "deaths", "json", "say"))],
@@ -90,6 +91,7 @@ def run(words: Sequence[str], folder: str, seconds: float = PATIENCE) -> str:
 def build(compiler: str, target: Target, sanitizers: str, more: Sequence[str], folder: str) -> str:
     program = f"{folder}/{compiler}-{sanitizers.replace(',', '-')}"
     words = [compiler, "-std=gnu11", "-g", "-O1", "-fno-omit-frame-pointer", *WARNINGS, *target.flags]
+    words += ["-iquote", RECORDER]
     words += [f"-fsanitize={sanitizers}", "-fno-sanitize-recover=all", *target.sources, *more, "-o", program]
     said = run(words, folder)
     if said:
@@ -133,8 +135,8 @@ def check_fuzzer(target: Target, folder: str, seconds: float) -> None:
 def check_threads(compiler: str, folder: str) -> None:
     """Four threads that write into a stream, under ThreadSanitizer; and under the others also into segments, for whose
     switch a thread reads what another one may be changing."""
-    parts = ("stream", "output", "windows", "segments")
-    sources = [f"{OURS}/threads.c"] + [f"{RECORDER}/{part}.c" for part in parts]
+    parts = ("stream", "keeper", "opening", "growing", "switching", "ending", "holes", "output", "windows", "segments")
+    sources = [f"{OURS}/threads.c"] + [f"{RECORDER}/stream/{part}.c" for part in parts]
     for sanitizers, words in (("thread", []), (SANITIZERS, ["segments"])):
         run([build(compiler, Target("threads", sources, []), sanitizers, ["-pthread"], folder), *words], folder)
 
@@ -142,7 +144,8 @@ def check_threads(compiler: str, folder: str) -> None:
 def has_fuzzer(folder: str) -> bool:
     """Whether Clang is there with libFuzzer."""
     try:
-        build("clang", Target("", [f"{OURS}/frames.c", f"{RECORDER}/frames.c"], []), f"fuzzer,{SANITIZERS}", [], folder)
+        target = Target("", [f"{OURS}/frames.c", f"{RECORDER}/stacks/frames.c"], [])
+        build("clang", target, f"fuzzer,{SANITIZERS}", [], folder)
     except (Failure, OSError):
         return False
     return True

@@ -55,7 +55,7 @@ def rows(text: str) -> List[Row]:
     return found
 
 
-def table(name: str = "calls.def") -> List[Row]:
+def table(name: str = "calls/calls.def") -> List[Row]:
     with open(f"{RECORDER}/{name}", encoding="ascii") as file:
         return rows(file.read())
 

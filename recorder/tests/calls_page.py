@@ -1,5 +1,5 @@
 #!/usr/bin/env python3
-"""Prints docs/CALLS.md, which says of each row of recorder/calls.def what is recorded.
+"""Prints docs/CALLS.md, which says of each row of recorder/calls/calls.def what is recorded.
 
 usage: recorder/tests/calls_page.py > docs/CALLS.md
 """
@@ -18,7 +18,7 @@ HEAD = """# Calls of the C library
 
 What the recorder records of a call, as loads and stores at the place of the call
 ([RECORDER.md](RECORDER.md#what-is-recorded)). If all of it is good, that is nothing. The table is made from
-[calls.def](../recorder/calls.def), by `recorder/tests/calls_page.py`.
+[calls.def](../recorder/calls/calls.def), by `recorder/tests/calls_page.py`.
 
 A name that the C library at hand does not have is left out when the recorder is built. Names that begin with `__` are
 those that headers put in the place of a function: `__..._chk` with `_FORTIFY_SOURCE`, `__isoc99_` and `__isoc23_` by
@@ -200,4 +200,4 @@ def page(path: str) -> str:
 
 
 if __name__ == "__main__":
-    sys.stdout.write(page(os.path.join(os.path.dirname(TESTS), "calls.def")))
+    sys.stdout.write(page(os.path.join(os.path.dirname(TESTS), "calls", "calls.def")))

@@ -9,6 +9,7 @@ said in a line, and left out. If SANITIZE is set, the parsers of the recorder an
 the stream under threads, run under the compilers' own sanitizers too.
 """
 
+import glob
 import os
 import re
 import shutil
@@ -25,6 +26,7 @@ import hub
 import segments
 import inline
 import seen_whole
+import sources
 from support import (
     EXIT,
     build,
@@ -625,10 +627,7 @@ def check_builds(suite, folder, compiler):
 def check_by_itself(suite, folder, compiler):
     """The recorder, built by the compiler without a warning."""
     copy = f"{folder}/recorder"
-    os.mkdir(copy)
-    for name in os.listdir(RECORDER):
-        if name == "Makefile" or name.endswith((".c", ".h", ".def", ".awk", ".ld")):
-            shutil.copy(f"{RECORDER}/{name}", copy)
+    shutil.copytree(RECORDER, copy, ignore=shutil.ignore_patterns("out", "tests", "*.a", "asancol-cc", "asancol-c++"))
     for name in ("install.mk", "VERSION"):
         shutil.copy(f"{RECORDER}/../{name}", folder)
     made = run(["make", "-s", f"CC={compiler.name}"], copy)
@@ -640,12 +639,12 @@ def check_by_itself(suite, folder, compiler):
 
 def check_own_names(suite, folder, compiler):
     """A program may have every name that the recorder has for itself."""
-    sources = [f"{RECORDER}/{name}" for name in os.listdir(RECORDER) if name.endswith(".c")]
+    sources = [it for it in glob.glob(f"{RECORDER}/**/*.c", recursive=True) if not it.startswith(f"{RECORDER}/tests/")]
     names = set()
     for source in sources:
         names |= set(re.findall(r"^(?:[\w ]+[ *])(\w+)\([^;]*\)$", open(source).read(), re.M))
     ours = ("__wrap_", "main", "asancol_", "__asan_", "__sanitizer_", "__lsan_")
-    names = {name for name in names | {"arena", "stream_page", "recorder_state"} if not name.startswith(ours)}
+    names = {name for name in names | {"arena", "stream_page", "keeper"} if not name.startswith(ours)}
     names -= {"malloc", "free", "calloc", "realloc", "reallocarray", "memalign", "aligned_alloc", "posix_memalign"}
     names -= {"valloc", "pvalloc", "malloc_usable_size", "__attribute__"}
     expect(len(names) > 100, True, "names")
@@ -800,6 +799,8 @@ def main():
             fuzzing.tests(suite, compiler, folder)
             hub.tests(suite, compiler, folder)
             segments.tests(suite, compiler, folder)
+            sources.tests(suite, compiler)
+        sources.tests_of_objects(suite)
         if os.environ.get("SANITIZE") and (not suite.words or "fuzzers" in suite.words):
             suite.add(*fuzzers.check(seconds=5, words=["recorder", "asancol-cc"]))
         return suite.finish()

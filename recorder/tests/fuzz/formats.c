@@ -7,15 +7,11 @@
 #include <string.h>
 #include <wchar.h>
 
-#include "../../format.h"
-
-/* In the place of hooks.h: each look at the shadow comes here. */
-#define ASANCOL_HOOKS_H
-#define UNLIKELY(x) (x)
-#define OWN_NAME(name)
+/* In the place of shadow.h: each look at the shadow comes here. */
+#define ASANCOL_SHADOW_H
 static bool shadow_is_clean(uintptr_t start, size_t size);
 
-#include "../../formats.c"
+#include "calls/formats.c"
 
 /* A string, and a wide one. */
 static wchar_t argument[4] = {'a', 'b'};

@@ -3,8 +3,8 @@
 #include <stdlib.h>
 #include <string.h>
 
-#include "../../frames.h"
-#include "../../memory.h"
+#include "stacks/frames.h"
+#include "memory.h"
 
 #define PLACE UINT64_C(0x10000)
 

@@ -5,9 +5,9 @@
 #include <stdlib.h>
 #include <string.h>
 
-#include "../../linked.h"
-#include "../../own_data.h"
-#include "../../view.h"
+#include "wrapper/linked.h"
+#include "wrapper/own_data.h"
+#include "wrapper/view.h"
 
 static const uint8_t *bytes;
 static size_t count;

@@ -4,9 +4,10 @@
 
 /* The names of files by patterns are made there; what it would say is taken here. */
 #define recorder_say recorder_say_line
-#include "../../say.c"
+#include "say.c"
 #undef recorder_say
-#include "../../settings.h"
+#include "format.h"
+#include "settings.h"
 
 int LLVMFuzzerTestOneInput(const uint8_t *data, size_t size);
 

@@ -10,11 +10,14 @@
 #include <sys/un.h>
 #include <unistd.h>
 
-#include "../../faults.h"
-#include "../../side.h"
-#include "../../signals.h"
-#include "../../stream.h"
-#include "../../unseen.h"
+#include "heap/heap.h"
+#include "say.h"
+#include "signals.h"
+#include "stream/faults.h"
+#include "stream/record.h"
+#include "stream/side.h"
+#include "stream/stream.h"
+#include "unseen.h"
 
 enum { THREADS = 4, RECORDS = 40000, LIMIT = 30000 };
 

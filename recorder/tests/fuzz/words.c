@@ -1,7 +1,7 @@
 /* The words of a compiler's command line, apart by zeros, as asancol-cc looks at them. The last one is also what is in
    the file `response`, which the others may name. */
 #define main wrapper_main
-#include "../../asancol-cc.c"
+#include "wrapper/asancol-cc.c"
 #undef main
 
 #include <stdint.h>

@@ -1,0 +1,5 @@
+/* Functions of the library of mathematics. They are a member by themselves, which comes in where one of them is called:
+   then the library is linked too. */
+#include "calls/rows.h"
+
+#include "out/mathematics.def"

@@ -1,0 +1,98 @@
+/* Where the allocator's memory comes from: one range of addresses, which is cut into units of 64 KiB. The notes on
+   units and blocks lie apart from them, so that a program that writes out of bounds does not meet them; and a pointer
+   is looked up by arithmetic alone. The allocator's lock is held. */
+#ifndef ASANCOL_ARENA_H
+#define ASANCOL_ARENA_H
+
+#include <stdbool.h>
+#include <stddef.h>
+#include <stdint.h>
+
+#include "format.h"
+#include "platform.h"
+#include "stacks/stacks.h"
+
+enum { UNIT = 1 << 16, SMALLEST_SLOT = 2 * REDZONE, SLOTS = UNIT / SMALLEST_SLOT, ALIGNMENT = 16 };
+/* There are 2^38 bytes in units, */
+enum { UNITS = 1 << 22 };
+/* and this many bytes for signal handlers. */
+#define SPARE_BYTES ((uint64_t)1 << 34)
+/* Free runs are listed by their number of units, the longer ones together. */
+enum { BINS = 64 };
+
+struct block {
+    uint32_t size;       /* as it was asked for; of one that is not recorded, in `next` */
+    uint32_t state : 2;
+    uint32_t offset : 30; /* of the block in its slot or run, in multiples of ALIGNMENT */
+    union {
+        struct block *next; /* in its list of free slots, or in the quarantine */
+        uint64_t large_size;
+    };
+};
+
+enum block_state { BLOCK_FREE, BLOCK_LIVE, BLOCK_HELD, BLOCK_UNRECORDED };
+
+/* Where a block was allocated and freed; 0 if it is not known, or not freed. */
+struct places {
+    place_word allocated, freed;
+};
+
+enum unit_kind { UNIT_NEW, UNIT_SLAB, UNIT_RUN, UNIT_RUN_BODY, UNIT_FREE, UNIT_FREE_END };
+
+struct unit {
+    uint32_t kind;
+    uint32_t count; /* of a run or a free run: its units; in its body or at its end: how far back it begins */
+    union {
+        struct {
+            uint32_t previous, next; /* free runs of a bin; 0 is none, and unit 0 is never used */
+        };
+        struct {
+            uint32_t slot_size, used; /* of a slab; and how many were ever used */
+        };
+    };
+};
+
+extern struct arena {
+    unsigned char *bytes; /* null until the first allocation */
+    struct unit *units;
+    struct block *blocks; /* SLOTS for each unit */
+    unsigned char *spare; /* memory for signal handlers */
+    struct places *places; /* one for each of `blocks`; or null: they are not noted */
+    uint32_t committed;   /* units that have memory */
+    uint32_t top;         /* units used so far */
+    uint32_t bins[BINS + 1];
+} arena;
+
+static inline unsigned char *unit_start(uint32_t unit)
+{
+    return arena.bytes + (size_t)unit * UNIT;
+}
+
+/* Where the block begins of a slot or run that begins here. */
+static inline uintptr_t block_address(const struct block *block, uintptr_t slot)
+{
+    return slot + (uintptr_t)block->offset * ALIGNMENT;
+}
+
+/* Before the first allocation. False: there is no memory. */
+bool arena_find(void);
+/* Makes room for the places of blocks, which takes memory as it is written to. */
+void arena_keep_places(void);
+/* Makes whole pages of the range usable, which are zeros. */
+bool arena_give_memory(void *start, size_t bytes);
+/* Units in a row, all zeros; 0 where there is no memory. */
+uint32_t arena_take_run(uint32_t count);
+void arena_give_run(uint32_t first, uint32_t count);
+
+/* The block that is nearest to an address, and not far from it. */
+struct nearest {
+    uintptr_t start;
+    uint64_t size;
+    struct places places;
+};
+
+/* Without a lock, at any time: the notes may change meanwhile, and then what it answers is of no use. False: no block
+   is near. */
+bool arena_find_nearest(uintptr_t address, struct nearest *found);
+
+#endif

@@ -1,0 +1,515 @@
+/* The allocator. A unit of the arena is a slab of slots of one size, or it is part of a run of units that is one large
+   block, or part of a free run. A slot has 32 bytes of redzone, the bytes of the block, and again 32 bytes or more.
+
+   A freed block waits in the quarantine, as long as the checker holds it: it counts the same bytes in the same order.
+
+   A signal handler may come at any time. Where its thread is in here already, it gets memory from a spare range, and
+   what it frees is given back by the thread that it interrupted.
+
+   The records of a malloc and a free are written with the lock held. So they stand in the stream in the order in which
+   the blocks were taken and given back. */
+#define _GNU_SOURCE
+#include "heap/heap.h"
+
+#include <errno.h>
+#include <pthread.h>
+#include <string.h>
+#include <sys/mman.h>
+
+#include "halt.h"
+#include "heap/arena.h"
+#include "heap/blocks.h"
+#include "heap/paint.h"
+#include "shadow.h"
+#include "stream/record.h"
+#include "stream/stream.h"
+
+enum { LARGEST_OFFSET = (1 << 30) - 1 };
+
+/* What fits into the notes of a block. The format has one byte more. */
+#define LARGEST_BLOCK ((size_t)UINT32_MAX)
+
+struct heap heap = {.lock = PTHREAD_MUTEX_INITIALIZER};
+
+/* The caller for whom the C library allocates, and the frame of the function that said so. */
+static _Thread_local struct {
+    uintptr_t caller, frame;
+} borrowed;
+
+void heap_called_from(uintptr_t caller)
+{
+    borrowed.caller = caller;
+    borrowed.frame = caller != 0 ? *(const uintptr_t *)__builtin_frame_address(0) : 0;
+}
+
+static uintptr_t caller_or(uintptr_t caller)
+{
+    uintptr_t found = borrowed.caller;
+    borrowed.caller = 0;
+    if (found != 0)
+        return found;
+    borrowed.frame = 0;
+    return caller;
+}
+
+void heap_set_bound(uint64_t bytes)
+{
+    /* The end of the recording is not yet that of the shadow if the process is to end at a fault. */
+    if (bytes != 0 || !atomic_load(&halt_is_on))
+        atomic_store(&heap.bound, bytes);
+}
+
+/* Slots. Up to FINE_END bytes there is a class for each 16 bytes, and then four for each doubling. */
+
+static unsigned class_of(size_t bytes, uint32_t *slot_size)
+{
+    if (bytes <= FINE_END) {
+        *slot_size = (uint32_t)(bytes + FINE_STEP - 1) / FINE_STEP * FINE_STEP;
+        return (*slot_size - SMALLEST_SLOT) / FINE_STEP;
+    }
+    unsigned index = (FINE_END - SMALLEST_SLOT) / FINE_STEP + 1;
+    for (uint32_t size = FINE_END;; size *= 2)
+        for (uint32_t quarter = 1; quarter <= 4; quarter++, index++)
+            if (bytes <= size + size / 4 * quarter) {
+                *slot_size = size + size / 4 * quarter;
+                return index;
+            }
+}
+
+static struct block *take_slot(size_t bytes)
+{
+    uint32_t slot_size;
+    struct class *class = &heap.classes[class_of(bytes, &slot_size)];
+    struct block *block = class->free;
+    if (block != NULL) {
+        class->free = block->next;
+        return block;
+    }
+    if (class->slab == 0) {
+        uint32_t unit = arena_take_run(1);
+        if (unit == 0)
+            return NULL;
+        arena.units[unit] = (struct unit){.kind = UNIT_SLAB, .count = 1, .slot_size = slot_size};
+        class->slab = unit;
+    }
+    struct unit *unit = &arena.units[class->slab];
+    block = arena.blocks + (size_t)class->slab * SLOTS + unit->used;
+    unit->used++;
+    if ((unit->used + 1) * unit->slot_size > UNIT)
+        class->slab = 0;
+    return block;
+}
+
+static struct block *take_large(size_t bytes)
+{
+    size_t count = (bytes + UNIT - 1) / UNIT;
+    if (count > UNITS)
+        return NULL;
+    uint32_t first = arena_take_run((uint32_t)count);
+    if (first == 0)
+        return NULL;
+    arena.units[first] = (struct unit){.kind = UNIT_RUN, .count = (uint32_t)count};
+    for (uint32_t i = 1; i < count; i++)
+        arena.units[first + i] = (struct unit){.kind = UNIT_RUN_BODY, .count = i};
+    return arena.blocks + (size_t)first * SLOTS;
+}
+
+/* The block that starts here, or null. */
+static struct block *find(const void *pointer)
+{
+    uintptr_t distance = (uintptr_t)pointer - (uintptr_t)arena.bytes;
+    if (arena.bytes == NULL || distance >= (size_t)arena.top * UNIT)
+        return NULL;
+    uint32_t unit = (uint32_t)(distance / UNIT);
+    const struct unit *at = &arena.units[unit];
+    struct block *block;
+    if (at->kind == UNIT_SLAB && distance % UNIT / at->slot_size < at->used)
+        block = arena.blocks + (size_t)unit * SLOTS + distance % UNIT / at->slot_size;
+    else if (at->kind == UNIT_RUN)
+        block = arena.blocks + (size_t)unit * SLOTS;
+    else if (at->kind == UNIT_RUN_BODY)
+        block = arena.blocks + (size_t)(unit - at->count) * SLOTS;
+    else
+        return NULL;
+    return block->state != BLOCK_FREE && block_start(block) == pointer ? block : NULL;
+}
+
+uintptr_t heap_end_around(uintptr_t address)
+{
+    uintptr_t distance = address - (uintptr_t)arena.bytes;
+    if (arena.bytes == NULL || distance >= (size_t)arena.top * UNIT)
+        return address;
+    uint32_t unit = (uint32_t)(distance / UNIT);
+    const struct unit *at = &arena.units[unit];
+    if (at->kind != UNIT_SLAB && at->kind != UNIT_RUN && at->kind != UNIT_RUN_BODY)
+        return address;
+    uint32_t first = at->kind == UNIT_RUN_BODY ? unit - at->count : unit;
+    size_t slot = at->kind == UNIT_SLAB ? distance % UNIT / at->slot_size : 0;
+    const struct block *block = arena.blocks + (size_t)first * SLOTS + slot;
+    if (block->state != BLOCK_LIVE && block->state != BLOCK_UNRECORDED)
+        return address;
+    uintptr_t end = (uintptr_t)block_start(block) + (block->state == BLOCK_UNRECORDED ? block->large_size : block->size);
+    return end > address ? end : address;
+}
+
+/* The quarantine. */
+
+static void release(struct block *block)
+{
+    uint32_t unit = unit_of(block), slot_size;
+    block->state = BLOCK_FREE;
+    if (arena.units[unit].kind != UNIT_SLAB) {
+        arena_give_run(unit, arena.units[unit].count);
+        return;
+    }
+    struct class *class = &heap.classes[class_of(arena.units[unit].slot_size, &slot_size)];
+    block->next = class->free;
+    class->free = block;
+}
+
+void heap_release_oldest(void)
+{
+    struct block *block = heap.oldest;
+    heap.oldest = block->next;
+    if (heap.oldest == NULL)
+        heap.newest = NULL;
+    heap.held_bytes -= span_bytes(block->size);
+    heap.held_count--;
+    if (!heap.is_unpainted)
+        paint_released((uintptr_t)block_start(block), block->size);
+    release(block);
+}
+
+static void release_down_to(uint64_t bound)
+{
+    while (heap.held_bytes > bound)
+        heap_release_oldest();
+}
+
+static void hold(struct block *block)
+{
+    block->state = BLOCK_HELD;
+    block->next = NULL;
+    if (heap.newest != NULL)
+        heap.newest->next = block;
+    else
+        heap.oldest = block;
+    heap.newest = block;
+    heap.held_bytes += span_bytes(block->size);
+    heap.held_count++;
+    release_down_to(atomic_load_explicit(&heap.bound, memory_order_relaxed));
+}
+
+/* Going in and out. A signal handler whose thread is in here already is not let in. */
+
+static _Thread_local volatile bool is_inside;
+
+/* What signal handlers freed while this thread was in here. Where they free more, it stays allocated. */
+enum { DEFERRED = 32 };
+static _Thread_local struct {
+    void *pointers[DEFERRED];
+    uintptr_t callers[DEFERRED];
+    _Atomic unsigned count;
+} deferred;
+
+bool heap_is_entered(void)
+{
+    return is_inside;
+}
+
+static bool enter(void)
+{
+    if (UNLIKELY(is_inside))
+        return false;
+    is_inside = true;
+    bool alone = __libc_single_threaded;
+    if (!alone)
+        pthread_mutex_lock(&heap.lock);
+    heap.is_locked = !alone;
+    return true;
+}
+
+/* Returns whether it was one that can be freed. */
+static bool free_block(void *pointer, uintptr_t caller)
+{
+    struct block *block = find(pointer);
+    if (block != NULL && block->state == BLOCK_UNRECORDED) {
+        release(block);
+        return true;
+    }
+    bool is_live = block != NULL && block->state == BLOCK_LIVE;
+    if (is_live && !heap.is_unpainted)
+        paint_held((uintptr_t)pointer, block->size);
+    /* A bad free is recorded, and goes no further. */
+    if (!is_live) {
+        record_bad_free((uintptr_t)pointer, caller);
+        return false;
+    }
+    if (UNLIKELY(arena.places != NULL))
+        arena.places[block - arena.blocks].freed = place_from(borrowed.frame, caller);
+    record_free((uintptr_t)pointer);
+    hold(block);
+    return true;
+}
+
+static void free_deferred(void)
+{
+    unsigned count;
+    while ((count = atomic_load_explicit(&deferred.count, memory_order_relaxed)) != 0) {
+        void *pointer = deferred.pointers[count - 1];
+        uintptr_t caller = deferred.callers[count - 1];
+        /* Unless a handler has just added one. */
+        if (atomic_compare_exchange_strong(&deferred.count, &count, count - 1))
+            free_block(pointer, caller);
+    }
+}
+
+static void defer(void *pointer, uintptr_t caller)
+{
+    unsigned place = atomic_fetch_add(&deferred.count, 1);
+    if (place < DEFERRED) {
+        deferred.pointers[place] = pointer;
+        deferred.callers[place] = caller;
+    } else {
+        atomic_fetch_sub(&deferred.count, 1);
+    }
+}
+
+static void leave(void)
+{
+    do {
+        free_deferred();
+        if (heap.is_locked)
+            pthread_mutex_unlock(&heap.lock);
+        is_inside = false;
+    } while (UNLIKELY(atomic_load_explicit(&deferred.count, memory_order_relaxed) != 0) && enter());
+}
+
+/* How often this thread, in signal handlers, has locked while it was in here already. */
+static _Thread_local unsigned nested;
+
+void heap_lock(void)
+{
+    if (!enter())
+        nested++;
+}
+
+void heap_unlock(void)
+{
+    if (nested > 0)
+        nested--;
+    else
+        leave();
+}
+
+/* For a signal handler whose thread was interrupted in here: memory that is no block, at addresses that are never given
+   again. */
+
+enum { SPARE_HEADER = 16 };
+
+static bool is_spare(const void *pointer)
+{
+    return arena.bytes != NULL && (uintptr_t)pointer - (uintptr_t)arena.spare < SPARE_BYTES;
+}
+
+static void *take_spare(size_t size, size_t alignment)
+{
+    if (arena.bytes == NULL || size > SPARE_BYTES || alignment > SPARE_BYTES)
+        return NULL;
+    /* Whole pages: two handlers, of two threads, then make none of them usable twice. */
+    size_t bytes = (size + SPARE_HEADER + alignment + PAGE - 1) / PAGE * PAGE;
+    size_t first = atomic_fetch_add(&heap.spare_used, bytes);
+    if (first + bytes > SPARE_BYTES || !arena_give_memory(arena.spare + first, bytes))
+        return NULL;
+    uintptr_t start = ((uintptr_t)arena.spare + first + SPARE_HEADER + alignment - 1) / alignment * alignment;
+    ((size_t *)start)[-1] = size;
+    return (void *)start;
+}
+
+static size_t spare_size(const void *pointer)
+{
+    return ((const size_t *)pointer)[-1];
+}
+
+static void drop_spare(void *pointer)
+{
+    unsigned char *start = pointer;
+    size_t before = (uintptr_t)(start - SPARE_HEADER) % PAGE + SPARE_HEADER;
+    madvise(start - before, (before + spare_size(pointer) + PAGE - 1) / PAGE * PAGE, MADV_DONTNEED);
+}
+
+/* Allocation. */
+
+/* How many bytes a block takes with its redzones. */
+static size_t room_for(size_t size, size_t alignment)
+{
+    size_t rounded = (size + ALIGNMENT - 1) / ALIGNMENT * ALIGNMENT;
+    return rounded + alignment - ALIGNMENT + (size_t)2 * REDZONE;
+}
+
+static struct block *take_block(size_t bytes)
+{
+    return bytes <= LARGEST_SLOT ? take_slot(bytes) : take_large(bytes);
+}
+
+static void *place_block(size_t size, size_t alignment, uintptr_t caller)
+{
+    size_t bytes = room_for(size, alignment);
+    struct block *block = take_block(bytes);
+    if (block == NULL && heap.held_bytes != 0 && bytes <= (size_t)UNITS * UNIT) {
+        /* Without a recorder the process might have this memory: so no more recording, and nothing held back. */
+        stream_stop("no memory");
+        release_down_to(0);
+        block = take_block(bytes);
+    }
+    if (block == NULL)
+        return NULL;
+    uintptr_t start = (uintptr_t)slot_start(block);
+    uintptr_t address = (start + REDZONE + alignment - 1) / alignment * alignment;
+    block->offset = (address - start) / ALIGNMENT & LARGEST_OFFSET;
+    if (UNLIKELY(arena.places != NULL))
+        arena.places[block - arena.blocks] = (struct places){place_from(borrowed.frame, caller), 0};
+    if (size <= LARGEST_BLOCK) {
+        block->size = (uint32_t)size;
+        if (!heap.is_unpainted)
+            paint_redzones(address, size);
+        record_region(CODE_MALLOC, address, size);
+        /* The record may be the first of a segment, which restates what is live: this block is not yet. */
+        block->state = BLOCK_LIVE;
+        if (!heap.is_unpainted)
+            paint_live(address, size);
+    } else {
+        /* It can't be spelled, so it is no block for the checker: memory like a global's. */
+        block->state = BLOCK_UNRECORDED;
+        block->large_size = size;
+    }
+    return (void *)address;
+}
+
+void *heap_allocate(size_t size, size_t alignment, bool zeroed, uintptr_t caller)
+{
+    void *address = NULL;
+    caller = caller_or(caller);
+    bool fits = size <= PTRDIFF_MAX - UNIT && alignment <= (size_t)1 << 32;
+    if (!fits || !enter()) {
+        address = fits ? take_spare(size, alignment) : NULL;
+    } else {
+        if (arena.bytes != NULL || arena_find())
+            address = place_block(size, alignment, caller);
+        if (address == NULL)
+            record_region(CODE_MALLOC, 0, size); /* refused */
+        leave();
+        if (address != NULL && size > LARGEST_BLOCK)
+            record_regions(CODE_UNPOISON, (uintptr_t)address, size);
+    }
+    if (address == NULL)
+        errno = ENOMEM;
+    else if (zeroed && room_for(size, alignment) <= LARGEST_SLOT)
+        memset(address, 0, size); /* a larger block is zeros: pages that are not used take no memory */
+    return address;
+}
+
+void heap_give_back(void *pointer, uintptr_t caller)
+{
+    caller = caller_or(caller);
+    if (pointer == NULL)
+        return;
+    int before = errno;
+    bool is_bad = false;
+    if (is_spare(pointer)) {
+        drop_spare(pointer);
+    } else if (enter()) {
+        is_bad = !free_block(pointer, caller);
+        leave();
+    } else {
+        defer(pointer, caller);
+    }
+    /* Out of the lock: what is called before the end may allocate. */
+    if (UNLIKELY(is_bad) && atomic_load(&halt_is_on))
+        halt_at(CODE_FREE, 0, (uintptr_t)pointer, caller);
+    errno = before;
+}
+
+size_t heap_live_size(void *pointer)
+{
+    size_t size = SIZE_MAX;
+    if (is_spare(pointer))
+        return spare_size(pointer);
+    bool alone = enter();
+    const struct block *block = find(pointer);
+    if (block != NULL && block->state != BLOCK_HELD)
+        size = size_of(block);
+    if (alone)
+        leave();
+    return size;
+}
+
+void *heap_move(void *old, size_t size, uintptr_t caller)
+{
+    caller = caller_or(caller);
+    if (old == NULL)
+        return heap_allocate(size, ALIGNMENT, false, caller);
+    size_t before = heap_live_size(old);
+    if (size == 0 || before == SIZE_MAX) {
+        heap_give_back(old, caller);
+        if (size != 0)
+            errno = EINVAL;
+        return NULL;
+    }
+    void *moved = heap_allocate(size, ALIGNMENT, false, caller);
+    if (moved == NULL)
+        return NULL;
+    memcpy(moved, old, before < size ? before : size);
+    heap_give_back(old, caller);
+    return moved;
+}
+
+void heap_for_each(void (*visit)(const struct block *block, void *with), void *with)
+{
+    for (uint32_t unit = 1; unit < arena.top; unit++) {
+        const struct unit *at = &arena.units[unit];
+        uint32_t count = at->kind == UNIT_SLAB ? at->used : at->kind == UNIT_RUN ? 1 : 0;
+        for (uint32_t slot = 0; slot < count; slot++)
+            visit(arena.blocks + (size_t)unit * SLOTS + slot, with);
+    }
+}
+
+void heap_paint(bool is_painted)
+{
+    bool alone = enter();
+    if (!is_painted && arena.bytes != NULL)
+        shadow_clear((uintptr_t)arena.bytes, (uint64_t)arena.top * UNIT);
+    heap.is_unpainted = !is_painted;
+    if (alone)
+        leave();
+}
+
+void heap_keep_places(void)
+{
+    arena_keep_places();
+}
+
+void heap_is_poisoned(void)
+{
+    heap.is_unpainted = false;
+}
+
+static void add_if_used(const struct block *block, void *numbers)
+{
+    struct heap_numbers *sums = numbers;
+    if (block->state == BLOCK_LIVE || block->state == BLOCK_UNRECORDED) {
+        sums->live_bytes += size_of(block);
+        sums->live_count++;
+    }
+}
+
+struct heap_numbers heap_count(void)
+{
+    struct heap_numbers numbers = {0};
+    bool alone = enter();
+    numbers.system_bytes = (uint64_t)arena.committed * UNIT;
+    heap_for_each(add_if_used, &numbers);
+    if (alone)
+        leave();
+    return numbers;
+}

@@ -1,0 +1,22 @@
+/* What the recorder asks of the compiler and the machine. */
+#ifndef ASANCOL_PLATFORM_H
+#define ASANCOL_PLATFORM_H
+
+#include <stdint.h>
+
+#define LIKELY(x) __builtin_expect(!!(x), 1)
+#define UNLIKELY(x) __builtin_expect(!!(x), 0)
+#define CALLER() ((uintptr_t)__builtin_return_address(0))
+
+/* Symbols that the program, or a shared object of it, finds in the recorder. All others are hidden. */
+#define VISIBLE __attribute__((visibility("default")))
+/* Likewise, unless the program or a library before it has the name itself. The linked objects keep these names
+   (Makefile). */
+#define REPLACES VISIBLE __attribute__((weak))
+/* For what several members of an archive use: a program may have the name itself. */
+#define OWN_NAME(name) __asm__("asancol_" #name)
+
+/* How many bytes a page has. */
+enum { PAGE = 4096 };
+
+#endif

@@ -1,0 +1,18 @@
+/* What the recorder has to say. */
+#ifndef ASANCOL_SAY_H
+#define ASANCOL_SAY_H
+
+#include <stdbool.h>
+#include <stddef.h>
+
+/* Where it is said: a file's name, in which %p stands for the number of the process, or null for standard error. */
+void say_to(const char *log);
+/* In a child, whose number is another one. */
+void say_again(void);
+/* Says one line, if that is possible without waiting. */
+void recorder_say(const char *what, const char *of, const char *why);
+/* Writes the name that a pattern gives this process: %p is its number, %% is a percent sign. False: there is no room.
+   */
+bool name_of_pattern(const char *pattern, char *name, size_t room);
+
+#endif

@@ -1,0 +1,147 @@
+/* A frame with redzones begins with a left one. There the compilers write a number by which it is known, and the
+   address of its description: "COUNT", and for each variable "OFFSET SIZE LENGTH NAME", where the name has so many
+   letters, and may end in ":LINE". What a frame that is gone has left may be anything, so nothing of it is believed. */
+#include "stacks/frames.h"
+
+#include "memory.h"
+#include "shadow.h"
+
+#define FRAME_MAGIC UINT64_C(0x41b58ab3)
+enum { SHADE_LEFT = 0xf1, SHADE_RIGHT = 0xf3 };
+/* So many granules are gone over from what is in a frame for certain, so many from what may be in none, and so many
+   variables. */
+enum { MOST_GRANULES = 1 << 16, FEW_GRANULES = 1 << 11, MOST_VARIABLES = 1 << 12 };
+/* The words of a left redzone. */
+enum { WORD_MAGIC, WORD_DESCRIPTION, WORDS };
+
+/* The shadow of the maps themselves can't be read. */
+static bool has_shadow(uint64_t address)
+{
+    return address < ADDRESS_END && address - SHADOW_START >= SHADOW_BYTES && address - STATED_START >= SHADOW_BYTES;
+}
+
+/* Whether a granule, or the end of one, is a redzone of a frame. */
+static bool is_in_frame(uint64_t granule)
+{
+    unsigned char shade = *shadow_of(granule);
+    return is_of_frame(shade) || (shade != 0 && shade < GRANULE && is_of_frame(*shadow_of(granule + GRANULE)));
+}
+
+/* The first granule of a redzone that is a left one. */
+static uint64_t redzone_start(uint64_t granule)
+{
+    for (unsigned seen = 0; seen < MOST_GRANULES && has_shadow(granule - GRANULE); seen++, granule -= GRANULE)
+        if (*shadow_of(granule - GRANULE) != SHADE_LEFT)
+            break;
+    return granule;
+}
+
+/* The start of the frame that has this granule, 0 if there is none. */
+static uint64_t frame_start(uint64_t granule)
+{
+    bool is_inside = false;
+    unsigned most = has_shadow(granule) && is_in_frame(granule) ? MOST_GRANULES : FEW_GRANULES;
+    for (unsigned seen = 0; seen < most && has_shadow(granule); seen++, granule -= GRANULE) {
+        unsigned char shade = *shadow_of(granule);
+        if (shade == SHADE_LEFT)
+            return redzone_start(granule);
+        if (shade == SHADE_GLOBAL || (shade == SHADE_RIGHT && is_inside))
+            return 0; /* another frame ends there, or there is none */
+        is_inside = shade != SHADE_RIGHT;
+    }
+    return 0;
+}
+
+/* A text that is read a piece at a time. */
+struct text {
+    uint64_t next; /* where the rest of it stands */
+    size_t at, count;
+    char piece[64];
+};
+
+/* The next letter; 0 at its end, or where it can't be read. */
+static char peek(struct text *text)
+{
+    if (text->at == text->count) {
+        /* Not across the end of what may be the last page of it. */
+        text->count = sizeof text->piece - text->next % sizeof text->piece;
+        text->at = 0;
+        if (!memory_read(text->next, text->piece, text->count)) {
+            text->piece[0] = 0;
+            text->count = 1;
+        }
+        text->next += text->count;
+    }
+    return text->piece[text->at];
+}
+
+/* Where the next letter stands. */
+static uint64_t place_of(const struct text *text)
+{
+    return text->next - (text->count - text->at);
+}
+
+static void skip(struct text *text, uint64_t letters)
+{
+    for (; letters > 0 && peek(text) != 0; letters--)
+        text->at++;
+}
+
+/* A number, and the space after it. */
+static uint64_t take_number(struct text *text)
+{
+    uint64_t number = 0;
+    for (char letter = peek(text); letter >= '0' && letter <= '9'; letter = peek(text)) {
+        number = number * 10 + (uint64_t)(letter - '0');
+        text->at++;
+    }
+    if (peek(text) == ' ')
+        text->at++;
+    return number;
+}
+
+static struct frame_variable take_variable(struct text *text, uint64_t frame)
+{
+    struct frame_variable variable;
+    variable.start = frame + take_number(text);
+    variable.size = take_number(text);
+    variable.name_length = take_number(text);
+    variable.name = place_of(text);
+    skip(text, variable.name_length);
+    skip(text, 1); /* a space */
+    return variable;
+}
+
+static uint64_t distance_of(uint64_t address, const struct frame_variable *variable)
+{
+    if (address < variable->start)
+        return variable->start - address;
+    uint64_t into = address - variable->start;
+    return into < variable->size ? 0 : into - variable->size + 1;
+}
+
+bool frame_around(uint64_t address, struct frame *frame)
+{
+    uint64_t words[WORDS];
+    frame->start = frame_start(address / GRANULE * GRANULE);
+    if (frame->start == 0 || !memory_read(frame->start, words, sizeof words) || words[WORD_MAGIC] != FRAME_MAGIC)
+        return false;
+    frame->description = words[WORD_DESCRIPTION];
+    return true;
+}
+
+bool frame_nearest(const struct frame *frame, uint64_t address, struct frame_variable *found)
+{
+    struct text text = {.next = frame->description};
+    uint64_t count = take_number(&text), least = UINT64_MAX;
+    for (uint64_t i = 0; i < count && i < MOST_VARIABLES && peek(&text) != 0; i++) {
+        struct frame_variable variable = take_variable(&text, frame->start);
+        uint64_t far = distance_of(address, &variable);
+        /* Of two that are as near it is the one before the address. */
+        if (far < least || (far == least && variable.start < address)) {
+            least = far;
+            *found = variable;
+        }
+    }
+    return least != UINT64_MAX;
+}

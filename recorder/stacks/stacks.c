@@ -1,0 +1,155 @@
+#include "stacks/stacks.h"
+
+#include <stdatomic.h>
+#include <stdbool.h>
+#include <string.h>
+
+
+/* A stack is a word and then its frames. The word has its number in the lower half, and over it for which recording
+   that was given, and how many frames there are. */
+enum { COUNT_SHIFT = 56, RECORDING_SHIFT = 32 };
+#define RECORDING_MASK UINT32_C(0xffffff)
+
+/* What tells a stack from an address: no address has this bit. The rest is the number of its first word. */
+#define IS_STACK (UINT64_C(1) << 63)
+
+#define STACK_WORDS ((uint32_t)1 << 22)
+#define STACKS ((uint64_t)1 << 18)
+/* So many places of the table stay free, so that a search ends soon. */
+#define SPARE_STACKS (STACKS / 4)
+#define WORD_MASK ((uint64_t)STACK_WORDS - 1)
+
+static struct {
+    _Atomic uint32_t taken; /* words; the first is of no stack */
+    _Atomic uint32_t count; /* stacks */
+    _Atomic uint32_t recording;
+} stacks = {.taken = 1};
+
+static uint64_t words[STACK_WORDS];
+/* The upper bits of a hash, and the number of the first word. */
+static _Atomic uint64_t known[STACKS];
+
+static uint64_t hash_of(const uint64_t *frames, unsigned count)
+{
+    uint64_t hash = count;
+    for (unsigned i = 0; i < count; i++) {
+        hash = (hash ^ frames[i]) * UINT64_C(0x9e3779b97f4a7c15);
+        hash ^= hash >> 29;
+    }
+    return hash;
+}
+
+static bool is_stack_at(uint64_t first, const uint64_t *frames, unsigned count)
+{
+    if (words[first] >> COUNT_SHIFT != count)
+        return false;
+    for (unsigned i = 0; i < count; i++)
+        if (words[first + 1 + i] != frames[i])
+            return false;
+    return true;
+}
+
+/* Keeps a new one. Answers its first word; 0: there is no room. */
+static uint32_t keep(const uint64_t *frames, unsigned count)
+{
+    if (atomic_load(&stacks.taken) > STACK_WORDS - (MOST_FRAMES + 1)
+        || atomic_load(&stacks.count) >= STACKS - SPARE_STACKS)
+        return 0;
+    uint32_t first = atomic_fetch_add(&stacks.taken, count + 1);
+    if (first > STACK_WORDS - (MOST_FRAMES + 1))
+        return 0;
+    atomic_fetch_add(&stacks.count, 1);
+    words[first] = (uint64_t)count << COUNT_SHIFT;
+    memcpy(&words[first + 1], frames, count * sizeof *frames);
+    return first;
+}
+
+/* The first word of the stack that has these frames; 0: there is no room for it. */
+static uint32_t find_or_keep(const uint64_t *frames, unsigned count)
+{
+    uint64_t hash = hash_of(frames, count), tag = hash & ~WORD_MASK;
+    uint32_t kept = 0;
+    for (uint64_t at = hash >> 24;; at++) {
+        _Atomic uint64_t *entry = &known[at % STACKS];
+        uint64_t seen = atomic_load_explicit(entry, memory_order_acquire);
+        if (seen == 0) {
+            if (kept == 0 && (kept = keep(frames, count)) == 0)
+                return 0;
+            if (atomic_compare_exchange_strong(entry, &seen, tag | kept))
+                return kept;
+        }
+        if ((seen & ~WORD_MASK) == tag && is_stack_at(seen & WORD_MASK, frames, count))
+            return (uint32_t)(seen & WORD_MASK);
+    }
+}
+
+place_word place_of(uintptr_t caller)
+{
+    return place_from(0, caller);
+}
+
+/* The place of a stack; or only its innermost address, if there is no more of it, or no room. */
+static place_word place_of_frames(const uint64_t *frames, unsigned count)
+{
+    uint32_t first = count > 1 ? find_or_keep(frames, count) : 0;
+    return first != 0 ? IS_STACK | first : frames[0];
+}
+
+place_word place_from(uintptr_t frame, uintptr_t caller)
+{
+    uint64_t frames[MOST_FRAMES];
+    uintptr_t first = frame != 0 ? frame : (uintptr_t)__builtin_frame_address(0);
+    frames[0] = caller;
+    return place_of_frames(frames, unwind_from_call(first, caller, frames, MOST_FRAMES));
+}
+
+place_word place_at(const struct registers *registers)
+{
+    uint64_t frames[MOST_FRAMES];
+    frames[0] = registers->instruction + 1;
+    return place_of_frames(frames, unwind_from_registers(registers, frames, MOST_FRAMES));
+}
+
+uintptr_t place_address(place_word of)
+{
+    return of & IS_STACK ? words[(of & WORD_MASK) + 1] : of;
+}
+
+unsigned place_frames(place_word of, const uint64_t **frames)
+{
+    uint64_t first = of & WORD_MASK;
+    if (!(of & IS_STACK))
+        return 0;
+    *frames = &words[first + 1];
+    return (unsigned)(words[first] >> COUNT_SHIFT);
+}
+
+/* The upper half of a stack's word, if its number is one of this recording. */
+static uint64_t upper_half(uint64_t word)
+{
+    uint64_t recording = atomic_load(&stacks.recording) & RECORDING_MASK;
+    return word >> COUNT_SHIFT << COUNT_SHIFT | recording << RECORDING_SHIFT;
+}
+
+uint32_t place_number(place_word of)
+{
+    uint64_t word = of & IS_STACK ? atomic_load((_Atomic uint64_t *)&words[of & WORD_MASK]) : 0;
+    return word >> RECORDING_SHIFT == upper_half(word) >> RECORDING_SHIFT ? (uint32_t)word : 0;
+}
+
+uint32_t place_give_number(place_word of, uint32_t number)
+{
+    _Atomic uint64_t *word = (_Atomic uint64_t *)&words[of & WORD_MASK];
+    uint64_t seen = atomic_load(word);
+    for (;;) {
+        if (place_number(of) != 0)
+            return place_number(of);
+        if (atomic_compare_exchange_strong(word, &seen, upper_half(seen) | number))
+            return number;
+    }
+}
+
+void places_forget_numbers(void)
+{
+    atomic_fetch_add(&stacks.recording, 1);
+}

@@ -1,0 +1,88 @@
+#define _GNU_SOURCE
+#include "stream/holes.h"
+
+#include <string.h>
+#include <sys/single_threaded.h>
+
+/* How many records in a row may be missing. */
+enum { MOST_HOLES = 8 };
+
+static unsigned char code_at(uint64_t offset)
+{
+    return atomic_load_explicit((_Atomic unsigned char *)(STREAM->bytes + offset), memory_order_acquire);
+}
+
+/* Whether whole records begin here, as far as a few of them can say. Some accesses may be missing before them. */
+static bool looks_sound(uint64_t offset, uint64_t end)
+{
+    for (int holes = 0; holes < MOST_HOLES && offset < end && code_at(offset) == CODE_NONE; holes++)
+        offset += ACCESS_LENGTH;
+    for (int seen = 0; offset < end && seen < 8; seen++) {
+        unsigned length = record_length(code_at(offset));
+        const unsigned char *width = STREAM->bytes + offset + 1;
+        if (length == 0)
+            return seen > 0;
+        if (length == ACCESS_LENGTH && *width != 1 && *width != 2 && *width != 4 && *width != 8)
+            return false;
+        offset += length;
+    }
+    return offset <= end;
+}
+
+/* Records that say nothing, by their lengths. */
+static const struct {
+    enum code code;
+    unsigned length;
+} fillers[] = {{CODE_LOAD, ACCESS_LENGTH}, {CODE_UNPOISON, REGION_LENGTH}, {CODE_POISON, POISON_LENGTH},
+               {CODE_FREE, PLACE_LENGTH}};
+
+enum { FILLERS = sizeof fillers / sizeof *fillers };
+
+void holes_fill(unsigned char *at, unsigned length)
+{
+    unsigned i = 0;
+    while (fillers[i].length != length)
+        i++;
+    memset(at, 0, length);
+    if (fillers[i].code == CODE_LOAD)
+        at[1] = 1;
+    put_code(at, fillers[i].code);
+}
+
+/* A record that was begun and will never be written, as when a signal handler left by a jump: puts one there that says
+   nothing. Answers its length, 0 where that can't be known. */
+static unsigned fill_hole(uint64_t offset, uint64_t end)
+{
+    for (unsigned i = 0; i < FILLERS; i++) {
+        unsigned length = fillers[i].length;
+        if (offset + length > end || !looks_sound(offset + length, end))
+            continue;
+        holes_fill(STREAM->bytes + offset, length);
+        return length;
+    }
+    return 0;
+}
+
+unsigned holes_check(uint64_t end, uint64_t limit, enum patience patience)
+{
+    int looks = 0;
+    unsigned holes = 0;
+    while (keeper.checked < end && keeper.checked_events < limit) {
+        unsigned char code = code_at(keeper.checked);
+        /* The common case is a branch of its own: the processor then need not wait for one record to find the next. */
+        unsigned length = LIKELY(code == CODE_LOAD || code == CODE_STORE) ? ACCESS_LENGTH : record_length(code);
+        if (UNLIKELY(length == 0)) {
+            /* With one thread there is nobody to wait for: a signal handler has left by a jump. */
+            if (!__libc_single_threaded && keeper_waits_again(looks++, patience))
+                continue;
+            length = patience != NONE ? fill_hole(keeper.checked, end) : 0;
+            if (length == 0)
+                return holes;
+            holes++;
+        }
+        looks = 0;
+        keeper.checked += length;
+        keeper.checked_events++;
+    }
+    return holes;
+}

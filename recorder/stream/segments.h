@@ -1,0 +1,14 @@
+/* The files of the segments of a process: their names, and which of them are kept. The lock of the stream is held. */
+#ifndef ASANCOL_SEGMENTS_H
+#define ASANCOL_SEGMENTS_H
+
+#include "stream/output.h"
+
+/* A process begins, with this file. */
+void segments_begin(const struct output *first);
+/* The name of a later segment. False: it is too long. */
+bool segments_name(uint64_t segment, char *name);
+/* A segment has begun in this file. Of all up to it the newest are kept, as many as these. */
+void segments_keep(uint64_t segment, const struct output *output, uint64_t most);
+
+#endif

@@ -1,0 +1,25 @@
+/* What the stream states of memory outside the allocator's. */
+#ifndef ASANCOL_STATED_H
+#define ASANCOL_STATED_H
+
+#include <stdatomic.h>
+#include <stdbool.h>
+#include <stdint.h>
+
+#include "platform.h"
+#include "shadow.h"
+
+/* Brings the stream up to what the shadow says of the granules that an access meets, outside the allocator's memory. */
+void stated_bring_up(uint64_t address, unsigned width) OWN_NAME(stated_bring_up);
+/* Nothing is stated any more. */
+void stated_forget(void);
+
+/* Whether the stream states already what the shadow says, as far as an access goes: of a good access in the last bytes
+   of a variable, or where nothing was ever poisoned. */
+static inline bool is_stated(uint64_t address, unsigned width)
+{
+    unsigned now = *shadow_of(address), stated = atomic_load_explicit(stated_of(address), memory_order_acquire);
+    return (now | stated) == 0 || (now == stated && now < GRANULE && address % GRANULE + width <= now);
+}
+
+#endif

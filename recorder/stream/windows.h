@@ -1,0 +1,33 @@
+/* Where streams lie, and what stands beside them: in windows of two ranges of addresses, which are reserved once. The
+   offset of a record counts from the start of the range, so it says of which stream the record is. What is stored late,
+   by a thread that slept, meets plain memory, and not the stream that has come after. */
+#ifndef ASANCOL_WINDOWS_H
+#define ASANCOL_WINDOWS_H
+
+#include "format.h"
+#include "stream/output.h"
+
+enum { WINDOWS = 8, WINDOW_SHIFT = 29, SIDE_WINDOW_SHIFT = 27 };
+#define WINDOW_BYTES ((uint64_t)1 << WINDOW_SHIFT)
+
+/* By how much a file grows. */
+#define FILE_STEP ((uint64_t)1 << 20)
+#define STREAM_ROOM (LARGEST_STREAM + FILE_STEP)
+
+_Static_assert(STREAM_ROOM <= WINDOW_BYTES, "a stream has room in a window");
+_Static_assert(WINDOW_BYTES * WINDOWS <= (uint64_t)1 << 32, "an offset has 32 bits");
+_Static_assert(SIDE_ROOM <= (uint64_t)1 << SIDE_WINDOW_SHIFT, "so has what stands beside it");
+
+/* Where the range of streams starts, once there was a stream. Null: there is no room for it. */
+unsigned char *windows_start(void);
+/* The window of a stream. */
+struct window windows_of_stream(unsigned number);
+/* And of what stands beside it. False: there is no room. */
+bool windows_of_side(unsigned number, struct window *window);
+
+static inline unsigned window_of(uint32_t offset)
+{
+    return offset >> WINDOW_SHIFT;
+}
+
+#endif
