@@ -232,12 +232,29 @@ static void reads_set(const void *set, int count, uintptr_t caller)
 
 #define READS_SET(set, count) reads_set(set, count, caller)
 
-#define WRITES_FOUND(to, found)                                                                                        \
+/* Entries of databases begin with their name. */
+static void writes_name(const void *entry, uintptr_t caller)
+{
+    WRITES_STRING(*(char *const *)entry);
+}
+
+static void writes_texts_of_user(const struct passwd *user, uintptr_t caller)
+{
+    const char *const texts[] = {user->pw_name, user->pw_passwd, user->pw_gecos, user->pw_dir, user->pw_shell};
+    for (size_t i = 0; i < sizeof texts / sizeof *texts; i++)
+        WRITES_STRING(texts[i]);
+}
+
+#define WRITES_ENTRY(to, found, writes_texts)                                                                          \
     {                                                                                                                  \
         WRITES(found, sizeof *found);                                                                                  \
-        if (*found != NULL)                                                                                            \
+        if (*found != NULL) {                                                                                          \
             WRITES(to, sizeof *to);                                                                                    \
+            writes_texts(to, caller);                                                                                  \
+        }                                                                                                              \
     }
+#define WRITES_FOUND(to, found) WRITES_ENTRY(to, found, writes_name)
+#define WRITES_USER(to, found) WRITES_ENTRY(to, found, writes_texts_of_user)
 
 /* What a request of ioctl reads and writes at its argument. Of a request that is not here nothing is known. */
 

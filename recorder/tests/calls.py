@@ -2,6 +2,7 @@
 
 import glob
 import os
+import pwd
 import re
 from typing import Dict, List, NamedTuple, Sequence, Set, Tuple, Union
 
@@ -69,6 +70,9 @@ def wide(text: str) -> bytes:
 Use = Tuple[Union[str, bytes, int], str]
 
 ADDRESS = "(struct sockaddr *)p"
+# As the C library keeps the line of root, with a zero at its end.
+LENGTH_OF_ROOT = len(":".join(map(str, pwd.getpwuid(0)))) + 1
+
 USES: Dict[str, Sequence[Use]] = {
     # Memory.
     "memcpy": [(8, "p, text, 8"), (8, "room, p, 8")],
@@ -424,7 +428,8 @@ USES: Dict[str, Sequence[Use]] = {
     "getpwnam_r": [("root", "p, (struct passwd *)room, room + 99, 999, (struct passwd **)room"),
                    (48, '"root", (struct passwd *)p, room + 99, 999, (struct passwd **)room'),
                    (8, '"root", (struct passwd *)room, room + 99, 999, (struct passwd **)p')],
-    "getpwuid_r": [(48, "0, (struct passwd *)p, room + 99, 999, (struct passwd **)room")],
+    "getpwuid_r": [(48, "0, (struct passwd *)p, room + 99, 999, (struct passwd **)room"),
+                   (LENGTH_OF_ROOT, "0, (struct passwd *)(room + 8), p, 999, (struct passwd **)room")],
     "getpwent_r": [(48, "(struct passwd *)p, room + 99, 999, (struct passwd **)room")],
     "fgetpwent_r": [(48, 'fopen("/etc/passwd", "r"), (struct passwd *)p, room + 99, 999, (struct passwd **)room')],
     "getpass": [("abcdefg", "after_input(\"secret\\n\", p)")],
@@ -439,7 +444,8 @@ USES: Dict[str, Sequence[Use]] = {
     "backtrace_symbols_fd": [(8, "(void **)p, 1, null")],
     "pututxline": [(384, "no_accounts((struct utmpx *)p)")],
     "getgrnam_r": [("root", "p, (struct group *)room, room + 99, 999, (struct group **)room")],
-    "getgrgid_r": [(32, "0, (struct group *)p, room + 99, 999, (struct group **)room")],
+    "getgrgid_r": [(32, "0, (struct group *)p, room + 99, 999, (struct group **)room"),
+                   (5, "0, (struct group *)(room + 8), p, 999, (struct group **)room")],
     "getgrent_r": [(32, "(struct group *)p, room + 99, 999, (struct group **)room")],
     "fgetgrent_r": [(32, 'fopen("/etc/group", "r"), (struct group *)p, room + 99, 999, (struct group **)room')],
     # Threads.

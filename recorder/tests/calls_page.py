@@ -62,7 +62,8 @@ MEANINGS = {
     "ROOM": "reads `*{0}`",
     "WRITES_ADDRESS": "writes {0}, as far as `*{1}` says and there was room",
     "READS_SET": "reads the set {0}",
-    "WRITES_FOUND": "writes {1}, and {0} if something was found",
+    "WRITES_FOUND": "writes {1}, and {0} and its name if something was found",
+    "WRITES_USER": "writes {1}, and {0} and its strings if something was found",
     "READS_REQUEST": "reads what the request takes, of the requests that are in calls.c",
     "WRITES_REQUEST": "writes what the request gives, of these",
 }

@@ -491,6 +491,8 @@ CPP = {
     "past_a_vector": ["load 1 +10 heap-buffer-overflow"],
     "after_growth": ["load 8 +8 heap-use-after-free"],
     "past_a_string": ["load 1 +41 heap-buffer-overflow"],
+    "past_an_aligned_new": ["store 1 +10 heap-buffer-overflow"],
+    "past_an_aligned_array": ["store 1 +10 heap-buffer-overflow"],
     "clean": [],
 }
 

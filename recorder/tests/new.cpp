@@ -61,6 +61,20 @@ static void past_a_string()
     sink = *(volatile char *)(hide(s.data()) + s.capacity() + 1);
 }
 
+static void past_an_aligned_new()
+{
+    char *p = static_cast<char *>(hide(::operator new(10, std::align_val_t(64))));
+    p[10] = 1;
+    ::operator delete(p, std::align_val_t(64));
+}
+
+static void past_an_aligned_array()
+{
+    char *p = hide(new (std::align_val_t(128), std::nothrow) char[10]);
+    p[10] = 1;
+    ::operator delete[](p, std::align_val_t(128), std::nothrow);
+}
+
 static void clean()
 {
     std::vector<std::string> words;
@@ -81,6 +95,11 @@ static void clean()
         throw 1;
     } catch (const std::bad_alloc &) {
     }
+    try {
+        sink = (long)(size_t)hide(::operator new((size_t)1 << 46, std::align_val_t(64)));
+        throw 1;
+    } catch (const std::bad_alloc &) {
+    }
 }
 
 int main(int count, char **words)
@@ -98,6 +117,10 @@ int main(int count, char **words)
         after_growth();
     else if (name == "past_a_string")
         past_a_string();
+    else if (name == "past_an_aligned_new")
+        past_an_aligned_new();
+    else if (name == "past_an_aligned_array")
+        past_an_aligned_array();
     else
         clean();
 }

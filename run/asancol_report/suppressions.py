@@ -92,6 +92,10 @@ def frame_text(word: str) -> str:
     return re.sub("[;@]", "*", UNPRINTABLE.sub("*", word))
 
 
+# What stands before a line that --gen-suppressions has printed. It may be copied too.
+PRINTED = "suppression:"
+
+
 class Suppressions:
     """All rules of some files."""
 
@@ -102,7 +106,7 @@ class Suppressions:
         """Reads a file. OSError, or Refused if a line is of another form."""
         with open(path, encoding="utf-8", errors="surrogateescape") as file:
             for number, line in enumerate(file, 1):
-                text = line.strip()
+                text = line.strip().removeprefix(PRINTED).lstrip()
                 if not text or text.startswith("#"):
                     continue
                 try:

@@ -531,6 +531,7 @@ def suppressions(folder: str) -> None:
            "generated")
     for rules, status, text in (
         ("\n".join(generated), 0, "no reports, 4 suppressed;"),
+        ("\n".join(f"  suppression: {it}" for it in generated), 0, "no reports, 4 suppressed;"),
         ("# a comment\n\nheap-use-after-free:use\n", 1, "1 report at 1 place, 3 suppressed;"),
         ("heap-use-after-free:^make$\n", 1, "3 suppressed"),
         ("fun:dr*p\n", 0, "4 suppressed"),
