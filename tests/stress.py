@@ -5,7 +5,7 @@ process with that of its trace checked alone.
 usage: tests/stress.py [--minutes M] [--seed S] [--runs N] [--patience SECONDS] PROGRAM
 
 `check` gets up to 256 files and `serve` up to 256 peers, with rings of 1 and of 1,024 events and
-with 1, 2 and 64 checkers, half of the runs with `--live`. The peers write at the same time, in
+with 1, 2 and 64 workers, half of the runs with `--live`. The peers write at the same time, in
 pieces of any lengths. A run that does not end in time is ended, and what its threads were doing is
 printed. Each run is drawn by its own seed, which is printed where it failed, so that
 `--seed S --runs 1` makes it again. The last line counts the runs, and the status is 1 where one
