@@ -550,6 +550,7 @@ def name_that_is_no_text(program):
     moved.expect_refused(["trace"], HINT)
     said = r"error: a word of the command line is not valid UTF-8: '\xff'" "\n"
     moved.expect(["check", b"\xff"], 2, "", said)
+    moved.expect(["check", "a" * 5000, b"\xff"], 2, "", said)
 
 
 def help_texts(program):
@@ -833,6 +834,24 @@ def memory_of_each_process(program):
     holds("--memory", len(checked) == 1, checked)
 
 
+def memory_of_the_last_process(program):
+    """The checker of each of 256 processes has its bound, that of the last one too."""
+    names = [put("sound", SOUND)] * 255 + [put("far", FAR_APART)]
+    for live in [[], ["--live"]]:
+        words = ["check", *live, "--memory", str(1 << 20), *names]
+        status, output, _ = program.run(words)
+        last = lines_of_each(output)["p255"]
+        holds(words, re.fullmatch(r"p255 end no-memory checked \d+ reports 0\n", last), last)
+        same(words, status, 3)
+
+
+def memory_that_all_share(program):
+    """The bound is that of the checkers: lanes of 128 MiB in all are made beside it."""
+    names = [put("sound", SOUND)] * 64
+    words = ["check", "--memory", str(1 << 20), "--ring", "65536", *names]
+    program.expect(words, 0, "".join(map(sound, range(64))))
+
+
 def peers_beside_closed_streams(program):
     """No peer is taken for a standard stream that was closed: none gets what is printed."""
     for streams in [(0,), (0, 1), (0, 1, 2)]:
@@ -1075,17 +1094,18 @@ def live_output_that_waits(program):
 
 
 def live_peers(program):
-    """A report is read while its process still runs."""
-    served = Served(program, "--live", "--count", "2")
-    silent, peer = served.connect(), served.connect()
-    peer.sendall(PAST_THE_END[:-1])
-    report = past_the_end(1).splitlines(keepends=True)[0]
-    same(served.words, served.program.stdout.readline().decode(), report)
-    peer.sendall(CLOSE)
-    peer.close()
-    silent.sendall(SOUND)
-    silent.close()
-    served.expect(1, sound(0) + past_the_end(1)[len(report) :])
+    """A report is read while its process still runs, with one checker for both processes too."""
+    for workers in [1, 2]:
+        served = Served(program, "--live", "--count", "2", "--workers", str(workers))
+        silent, peer = served.connect(), served.connect()
+        peer.sendall(PAST_THE_END[:-1])
+        report = past_the_end(1).splitlines(keepends=True)[0]
+        same(served.words, served.program.stdout.readline().decode(), report)
+        peer.sendall(CLOSE)
+        peer.close()
+        silent.sendall(SOUND)
+        silent.close()
+        served.expect(1, sound(0) + past_the_end(1)[len(report) :])
 
 
 CASES = [
@@ -1120,6 +1140,8 @@ CASES = [
     peers_on_a_socket,
     options_of_serve,
     memory_of_each_process,
+    memory_of_the_last_process,
+    memory_that_all_share,
     peers_beside_closed_streams,
     checkers_that_work,
     accepts_that_fail,
