@@ -1076,21 +1076,22 @@ def one_pipe_on_one_thread(program):
 def live_output_that_waits(program):
     """Nothing is lost where the reader of the output is slow."""
     frees = put("frees", closed(*[free(0x2000)] * 9000))
-    words = ["check", "--live", "--ring", "1", frees, frees, frees]
-    running = subprocess.Popen(
-        [program.path, *words],
-        preexec_fn=prepared(),
-        stdin=subprocess.DEVNULL,
-        stdout=subprocess.PIPE,
-        stderr=subprocess.PIPE,
-    )
-    # A pipe holds less than all lines.
-    time.sleep(0.5)
-    holds(words, running.poll() is None, "it does not wait for its reader")
-    output, faults = running.communicate(timeout=PATIENCE)
-    same(words, (running.returncode, faults), (1, b""))
-    _, wanted, _ = program.run([word for word in words if word != "--live"])
-    same(words, lines_of_each(output), lines_of_each(wanted))
+    for ring in ["1", "64", "1024"]:
+        words = ["check", "--live", "--ring", ring, frees, frees, frees]
+        running = subprocess.Popen(
+            [program.path, *words],
+            preexec_fn=prepared(),
+            stdin=subprocess.DEVNULL,
+            stdout=subprocess.PIPE,
+            stderr=subprocess.PIPE,
+        )
+        # A pipe holds less than all lines.
+        time.sleep(0.5)
+        holds(words, running.poll() is None, "it does not wait for its reader")
+        output, faults = running.communicate(timeout=PATIENCE)
+        same(words, (running.returncode, faults), (1, b""))
+        _, wanted, _ = program.run([word for word in words if word != "--live"])
+        same(words, lines_of_each(output), lines_of_each(wanted))
 
 
 def live_peers(program):
