@@ -550,6 +550,7 @@ def name_that_is_no_text(program):
     moved.expect_refused(["trace"], HINT)
     said = r"error: a word of the command line is not valid UTF-8: '\xff'" "\n"
     moved.expect(["check", b"\xff"], 2, "", said)
+    moved.expect(["check", "a" * 5000, b"\xff"], 2, "", said)
 
 
 def help_texts(program):
@@ -833,6 +834,24 @@ def memory_of_each_process(program):
     holds("--memory", len(checked) == 1, checked)
 
 
+def memory_of_the_last_process(program):
+    """The checker of each of 256 processes has its bound, that of the last one too."""
+    names = [put("sound", SOUND)] * 255 + [put("far", FAR_APART)]
+    for live in [[], ["--live"]]:
+        words = ["check", *live, "--memory", str(1 << 20), *names]
+        status, output, _ = program.run(words)
+        last = lines_of_each(output)["p255"]
+        holds(words, re.fullmatch(r"p255 end no-memory checked \d+ reports 0\n", last), last)
+        same(words, status, 3)
+
+
+def memory_that_all_share(program):
+    """The bound is that of the checkers: lanes of 128 MiB in all are made beside it."""
+    names = [put("sound", SOUND)] * 64
+    words = ["check", "--memory", str(1 << 20), "--ring", "65536", *names]
+    program.expect(words, 0, "".join(map(sound, range(64))))
+
+
 def peers_beside_closed_streams(program):
     """No peer is taken for a standard stream that was closed: none gets what is printed."""
     for streams in [(0,), (0, 1), (0, 1, 2)]:
@@ -1057,35 +1076,37 @@ def one_pipe_on_one_thread(program):
 def live_output_that_waits(program):
     """Nothing is lost where the reader of the output is slow."""
     frees = put("frees", closed(*[free(0x2000)] * 9000))
-    words = ["check", "--live", "--ring", "1", frees, frees, frees]
-    running = subprocess.Popen(
-        [program.path, *words],
-        preexec_fn=prepared(),
-        stdin=subprocess.DEVNULL,
-        stdout=subprocess.PIPE,
-        stderr=subprocess.PIPE,
-    )
-    # A pipe holds less than all lines.
-    time.sleep(0.5)
-    holds(words, running.poll() is None, "it does not wait for its reader")
-    output, faults = running.communicate(timeout=PATIENCE)
-    same(words, (running.returncode, faults), (1, b""))
-    _, wanted, _ = program.run([word for word in words if word != "--live"])
-    same(words, lines_of_each(output), lines_of_each(wanted))
+    for ring in ["1", "64", "1024"]:
+        words = ["check", "--live", "--ring", ring, frees, frees, frees]
+        running = subprocess.Popen(
+            [program.path, *words],
+            preexec_fn=prepared(),
+            stdin=subprocess.DEVNULL,
+            stdout=subprocess.PIPE,
+            stderr=subprocess.PIPE,
+        )
+        # A pipe holds less than all lines.
+        time.sleep(0.5)
+        holds(words, running.poll() is None, "it does not wait for its reader")
+        output, faults = running.communicate(timeout=PATIENCE)
+        same(words, (running.returncode, faults), (1, b""))
+        _, wanted, _ = program.run([word for word in words if word != "--live"])
+        same(words, lines_of_each(output), lines_of_each(wanted))
 
 
 def live_peers(program):
-    """A report is read while its process still runs."""
-    served = Served(program, "--live", "--count", "2")
-    silent, peer = served.connect(), served.connect()
-    peer.sendall(PAST_THE_END[:-1])
-    report = past_the_end(1).splitlines(keepends=True)[0]
-    same(served.words, served.program.stdout.readline().decode(), report)
-    peer.sendall(CLOSE)
-    peer.close()
-    silent.sendall(SOUND)
-    silent.close()
-    served.expect(1, sound(0) + past_the_end(1)[len(report) :])
+    """A report is read while its process still runs, with one checker for both processes too."""
+    for workers in [1, 2]:
+        served = Served(program, "--live", "--count", "2", "--workers", str(workers))
+        silent, peer = served.connect(), served.connect()
+        peer.sendall(PAST_THE_END[:-1])
+        report = past_the_end(1).splitlines(keepends=True)[0]
+        same(served.words, served.program.stdout.readline().decode(), report)
+        peer.sendall(CLOSE)
+        peer.close()
+        silent.sendall(SOUND)
+        silent.close()
+        served.expect(1, sound(0) + past_the_end(1)[len(report) :])
 
 
 CASES = [
@@ -1120,6 +1141,8 @@ CASES = [
     peers_on_a_socket,
     options_of_serve,
     memory_of_each_process,
+    memory_of_the_last_process,
+    memory_that_all_share,
     peers_beside_closed_streams,
     checkers_that_work,
     accepts_that_fail,

@@ -26,6 +26,13 @@ fn capacities(rt: HostRuntime) {
 }
 
 #[test]
+fn the_buffer_of_a_long_lane_is_short(rt: HostRuntime) {
+    // The ring takes 262,144 bytes, and a buffer as long would take as many.
+    let heap = RefusingAllocator::with_bound(rt.alloc(), 300_000);
+    assert_eq!(rt; refusal_of(&heap, 65_536), None);
+}
+
+#[test]
 fn texts_of_errors(rt: HostRuntime) -> Result<(), Fail> {
     for (error, wanted) in [
         (LaneError::Capacity, "a lane holds 1 to 65,536 items"),
