@@ -63,6 +63,7 @@ static void partial_results(void)
 
 static void formats(void)
 {
+    char *volatile nothing = NULL; /* so that the compiler does not see it */
     char small[3] = {'a', 'b', 'c'}, word[8], letters[3];
     int number = 0, other = 0;
     long large = 0;
@@ -75,7 +76,7 @@ static void formats(void)
     printf(" %d %s %g %.3s %ld\n", number, word, real, letters, large);
     printf("%d %d\n", sscanf("5 6", "%*d %d", &other), other);
     printf("%d %s\n", sscanf("aabbc", "%7[ab]%n", word, &number), word);
-    printf("%d\n", sscanf("x", "%d %s", &number, (char *)NULL));
+    printf("%d\n", sscanf("x", "%d %s", &number, nothing));
 }
 
 static void wide_formats(void)
