@@ -60,8 +60,7 @@ SEED :=
 fuzz: asancol
 	tests/fuzz.py --draws $(DRAWS) $(if $(SEED),--seed $(SEED)) ./asancol
 
-# Memory, threads and descriptors that run short, peers that die, outputs that take no more: within a
-# minute or two.
+# Memory, threads and descriptors that run short, peers that die, full outputs: within a minute or two.
 failures: asancol
 	tests/failures.py ./asancol
 

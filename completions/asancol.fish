@@ -12,7 +12,7 @@ complete -c asancol -n '__fish_seen_subcommand_from check serve; and not __fish_
 complete -c asancol -n '__fish_seen_subcommand_from check serve' -l quarantine -x -d 'Bytes of freed blocks to hold'
 complete -c asancol -n '__fish_seen_subcommand_from check serve' -l limit -x -d 'Events that a trace may have'
 complete -c asancol -n '__fish_seen_subcommand_from check serve' -l memory -x -d 'Bytes that each checker may hold'
-complete -c asancol -n '__fish_seen_subcommand_from check serve' -l workers -x -d 'Threads that check side by side'
+complete -c asancol -n '__fish_seen_subcommand_from check serve' -l workers -x -d 'Worker threads that check side by side'
 complete -c asancol -n '__fish_seen_subcommand_from check serve' -l ring -x -d 'Events that may wait'
 complete -c asancol -n '__fish_seen_subcommand_from check serve' -l live -d 'Print each report when it is found'
 complete -c asancol -n '__fish_seen_subcommand_from check' -l verbose -d 'Say what became of each file'

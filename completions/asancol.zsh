@@ -8,7 +8,7 @@ both=(
     '--quarantine=[how many bytes of freed blocks are held back]:bytes (268435456)'
     '--limit=[how many events a trace may have]:number (16777216)'
     '--memory=[how many bytes the checker of each process may hold]:bytes'
-    '--workers=[how many threads check side by side]:number (2)'
+    '--workers=[how many worker threads check side by side]:number (2)'
     '--ring=[how many events of each process may wait]:number (1024)'
     '--live[print each report when it is found]'
     '(- *)'{-h,--help}'[print the help]'

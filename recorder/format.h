@@ -21,8 +21,6 @@ enum code {
 enum kind { KIND_USER, KIND_STACK, KIND_GLOBAL };
 
 #define HEADER "ASTR\2\0\0\0"
-/* Where the number of the version stands in it. */
-enum { VERSION_OFFSET = 4 };
 
 /* How many bytes each part of a stream has, codes included. */
 enum {
@@ -30,23 +28,23 @@ enum {
     ACCESS_LENGTH = 10,
     REGION_LENGTH = 17,
     POISON_LENGTH = 18,
-    PLACE_LENGTH = 9,
+    FREE_LENGTH = 9,
     CLOSE_LENGTH = 1
 };
 
 #define EVENT_LIMIT ((uint64_t)1 << 24)
-#define LARGEST_REGION ((uint64_t)1 << 32)
+#define MAX_REGION_SIZE ((uint64_t)1 << 32)
 #define ADDRESS_END ((uint64_t)1 << 47)
 
 /* No stream is longer: each event a poison, and then the close, or a free that is one event too many. */
-#define LARGEST_STREAM (HEADER_LENGTH + EVENT_LIMIT * POISON_LENGTH + PLACE_LENGTH)
+#define MAX_STREAM_SIZE (HEADER_LENGTH + EVENT_LIMIT * POISON_LENGTH + FREE_LENGTH)
 
 /* What the checker demands round each block, and how many bytes of freed spans it holds. */
 #define REDZONE 32
 #define GRANULE 8
 #define QUARANTINE_BOUND ((uint64_t)1 << 28)
 /* The most that it can be asked to hold. */
-#define MOST_QUARANTINE ((uint64_t)1 << 40)
+#define MAX_QUARANTINE ((uint64_t)1 << 40)
 
 /* How many bytes the record has that begins with this byte; 0 where none does. */
 static inline unsigned record_length(unsigned char code)
@@ -61,7 +59,7 @@ static inline unsigned record_length(unsigned char code)
     case CODE_POISON:
         return POISON_LENGTH;
     case CODE_FREE:
-        return PLACE_LENGTH;
+        return FREE_LENGTH;
     default:
         return 0;
     }

@@ -21,12 +21,12 @@ static const char *const names[] = {
     "ASANCOL_SEGMENTS",
 };
 
-enum { NAMES = sizeof names / sizeof *names, LONGEST_NAME = 32 };
+enum { NAMES = sizeof names / sizeof *names, MAX_NAME_LENGTH = 32 };
 
 /* How many letters have to be put in, left out or changed to make one name of the other. */
 static unsigned distance(const char *one, size_t length, const char *other)
 {
-    unsigned row[LONGEST_NAME + 1];
+    unsigned row[MAX_NAME_LENGTH + 1];
     size_t width = strlen(other);
     for (unsigned i = 0; i <= width; i++)
         row[i] = i;
@@ -71,9 +71,9 @@ static const char *nearest(const char *name, size_t length)
 
 static void say_unknown(const char *name, size_t length)
 {
-    char shown[LONGEST_NAME + 1], why[64 + LONGEST_NAME] = "there is no such setting";
-    const char *meant = length <= LONGEST_NAME ? nearest(name, length) : NULL;
-    size_t count = length < LONGEST_NAME ? length : LONGEST_NAME;
+    char shown[MAX_NAME_LENGTH + 1], why[64 + MAX_NAME_LENGTH] = "there is no such setting";
+    const char *meant = length <= MAX_NAME_LENGTH ? nearest(name, length) : NULL;
+    size_t count = length < MAX_NAME_LENGTH ? length : MAX_NAME_LENGTH;
     memcpy(shown, name, count);
     shown[count] = 0;
     if (meant != NULL)
@@ -154,7 +154,7 @@ static uint64_t number_of(const char *name, uint64_t least, uint64_t most, uint6
 
 /* An entry of the environment with a file's name from the root. */
 struct entry {
-    char text[PATH_MAX + LONGEST_NAME];
+    char text[PATH_MAX + MAX_NAME_LENGTH];
 };
 
 /* Adds the first bytes of a name to a pattern, in which a percent sign is doubled. */
@@ -232,8 +232,8 @@ void settings_read(struct settings *settings)
     read_outputs(settings);
     settings->stop = number_of("ASANCOL_STOP", 1, EVENT_LIMIT, 0);
     settings->limit = number_of("ASANCOL_LIMIT", 1, EVENT_LIMIT, EVENT_LIMIT);
-    settings->segments = number_of("ASANCOL_SEGMENTS", 0, MOST_SEGMENTS_KEPT, ALL_SEGMENTS);
-    settings->quarantine = number_of("ASANCOL_QUARANTINE", 0, MOST_QUARANTINE, QUARANTINE_BOUND);
+    settings->segments = number_of("ASANCOL_SEGMENTS", 0, MAX_SEGMENTS_KEPT, ALL_SEGMENTS);
+    settings->quarantine = number_of("ASANCOL_QUARANTINE", 0, MAX_QUARANTINE, QUARANTINE_BOUND);
     settings->patience_ms = (int)number_of("ASANCOL_PATIENCE", 0, 86400, 60) * 1000;
     settings->with_side = number_of("ASANCOL_WHERE", 0, 1, 0) == 1 || settings->hub != NULL;
     settings->halt = (enum halt)number_of("ASANCOL_HALT", HALT_NEVER, HALT_AND_RECORD, HALT_NEVER);

@@ -6,7 +6,7 @@
 #include <stdint.h>
 
 /* Of so many segments the oldest can be thrown away, or of none. */
-enum { MOST_SEGMENTS_KEPT = 1000 };
+enum { MAX_SEGMENTS_KEPT = 1000 };
 #define ALL_SEGMENTS UINT64_MAX
 
 /* Whether the process ends at its first fault; and whether nothing is recorded until then. */

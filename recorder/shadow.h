@@ -54,6 +54,10 @@ struct meeting {
 /* The codes of granules without an addressable byte. Which of them it is matters to nobody but for the kind of the
    poison that the stream gets. */
 enum {
+    /* The redzones of frames have the codes from SHADE_LEFT to SHADE_RETURNED. */
+    SHADE_LEFT = 0xf1,
+    SHADE_RIGHT = 0xf3,
+    SHADE_RETURNED = 0xf5,
     SHADE_HEAP = 0xfa,
     SHADE_FREED = 0xfd,
     SHADE_USER = 0xf7,
@@ -98,7 +102,7 @@ static inline bool shadow_is_bad(uint64_t address, unsigned width)
 /* A redzone of a frame, or a variable whose scope has ended. */
 static inline bool is_of_frame(unsigned char shade)
 {
-    return (shade >= 0xf1 && shade <= 0xf5) || shade == SHADE_SCOPE || shade == SHADE_ALLOCA_LEFT
+    return (shade >= SHADE_LEFT && shade <= SHADE_RETURNED) || shade == SHADE_SCOPE || shade == SHADE_ALLOCA_LEFT
            || shade == SHADE_ALLOCA_RIGHT;
 }
 

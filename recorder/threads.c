@@ -22,8 +22,8 @@ extern void *__libc_stack_end;
 /* A stack that is not known is cleared so far upwards, or to the end of the block that it lies in, */
 enum { UNKNOWN_REACH = 8 << 20 };
 /* and the first thread's so far down. */
-enum { USUAL_STACK = 8 << 20 };
-#define MOST_STACK ((uint64_t)1 << 30)
+enum { DEFAULT_STACK_SIZE = 8 << 20 };
+#define MAX_STACK_SIZE ((uint64_t)1 << 30)
 /* What a thread has above its frames, and its guard below. */
 enum { STACK_MARGIN = 4 * PAGE };
 
@@ -40,9 +40,9 @@ static uintptr_t page_above(uintptr_t address)
 void stack_start(void)
 {
     struct rlimit limit;
-    uint64_t size = USUAL_STACK;
+    uint64_t size = DEFAULT_STACK_SIZE;
     if (getrlimit(RLIMIT_STACK, &limit) == 0 && limit.rlim_cur > size)
-        size = limit.rlim_cur < MOST_STACK ? limit.rlim_cur : MOST_STACK;
+        size = limit.rlim_cur < MAX_STACK_SIZE ? limit.rlim_cur : MAX_STACK_SIZE;
     stack.top = page_above((uintptr_t)__libc_stack_end);
     stack.low = stack.top - size;
     stack.may_grow = true;
@@ -52,7 +52,7 @@ static bool is_on_own_stack(uintptr_t frame)
 {
     if (frame >= stack.top)
         return false;
-    return frame >= stack.low || (stack.may_grow && stack.top - frame < MOST_STACK);
+    return frame >= stack.low || (stack.may_grow && stack.top - frame < MAX_STACK_SIZE);
 }
 
 uintptr_t stack_top(uintptr_t frame)

@@ -10,7 +10,7 @@
 #include "stream/output.h"
 
 /* A mark has a name as long as that of a socket may be, and then some; and what it says is short. */
-enum { NAME_ROOM = 256, TEXT_ROOM = 512, MOST_OF_PROGRAM = 200 };
+enum { NAME_ROOM = 256, TEXT_ROOM = 512, MAX_PROGRAM_LENGTH = 200 };
 
 /* The name of the mark: FOLDER/PROCESS.unseen. False: it is too long, and so is the socket's. */
 static bool name_mark(char *name, const char *hub)
@@ -36,7 +36,7 @@ void unseen_note(const char *hub, const char *why)
     int before = errno;
     if (hub == NULL)
         return;
-    strncat(text, program_invocation_name, MOST_OF_PROGRAM);
+    strncat(text, program_invocation_name, MAX_PROGRAM_LENGTH);
     strcat(text, "\n");
     strncat(text, why, sizeof text - strlen(text) - 1);
     /* A symbolic link, since it needs no descriptor: there may be none left. */

@@ -28,9 +28,9 @@
 
 /* What a process holds here while it is checked, and how many more descriptors are kept free. */
 enum { HELD_BY_PROCESS = 3, KEPT_FREE = 12 };
-enum { MOST_DESCRIPTORS = 65536 };
+enum { MAX_DESCRIPTORS = 65536 };
 /* How many connections are accepted before anything else has its turn. */
-enum { MOST_AT_ONCE = 64 };
+enum { MAX_AT_ONCE = 64 };
 /* How many traces in files are checked at once. */
 enum { FILES_AT_ONCE = 8 };
 
@@ -68,7 +68,7 @@ static void count_descriptors(void)
         closedir(entries);
     if (getrlimit(RLIMIT_NOFILE, &limit) != 0)
         return;
-    rlim_t most = limit.rlim_max < MOST_DESCRIPTORS ? limit.rlim_max : MOST_DESCRIPTORS;
+    rlim_t most = limit.rlim_max < MAX_DESCRIPTORS ? limit.rlim_max : MAX_DESCRIPTORS;
     struct rlimit more = {most, limit.rlim_max};
     run.descriptors = most > limit.rlim_cur && setrlimit(RLIMIT_NOFILE, &more) == 0 ? most : limit.rlim_cur;
 }
@@ -157,7 +157,7 @@ static bool accept_one(int listener)
 
 static void accept_from(int listener)
 {
-    for (int count = 0; count < MOST_AT_ONCE && has_room() && accept_one(listener); count++)
+    for (int count = 0; count < MAX_AT_ONCE && has_room() && accept_one(listener); count++)
         ;
 }
 

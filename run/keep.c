@@ -17,7 +17,7 @@
 #include "say.h"
 
 /* So many names are tried for a file. */
-enum { MOST_NAMES = 100000 };
+enum { MAX_NAMES = 100000 };
 
 static const char *folder;
 static char *tee_program;
@@ -91,7 +91,7 @@ static int open_new(struct process *process, const char *stem, int number)
 static int make_file(struct process *process)
 {
     char **stem = &process->lead->stem;
-    for (int number = 0; number < MOST_NAMES; number++) {
+    for (int number = 0; number < MAX_NAMES; number++) {
         char *tried = *stem != NULL ? *stem : make_stem(process, number);
         int made = open_new(process, tried, *stem != NULL ? number : 0);
         if (made >= 0) {

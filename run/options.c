@@ -10,10 +10,14 @@
 #include <sys/stat.h>
 #include <unistd.h>
 
+#include "../recorder/format.h"
 #include "names.h"
 #include "say.h"
 
 #define COUNT(array) (sizeof(array) / sizeof *(array))
+/* The bounds on the memory of a checker, which asancol has in crates/asan_stream/src/options.rt. */
+#define MIN_MEMORY ((uint64_t)1 << 20)
+#define MAX_MEMORY ((uint64_t)1 << 40)
 
 static const char help[] =
     "usage: asancol-run [options] [--] COMMAND [ARGUMENT...]\n"
@@ -65,7 +69,6 @@ struct option {
 };
 
 #define AT(field) offsetof(struct options, field)
-#define BYTES_MOST ((uint64_t)1 << 40)
 
 static const struct option table[] = {
     {"exitcode", 0, SET_NUMBER, AT(exitcode), 0, 255},
@@ -88,9 +91,9 @@ static const struct option table[] = {
     {"gen-suppressions", 0, PASS_FLAG, 0, 0, 0},
     {"source-root", 0, PASS_FOLDER, 0, 0, 0},
     {"color", 0, PASS_WHEN, 0, 0, 0},
-    {"quarantine", 0, PASS_CHECK, AT(quarantine), 0, BYTES_MOST},
-    {"memory", 0, PASS_CHECK, 0, 1 << 20, BYTES_MOST},
-    {"limit", 0, PASS_CHECK, 0, 1, 1 << 24},
+    {"quarantine", 0, PASS_CHECK, AT(quarantine), 0, MAX_QUARANTINE},
+    {"memory", 0, PASS_CHECK, 0, MIN_MEMORY, MAX_MEMORY},
+    {"limit", 0, PASS_CHECK, 0, 1, EVENT_LIMIT},
     {"quiet", 'q', SET_FLAG, AT(quiet), 0, 0},
     {"verbose", 'v', SET_FLAG, AT(verbose), 0, 0},
     {"help", 'h', SHOW_HELP, 0, 0, 0},
@@ -403,7 +406,7 @@ static void follow_recorder(struct options *options)
 {
     uint64_t number;
     const char *value = getenv("ASANCOL_QUARANTINE");
-    if (options->quarantine != NULL || value == NULL || !read_number(value, false, &number) || number > BYTES_MOST)
+    if (options->quarantine != NULL || value == NULL || !read_number(value, false, &number) || number > MAX_QUARANTINE)
         return;
     words_add(&options->check, "--quarantine");
     words_add(&options->check, value);

@@ -8,9 +8,9 @@
 #include "say.h"
 
 /* How many other users are remembered, and how many that are refused have a line. */
-enum { MOST_USERS = 16, MOST_LINES = 8 };
+enum { MAX_USERS = 16, MAX_LINES = 8 };
 
-static uid_t users[MOST_USERS]; /* as which the command's processes have connected */
+static uid_t users[MAX_USERS]; /* as which the command's processes have connected */
 static size_t user_count, refused;
 
 static bool is_remembered(uid_t user)
@@ -23,7 +23,7 @@ static bool is_remembered(uid_t user)
 
 static void remember(uid_t user)
 {
-    if (user_count < MOST_USERS && !is_remembered(user))
+    if (user_count < MAX_USERS && !is_remembered(user))
         users[user_count++] = user;
 }
 
@@ -43,13 +43,13 @@ enum peer peer_judge(const struct ucred *peer, bool knows_secret)
 
 void peer_say_refused(const struct ucred *peer)
 {
-    if (refused++ < MOST_LINES)
+    if (refused++ < MAX_LINES)
         say("asancol: a connection was refused: process %d of user %u was not started by this command", (int)peer->pid,
             (unsigned)peer->uid);
 }
 
 void peers_say_rest(void)
 {
-    if (refused > MOST_LINES)
-        say("asancol: %zu more connections were refused", refused - MOST_LINES);
+    if (refused > MAX_LINES)
+        say("asancol: %zu more connections were refused", refused - MAX_LINES);
 }

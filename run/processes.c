@@ -7,7 +7,7 @@
 #include "say.h"
 
 /* So much of the name of a program is printed. */
-enum { MOST_OF_NAME = 200 };
+enum { MAX_NAME_LENGTH = 200 };
 
 static struct process **processes;
 static size_t count, room, live;
@@ -66,7 +66,7 @@ void process_name(struct process *process)
 
 void process_set_name(struct process *process, const char *name)
 {
-    process->name = must(strndup(name, MOST_OF_NAME));
+    process->name = must(strndup(name, MAX_NAME_LENGTH));
     for (char *at = process->name; *at != 0; at++)
         if ((unsigned char)*at < ' ' || *at == 0x7f)
             *at = '?'; /* it is printed on terminals */

@@ -24,7 +24,7 @@
 #include "verdict.h"
 
 /* A packet has at most 65,536 bytes. So much of it may be the words of the command. */
-enum { MOST_RUN_WORDS = 40000, MOST_PROCESS_WORDS = 24000, MOST_WORDS = 1000 };
+enum { MAX_RUN_WORDS = 40000, MAX_PROCESS_WORDS = 24000, MAX_WORDS = 1000 };
 /* What is printed if asancol-report cannot run. */
 enum { RAW_PROCESSES = 20, RAW_LINES = 20, RAW_BYTES = 8192 };
 
@@ -110,7 +110,7 @@ void report_begin(const struct options *options)
     clock_gettime(CLOCK_REALTIME, &time);
     FILE *to = new_message(&message);
     fputs("{\"type\":\"run\",\"version\":1,\"command\":", to);
-    json_list(to, options->command, MOST_RUN_WORDS);
+    json_list(to, options->command, MAX_RUN_WORDS);
     fputs(",\"host\":", to);
     json_text(to, host);
     fputs(",\"directory\":", to);
@@ -126,20 +126,20 @@ void report_begin(const struct options *options)
 /* The words of the process's command line, or its name if that is all that is known. */
 static void put_words(FILE *to, const struct process *process)
 {
-    char words[SIDE_WORDS + 1], *list[MOST_WORDS + 1];
+    char words[SIDE_WORDS + 1], *list[MAX_WORDS + 1];
     size_t count = 0;
     const struct side *side = process->side;
     if (side == NULL) {
         char *only[] = {process->name, NULL};
-        json_list(to, only, MOST_PROCESS_WORDS);
+        json_list(to, only, MAX_PROCESS_WORDS);
         return;
     }
     memcpy(words, side->words, SIDE_WORDS); /* once: the process may write there */
     words[SIDE_WORDS] = 0;
-    for (char *at = words; at < words + SIDE_WORDS && *at != 0 && count < MOST_WORDS; at += strlen(at) + 1)
+    for (char *at = words; at < words + SIDE_WORDS && *at != 0 && count < MAX_WORDS; at += strlen(at) + 1)
         list[count++] = at;
     list[count] = NULL;
-    json_list(to, list, MOST_PROCESS_WORDS);
+    json_list(to, list, MAX_PROCESS_WORDS);
 }
 
 /* What is known of a process; and of its segments the one whose descriptors come with it, if that is not null. */

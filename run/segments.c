@@ -10,7 +10,7 @@
 /* Leads are found by the numbers of their processes. */
 enum { BUCKETS = 4096 };
 /* No process has so many segments: a greater number is none. */
-#define MOST_SEGMENTS ((uint64_t)1 << 32)
+#define MAX_SEGMENTS ((uint64_t)1 << 32)
 
 static struct process *buckets[BUCKETS];
 static size_t joined_count; /* how many have joined a lead */
@@ -41,7 +41,7 @@ static bool put(struct process *lead, struct process *made)
 static void take_segment(struct process *process)
 {
     uint64_t segment = side_progress(process->side).segment;
-    process->segment = segment < MOST_SEGMENTS ? segment : 0;
+    process->segment = segment < MAX_SEGMENTS ? segment : 0;
     process->started = process->side->started;
 }
 

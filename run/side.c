@@ -11,7 +11,7 @@
 #include <unistd.h>
 
 /* How many descriptors one message may bring: more than one is a mistake, and they are closed. */
-enum { MOST_RECEIVED = 4 };
+enum { MAX_RECEIVED = 4 };
 /* So much of it is mapped: all before the modules. */
 enum { SIDE_MAPPED = SIDE_MAPS };
 
@@ -19,20 +19,20 @@ int side_receive(int connection)
 {
     char bytes[HEADER_LENGTH];
     union {
-        char room[CMSG_SPACE(MOST_RECEIVED * sizeof(int))];
+        char room[CMSG_SPACE(MAX_RECEIVED * sizeof(int))];
         struct cmsghdr align;
     } control;
     struct iovec piece = {bytes, sizeof bytes};
     struct msghdr message = {
         .msg_iov = &piece, .msg_iovlen = 1, .msg_control = &control, .msg_controllen = sizeof control};
-    int received[MOST_RECEIVED];
+    int received[MAX_RECEIVED];
     if (recvmsg(connection, &message, MSG_PEEK | MSG_DONTWAIT | MSG_CMSG_CLOEXEC) < 0)
         return -1;
     struct cmsghdr *header = CMSG_FIRSTHDR(&message);
     if (header == NULL || header->cmsg_level != SOL_SOCKET || header->cmsg_type != SCM_RIGHTS)
         return -1;
     size_t count = (header->cmsg_len - CMSG_LEN(0)) / sizeof(int);
-    if (count == 0 || count > MOST_RECEIVED)
+    if (count == 0 || count > MAX_RECEIVED)
         return -1;
     memcpy(received, CMSG_DATA(header), count * sizeof(int));
     for (size_t i = 1; i < count; i++)

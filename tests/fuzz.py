@@ -35,11 +35,11 @@ from traces import layout_at, version_of
 PATIENCE = 120
 
 # Each read of a pipe or a socket that keeps its messages apart gives one piece, of at most so many.
-LARGEST_PIECE = 4096
+MAX_PIECE = 4096
 
 # A trace comes in at most about so many pieces. They wait in the pipe or the socket if nobody reads:
 # after a close the program reads no more of that trace, and the others still have to be written.
-MOST_PIECES = 200
+MAX_PIECES = 200
 PIPE_ROOM = 1 << 20
 F_SETPIPE_SZ = 1031  # of Linux; Python's fcntl has it from 3.10 on
 
@@ -72,10 +72,10 @@ class Differs(Exception):
 
 def options(random: Random) -> Tuple[List[str], int, int, bool]:
     """Draws options, mostly none, and answers them and what they say."""
-    limit, quarantine = second_reading.LARGEST_LIMIT, second_reading.DEFAULT_QUARANTINE
+    limit, quarantine = second_reading.MAX_LIMIT, second_reading.DEFAULT_QUARANTINE
     words: List[str] = []
     if random.random() < 0.3:
-        limit = random.choice([1, 2, 3, 7, 12, 24, second_reading.LARGEST_LIMIT])
+        limit = random.choice([1, 2, 3, 7, 12, 24, second_reading.MAX_LIMIT])
         words += ["--limit", str(limit)]
     if random.random() < 0.5:
         quarantine = random.choice([0, 63, 64, 71, 72, 80, 143, 144, 216, 1000, 1 << 40])
@@ -93,13 +93,13 @@ def options(random: Random) -> Tuple[List[str], int, int, bool]:
 
 
 WAYS = ["files"] * 10 + ["pipes", "pipes", "served", "served"] + ["input", "failed input"] * 3
-MOST_OF_WAY = {"files": 256, "pipes": 48, "served": 48, "input": 1, "failed input": 1}
+MAX_OF_WAY = {"files": 256, "pipes": 48, "served": 48, "input": 1, "failed input": 1}
 
 
 def draw_batch(seed: int, number: int) -> Batch:
     random = Random(f"{seed}/{number}")
     way = random.choice(WAYS)
-    most = MOST_OF_WAY[way]
+    most = MAX_OF_WAY[way]
     words, limit, quarantine, may_lack_memory = options(random)
     count = most if random.random() < 0.7 else random.randrange(1, most + 1)
     traces = [draws.draw(random) for _ in range(count)]
@@ -111,9 +111,9 @@ def pieces_of(random: Random, trace: bytes) -> List[bytes]:
     average = random.choice([1, 3, 10, 40, 1000])
     pieces, at = [], 0
     while at < len(trace):
-        size = min(1 + int(random.expovariate(1 / average)), LARGEST_PIECE)
-        if len(pieces) >= MOST_PIECES:
-            size = LARGEST_PIECE
+        size = min(1 + int(random.expovariate(1 / average)), MAX_PIECE)
+        if len(pieces) >= MAX_PIECES:
+            size = MAX_PIECE
         pieces.append(trace[at : at + size])
         at += size
     return pieces

@@ -5,7 +5,7 @@
 #include <stdlib.h>
 #include <string.h>
 
-enum { MOST_BYTES = 1 << 16, MOST_GROWTH = 64 };
+enum { MAX_BYTES = 1 << 16, MAX_GROWTH = 64 };
 
 int LLVMFuzzerTestOneInput(const uint8_t *data, size_t size);
 
@@ -34,7 +34,7 @@ static size_t change(uint8_t *data, size_t size)
     static const uint8_t bytes[] = {0, 1, 7, '%', '-', '=', '9', 0x7f, 0x80, 0xff};
     for (size_t i = 1 + draw(4); i > 0 && size > 0; i--)
         data[draw(size)] = draw(2) == 0 ? bytes[draw(sizeof bytes)] : (uint8_t)draw(256);
-    size_t at = draw(size), count = draw(size - at < MOST_GROWTH ? size - at : MOST_GROWTH);
+    size_t at = draw(size), count = draw(size - at < MAX_GROWTH ? size - at : MAX_GROWTH);
     switch (draw(6)) {
     case 0:
         memmove(data + at, data + at + count, size - at - count);
@@ -49,7 +49,7 @@ static size_t change(uint8_t *data, size_t size)
 
 static int run_file(const char *path, long changes)
 {
-    static uint8_t whole[MOST_BYTES], data[MOST_BYTES + MOST_GROWTH];
+    static uint8_t whole[MAX_BYTES], data[MAX_BYTES + MAX_GROWTH];
     FILE *file = fopen(path, "rb");
     if (file == NULL)
         return 1;

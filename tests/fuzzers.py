@@ -26,7 +26,7 @@ OURS, THEIRS = f"{RECORDER}/tests/fuzz", f"{RUN}/tests/fuzz"
 WARNINGS = ["-Wall", "-Wextra", "-Wconversion", "-Wno-unused-parameter"]
 SANITIZERS = "address,undefined"
 # How often a seed is changed, how long an input gets, and how much memory may be taken, in MB.
-CHANGES, LONGEST, MOST_MEMORY = 2000, 4096, 2048
+CHANGES, LONGEST, MAX_MEMORY = 2000, 4096, 2048
 # No run takes longer than this and what libFuzzer was given, in seconds.
 PATIENCE = 120
 
@@ -128,7 +128,7 @@ def check_fuzzer(target: Target, folder: str, seconds: float) -> None:
         for word in target.words:
             file.write('"' + "".join(f"\\x{byte:02x}" for byte in word) + '"\n')
     front = f"-artifact_prefix={os.getcwd()}/{target.name.replace(': ', '-')}-"
-    run([program, f"-max_total_time={seconds:.0f}", f"-max_len={LONGEST}", f"-rss_limit_mb={MOST_MEMORY}", "-timeout=10",
+    run([program, f"-max_total_time={seconds:.0f}", f"-max_len={LONGEST}", f"-rss_limit_mb={MAX_MEMORY}", "-timeout=10",
          "-dict=words", front, "seeds"], folder, seconds + PATIENCE)
 
 

@@ -40,8 +40,10 @@ ROWS = worked.rows()
 ROOM_OF_A_PIPE = 1 << 20
 F_SETPIPE_SZ = 1031  # of Linux; Python's fcntl has it from 3.10 on
 
-# What is said where a word is no command.
+# What is said where a word is no command, and where one is a short form that is not there.
 HINT = "\nTo check a trace in a file: asancol check FILE\n"
+NO_SHORT_FORM = "\nThe options --verbose and --version have no short form\n"
+HINTS = {"": HINT, "-v": NO_SHORT_FORM, "-V": NO_SHORT_FORM}
 
 # A malloc of 5 bytes and a store of 4 that ends one byte past them.
 PAST_THE_END = closed(malloc(0x1000, 5), store(4, 0x1004))
@@ -119,10 +121,11 @@ class Program:
 
     def expect_refused(self, words, *parts):
         """Expects that the words are refused, by a text on standard error with these parts, and
-        with the hint only where it is one of them."""
+        with a hint only where it is one of them."""
         status, output, faults = self.run(words)
         same(words, (status, output), (2, b""))
-        holds(words, faults.endswith(HINT.encode()) == (HINT in parts), faults)
+        for hint in HINTS.values():
+            holds(words, faults.endswith(hint.encode()) == (hint in parts), faults)
         holds(words, faults.count(b"error: ") == 1, faults)
         holds(words, faults.startswith(b"error: ") and faults.endswith(b"\n"), faults)
         for part in parts:
@@ -508,6 +511,10 @@ def refused_words(program):
         ["serve", "--count", "1", "--ready", "ready"],
         ["serve", "--count", "1", "socket", "another"],
         ["-V"],
+        ["-v"],
+        ["check", "-v", "trace"],
+        ["check", "trace", "-V"],
+        ["serve", "-v", "--count", "1", "socket"],
         ["--verbose"],
         ["serve", "--count", "1", "--verbose", "socket"],
         ["--live"],
@@ -518,7 +525,7 @@ def refused_words(program):
         ["--"],
         [""],
     ]:
-        program.expect_refused(words, *([HINT] if words == [""] else []))
+        program.expect_refused(words, *(HINTS[word] for word in words if word in HINTS))
         with open("/dev/full", "wb") as full:
             same(words, program.run(words, stderr=full), (2, b"", None))
     holds("socket", not os.path.exists("socket"), "it is there")
@@ -595,7 +602,7 @@ def numbers_below_zero(program):
     for option, name in [
         ("--quarantine", "BYTES"),
         ("--ring", "EVENTS"),
-        ("--workers", "CHECKERS"),
+        ("--workers", "WORKERS"),
         ("--limit", "EVENTS"),
         ("--memory", "BYTES"),
     ]:
@@ -867,8 +874,8 @@ def peers_beside_closed_streams(program):
             peer.close()
 
 
-def checkers_that_work(program):
-    """Each checker but the first has a thread of its own, and each peer a reader."""
+def threads_of_workers(program):
+    """Each worker but the first has a thread of its own, and each peer a reader."""
     for workers in [1, 2, 3]:
         served = Served(program, "--count", "3", "--workers", str(workers))
         peers = [served.connect() for _ in range(3)]
@@ -1017,19 +1024,19 @@ def with_refused(program, words, calls, refuses):
 
 def without_starts(came, workers, is_live, refuses):
     """Which of the senders that came are not started, where the start of each thread fails whose
-    number `refuses` chooses, and how many starts there are. The checkers that have a sender come
-    first, but for checker 0 without --live, and then a reader for each sender with a checker."""
-    checkers = sorted({sender % workers for sender in came} - (set() if is_live else {0}))
-    lost = {checker for number, checker in enumerate(checkers, 1) if refuses(number)}
+    number `refuses` chooses, and how many starts there are. The workers that have a sender come
+    first, but for worker 0 without --live, and then a reader for each sender with a worker."""
+    started = sorted({sender % workers for sender in came} - (set() if is_live else {0}))
+    lost = {worker for number, worker in enumerate(started, 1) if refuses(number)}
     checked = [sender for sender in came if sender % workers not in lost]
-    first = len(checkers) + 1
+    first = len(started) + 1
     read = [sender for number, sender in enumerate(checked, first) if not refuses(number)]
-    return set(came) - set(read), len(checkers) + len(checked)
+    return set(came) - set(read), len(started) + len(checked)
 
 
 def each_thread_that_does_not_start(program):
     """The start of one thread fails, or of each from one on, for each of them in turn. The senders
-    of such a checker and of such a reader are not started, and the others are as without it."""
+    of such a worker and of such a reader are not started, and the others are as without it."""
     traces = [PAST_THE_END, SOUND, None, CUT, TWICE_FREED, PAST_THE_END]
     names = ["missing" if it is None else put(f"trace {i}", it) for i, it in enumerate(traces)]
     came = [i for i, it in enumerate(traces) if it is not None]
@@ -1095,7 +1102,7 @@ def live_output_that_waits(program):
 
 
 def live_peers(program):
-    """A report is read while its process still runs, with one checker for both processes too."""
+    """A report is read while its process still runs, with one worker for both processes too."""
     for workers in [1, 2]:
         served = Served(program, "--live", "--count", "2", "--workers", str(workers))
         silent, peer = served.connect(), served.connect()
@@ -1144,7 +1151,7 @@ CASES = [
     memory_of_the_last_process,
     memory_that_all_share,
     peers_beside_closed_streams,
-    checkers_that_work,
+    threads_of_workers,
     accepts_that_fail,
     paths_that_cannot_be_served,
     file_that_says_ready,

@@ -19,8 +19,8 @@ HEADERS = {b"ASTR\x01\0\0\0": 1, b"ASTR\x02\0\0\0": 2}
 LOAD, STORE, MALLOC, FREE, POISON, UNPOISON, CLOSE = 1, 2, 3, 4, 5, 6, 7
 
 ADDRESSES_END = 1 << 47
-LARGEST_REGION = {1: 1 << 28, 2: 1 << 32}
-LARGEST_LIMIT = 1 << 24
+MAX_REGION = {1: 1 << 28, 2: 1 << 32}
+MAX_LIMIT = 1 << 24
 DEFAULT_QUARANTINE = 1 << 28
 REDZONE = 32
 
@@ -100,12 +100,12 @@ def flaw_of(event: Event, version: int) -> Optional[str]:
     else:
         if event.kind > 2:
             return "kind"
-        if event.size > LARGEST_REGION[version]:
+        if event.size > MAX_REGION[version]:
             return "size"
     return "range" if event.at + event.size > ADDRESSES_END else None
 
 
-def read(text: bytes, limit: int = LARGEST_LIMIT, failed_read: bool = False) -> Reading:
+def read(text: bytes, limit: int = MAX_LIMIT, failed_read: bool = False) -> Reading:
     """What the text spells under a limit of events. With `failed_read` a read fails after it."""
     events: List[Event] = []
     if len(text) < 8:
@@ -274,7 +274,7 @@ def status_of(ends: List[Tuple[str, int]]) -> int:
 
 
 def main(words: List[str]) -> int:
-    limit, quarantine, failed_read = LARGEST_LIMIT, DEFAULT_QUARANTINE, False
+    limit, quarantine, failed_read = MAX_LIMIT, DEFAULT_QUARANTINE, False
     while words and words[0].startswith("--"):
         option = words.pop(0)
         if option == "--limit":

@@ -17,7 +17,7 @@ HEADER, HEADER_2 = (struct.pack("<4sI", b"ASTR", version) for version in (1, 2))
 HEADERS = {1: HEADER, 2: HEADER_2}
 
 # The largest region that is no flaw in version 1.
-LARGEST_OF_VERSION_1 = 1 << 28
+MAX_OF_VERSION_1 = 1 << 28
 
 # A record: its code, and its numbers.
 ACCESS, REGION, PLACE, SHADE = (struct.Struct(f"<B{numbers}") for numbers in ("BQ", "QQ", "Q", "BQQ"))
@@ -81,7 +81,7 @@ class Event(NamedTuple):
     def is_of(self, version: int) -> bool:
         """Returns whether a version can spell it: version 1 has no kinds, and no larger regions."""
         is_region = self.code in (MALLOC, POISON, UNPOISON)
-        return version == 2 or (self.kind == 0 and not (is_region and self.size > LARGEST_OF_VERSION_1))
+        return version == 2 or (self.kind == 0 and not (is_region and self.size > MAX_OF_VERSION_1))
 
 
 def trace_of(events: List[Event], version: int) -> bytes:

@@ -127,12 +127,12 @@ void format_checks_print(const char *format, va_list values, uintptr_t caller)
 
 /* Of a wide format, what follows a percent sign, as far as it fits, in letters of one byte. */
 
-enum { LONGEST_CONVERSION = 64 };
+enum { MAX_CONVERSION_LENGTH = 64 };
 
 static void narrow(char *to, const wchar_t *from)
 {
     size_t length = 0;
-    for (; length < LONGEST_CONVERSION - 1 && from[length] != 0; length++)
+    for (; length < MAX_CONVERSION_LENGTH - 1 && from[length] != 0; length++)
         to[length] = from[length] > 0 && from[length] <= CHAR_MAX ? (char)from[length] : '?';
     to[length] = 0;
 }
@@ -141,7 +141,7 @@ void format_checks_wide_print(const wchar_t *format, va_list values, uintptr_t c
 {
     struct arguments arguments;
     struct conversion it = {0};
-    char text[LONGEST_CONVERSION];
+    char text[MAX_CONVERSION_LENGTH];
     const wchar_t *at = format;
     va_copy(arguments.list, values);
     while ((at = wcschr(at, '%')) != NULL) {
@@ -236,7 +236,7 @@ void format_checks_wide_scan(const wchar_t *format, va_list values, int count, u
 {
     struct arguments arguments;
     struct conversion it = {0};
-    char text[LONGEST_CONVERSION];
+    char text[MAX_CONVERSION_LENGTH];
     const wchar_t *at = format;
     va_copy(arguments.list, values);
     while (count > 0 && (at = wcschr(at, '%')) != NULL) {

@@ -6,11 +6,11 @@
 #include "calls/calls.h"
 
 /* No more than this goes out at once: the system's limit of one write. A size beyond it may be that of a mistake. */
-enum { MOST_SENT = 0x7ffff000 };
+enum { MAX_SENT = 0x7ffff000 };
 
 size_t good_length(const void *start, size_t size)
 {
-    size = least(size, MOST_SENT);
+    size = least(size, MAX_SENT);
     if (LIKELY(shadow_is_clean((uintptr_t)start, size)))
         return SIZE_MAX;
     uintptr_t bad = shadow_first_bad((uintptr_t)start, size);

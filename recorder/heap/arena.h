@@ -12,7 +12,7 @@
 #include "platform.h"
 #include "stacks/stacks.h"
 
-enum { UNIT = 1 << 16, SMALLEST_SLOT = 2 * REDZONE, SLOTS = UNIT / SMALLEST_SLOT, ALIGNMENT = 16 };
+enum { UNIT = 1 << 16, MIN_SLOT_SIZE = 2 * REDZONE, SLOTS = UNIT / MIN_SLOT_SIZE, ALIGNMENT = 16 };
 /* There are 2^38 bytes in units, */
 enum { UNITS = 1 << 22 };
 /* and this many bytes for signal handlers. */

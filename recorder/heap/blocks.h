@@ -10,7 +10,7 @@
 
 #include "heap/arena.h"
 
-enum { LARGEST_SLOT = 1 << 14, FINE_STEP = 16, FINE_END = 1024, CLASSES = 64 + 16 };
+enum { MAX_SLOT_SIZE = 1 << 14, FINE_STEP = 16, FINE_END = 1024, CLASSES = 64 + 16 };
 
 struct class {
     struct block *free;

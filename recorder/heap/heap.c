@@ -24,10 +24,10 @@
 #include "stream/record.h"
 #include "stream/stream.h"
 
-enum { LARGEST_OFFSET = (1 << 30) - 1 };
+enum { MAX_OFFSET = (1 << 30) - 1 };
 
 /* What fits into the notes of a block. The format has one byte more. */
-#define LARGEST_BLOCK ((size_t)UINT32_MAX)
+#define MAX_BLOCK_SIZE ((size_t)UINT32_MAX)
 
 struct heap heap = {.lock = PTHREAD_MUTEX_INITIALIZER};
 
@@ -65,9 +65,9 @@ static unsigned class_of(size_t bytes, uint32_t *slot_size)
 {
     if (bytes <= FINE_END) {
         *slot_size = (uint32_t)(bytes + FINE_STEP - 1) / FINE_STEP * FINE_STEP;
-        return (*slot_size - SMALLEST_SLOT) / FINE_STEP;
+        return (*slot_size - MIN_SLOT_SIZE) / FINE_STEP;
     }
-    unsigned index = (FINE_END - SMALLEST_SLOT) / FINE_STEP + 1;
+    unsigned index = (FINE_END - MIN_SLOT_SIZE) / FINE_STEP + 1;
     for (uint32_t size = FINE_END;; size *= 2)
         for (uint32_t quarter = 1; quarter <= 4; quarter++, index++)
             if (bytes <= size + size / 4 * quarter) {
@@ -349,7 +349,7 @@ static size_t room_for(size_t size, size_t alignment)
 
 static struct block *take_block(size_t bytes)
 {
-    return bytes <= LARGEST_SLOT ? take_slot(bytes) : take_large(bytes);
+    return bytes <= MAX_SLOT_SIZE ? take_slot(bytes) : take_large(bytes);
 }
 
 static void *place_block(size_t size, size_t alignment, uintptr_t caller)
@@ -366,10 +366,10 @@ static void *place_block(size_t size, size_t alignment, uintptr_t caller)
         return NULL;
     uintptr_t start = (uintptr_t)slot_start(block);
     uintptr_t address = (start + REDZONE + alignment - 1) / alignment * alignment;
-    block->offset = (address - start) / ALIGNMENT & LARGEST_OFFSET;
+    block->offset = (address - start) / ALIGNMENT & MAX_OFFSET;
     if (UNLIKELY(arena.places != NULL))
         arena.places[block - arena.blocks] = (struct places){place_from(borrowed.frame, caller), 0};
-    if (size <= LARGEST_BLOCK) {
+    if (size <= MAX_BLOCK_SIZE) {
         block->size = (uint32_t)size;
         if (!heap.is_unpainted)
             paint_redzones(address, size);
@@ -399,12 +399,12 @@ void *heap_allocate(size_t size, size_t alignment, bool zeroed, uintptr_t caller
         if (address == NULL)
             record_region(CODE_MALLOC, 0, size); /* refused */
         leave();
-        if (address != NULL && size > LARGEST_BLOCK)
+        if (address != NULL && size > MAX_BLOCK_SIZE)
             record_regions(CODE_UNPOISON, (uintptr_t)address, size);
     }
     if (address == NULL)
         errno = ENOMEM;
-    else if (zeroed && room_for(size, alignment) <= LARGEST_SLOT)
+    else if (zeroed && room_for(size, alignment) <= MAX_SLOT_SIZE)
         memset(address, 0, size); /* a larger block is zeros: pages that are not used take no memory */
     return address;
 }

@@ -24,7 +24,7 @@ static struct block block_now(size_t block)
 static void find_in_slab(uint32_t unit, uint32_t slot_size, uintptr_t address, struct slot *slot)
 {
     uintptr_t start = (uintptr_t)unit_start(unit);
-    if (slot_size < SMALLEST_SLOT || slot_size > UNIT)
+    if (slot_size < MIN_SLOT_SIZE || slot_size > UNIT)
         return;
     size_t number = (address - start) / slot_size;
     slot->start = start + number * slot_size;

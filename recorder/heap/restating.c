@@ -60,7 +60,7 @@ static void restate_free(struct restating *restating)
 {
     for (uint64_t piece; restating->from < restating->to; restating->from += piece) {
         uint64_t rest = restating->to - restating->from;
-        piece = rest < LARGEST_REGION ? rest : LARGEST_REGION;
+        piece = rest < MAX_REGION_SIZE ? rest : MAX_REGION_SIZE;
         restate_poison(restating, restating->from, piece);
     }
 }

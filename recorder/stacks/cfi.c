@@ -198,7 +198,7 @@ static bool read_shared(uintptr_t start, struct shared *shared)
 /* Running a program: a row says where things are from a location on, and the program makes one row after the other. */
 
 enum { FRAME_POINTER = 6, STACK_POINTER = 7, RETURN_ADDRESS = 16, NO_REGISTER = 255, LINKED = 254 };
-enum { MOST_REMEMBERED = 4 };
+enum { MAX_REMEMBERED = 4 };
 
 enum saved_kind { KEPT, SAVED, UNDEFINED, OTHER };
 
@@ -216,7 +216,7 @@ struct row {
 struct machine {
     struct reader reader;
     const struct shared *shared;
-    struct row row, first, remembered[MOST_REMEMBERED];
+    struct row row, first, remembered[MAX_REMEMBERED];
     unsigned depth;
     uintptr_t location, instruction; /* where the program is, and up to where the row is wanted */
     bool is_own;
@@ -301,7 +301,7 @@ static void set_end_by_expression(struct machine *machine)
 
 static void remember(struct machine *machine)
 {
-    if (machine->depth == MOST_REMEMBERED)
+    if (machine->depth == MAX_REMEMBERED)
         machine->reader.has_failed = true;
     else
         machine->remembered[machine->depth++] = machine->row;

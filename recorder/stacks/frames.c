@@ -7,10 +7,9 @@
 #include "shadow.h"
 
 #define FRAME_MAGIC UINT64_C(0x41b58ab3)
-enum { SHADE_LEFT = 0xf1, SHADE_RIGHT = 0xf3 };
 /* So many granules are gone over from what is in a frame for certain, so many from what may be in none, and so many
    variables. */
-enum { MOST_GRANULES = 1 << 16, FEW_GRANULES = 1 << 11, MOST_VARIABLES = 1 << 12 };
+enum { MAX_GRANULES = 1 << 16, FEW_GRANULES = 1 << 11, MAX_VARIABLES = 1 << 12 };
 /* The words of a left redzone. */
 enum { WORD_MAGIC, WORD_DESCRIPTION, WORDS };
 
@@ -30,7 +29,7 @@ static bool is_in_frame(uint64_t granule)
 /* The first granule of a redzone that is a left one. */
 static uint64_t redzone_start(uint64_t granule)
 {
-    for (unsigned seen = 0; seen < MOST_GRANULES && has_shadow(granule - GRANULE); seen++, granule -= GRANULE)
+    for (unsigned seen = 0; seen < MAX_GRANULES && has_shadow(granule - GRANULE); seen++, granule -= GRANULE)
         if (*shadow_of(granule - GRANULE) != SHADE_LEFT)
             break;
     return granule;
@@ -40,7 +39,7 @@ static uint64_t redzone_start(uint64_t granule)
 static uint64_t frame_start(uint64_t granule)
 {
     bool is_inside = false;
-    unsigned most = has_shadow(granule) && is_in_frame(granule) ? MOST_GRANULES : FEW_GRANULES;
+    unsigned most = has_shadow(granule) && is_in_frame(granule) ? MAX_GRANULES : FEW_GRANULES;
     for (unsigned seen = 0; seen < most && has_shadow(granule); seen++, granule -= GRANULE) {
         unsigned char shade = *shadow_of(granule);
         if (shade == SHADE_LEFT)
@@ -134,7 +133,7 @@ bool frame_nearest(const struct frame *frame, uint64_t address, struct frame_var
 {
     struct text text = {.next = frame->description};
     uint64_t count = take_number(&text), least = UINT64_MAX;
-    for (uint64_t i = 0; i < count && i < MOST_VARIABLES && peek(&text) != 0; i++) {
+    for (uint64_t i = 0; i < count && i < MAX_VARIABLES && peek(&text) != 0; i++) {
         struct frame_variable variable = take_variable(&text, frame->start);
         uint64_t far = distance_of(address, &variable);
         /* Of two that are as near it is the one before the address. */

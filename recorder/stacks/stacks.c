@@ -52,11 +52,11 @@ static bool is_stack_at(uint64_t first, const uint64_t *frames, unsigned count)
 /* Keeps a new one. Answers its first word; 0: there is no room. */
 static uint32_t keep(const uint64_t *frames, unsigned count)
 {
-    if (atomic_load(&stacks.taken) > STACK_WORDS - (MOST_FRAMES + 1)
+    if (atomic_load(&stacks.taken) > STACK_WORDS - (MAX_FRAMES + 1)
         || atomic_load(&stacks.count) >= STACKS - SPARE_STACKS)
         return 0;
     uint32_t first = atomic_fetch_add(&stacks.taken, count + 1);
-    if (first > STACK_WORDS - (MOST_FRAMES + 1))
+    if (first > STACK_WORDS - (MAX_FRAMES + 1))
         return 0;
     atomic_fetch_add(&stacks.count, 1);
     words[first] = (uint64_t)count << COUNT_SHIFT;
@@ -97,17 +97,17 @@ static place_word place_of_frames(const uint64_t *frames, unsigned count)
 
 place_word place_from(uintptr_t frame, uintptr_t caller)
 {
-    uint64_t frames[MOST_FRAMES];
+    uint64_t frames[MAX_FRAMES];
     uintptr_t first = frame != 0 ? frame : (uintptr_t)__builtin_frame_address(0);
     frames[0] = caller;
-    return place_of_frames(frames, unwind_from_call(first, caller, frames, MOST_FRAMES));
+    return place_of_frames(frames, unwind_from_call(first, caller, frames, MAX_FRAMES));
 }
 
 place_word place_at(const struct registers *registers)
 {
-    uint64_t frames[MOST_FRAMES];
+    uint64_t frames[MAX_FRAMES];
     frames[0] = registers->instruction + 1;
-    return place_of_frames(frames, unwind_from_registers(registers, frames, MOST_FRAMES));
+    return place_of_frames(frames, unwind_from_registers(registers, frames, MAX_FRAMES));
 }
 
 uintptr_t place_address(place_word of)

@@ -8,7 +8,7 @@
 #include "stacks/unwinding.h"
 
 /* The most frames of a stack. */
-enum { MOST_FRAMES = 32 };
+enum { MAX_FRAMES = 32 };
 
 /* A place is the address after a call, as it is if nothing else is known; or it stands for a stack. 0: not known. */
 typedef uint64_t place_word;

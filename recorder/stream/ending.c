@@ -62,7 +62,7 @@ void stream_stop(const char *why)
 
 static unsigned length_of_ending(enum finish finish)
 {
-    return finish == FINISH_CLOSED ? CLOSE_LENGTH : finish == FINISH_AT_LIMIT ? PLACE_LENGTH : 0;
+    return finish == FINISH_CLOSED ? CLOSE_LENGTH : finish == FINISH_AT_LIMIT ? FREE_LENGTH : 0;
 }
 
 /* What stands after the last record: a close, nothing, or one event more than the limit. That is a free of null, which

@@ -94,7 +94,7 @@ static uint32_t put_stack(struct list *list, place_word of)
 {
     const uint64_t *frames;
     unsigned count = place_frames(of, &frames);
-    uint32_t number = place_number(of), most = SIDE_STACK_WORDS - (MOST_FRAMES + 1);
+    uint32_t number = place_number(of), most = SIDE_STACK_WORDS - (MAX_FRAMES + 1);
     if (count == 0 || number != 0 || atomic_load(&list->taken_words) > most)
         return number;
     number = atomic_fetch_add(&list->taken_words, count + 1);

@@ -5,7 +5,7 @@
 #include <sys/single_threaded.h>
 
 /* How many records in a row may be missing. */
-enum { MOST_HOLES = 8 };
+enum { MAX_HOLES = 8 };
 
 static unsigned char code_at(uint64_t offset)
 {
@@ -15,7 +15,7 @@ static unsigned char code_at(uint64_t offset)
 /* Whether whole records begin here, as far as a few of them can say. Some accesses may be missing before them. */
 static bool looks_sound(uint64_t offset, uint64_t end)
 {
-    for (int holes = 0; holes < MOST_HOLES && offset < end && code_at(offset) == CODE_NONE; holes++)
+    for (int holes = 0; holes < MAX_HOLES && offset < end && code_at(offset) == CODE_NONE; holes++)
         offset += ACCESS_LENGTH;
     for (int seen = 0; offset < end && seen < 8; seen++) {
         unsigned length = record_length(code_at(offset));
@@ -34,7 +34,7 @@ static const struct {
     enum code code;
     unsigned length;
 } fillers[] = {{CODE_LOAD, ACCESS_LENGTH}, {CODE_UNPOISON, REGION_LENGTH}, {CODE_POISON, POISON_LENGTH},
-               {CODE_FREE, PLACE_LENGTH}};
+               {CODE_FREE, FREE_LENGTH}};
 
 enum { FILLERS = sizeof fillers / sizeof *fillers };
 

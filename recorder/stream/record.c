@@ -25,26 +25,26 @@ void record_range(enum code code, uint64_t address, uint64_t size, uintptr_t cal
 }
 
 /* Of one call so many bad pieces are recorded, and so many granules looked at: a size may be that of a mistake. */
-enum { MOST_PIECES = 64, MOST_LOOKS = 1 << 20 };
+enum { MAX_PIECES = 64, MAX_LOOKS = 1 << 20 };
 
 void record_bad_range(enum code code, uint64_t address, uint64_t size, uintptr_t caller)
 {
     unsigned width, pieces = 0;
-    for (unsigned looks = 0; size > 0 && looks < MOST_LOOKS; looks++, address += width, size -= width) {
+    for (unsigned looks = 0; size > 0 && looks < MAX_LOOKS; looks++, address += width, size -= width) {
         width = piece_at(address, size);
         if (address > ADDRESS_END - width)
             return;
         if (!shadow_is_bad(address, width))
             continue;
         record_access(code, width, address, caller);
-        if (++pieces == MOST_PIECES)
+        if (++pieces == MAX_PIECES)
             return;
     }
 }
 
 static bool can_be_spelled(uint64_t address, uint64_t size)
 {
-    return size <= LARGEST_REGION && address <= ADDRESS_END - size;
+    return size <= MAX_REGION_SIZE && address <= ADDRESS_END - size;
 }
 
 /* After a record is written. */
@@ -107,7 +107,7 @@ void record_regions(enum code code, uint64_t address, uint64_t size)
         return;
     size = size > ADDRESS_END - address ? ADDRESS_END - address : size;
     for (uint64_t piece; size > 0; address += piece, size -= piece) {
-        piece = LARGEST_REGION - address % LARGEST_REGION;
+        piece = MAX_REGION_SIZE - address % MAX_REGION_SIZE;
         piece = size < piece ? size : piece;
         record_piece(code, address, piece);
     }
@@ -115,7 +115,7 @@ void record_regions(enum code code, uint64_t address, uint64_t size)
 
 void record_free(uint64_t address)
 {
-    unsigned char *at = address < ADDRESS_END ? stream_reserve(PLACE_LENGTH, true) : NULL;
+    unsigned char *at = address < ADDRESS_END ? stream_reserve(FREE_LENGTH, true) : NULL;
     if (at == NULL)
         return;
     put_number(at + 1, address);

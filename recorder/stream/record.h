@@ -64,13 +64,13 @@ static inline uint64_t stream_take(_Atomic uint64_t *cursor, uint64_t step)
     return atomic_fetch_add(cursor, step);
 }
 
-/* Whether the place that was taken is past a limit. Off is below CURSOR_ON, and so past every limit in this
-   subtraction. */
-static inline bool stream_is_unusual(uint64_t place, unsigned length)
+/* Whether the place that was taken by this cursor is past a limit. Off is below CURSOR_ON, and so past every limit in
+   this subtraction. */
+static inline bool stream_is_unusual(uint64_t cursor, unsigned length)
 {
     const struct stream *stream = &stream_page.stream;
-    return place - CURSOR_ON >= stream->events_end
-           || (uint32_t)place + length > atomic_load_explicit(&stream->ready, memory_order_acquire);
+    return cursor - CURSOR_ON >= stream->events_end
+           || (uint32_t)cursor + length > atomic_load_explicit(&stream->ready, memory_order_acquire);
 }
 
 static inline void put_number(unsigned char *at, uint64_t number)
@@ -88,7 +88,7 @@ static inline void put_code(unsigned char *at, enum code code)
 bool stream_wake(void) OWN_NAME(stream_wake);
 
 /* What remains to be done for an access where something is unusual. */
-void record_access_slowly(uint64_t place, unsigned code_and_width, uint64_t address) OWN_NAME(record_access_slowly);
+void record_access_slowly(uint64_t cursor, unsigned code_and_width, uint64_t address) OWN_NAME(record_access_slowly);
 /* An access to a stream that is watched, or where that does not state what the shadow says. */
 void record_watched_access(unsigned code_and_width, uint64_t address, uintptr_t caller)
     OWN_NAME(record_watched_access);
@@ -116,11 +116,11 @@ static inline void record_access(enum code code, unsigned width, uint64_t addres
     if (UNLIKELY(stream->is_watched) || (!is_in_arena(address) && UNLIKELY(!is_stated(address, width)))) {
         record_watched_access(code_and_width, address, caller);
     } else {
-        uint64_t place = stream_take(&stream->cursor, CURSOR_EVENT + ACCESS_LENGTH);
-        if (UNLIKELY(stream_is_unusual(place, ACCESS_LENGTH)))
-            record_access_slowly(place, code_and_width, address);
+        uint64_t cursor = stream_take(&stream->cursor, CURSOR_EVENT + ACCESS_LENGTH);
+        if (UNLIKELY(stream_is_unusual(cursor, ACCESS_LENGTH)))
+            record_access_slowly(cursor, code_and_width, address);
         else
-            put_access(stream->bytes + (uint32_t)place, code_and_width, address);
+            put_access(stream->bytes + (uint32_t)cursor, code_and_width, address);
     }
     halt_if_bad(code, width, address, caller);
 }

@@ -14,11 +14,11 @@ static struct file {
     dev_t device;
     ino_t node;
     unsigned number;
-} files[MOST_SEGMENTS_KEPT + 1];
+} files[MAX_SEGMENTS_KEPT + 1];
 
 static struct file *file_of(uint64_t segment)
 {
-    return &files[segment % (MOST_SEGMENTS_KEPT + 1)];
+    return &files[segment % (MAX_SEGMENTS_KEPT + 1)];
 }
 
 static void note(uint64_t segment, const struct output *output)

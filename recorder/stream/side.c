@@ -101,7 +101,7 @@ uint64_t side_length(void)
 
 /* Modules. */
 
-enum { MOST_SEGMENTS = 16, MOST_NOTES = 1024 };
+enum { MAX_SEGMENTS = 16, MAX_NOTES = 1024 };
 
 static size_t padded(uint32_t size)
 {
@@ -132,11 +132,11 @@ static bool take_build_id(struct side_build *build, const unsigned char *notes, 
 static bool find_build_id(struct side_build *build, uint64_t start)
 {
     Elf64_Ehdr head;
-    Elf64_Phdr segments[MOST_SEGMENTS];
-    unsigned char notes[MOST_NOTES];
+    Elf64_Phdr segments[MAX_SEGMENTS];
+    unsigned char notes[MAX_NOTES];
     if (!memory_read(start, &head, sizeof head) || memcmp(head.e_ident, ELFMAG, SELFMAG) != 0)
         return false;
-    unsigned count = head.e_phnum < MOST_SEGMENTS ? head.e_phnum : MOST_SEGMENTS;
+    unsigned count = head.e_phnum < MAX_SEGMENTS ? head.e_phnum : MAX_SEGMENTS;
     if (!memory_read(start + head.e_phoff, segments, count * sizeof *segments))
         return false;
     for (unsigned i = 0; i < count; i++) {
@@ -210,14 +210,14 @@ static bool is_taken(const char *maps, const struct line *old)
 }
 
 /* Of two maps with more bytes than this the lines are not compared. */
-enum { MOST_COMPARED = 1 << 16 };
+enum { MAX_COMPARED = 1 << 16 };
 
 /* A library that was closed keeps its lines, as long as nothing else lies there: its faults are not gone. */
 static size_t keep_closed(char *maps, size_t length, size_t room, const char *before)
 {
     struct line line;
     size_t now = length;
-    if (now > MOST_COMPARED)
+    if (now > MAX_COMPARED)
         return length;
     for (const char *at = before; take_line(at, &line); at = line.next) {
         size_t size = (size_t)(line.next - line.text);

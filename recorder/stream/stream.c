@@ -18,7 +18,7 @@
 #include "stream/windows.h"
 
 /* After so many nanoseconds a socket gets what there is; and at once, as after a fault, so often in this time. */
-enum { SEND_AFTER = 4000000, MOST_AT_ONCE = 4 };
+enum { SEND_AFTER = 4000000, MAX_AT_ONCE = 4 };
 
 static bool is_on_or_switching(void)
 {
@@ -84,8 +84,8 @@ static void stop_at(uint64_t count)
     __asm__ volatile("int3"); /* also if SIGTRAP is blocked */
 }
 
-/* The place is past the limit. */
-static enum room pass_limit(uint64_t place, bool is_of_heap)
+/* The cursor is past the limit. */
+static enum room pass_limit(uint64_t cursor, bool is_of_heap)
 {
     if (ending_has_segments()) {
         /* A handler may have interrupted the allocator, so that the heap can't be restated just now. What a child of
@@ -94,54 +94,54 @@ static enum room pass_limit(uint64_t place, bool is_of_heap)
             switching_go_on();
             return ROOM_IN_ANOTHER;
         }
-    } else if ((place - CURSOR_ON) >> 32 == keeper.limit) {
-        ending_at_limit((uint32_t)place);
+    } else if ((cursor - CURSOR_ON) >> 32 == keeper.limit) {
+        ending_at_limit((uint32_t)cursor);
     }
     ending_leave_out();
     return NO_ROOM;
 }
 
-static bool is_in_stream(uint64_t place)
+static bool is_in_stream(uint64_t cursor)
 {
-    return window_of((uint32_t)place) == atomic_load(&STREAM->window);
+    return window_of((uint32_t)cursor) == atomic_load(&STREAM->window);
 }
 
-static enum room make_room(uint64_t place, unsigned length, bool is_of_heap)
+static enum room make_room(uint64_t cursor, unsigned length, bool is_of_heap)
 {
     /* It was turned off just now, or went on in its next segment. */
-    if (!(place & CURSOR_ON) || !is_in_stream(place))
+    if (!(cursor & CURSOR_ON) || !is_in_stream(cursor))
         return ROOM_IN_ANOTHER;
-    uint64_t end = (uint32_t)place + length, count = (place - CURSOR_ON) >> 32;
+    uint64_t end = (uint32_t)cursor + length, count = (cursor - CURSOR_ON) >> 32;
     if (count >= keeper.limit)
-        return pass_limit(place, is_of_heap);
+        return pass_limit(cursor, is_of_heap);
     stop_at(count);
     /* Who has the lock may be waiting for this record, and makes room for it. */
-    for (int looks = 0; !has_room(end) && is_in_stream(place) && is_on_or_switching(); looks++) {
+    for (int looks = 0; !has_room(end) && is_in_stream(cursor) && is_on_or_switching(); looks++) {
         if (!keeper_lock_at_once()) {
             keeper_rest(looks);
             continue;
         }
-        if (is_on() && is_in_stream(place))
+        if (is_on() && is_in_stream(cursor))
             growing_to(end);
         stream_unlock();
     }
-    return !is_in_stream(place) ? ROOM_IN_ANOTHER : has_room(end) ? ROOM_HERE : NO_ROOM;
+    return !is_in_stream(cursor) ? ROOM_IN_ANOTHER : has_room(end) ? ROOM_HERE : NO_ROOM;
 }
 
-/* Where the record of a place goes, or null where it is not recorded. Where the stream goes on in its next segment, it
-   is another place. */
-static unsigned char *open_place(uint64_t *place, unsigned length, bool is_of_heap)
+/* Where the record goes whose place was taken by this cursor, or null if it is not recorded. If the stream goes on in
+   its next segment, it is another cursor. */
+static unsigned char *open_place(uint64_t *cursor, unsigned length, bool is_of_heap)
 {
-    while (stream_is_unusual(*place, length) || !is_in_stream(*place)) {
-        enum room room = make_room(*place, length, is_of_heap);
+    while (stream_is_unusual(*cursor, length) || !is_in_stream(*cursor)) {
+        enum room room = make_room(*cursor, length, is_of_heap);
         if (room == ROOM_IN_ANOTHER && stream_wake())
-            *place = stream_take(&STREAM->cursor, CURSOR_EVENT + length);
+            *cursor = stream_take(&STREAM->cursor, CURSOR_EVENT + length);
         else if (room != ROOM_HERE)
             return NULL;
         else
             break;
     }
-    return STREAM->bytes + (uint32_t)*place;
+    return STREAM->bytes + (uint32_t)*cursor;
 }
 
 unsigned char *stream_reserve(unsigned length, bool is_of_heap)
@@ -152,15 +152,15 @@ unsigned char *stream_reserve(unsigned length, bool is_of_heap)
         if (!stream_wake())
             return NULL;
     }
-    uint64_t place = stream_take(&STREAM->cursor, CURSOR_EVENT + length);
-    if (LIKELY(!stream_is_unusual(place, length)))
-        return STREAM->bytes + (uint32_t)place;
-    return open_place(&place, length, is_of_heap);
+    uint64_t cursor = stream_take(&STREAM->cursor, CURSOR_EVENT + length);
+    if (LIKELY(!stream_is_unusual(cursor, length)))
+        return STREAM->bytes + (uint32_t)cursor;
+    return open_place(&cursor, length, is_of_heap);
 }
 
-void record_access_slowly(uint64_t place, unsigned code_and_width, uint64_t address)
+void record_access_slowly(uint64_t cursor, unsigned code_and_width, uint64_t address)
 {
-    unsigned char *at = open_place(&place, ACCESS_LENGTH, false);
+    unsigned char *at = open_place(&cursor, ACCESS_LENGTH, false);
     if (at != NULL)
         put_access(at, code_and_width, address);
 }
@@ -170,12 +170,12 @@ void record_access_slowly(uint64_t place, unsigned code_and_width, uint64_t addr
    at may not stand there, so a record that says nothing has that place. */
 static bool reserve_with(uint32_t fault, unsigned window, unsigned length, bool is_of_heap, unsigned char **at)
 {
-    uint64_t place = stream_take(&STREAM->cursor, CURSOR_EVENT + length);
-    uint64_t event = ((place - CURSOR_ON) >> 32) + 1;
-    *at = open_place(&place, length, is_of_heap);
+    uint64_t cursor = stream_take(&STREAM->cursor, CURSOR_EVENT + length);
+    uint64_t event = ((cursor - CURSOR_ON) >> 32) + 1;
+    *at = open_place(&cursor, length, is_of_heap);
     if (*at == NULL)
         return true;
-    if (window_of((uint32_t)place) != window) {
+    if (window_of((uint32_t)cursor) != window) {
         holes_fill(*at, length);
         return false;
     }
@@ -215,7 +215,7 @@ void record_bad_free(uint64_t address, uintptr_t caller)
     do {
         window = atomic_load(&STREAM->window);
         fault = STREAM->has_side ? fault_of(window, CODE_FREE, address, caller) : 0;
-    } while (!reserve_with(fault, window, PLACE_LENGTH, true, &at));
+    } while (!reserve_with(fault, window, FREE_LENGTH, true, &at));
     if (at == NULL)
         return;
     put_number(at + 1, address);
@@ -254,7 +254,7 @@ void stream_look_at_clock(bool at_once)
     if (now - atomic_load_explicit(&keeper.sent_at, memory_order_relaxed) >= SEND_AFTER) {
         atomic_store_explicit(&keeper.sent_at, now, memory_order_relaxed);
         atomic_store_explicit(&keeper.sent_at_once, 0, memory_order_relaxed);
-    } else if (!at_once || atomic_fetch_add(&keeper.sent_at_once, 1) >= MOST_AT_ONCE) {
+    } else if (!at_once || atomic_fetch_add(&keeper.sent_at_once, 1) >= MAX_AT_ONCE) {
         return;
     }
     /* A child of vfork may have closed the descriptor for itself. */

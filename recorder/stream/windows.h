@@ -12,7 +12,7 @@ enum { WINDOWS = 8, WINDOW_SHIFT = 29, SIDE_WINDOW_SHIFT = 27 };
 
 /* By how much a file grows. */
 #define FILE_STEP ((uint64_t)1 << 20)
-#define STREAM_ROOM (LARGEST_STREAM + FILE_STEP)
+#define STREAM_ROOM (MAX_STREAM_SIZE + FILE_STEP)
 
 _Static_assert(STREAM_ROOM <= WINDOW_BYTES, "a stream has room in a window");
 _Static_assert(WINDOW_BYTES * WINDOWS <= (uint64_t)1 << 32, "an offset has 32 bits");

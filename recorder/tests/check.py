@@ -4,7 +4,7 @@
 usage: recorder/tests/check.py ASANCOL [WORD..]
 
 With words, only tests whose names have one of them are run. The last line is 'N passed, M failed',
-and the status is 1 where a test failed. What is not there (a compiler, its AddressSanitizer) is
+and the status is 1 if a test failed. What is not there (a compiler, its AddressSanitizer) is
 said in a line, and left out. If SANITIZE is set, the parsers of the recorder and of asancol-cc, and
 the stream under threads, run under the compilers' own sanitizers too.
 """
@@ -20,6 +20,7 @@ import sys
 import tempfile
 import time
 
+import builds
 import calls
 import fuzzing
 import hub
@@ -224,7 +225,7 @@ def check_small_files(suite, folder, program):
 
 
 def check_nowhere(suite, folder, program, settings, status=0):
-    """The program runs as ever, and one line says that nothing is recorded."""
+    """The program runs as usual, and one line says that nothing is recorded."""
     ran = run([program, "many_events"], folder, **settings)
     expect(ran.returncode, status, "status of the program")
     lines = ran.stderr.decode().splitlines()
@@ -524,108 +525,6 @@ def cpp_tests(suite, compiler, folder):
             suite.test(f"{compiler} {level} c++ {name}", check_cpp, program, sanitized, name, wanted)
 
 
-def check_builds(suite, folder, compiler):
-    """The ways in which builds call a compiler."""
-    write(folder, main_c=PAST_THE_END, helper_c=HELPER)
-
-    def cc(*words, stdin=None):
-        made = run([CC, *words], folder, stdin=stdin, ASANCOL_CC=compiler.name)
-        if made.returncode != 0:
-            raise Failure(f"{words}: {made.stderr.decode()}")
-        may_warn = any(it in words for it in ("-v", "-static", "one.S"))
-        expect(b"" if may_warn else made.stderr, b"", f"{words}")
-        return made.stdout
-
-    cc("-c", "main.c")
-    cc("-c", "-DVALUE=1", "-o", "helper.o", "helper.c")
-    cc("main.o", "helper.o", "-o", "program")
-    one_mark(suite, folder)
-    cc("-DVALUE=1", "main.c", "helper.c", "-o", "program")
-    one_mark(suite, folder)
-    # Scripts such as configure read what is preprocessed: it has nothing of the recorder's.
-    shown = cc("-E", "-DVALUE=7", "helper.c")
-    expect((b"((volatile char *)p)[8] = 7" in shown, b"asan" in shown), (True, False), "-E")
-    expect(b"helper.o: helper.c" in cc("-M", "helper.c"), True, "-M")
-    expect(b"helper.o: helper.c" in cc("-MM", "helper.c"), True, "-MM")
-    cc("-MMD", "-MF", "deps", "-MT", "it", "-DVALUE=1", "-c", "helper.c", "-o", "helper.o")
-    expect(open(f"{folder}/deps").read().startswith("it: helper.c"), True, "-MF")
-    cc("-S", "-DVALUE=1", "helper.c")
-    expect("__asan_report_" in open(f"{folder}/helper.s").read(), True, "-S")
-    cc("main.c", "helper.s", "-o", "program")
-    one_mark(suite, folder)
-    # The language of what follows, and standard input.
-    shutil.copy(f"{folder}/helper.c", f"{folder}/helper.txt")
-    cc("-DVALUE=1", "-x", "c", "helper.txt", "-x", "none", "main.o", "-o", "program")
-    one_mark(suite, folder)
-    cc("-x", "c", "-", "-c", "-o", "in.o", stdin=HELPER.replace("VALUE", "3").encode())
-    cc("-DVALUE=1", "main.c", "-x", "c", "helper.txt", "-o", "program")
-    one_mark(suite, folder)
-    # Response files, with what they say of the link.
-    write(folder, a_rsp="-c -DVALUE='1' helper.c -o 'helper two.o'\n", b_rsp="main.o \"helper two.o\" -o program\n")
-    cc("@a.rsp")
-    cc("@b.rsp")
-    one_mark(suite, folder)
-    # A shared object, and one that allows nothing undefined and shows one name.
-    write(folder, one_map="{ global: helper; local: *; };\n")
-    cc("-fPIC", "-shared", "-DVALUE=1", "helper.c", "-Wl,-z,defs", "-Wl,--version-script=one.map", "-o", "libhelper.so")
-    cc("main.c", "-L.", "-lhelper", "-Wl,-rpath,$ORIGIN", "-o", "program")
-    one_mark(suite, folder)
-    # It can be used without a recorder too.
-    build([compiler.name, "main.c", "-L.", "-lhelper", "-Wl,-rpath,$ORIGIN", "-o", "plain"], folder)
-    expect(run(["./plain"], folder).returncode, 0, "a plain program with such an object")
-    # A partial link, an archive, a link by steps.
-    cc("-r", "main.o", "helper.o", "-o", "both.o")
-    cc("both.o", "-o", "program")
-    one_mark(suite, folder)
-    build(["ar", "rcs", "libhelper.a", "helper.o"], folder)
-    cc("main.o", "libhelper.a", "-o", "program")
-    one_mark(suite, folder)
-    fortified = ["-O2", "-D_FORTIFY_SOURCE=2"]
-    for flags in (["-no-pie"], ["-static"], ["-O2", "-flto"], fortified, ["-std=c99", "-pedantic-errors"]):
-        if compiler.name == "clang" and "-flto" in flags and not shutil.which("ld.lld"):
-            continue
-        linker = ["-fuse-ld=lld"] if compiler.name == "clang" and "-flto" in flags else []
-        cc(*flags, *linker, "-DVALUE=1", "main.c", "helper.c", "-o", "program")
-        one_mark(suite, folder)
-    # A header by itself; the sanitizer of what is undefined.
-    write(folder, one_h="extern int one;\n")
-    cc("-x", "c-header", "one.h", "-o", "one.h.gch")
-    cc("one.h", "-o", "one.h.gch")
-    # One that is precompiled, and then included first; what is preprocessed and what is assembled; all warnings.
-    write(folder, main_h="int helper(char *);\n")
-    cc("-x", "c-header", "main.h", "-o", "main.h.pch" if compiler.name == "clang" else "main.h.gch")
-    cc("-Winvalid-pch", "-include", "main.h", "main.c", "helper.o", "-o", "program")
-    one_mark(suite, folder)
-    cc("-DVALUE=1", "-E", "helper.c", "-o", "helper.i")
-    cc("main.c", "helper.i", "-o", "program")
-    one_mark(suite, folder)
-    cc("-c", "helper.i", "-o", "helper.o")
-    cc("-c", "-x", "cpp-output", "helper.i", "-o", "helper.o")
-    cc("main.o", "helper.o", "-o", "program")
-    one_mark(suite, folder)
-    write(folder, one_S="#define NAME one\n.globl NAME\nNAME: ret\n.section .note.GNU-stack,\"\",@progbits\n")
-    cc("-DVALUE=1", "main.c", "helper.c", "one.S", "-o", "program")
-    one_mark(suite, folder)
-    write(folder, sound_c="int main(void)\n{\n    return 0;\n}\n")
-    everything = ["-Weverything"] if compiler.name == "clang" else ["-Wextra", "-Wmissing-declarations"]
-    cc("-std=c89", "-Wall", "-Wpedantic", "-Werror", *everything, "sound.c", "-o", "sound")
-    write(folder, undefined_c="int main(void) { return 0; }\n")
-    if run([compiler.name, "-fsanitize=undefined", "undefined.c", "-o", "undefined"], folder).returncode == 0:
-        cc("-fsanitize=undefined", "-DVALUE=1", "main.c", "helper.c", "-o", "program")
-        one_mark(suite, folder)
-    # What compiles nothing is passed on as it is.
-    for words in (["--version"], ["-dumpmachine"], ["-print-prog-name=ld"], ["-print-search-dirs"]):
-        expect(cc(*words), run([compiler.name, *words], folder).stdout, f"{words}")
-    ours = run([CC, "-v"], folder, ASANCOL_CC=compiler.name)
-    theirs = run([compiler.name, "-v"], folder)
-    expect((ours.returncode, ours.stderr.splitlines()[-1]), (0, theirs.stderr.splitlines()[-1]), "-v")
-    # Errors are the compiler's own, with its status.
-    write(folder, bad_c="int main(void) { return nothing; }\n")
-    theirs = run([compiler.name, "-c", "bad.c"], folder)
-    ours = run([CC, "-c", "bad.c"], folder, ASANCOL_CC=compiler.name)
-    expect((ours.returncode, ours.stderr), (theirs.returncode, theirs.stderr), "an error")
-
-
 def check_by_itself(suite, folder, compiler):
     """The recorder, built by the compiler without a warning."""
     copy = f"{folder}/recorder"
@@ -770,7 +669,6 @@ def check_store(suite, folder, compiler, level):
 def build_tests(suite, compiler):
     for level in ("-O0", "-O2"):
         suite.test(f"{compiler} store {level}", check_store, compiler, level)
-    suite.test(f"{compiler} builds", check_builds, compiler)
     suite.test(f"{compiler} by itself", check_by_itself, compiler)
     suite.test(f"{compiler} own names", check_own_names, compiler)
     suite.test(f"{compiler} own malloc", check_own_malloc, compiler)
@@ -794,6 +692,7 @@ def main():
             if compiler.cxx:
                 cpp_tests(suite, compiler, folder)
             build_tests(suite, compiler)
+            builds.tests(suite, compiler)
             life_tests(suite, compiler, folder)
             seen_whole.tests(suite, compiler, folder)
             inline.tests(suite, compiler)

@@ -622,14 +622,14 @@ static void loses_its_trace_at_the_end(void)
 /* A table that is large and nearly empty takes no more memory than what is used of it. */
 static void keeps_little(void)
 {
-    enum { LARGEST_KB = 100 << 10 };
+    enum { MAX_KB = 100 << 10 };
     struct rusage before, after;
     getrusage(RUSAGE_SELF, &before);
     char *p = hide(calloc((size_t)1 << 30, 1));
     if (p == NULL)
         fail("calloc");
     p[0] = p[(size_t)1 << 29] = 1;
-    if (getrusage(RUSAGE_SELF, &after) != 0 || after.ru_maxrss - before.ru_maxrss > LARGEST_KB)
+    if (getrusage(RUSAGE_SELF, &after) != 0 || after.ru_maxrss - before.ru_maxrss > MAX_KB)
         exit(9);
     free(p);
     /* What was used before is zeros again. */

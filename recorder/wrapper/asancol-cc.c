@@ -351,14 +351,14 @@ static void take_language(struct wish *wish, const char *language)
 }
 
 /* One may name itself. GCC takes no more of them either. */
-enum { MOST_RESPONSE_FILES = 2000, MOST_NESTED = 64 };
+enum { MAX_RESPONSE_FILES = 2000, MAX_NESTED = 64 };
 
 static void take_response_file(struct wish *wish, const char *word)
 {
     struct stat seen;
     if (stat(word + 1, &seen) != 0) {
         take_input(wish, word);
-    } else if (wish->response_files < MOST_RESPONSE_FILES && wish->nested < MOST_NESTED) {
+    } else if (wish->response_files < MAX_RESPONSE_FILES && wish->nested < MAX_NESTED) {
         wish->response_files++;
         wish->nested++;
         look_into(wish, word + 1);

@@ -13,7 +13,7 @@ SEGMENT = struct.Struct("<IIQQQQ")
 NOTE = struct.Struct("<III")
 LOAD, NOTES = 1, 4
 BUILD_ID = 3
-LARGEST_NOTES = 1 << 16
+MAX_NOTES_SIZE = 1 << 16
 
 
 def build_id_of(notes: bytes) -> str:
@@ -47,7 +47,7 @@ class Elf:
             if kind == LOAD:
                 self.loads.append((offset, length, address))
             elif kind == NOTES and not self.build_id:
-                self.build_id = build_id_of(read_at(descriptor, offset, min(length, LARGEST_NOTES)))
+                self.build_id = build_id_of(read_at(descriptor, offset, min(length, MAX_NOTES_SIZE)))
 
     def address(self, offset: int) -> int:
         """Returns the address that the symbols of the file use for an offset in it."""

@@ -9,7 +9,7 @@ from __future__ import annotations
 from typing import Dict, List, NamedTuple, Optional, Tuple
 
 from .findings import Block, declaration_of, Finding, Frame, GLOBAL, HEAP, STACK, Stack, Tally
-from .modules import Modules, Place
+from .modules import CodeAddress, Modules
 from .results import Results
 from .side import ENDING_SIGNAL, Fault, Side, VARIABLE_NONE, VARIABLE_STACK
 from .sources import Sources
@@ -20,7 +20,7 @@ NO_PLACE = "its place was not recorded"
 NO_ALLOCATION = "before the trace began"
 
 # The places of calls, the innermost first; none, if nothing is known.
-Calls = Tuple[Place, ...]
+Calls = Tuple[CodeAddress, ...]
 Key = Tuple[str, str, Optional[int], Calls, Calls, Calls, str]
 
 
@@ -55,7 +55,7 @@ class Gatherer:
         self.symbols = symbols
         self.sources = sources
         self.sightings: Dict[Key, Sighting] = {}
-        self.frames: Dict[Place, Stack] = {}
+        self.frames: Dict[CodeAddress, Stack] = {}
         # Where each process was that a signal has ended, by its number.
         self.last: Dict[int, Tuple[Calls, Optional[int]]] = {}
         # The processes of each finding that was seen, by its identity.
@@ -85,7 +85,7 @@ class Gatherer:
     def calls(self, side: Side, after_calls: Tuple[int, ...]) -> Calls:
         """Returns the places of calls, from the addresses after them. What is no call is no caller, and ends them: code
         without frame pointers may have led there."""
-        places: List[Place] = []
+        places: List[CodeAddress] = []
         for address in after_calls:
             place = self.place(side, address)
             if places and (place.module is None or not place.module.is_after_call(place.in_file)):
@@ -93,19 +93,19 @@ class Gatherer:
             places.append(place)
         return tuple(places)
 
-    def place(self, side: Side, after_call: int) -> Place:
+    def place(self, side: Side, after_call: int) -> CodeAddress:
         """Returns the place of a call, from the address after it."""
         address = after_call - 1
         mapping = side.mapping(address)
         if mapping is None:
-            return Place(None, address, address)
+            return CodeAddress(None, address, address)
         module = self.modules.find(mapping, side.started)
         in_file = address - mapping.low + mapping.offset
         if module.elf is not None and not module.trouble:
             linked = module.elf.address(in_file)
             if linked not in module.names:
                 module.wanted[linked] = None
-        return Place(module, in_file, address - mapping.base)
+        return CodeAddress(module, in_file, address - mapping.base)
 
     def sight(self, group: Group, fault: Optional[Fault], places: Places, tally: Tally) -> None:
         first = group.first
@@ -172,7 +172,7 @@ class Gatherer:
                 end = len(frames)
         return tuple(frames[:end] if end else frames)
 
-    def read_frames(self, place: Place) -> Stack:
+    def read_frames(self, place: CodeAddress) -> Stack:
         """Returns the frame of a place, and before it those that the compiler has inlined there."""
         module = place.module
         if module is None:

@@ -25,8 +25,8 @@ PAGE = os.path.join(os.path.dirname(os.path.abspath(__file__)), "page.html")
 # Lines of source before and after the one that a frame names.
 AROUND = 3
 # So many places and processes are shown. All of them are in the JSON lines.
-MOST_FINDINGS = 5000
-MOST_PROCESSES = 5000
+MAX_FINDINGS = 5000
+MAX_PROCESSES = 5000
 
 
 def escape(text: object) -> str:
@@ -104,12 +104,12 @@ class Page:
         return notes
 
     def findings(self, findings: List[Finding]) -> Iterator[str]:
-        for position, finding in enumerate(findings[:MOST_FINDINGS]):
+        for position, finding in enumerate(findings[:MAX_FINDINGS]):
             yield self.card(finding, position)
         if not findings:
             yield tag("p", "No reports.", class_="empty")
-        if len(findings) > MOST_FINDINGS:
-            yield tag("p", f"The first {number(MOST_FINDINGS)} of {number(len(findings))} places.", class_="dim")
+        if len(findings) > MAX_FINDINGS:
+            yield tag("p", f"The first {number(MAX_FINDINGS)} of {number(len(findings))} places.", class_="dim")
 
     def card(self, finding: Finding, position: int) -> str:
         top = finding.top
@@ -183,10 +183,10 @@ class Page:
     def processes(self) -> Iterator[str]:
         rows = [(run, process) for run in self.results.runs for process in run.processes.values()]
         rows.sort(key=lambda row: row[1].is_whole)
-        for run, process in rows[:MOST_PROCESSES]:
+        for run, process in rows[:MAX_PROCESSES]:
             yield self.process(run, process)
-        if len(rows) > MOST_PROCESSES:
-            text = f"The first {number(MOST_PROCESSES)} of {number(len(rows))} processes."
+        if len(rows) > MAX_PROCESSES:
+            text = f"The first {number(MAX_PROCESSES)} of {number(len(rows))} processes."
             yield tag("tr", tag("td", text, colspan=5, class_="dim"))
 
     @staticmethod

@@ -13,12 +13,12 @@ from .json_lines import Commands, end_run, number_of, process_of, run_of, text_o
 from .results import Results
 from .side import Side
 
-LARGEST_PACKET = 1 << 16
-MOST_DESCRIPTORS = 8
+MAX_PACKET_SIZE = 1 << 16
+MAX_DESCRIPTORS = 8
 # No program that this one starts gets what came.
 FLAGS = socket.MSG_CMSG_CLOEXEC
 # A number of a process that can't be meant.
-MOST_PROCESSES = 1 << 24
+MAX_PROCESSES = 1 << 24
 
 
 class Hub:
@@ -42,7 +42,7 @@ class Hub:
             raise Broken("--run: standard input is no socket: asancol-run gives one") from None
         with packets:
             while True:
-                text, descriptors, _, _ = socket.recv_fds(packets, LARGEST_PACKET, MOST_DESCRIPTORS, FLAGS)
+                text, descriptors, _, _ = socket.recv_fds(packets, MAX_PACKET_SIZE, MAX_DESCRIPTORS, FLAGS)
                 try:
                     if not text or self.take(text, list(descriptors)) == "end":
                         break
@@ -95,7 +95,7 @@ class Hub:
         if process.number in self.lost:
             process = process._replace(is_whole=False, is_abrupt=False, why="its reports did not arrive")
         processes[process.number] = process
-        if not descriptors or self.gatherer is None or process.number >= MOST_PROCESSES:
+        if not descriptors or self.gatherer is None or process.number >= MAX_PROCESSES:
             return
         side = self.side_of(text_of(entry.get("trace")), descriptors[1:])
         try:

@@ -13,9 +13,9 @@ from .results import Process, Results, Run
 from .words import plural
 
 VERSION = 1
-LARGEST_NUMBER = (1 << 64) - 1
+MAX_NUMBER = (1 << 64) - 1
 # At most this many commands and other texts of processes are kept encoded.
-MOST_ENCODED = 1 << 14
+MAX_ENCODED = 1 << 14
 
 # A line that begins a run, has a process of it, or a finding.
 Entry = Dict[str, Any]
@@ -122,7 +122,7 @@ def finding_entry(finding: Finding) -> Entry:
 
 def lines_of(results: Results) -> Iterator[str]:
     encode = json.JSONEncoder(separators=SHORT).encode
-    encode_again = functools.lru_cache(maxsize=MOST_ENCODED, typed=True)(encode)
+    encode_again = functools.lru_cache(maxsize=MAX_ENCODED, typed=True)(encode)
     shared: Dict[int, str] = {}
 
     def rest_of(finding: Finding) -> str:
@@ -158,7 +158,7 @@ def text_of(value: object) -> str:
 
 
 def number_of(value: object) -> int:
-    return value if type(value) is int and 0 <= value <= LARGEST_NUMBER else 0
+    return value if type(value) is int and 0 <= value <= MAX_NUMBER else 0
 
 
 def signed_of(value: object) -> int:

@@ -18,7 +18,7 @@ from .words import command_line, printable, shown_path
 # What XML 1.0 does not allow, whether it is escaped or not.
 NOT_XML = re.compile("[^\t\n\r\x20-\ud7ff\ue000-\ufffd\U00010000-\U0010ffff]")
 # A failure's message names so many places.
-MOST_NAMED = 5
+MAX_NAMED = 5
 
 
 def text_of(text: str) -> str:
@@ -38,9 +38,9 @@ def failure(findings: List[Finding], root: str) -> str:
     text = Text(out, Colors(False), root, has_suppressions=False)
     for finding in findings:
         text.write(text.finding(finding))
-    named = [f"{finding.title} at {shown_path(place_text(finding.top), root)}" for finding in findings[:MOST_NAMED]]
-    if len(findings) > MOST_NAMED:
-        named.append(f"and {len(findings) - MOST_NAMED} more")
+    named = [f"{finding.title} at {shown_path(place_text(finding.top), root)}" for finding in findings[:MAX_NAMED]]
+    if len(findings) > MAX_NAMED:
+        named.append(f"and {len(findings) - MAX_NAMED} more")
     return element("failure", findings[0].class_name, "; ".join(named), out.getvalue())
 
 

@@ -80,8 +80,8 @@ class Report:
         return self.status()
 
     def read_rules(self) -> None:
-        """Reads what does not count. In a run that goes on, a mistake there must not lose its reports: it is said at
-        once, and after the summary."""
+        """Reads what does not count. In a run that goes on, a mistake there must not lose its reports: what is wrong is
+        said at once, and after the summary what was not used."""
         for path in self.options.suppressions:
             self.read_rule(self.suppressions.read, path)
         if self.options.value("--baseline"):
@@ -97,6 +97,8 @@ class Report:
             text += "; the rest of the file was not used" if isinstance(error, Refused) else "; it was not used"
             self.fail(text)
             self.results.notes[text] = None
+            unused = f"the rest of {path}" if isinstance(error, Refused) else path
+            self.text.short[text] = f"{unused} was not used"
 
     def read_baseline(self, path: str) -> None:
         from .baseline import Baseline

@@ -19,7 +19,7 @@ Identity = Tuple[int, int]
 
 # mov $15, %rax; syscall: sigreturn.
 RETURN_FROM_HANDLER = b"\x48\xc7\xc0\x0f\0\0\0\x0f\x05"
-LONGEST_CALL = 7
+MAX_CALL_LENGTH = 7
 # How many bytes a call by a register or memory may have, without its prefix.
 INDIRECT_CALLS = (2, 3, 4, 6, 7)
 
@@ -81,8 +81,9 @@ class Module:
         if self.descriptor < 0:
             return True
         if in_file not in self.calls:
-            code = read_at(self.descriptor, max(in_file + 1 - LONGEST_CALL, 0), LONGEST_CALL + len(RETURN_FROM_HANDLER))
-            self.calls[in_file] = is_call(code[:LONGEST_CALL]) or code[LONGEST_CALL:] == RETURN_FROM_HANDLER
+            length = MAX_CALL_LENGTH + len(RETURN_FROM_HANDLER)
+            code = read_at(self.descriptor, max(in_file + 1 - MAX_CALL_LENGTH, 0), length)
+            self.calls[in_file] = is_call(code[:MAX_CALL_LENGTH]) or code[MAX_CALL_LENGTH:] == RETURN_FROM_HANDLER
         return self.calls[in_file]
 
     def close(self) -> None:
@@ -109,7 +110,7 @@ class Module:
         return f"/proc/self/fd/{GIVEN}"
 
 
-class Place(NamedTuple):
+class CodeAddress(NamedTuple):
     """An address in the code of a process: in a module, or as it was if it lies in none."""
 
     module: Optional[Module]
@@ -121,7 +122,7 @@ class Modules:
     """All modules that have places in a report."""
 
     # No more files than this are held at once.
-    MOST_HELD = 64
+    MAX_HELD = 64
 
     def __init__(self) -> None:
         self.by_key: Dict[Tuple[str, str, bool], Module] = {}
@@ -158,7 +159,7 @@ class Modules:
         return status.st_ino == mapping.inode and status.st_ctime_ns <= started
 
     def is_full(self) -> bool:
-        return self.held >= self.MOST_HELD
+        return self.held >= self.MAX_HELD
 
     def wanted(self) -> List[Module]:
         """Returns the modules that have addresses to look up."""

@@ -4,7 +4,7 @@ from __future__ import annotations
 
 import hashlib
 import signal
-from typing import Dict, Iterable, List, NamedTuple, Optional, Set, Tuple
+from typing import Dict, Iterable, List, NamedTuple, Optional, Tuple
 
 from .findings import Finding, Stack, Tally
 from .words import signal_name
@@ -226,6 +226,3 @@ class Results:
         return Totals(reports, places, suppressed, known, len(processes), sum(it.events for it in processes),
                       sum(not it.is_whole for it in processes), sum(it.is_abrupt for it in processes),
                       sum(len(run.troubles) for run in self.runs))
-
-    def runs_of(self, findings: Iterable[Finding]) -> Set[int]:
-        return {run for finding in findings for run in finding.runs}

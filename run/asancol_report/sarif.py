@@ -20,7 +20,7 @@ ROOT = "SRCROOT"
 # GitHub ranks by this: 7.0 to 8.9 is "high".
 SEVERITY = "8.0"
 # So many machines are named for a result.
-MOST_MACHINES = 100
+MAX_MACHINES = 100
 
 Part = Dict[str, Any]
 
@@ -75,7 +75,7 @@ def steps_of(finding: Finding) -> List[Tuple[str, Stack]]:
 def properties(finding: Finding, seen: Sightings) -> Part:
     made: Part = {"processes": finding.processes, "runs": seen.runs}
     if seen.machines:
-        made["machines"] = [whole_characters(name) for name in seen.machines[:MOST_MACHINES]]
+        made["machines"] = [whole_characters(name) for name in seen.machines[:MAX_MACHINES]]
         made["machineCount"] = len(seen.machines)
     return made
 

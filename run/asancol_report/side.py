@@ -27,11 +27,11 @@ ENTRY_BYTES = 4
 EVENT_LIMIT = 1 << 24
 FAULTS_AT = INDEX_AT + EVENT_LIMIT * ENTRY_BYTES
 FAULT = struct.Struct("<QQQQQQIIIIII120s")
-MOST_FAULTS = 1 << 16
-STACKS_AT = FAULTS_AT + MOST_FAULTS * FAULT.size
+MAX_FAULTS = 1 << 16
+STACKS_AT = FAULTS_AT + MAX_FAULTS * FAULT.size
 WORD = struct.Struct("<Q")
-MOST_STACK_WORDS = 1 << 22
-MOST_FRAMES = 32
+MAX_STACK_WORDS = 1 << 22
+MAX_FRAMES = 32
 
 # How a process ended, as it says itself; or it goes on in another segment.
 ENDING_NONE, ENDING_EXIT, ENDING_EXEC, ENDING_SIGNAL, ENDING_LOST, ENDING_SEGMENT = range(6)
@@ -101,8 +101,8 @@ class Side:
         fields = HEAD.unpack(head) if self.is_good else (b"",) + (0,) * 12
         _, self.events, self.left_out, self.ending, self.signal, self.process, self.parent = fields[:7]
         self.started, self.has_checks, self.is_at_limit, fault_count, stack_words, self.quarantine = fields[7:]
-        self.fault_count = min(fault_count, MOST_FAULTS)
-        self.stack_words = min(stack_words, MOST_STACK_WORDS)
+        self.fault_count = min(fault_count, MAX_FAULTS)
+        self.stack_words = min(stack_words, MAX_STACK_WORDS)
         progress = read_at(descriptor, PROGRESS_AT, PROGRESS.size) if self.is_good else b""
         _, before, self.restated = PROGRESS.unpack(progress) if len(progress) == PROGRESS.size else (0, 0, 0)
         self.segment = before + 1
@@ -214,7 +214,7 @@ class Side:
     def read_stack(self, number: int) -> Calls:
         if not 0 < number < self.stack_words:
             return ()
-        text = read_at(self.descriptor, STACKS_AT + number * WORD.size, (1 + MOST_FRAMES) * WORD.size)
+        text = read_at(self.descriptor, STACKS_AT + number * WORD.size, (1 + MAX_FRAMES) * WORD.size)
         words = [word for word, in WORD.iter_unpack(text[: len(text) // WORD.size * WORD.size])]
         count = words[0] if words else 0
-        return tuple(words[1:count + 1]) if count <= MOST_FRAMES else ()
+        return tuple(words[1:count + 1]) if count <= MAX_FRAMES else ()

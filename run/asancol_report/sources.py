@@ -10,10 +10,10 @@ from typing import Dict, List, Tuple
 from .reading import open_regular, read_at
 
 # Larger files, as some that programs make, are not looked at; nor more files at once than this.
-LARGEST_FILE = 16 << 20
-MOST_FILES = 256
+MAX_FILE_SIZE = 16 << 20
+MAX_FILES = 256
 # A line is cut here.
-LONGEST_LINE = 400
+MAX_LINE_LENGTH = 400
 # A word of C or C++. A destructor's name begins with a tilde.
 WORD = re.compile(r"~?[\w$]+")
 TEMPLATE = re.compile("<[^<>]*>")
@@ -31,7 +31,7 @@ class Sources:
         """Returns the lines of a file; none if it can't be read."""
         lines = self.files.get(path)
         if lines is None:
-            if len(self.files) >= MOST_FILES:
+            if len(self.files) >= MAX_FILES:
                 self.files.clear()
                 self.numbers.clear()
             lines = self.files[path] = self.read(os.path.join(self.root, path)) if path else []
@@ -44,11 +44,11 @@ class Sources:
         except (OSError, ValueError):
             return []
         try:
-            text = read_at(descriptor, 0, LARGEST_FILE + 1)
+            text = read_at(descriptor, 0, MAX_FILE_SIZE + 1)
         finally:
             os.close(descriptor)
         # Only a line feed ends a line, as compilers count.
-        return text.decode(errors="replace").removesuffix("\n").split("\n") if len(text) <= LARGEST_FILE else []
+        return text.decode(errors="replace").removesuffix("\n").split("\n") if len(text) <= MAX_FILE_SIZE else []
 
     def line(self, path: str, number: int) -> str:
         """Returns the text of a line, without the blanks around and between its words."""
@@ -84,13 +84,13 @@ class Sources:
         if not 0 < number <= len(lines):
             return []
         last = min(len(lines), number + distance)
-        return [(n, lines[n - 1].rstrip("\r").expandtabs(4)[:LONGEST_LINE])
+        return [(n, lines[n - 1].rstrip("\r").expandtabs(4)[:MAX_LINE_LENGTH])
                 for n in range(max(1, number - distance), last + 1)]
 
 
 def without_blanks(line: str) -> str:
     """Returns a line as it is compared: without the blanks around its words, and with one between them."""
-    return " ".join(line[:LONGEST_LINE].split())
+    return " ".join(line[:MAX_LINE_LENGTH].split())
 
 
 def short_name(function: str) -> str:

@@ -18,11 +18,11 @@ from .words import tidy
 LLVM = "llvm-symbolizer"
 NEWEST_LLVM, OLDEST_LLVM = 40, 11
 # Tools that run at once.
-MOST_TOOLS = 4
+MAX_TOOLS = 4
 # Seconds that one may take. Programs of gigabytes take many.
 PATIENCE = 300
 # A name or a file from the tool is cut here.
-LONGEST_WORD = 4096
+MAX_WORD_LENGTH = 4096
 # What compilers add to the name of a copy of a function, as in `f.constprop.0` and `f(int) [clone .cold]`.
 CLONE = re.compile(r"(?: \[clone [^]]*\]| \(\.[^)]*\)|\.(?:constprop|isra|part|cold|lto_priv|llvm)(?:\.\d+)*)+\Z")
 
@@ -57,8 +57,8 @@ def is_llvm(tool: str) -> bool:
 def name_of(function: object, file: object, line: object, column: object) -> Name:
     """Returns a name of what a tool has answered. What is missing there is empty or 0."""
     return Name(
-        CLONE.sub("", function[:LONGEST_WORD]) if isinstance(function, str) and function != "??" else "",
-        tidy(file[:LONGEST_WORD]) if isinstance(file, str) and file != "??" else "",
+        CLONE.sub("", function[:MAX_WORD_LENGTH]) if isinstance(function, str) and function != "??" else "",
+        tidy(file[:MAX_WORD_LENGTH]) if isinstance(file, str) and file != "??" else "",
         line if isinstance(line, int) and line > 0 else 0,
         column if isinstance(column, int) and column > 0 else 0,
     )
@@ -170,9 +170,9 @@ class Symbols:
 
     def batches(self, wanted: List[Module]) -> Iterator[List[Job]]:
         """Starts the tool for some modules at once. A module whose file has changed in place is left out."""
-        for first in range(0, len(wanted), MOST_TOOLS):
+        for first in range(0, len(wanted), MAX_TOOLS):
             jobs = []
-            for module in wanted[first:first + MOST_TOOLS]:
+            for module in wanted[first:first + MAX_TOOLS]:
                 if not module.is_same_still():
                     module.set_changed()
                     continue

@@ -2,7 +2,7 @@
 
 from __future__ import annotations
 
-from typing import Iterator, TextIO
+from typing import Dict, Iterator, TextIO
 
 from .findings import Finding, Frame, place_text, Stack
 from .results import Process, Results, Run
@@ -26,6 +26,7 @@ class Text:
         self.colors = colors
         self.root = root
         self.has_suppressions = has_suppressions  # print what suppresses each finding
+        self.short: Dict[str, str] = {}  # notes that were printed before, and how they are printed again
 
     def write(self, lines: Iterator[str]) -> None:
         self.out.write("".join(line + "\n" for line in lines))
@@ -94,7 +95,7 @@ class Text:
         if results.gone:
             yield f"asancol: {plural(results.gone, 'place')} of the baseline did not come up"
         for note in results.notes:
-            yield f"asancol: {printable(note)}"
+            yield f"asancol: {printable(self.short.get(note, note))}"
 
     def crash(self, process: Process) -> Iterator[str]:
         """Where a process was when a signal ended it. It is no report."""

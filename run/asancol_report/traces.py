@@ -9,18 +9,19 @@ from typing import BinaryIO, List, Optional
 
 from .errors import Broken, reason
 from .gather import Gatherer
+from .reading import open_regular, read_at
 from .results import Results, Run
 from .running import in_memory, start, wait
 from .segments import CLOSED, joined, limit_text, Seen, Segment
-from .side import ENDING_EXEC, ENDING_LOST, ENDING_SEGMENT, ENDING_SIGNAL, Side
+from .side import ENDING_EXEC, ENDING_LOST, ENDING_NONE, ENDING_SEGMENT, ENDING_SIGNAL, Side
 from .symbols import on_path
 from .verdicts import End
 
-NO_CLOSE, TOO_MANY = "no-close", "too-many"
+NO_CLOSE, TOO_MANY, NO_CODE = "no-close", "too-many", "malformed code"
 # What asancol answers if it has printed its verdicts.
 STATUSES_WITH_VERDICTS = (0, 1, 3)
 # How many bytes of freed blocks asancol holds if no option says otherwise.
-USUAL_QUARANTINE = 1 << 28
+DEFAULT_QUARANTINE = 1 << 28
 
 
 def find_asancol(beside: str) -> str:
@@ -55,7 +56,19 @@ def open_side(trace: str, results: Results) -> Optional[Side]:
     return side
 
 
-def why_not_whole(end: End, side: Optional[Side]) -> str:
+def goes_on_with_a_zero(trace: str, end: End) -> bool:
+    """Whether the byte after the checked events is a zero: room that the recorder made, and did not come to use."""
+    try:
+        descriptor = open_regular(trace)
+    except OSError:
+        return False
+    try:
+        return read_at(descriptor, end.offset, 1) == b"\0"
+    finally:
+        os.close(descriptor)
+
+
+def why_not_whole(trace: str, end: End, side: Optional[Side]) -> str:
     """Returns why a trace does not show all that its process did; empty if it does."""
     left_out = side.left_out if side else 0
     if left_out:
@@ -66,6 +79,8 @@ def why_not_whole(end: End, side: Optional[Side]) -> str:
         return "reached the event limit"
     if side and side.ending == ENDING_LOST:
         return "the recorder lost its trace"
+    if end.fate == NO_CODE and (side is None or side.ending == ENDING_NONE) and goes_on_with_a_zero(trace, end):
+        return "ended abruptly, as by SIGKILL or an _exit in a library, or still running"
     return f"its trace ends as {end.fate}"
 
 
@@ -129,7 +144,7 @@ class Traces:
             ended_by = side.signal if side and is_ended_otherwise(end, side) else 0
             parent, left_out, restated = (side.parent, side.left_out, side.restated) if side else (0, 0, 0)
             goes_on = side is not None and side.ending == ENDING_SEGMENT
-            why = why_not_whole(end, side)
+            why = why_not_whole(trace, end, side)
             return Seen(segment, pid, parent, tuple(command), end, why, left_out, restated, goes_on, ended_by)
         finally:
             if side is not None:
@@ -138,7 +153,7 @@ class Traces:
     def words_of(self, side: Optional[Side]) -> List[str]:
         """Returns the options of the checker. It holds as many bytes of freed blocks as the process has held."""
         held = side.quarantine if side else 0
-        if held in (0, USUAL_QUARANTINE) or "--quarantine" in self.options:
+        if held in (0, DEFAULT_QUARANTINE) or "--quarantine" in self.options:
             return self.options
         return [*self.options, "--quarantine", str(held)]
 

@@ -23,12 +23,12 @@ REPORT = re.compile(
     rb"(?: bad ([0-9a-f]{1,16}))? (" + b"|".join(word.encode() for word in CLASSES) + rb")(?: shadow ([0-9a-f]{2}))?"
 )
 END = re.compile(
-    rb"p\d{1,9} end ([a-z -]+?)(?: (?:events|checked) (\d{1,20}))?(?: offset \d{1,20})?(?: reports (\d{1,20}))?"
+    rb"p\d{1,9} end ([a-z -]+?)(?: (?:events|checked) (\d{1,20}))?(?: offset (\d{1,20}))?(?: reports (\d{1,20}))?"
 )
 
 # Lines are read in pieces of so many bytes, and no line is longer than this.
 PIECE = 1 << 20
-LONGEST_LINE = 1 << 12
+MAX_LINE_LENGTH = 1 << 12
 
 
 class Report(NamedTuple):
@@ -49,6 +49,7 @@ class End(NamedTuple):
     fate: str
     events: int
     reports: int
+    offset: int = 0  # where the bytes of these events end
 
 
 # A fault, and the kind, width and class of a line.
@@ -76,7 +77,7 @@ def lines_of(descriptor: int) -> Iterator[List[bytes]]:
             piece = b""
         offset += len(piece)
         lines = (rest + piece).split(b"\n")
-        rest = lines.pop()[:LONGEST_LINE]
+        rest = lines.pop()[:MAX_LINE_LENGTH]
         if not piece:
             yield [*lines, rest] if rest else lines
             return
@@ -126,4 +127,4 @@ class Verdicts:
         if found is None:
             self.strange += 1
         else:
-            self.end = End(found[1].decode(), int(found[2] or 0), int(found[3] or 0))
+            self.end = End(found[1].decode(), int(found[2] or 0), int(found[4] or 0), int(found[3] or 0))

@@ -27,6 +27,7 @@ sys.path.insert(0, TESTS)
 import browser  # noqa: E402
 import cuts  # noqa: E402
 import fingerprints  # noqa: E402
+import layout  # noqa: E402
 import machines  # noqa: E402
 import sides  # noqa: E402
 from sides import build, fault, Feed, of_program, Program, report, side, write_trace  # noqa: E402
@@ -110,6 +111,26 @@ def trace_ends(folder: str) -> None:
         ran = report(folder, "--trace", "d.trace")
         expect(ran.status, status, fate + ran.text)
         expect_in(ran.text, text)
+
+
+def trace_of_a_killed_process(folder: str) -> None:
+    """After its last record there are zeros. Another code there, or an end that is known, is a damaged trace."""
+    abrupt = "ended abruptly, as by SIGKILL or an _exit in a library, or still running"
+    damaged = "its trace ends as malformed code"
+    for parts, rest, why in (
+        (side(ending=0), bytes(4000), abrupt), (side(ending=0), b"\0\0\1", abrupt), (None, bytes(4000), abrupt),
+        (side(ending=0), b"\x09", damaged), (side(ending=0), b"", damaged), (side(ending=1), bytes(4000), damaged),
+        (None, b"\x09", damaged), (side(ending=4), bytes(4000), "the recorder lost its trace"),
+    ):
+        trace = write_trace(folder, "7.trace", "p0 end malformed code events 9 offset 99 reports 0\n", parts)
+        with open(trace, "wb") as file:
+            file.write(b"\1" * 99 + rest)
+        ran = report(folder, "--trace", "7.trace")
+        expect(ran.status, 3, ran.text)
+        expect_in(ran.text, f": NOT SEEN WHOLE: {why}\n")
+        for name in os.listdir(folder):
+            if name.startswith("7.trace"):
+                os.remove(f"{folder}/{name}")
 
 
 def trace_has_failures(folder: str) -> None:
@@ -295,7 +316,7 @@ def run_gets_signals(folder: str) -> None:
 
 
 def run_has_bad_rules(folder: str) -> None:
-    """A mistake there is said at once and after the summary, and what can be used of the files is used."""
+    """What is wrong there is said at once, and after the summary what was not used. What can be used is."""
     feed = Feed(folder, "--json", "known.jsonl")
     feed.begin()
     feed.process(0, FREED + END)
@@ -318,7 +339,25 @@ def run_has_bad_rules(folder: str) -> None:
     ]
     expect(ran.errors, "".join(f"asancol-report: {line}\n" for line in lines), "at once")
     summary = ran.text.partition("asancol: 1 report at 1 place, 1 place known from the baseline")[2]
-    expect_in(summary, *(f"\nasancol: {line}\n" for line in lines), "nothing: double-free:x", "nothing: bad-free:y")
+    expect_in(summary, "\nasancol: the rest of first was not used\n", "\nasancol: none was not used\n",
+              "nothing: double-free:x", "nothing: bad-free:y")
+    expect_not_in(ran.text, *lines)
+
+
+def run_has_a_bad_baseline(folder: str) -> None:
+    """Its line is named once, in the text and in the result."""
+    with open(f"{folder}/known.jsonl", "w", encoding="utf-8") as file:
+        file.write('{"type":"note","text":"x"}\nnonsense\n')
+    feed = Feed(folder, "--baseline", "known.jsonl", "--json", "out.jsonl")
+    feed.begin()
+    feed.process(0, FREED + END)
+    ran = feed.end()
+    line = "known.jsonl:2: not a result of asancol-report --json; it was not used"
+    expect((ran.status, ran.errors), (4, f"asancol-report: {line}\n"), "at once")
+    expect_in(ran.text, "; all seen whole\nasancol: known.jsonl was not used\n")
+    expect_not_in(ran.text, "not a result")
+    with open(f"{folder}/out.jsonl", encoding="utf-8") as file:
+        expect([it["text"] for it in map(json.loads, file) if it["type"] == "note"], [line], "the result")
 
 
 def run_has_nested(folder: str) -> None:
@@ -856,13 +895,14 @@ def completions_are_whole(folder: str) -> None:
 
 
 ALL: List[Callable[[str], None]] = [
-    trace_has_lines, trace_without_side_file, trace_ends, trace_has_failures, variables, run_is_fed, run_ends,
-    run_takes_anything, run_gets_signals, run_has_bad_rules, run_has_nested, live, command_fails, program_has_changed,
-    program_without_build_id, program_is_gone_at_the_end, symbolizer_fails, cpp_names, copies_have_the_name,
+    trace_has_lines, trace_without_side_file, trace_ends, trace_of_a_killed_process, trace_has_failures, variables,
+    run_is_fed, run_ends, run_takes_anything, run_gets_signals, run_has_bad_rules, run_has_a_bad_baseline,
+    run_has_nested, live, command_fails, program_has_changed, program_without_build_id, program_is_gone_at_the_end,
+    symbolizer_fails, cpp_names, copies_have_the_name,
     results_are_read_again, runs_are_merged, bad_results, suppressions, baseline, sarif, sarif_has_its_schema, junit,
     code_quality, page_is_safe, page_works, outputs_are_whole, stacks_have_callers, side_memory_lies, lines_are_no_lines,
     text_does_nothing_to_a_terminal, words_are_refused, completions_are_whole, *fingerprints.TESTS, *cuts.TESTS,
-    *machines.TESTS,
+    *machines.TESTS, *layout.TESTS,
 ]
 
 

@@ -17,7 +17,7 @@ from support import PATIENCE, TESTS, TOP, Failure, Suite, expect, expect_in, wai
 EXAMPLES = f"{TOP}/examples/service"
 SERVE = f"{EXAMPLES}/serve.py"
 # How much `systemd-analyze security` may find, from 0 to 10.
-MOST_EXPOSED = 0.4
+MAX_EXPOSED = 0.4
 HEADER = b"ASTR\2\0\0\0"
 
 
@@ -240,7 +240,7 @@ def check_page(suite: Suite, folder: str) -> None:
     for name in ("systemd.sh", "group.sh", "serve.sh"):
         commands = re.sub(r"^#.*\n", "", text_of(f"{EXAMPLES}/{name}"))
         expect_in(page, f"```sh\n{commands}```\n")
-    expect_in(page, f"says {MOST_EXPOSED}, where")
+    expect_in(page, f"says {MAX_EXPOSED}, where")
 
 
 def check_soak(suite: Suite, folder: str) -> None:
@@ -307,7 +307,7 @@ def check_units(suite: Suite, folder: str) -> None:
     expect(len(names), 3, "units")
     ran = suite.run_words(["systemd-analyze", "verify", "--man=no", *names])
     expect((ran.status, ran.out, ran.err), (0, "", ""), "verify")
-    threshold = f"--threshold={MOST_EXPOSED * 10:.0f}"
+    threshold = f"--threshold={MAX_EXPOSED * 10:.0f}"
     ran = suite.run_words(["systemd-analyze", "security", "--offline=yes", "--no-pager", threshold,
                            f"{units}/asancol@.service"])
     if ran.status != 0:

@@ -42,7 +42,7 @@ END = re.compile(r"^p0 end ([a-z-]+(?: [a-z]+)?) (?:events|checked) (\d+).* repo
 PATIENCE = 120
 SAMPLES_PER_MINUTE = 12
 # What a line through the samples may grow from the first to the last, in KB: Python's own memory goes up and down.
-MOST_GROWTH = 512
+MAX_GROWTH = 512
 # The fit begins after so much of the time: what is imported and allocated once is no growth.
 WARM = 0.1
 
@@ -396,7 +396,7 @@ class Soak:
         warm = [it for it in self.samples if it.seconds >= WARM * self.samples[-1].seconds]
         slope = slope_of([(it.seconds / 3600, it.kilobytes) for it in warm])
         growth = slope * (warm[-1].seconds - warm[0].seconds) / 3600
-        if growth > MOST_GROWTH:
+        if growth > MAX_GROWTH:
             self.failures.append(f"memory grows by {growth:.0f} KB")
         of, last = self.counts, self.samples[-1]
         print(f"seed {self.seed}, {last.seconds / 60:.1f} minutes: {of['processes']} processes, of which "

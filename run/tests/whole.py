@@ -180,6 +180,16 @@ def check_kept(suite: Suite, folder: str) -> None:
     expect((ran.status, [it in ran.out for it in (PAST, "in store_past", "3 times")]), (1, [True] * 3), ran.out)
 
 
+def check_killed_in_a_file(suite: Suite, folder: str) -> None:
+    """A trace in a file whose process was killed reads as such, and not as a damaged one."""
+    why = "NOT SEEN WHOLE: ended abruptly, as by SIGKILL or an _exit in a library, or still running\n"
+    for where in ("0", "1"):
+        trace = f"{folder}/{where}.trace"
+        suite.run_words([suite.program, "kills_itself", "9"], ASANCOL_TRACE=trace, ASANCOL_WHERE=where)
+        ran = suite.run_words([REPORT, "--trace", trace])
+        expect((ran.status, why in ran.out), (3, True), ran.out)
+
+
 def check_file_instead(suite: Suite, folder: str) -> None:
     line = f"rm $ASANCOL_HUB; exec unshare -rn {suite.program} past"
     expect_ran(run_real(suite, "--", "sh", "-c", line), 99, PAST, "in store_past", "allocated at")
@@ -247,7 +257,7 @@ def tests(suite: Suite) -> None:
         ("suppressions", check_suppressed), ("variables", check_variables),
         ("baseline", check_baseline), ("outputs", check_outputs), ("nested", check_nested), ("kept", check_kept),
         ("folder removed", check_folder_removed), ("crash", check_crash),
-        ("bad rules", check_bad_rules),
+        ("bad rules", check_bad_rules), ("killed in a file", check_killed_in_a_file),
         ("live", check_live), ("without Python", check_without_python), ("many", check_many),
         ("first steps", check_first_steps),
     ):

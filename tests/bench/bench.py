@@ -139,8 +139,7 @@ def machine() -> str:
     name = platform.machine()
     with open("/proc/cpuinfo", encoding="utf-8") as file:
         found = re.search(r"model name\s*: (.*)", file.read())
-    load = os.getloadavg()[0]
-    return f"{found[1] if found else name}, {os.cpu_count()} processors, load {load:.1f}"
+    return f"{found[1] if found else name}, {os.cpu_count()} processors"
 
 
 def replace_tables(page: str, tables: List[str]) -> None:

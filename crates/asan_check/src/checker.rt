@@ -2,7 +2,7 @@
 ghost use Rattle.std.specs.Prelude.{◌≡◌, ℕ, ◌+◌, ◌<◌, ◌≤◌, ◌^◌, ◌↔◌, List, [], ◌∷◌, ◌++◌, IfOk};
 ghost use Rattle.std.specs.Prelude.{IsErr, IsTrue, IsSome, OnOk, OnErr, true, false};
 ghost use Rattle.std.specs.Prelude.{not, length, take, reverse, None, Some, option_to_list};
-ghost use Rattle.std.specs.Prelude.{MatchOption};
+ghost use Rattle.std.specs.Prelude.{MatchOption, slice_get};
 ghost use Rattle.asan_units.specs.Units.{address_end, largest_quarantine};
 ghost use Rattle.trace_record.specs.declared.event.Event.{Event as AnEvent};
 ghost use Rattle.trace_record.specs.declared.event.Event.TheVariants as event;
@@ -14,13 +14,14 @@ ghost use Rattle.shadow_map.specs.States.{bad_byte_of};
 ghost use Rattle.asan_check.specs.History.{marks};
 ghost use Rattle.asan_check.specs.Verdicts.{verdict, fault_of, access_fault, malloc_fault};
 ghost use Rattle.asan_check.specs.Verdicts.{free_fault, marks_none};
+ghost use Rattle.asan_check.specs.Thinning.{is_access};
 
 use crate::NoMemory;
 use crate::codes::{FREED, class_by, poison_code};
 use crate::fetched::Fetched;
 use crate::report::{Fault, Report};
 use asan_units::{GRANULE, REDZONE};
-use heap_book::{Admit, Block, Book, Bound, Freed};
+use heap_book::{Admit, Block, Book, Bound, Freed, MAX_FETCHED};
 use shadow_map::{HEAP_REDZONE, Shadow, ShadowReader};
 use std::alloc::{Allocator, Global};
 use thiserror::Error;
@@ -62,7 +63,6 @@ impl<A: Allocator + Copy> Checker<A> {
     ghost use Rattle.asan_check.specs.Standing.{AreQuiet};
     ghost use Rattle.asan_check.specs.Standing.{has_failed, checked_of, reports_of, bound_of};
     ghost use Rattle.asan_check.specs.Standing.{report_room, StopsForAReason};
-    ghost use Rattle.asan_check.specs.Thinning.{is_access};
 
     /// A checker that has checked no event, and whose quarantine holds spans of at most `bound`
     /// bytes together. Takes no memory.
@@ -122,43 +122,52 @@ impl<A: Allocator + Copy> Checker<A> {
         if self.failed {
             return Err(Failed);
         }
-        // A reader gains nothing for one event.
-        let report = match self.check(event) {
-            Ok(report) => report,
+        let before = self.reports.len();
+        match self.check(event) {
+            Ok(()) => {}
             Err(NoMemory) => {
                 self.failed = true;
                 return Err(Failed);
             }
-        };
+        }
         self.checked += 1;
-        Ok(report)
+        Ok(self.report_after(before))
     }
 
-    /// Reads what the checker keeps of the blocks of the events to come, and the shadow of the
-    /// first load or store between two of them, so that the processor has it at hand when they are
-    /// stepped. Changes nothing.
+    /// The report after so many others, if there is one.
+    #[inline]
+    fn report_after(&self, before: usize) -> Option<Report>
+        ensures { result ≡ slice_get (reports_of self.now) before }
+    {
+        let report = self.reports.get(before);
+        report.copied()
+    }
+
+    /// Reads what the checker keeps of the blocks that the events to come free or let go, and the
+    /// shadow of the first load or store between two mallocs or frees, so that the processor has it
+    /// at hand when they are stepped. Changes nothing.
     #[inline(never)]
     pub fn fetch(&mut self, events: &[Event])
         ensures { self.new ≡ self.old }
     {
-        let mut frees = 0;
+        let mut frees = [0; MAX_FETCHED];
+        let mut count = 0;
         let mut first = None;
         for event in events {
             match event {
                 Event::Load(access) | Event::Store(access) => first = first.or(Some(access.at())),
-                Event::Malloc(region) => {
-                    self.book.fetch(region.at());
-                    self.fetch_shadow(first.take());
-                }
+                Event::Malloc(_) => self.fetch_shadow(first.take()),
                 Event::Free(place) => {
-                    self.book.fetch(place.at());
-                    self.book.fetch_held(frees);
-                    frees += 1;
+                    if count < MAX_FETCHED {
+                        frees[count] = place.at();
+                        count += 1;
+                    }
                     self.fetch_shadow(first.take());
                 }
                 _ => {}
             }
         }
+        self.book.fetch(&frees[..count]);
     }
 
     /// Reads the shadow byte of an address.
@@ -174,7 +183,7 @@ impl<A: Allocator + Copy> Checker<A> {
     /// Checks the loads and stores without a bad byte that the events begin with, as
     /// [`step`](Checker::step) would, and answers how many they are. Once a step has failed, it
     /// checks none. With those checked before, the events are fewer than 2^64.
-    #[inline(never)]
+    #[inline]
     pub fn pass(&mut self, events: &[Event]) -> usize
         requires room { checked_of self.old + length events.now < 2 ^ 64 }
         ensures most { result ≤ length events.now }
@@ -187,12 +196,11 @@ impl<A: Allocator + Copy> Checker<A> {
         ensures stops { (bound : ℕ) (past : List AnEvent) → Stands bound self.old past →
             StopsForAReason bound past events.now result }
     {
-        if self.failed {
-            return 0;
+        if begin_with_access(events) {
+            self.pass_row(events)
+        } else {
+            0
         }
-        let count = self.count_good(events);
-        self.checked += count as u64;
-        count
     }
 
     /// How many events it has checked: those that were stepped without `Failed`.
@@ -248,6 +256,28 @@ impl<A: Allocator + Copy> Checker<A> {
         } else {
             Some(&self.shadow)
         }
+    }
+
+    /// Does what [`pass`](Checker::pass) does, whatever the first event is.
+    #[inline(never)]
+    fn pass_row(&mut self, events: &[Event]) -> usize
+        requires room { checked_of self.old + length events.now < 2 ^ 64 }
+        ensures most { result ≤ length events.now }
+        ensures stands { (bound : ℕ) (past : List AnEvent) → Stands bound self.old past →
+            Stands bound self.new (reverse (take result events.now) ++ past) }
+        ensures stays { has_failed self.old ≡ true → (result ≡ 0) × (self.new ≡ self.old) }
+        ensures count { checked_of self.new ≡ checked_of self.old + result }
+        ensures kept { reports_of self.new ≡ reports_of self.old }
+        ensures bound { bound_of self.new ≡ bound_of self.old }
+        ensures stops { (bound : ℕ) (past : List AnEvent) → Stands bound self.old past →
+            StopsForAReason bound past events.now result }
+    {
+        if self.failed {
+            return 0;
+        }
+        let count = self.count_good(events);
+        self.checked += count as u64;
+        count
     }
 
     /// How many loads and stores that aren't bad the events begin with. They change nothing.
@@ -329,12 +359,12 @@ impl<A: Allocator + Copy> Checker<A> {
 
     /// Applies an event, and keeps the report on it if it is a bad one.
     #[inline(never)]
-    fn check(&mut self, event: &Event) -> Result<Option<Report>, NoMemory>
+    fn check(&mut self, event: &Event) -> Result<(), NoMemory>
         requires room { checked_of self.old + 1 < 2 ^ 64 }
-        ensures ok { IfOk result (λ report. (bound : ℕ) (past : List AnEvent) →
-            Stands bound self.old past →
-            (report ≡ verdict bound past event.now) × ShowsHistory bound self.new (event.now ∷ past)
-            × (reports_of self.new ≡ reports_of self.old ++ option_to_list report)) }
+        ensures ok { OnOk result ((bound : ℕ) (past : List AnEvent) → Stands bound self.old past →
+            ShowsHistory bound self.new (event.now ∷ past)
+            × (reports_of self.new
+            ≡ reports_of self.old ++ option_to_list (verdict bound past event.now))) }
         ensures err { OnErr result (reports_of self.new ≡ reports_of self.old) }
         ensures spared { OnErr result ((bound : ℕ) (past : List AnEvent) →
             Stands bound self.old past →
@@ -348,14 +378,14 @@ impl<A: Allocator + Copy> Checker<A> {
             × (bound_of self.new ≡ bound_of self.old) }
     {
         let Some(fault) = self.apply(event)? else {
-            return Ok(None);
+            return Ok(());
         };
         let report = Report {
             number: self.checked + 1,
             fault,
         };
         self.reports.push(report)?;
-        Ok(Some(report))
+        Ok(())
     }
 
     /// Applies an event to the blocks and to the shadow, and answers what is wrong with it.
@@ -485,4 +515,24 @@ impl<A: Allocator + Copy> Checker<A> {
         }
         Ok(())
     }
+}
+
+/// Whether the first of some events is a load or a store.
+#[inline]
+fn begin_with_access(events: &[Event]) -> bool
+    ensures { result ≡ false → (first : AnEvent) (others : List AnEvent) →
+        events.now ≡ first ∷ others → is_access first ≡ false }
+{
+    match events.first() {
+        Some(event) => is_access(event),
+        None => false,
+    }
+}
+
+/// Whether an event is a load or a store.
+#[inline]
+fn is_access(event: &Event) -> bool
+    ensures { result ≡ is_access event.now }
+{
+    matches!(event, Event::Load(_) | Event::Store(_))
 }

@@ -11,7 +11,7 @@ mod report;
 
 pub use checker::{Checker, Failed};
 pub use ending::Ending;
-pub use heap_book::Bound;
+pub use heap_book::{Bound, MAX_FETCHED};
 pub use laws::{
     accesses_leave_no_trace, an_access_twice_gives_its_fault_twice,
     blocks_meet_where_spans_share_a_byte, each_event_has_its_verdict,
@@ -21,6 +21,6 @@ pub use laws::{
     thinned_events_invent_nothing, thinned_events_lose_nothing_bad, thinning_invents_nothing,
     thinning_loses_nothing_bad, use_after_free_is_reported,
 };
-pub use lines::{end_text, report_text};
+pub use lines::{end_text, ending_text, report_text};
 pub use report::{Class, Fault, Report};
 pub use std::alloc::AllocError as NoMemory;

@@ -5,8 +5,8 @@ mod pieces;
 ghost use Rattle.std.specs.Prelude.{◌≡◌, ◌+◌, ◌<◌, ◌≤◌, ◌++◌, length, OnErr, OnOk, string_bytes};
 ghost use Rattle.std.specs.Prelude.{string_capacity, string_len};
 ghost use Rattle.asan_check.specs.Appending.{AppendsPiece};
-ghost use Rattle.asan_check.specs.Lines.{end_line, ending_text, fate_text, fault_text};
-ghost use Rattle.asan_check.specs.Lines.{longest_line, report_line};
+ghost use Rattle.asan_check.specs.Lines.{end_line, ending_text as text_of_ending, fate_text};
+ghost use Rattle.asan_check.specs.Lines.{fault_text, longest_line, report_line};
 
 use crate::{Ending, Fault, NoMemory, Report};
 use pieces::{
@@ -63,6 +63,29 @@ pub fn end_text<A: Allocator>(
 {
     let before = text.len();
     let answer = push_end(process, ending, text);
+    if answer.is_err() {
+        text.truncate(before);
+    }
+    answer
+}
+
+/// Appends what became of a process: what its line has after `end`.
+///
+/// The text grows where it lacks room for it. Where a growth is refused, the answer is `NoMemory`
+/// and the text has the bytes that it had.
+pub fn ending_text<A: Allocator>(ending: &Ending, text: &mut String<A>) -> Result<(), NoMemory>
+    ensures ok { OnOk result
+        (string_bytes text.new ≡ string_bytes text.old ++ text_of_ending ending.now) }
+    ensures err { OnErr result (string_bytes text.new ≡ string_bytes text.old) }
+
+    // A text that has room for it is not refused, and none loses room.
+    ensures full { OnErr result
+        (string_capacity text.old < string_len text.old + length (text_of_ending ending.now)) }
+    ensures short { OnOk result (length (text_of_ending ending.now) ≤ longest_line) }
+    ensures capacity { string_capacity text.old ≤ string_capacity text.new }
+{
+    let before = text.len();
+    let answer = push_ending(ending, text);
     if answer.is_err() {
         text.truncate(before);
     }
@@ -137,8 +160,8 @@ fn push_end<A: Allocator>(
 
 /// Appends what stands after `end`.
 fn push_ending<A: Allocator>(ending: &Ending, text: &mut String<A>) -> Result<(), NoMemory>
-    ensures appends { AppendsPiece (ending_text ending.now) text.old text.new result }
-    ensures short { OnOk result (length (ending_text ending.now) ≤ 110) }
+    ensures appends { AppendsPiece (text_of_ending ending.now) text.old text.new result }
+    ensures short { OnOk result (length (text_of_ending ending.now) ≤ 110) }
 {
     match *ending {
         Ending::Ran { end, reports } => {

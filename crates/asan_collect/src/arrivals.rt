@@ -6,7 +6,7 @@ ghost use Rattle.asan_collect.specs.Rooms.{AreEmptyRooms};
 
 use crate::NoMemory;
 use crate::rooms::Rooms;
-use asan_senders::{MOST_SENDERS, ask};
+use asan_senders::{MAX_SENDERS, ask};
 use asan_stream::Options;
 use std::alloc::Allocator;
 use trace_feed::{Arrival, Door};
@@ -30,7 +30,7 @@ where
     ensures room { IfOk result (λ both. AreEmptyRooms both.1) }
     ensures unasked { OnErr result (door.new ≡ door.old) }
 {
-    let room = Vec::with_capacity(alloc, MOST_SENDERS)?;
+    let room = Vec::with_capacity(alloc, MAX_SENDERS)?;
     let rooms = Rooms::new(alloc, options)?;
     Ok((ask(door, room), rooms))
 }

@@ -1,8 +1,8 @@
-//! The checkers that are at work.
+//! The workers that are at work.
 
 use std::sync::atomic::{AtomicU64, Ordering};
 
-/// How many checkers are at work on threads of their own. It only says how long it is worth to look
+/// How many workers are at work on threads of their own. It only says how long it is worth to look
 /// for reports: no contract rests on it.
 #[derive(Drop)]
 pub(crate) struct AtWork {
@@ -10,19 +10,19 @@ pub(crate) struct AtWork {
 }
 
 impl AtWork {
-    /// No checker is at work.
+    /// No worker is at work.
     pub fn new() -> AtWork {
         AtWork {
             count: AtomicU64::new(0),
         }
     }
 
-    /// One more checker is at work.
+    /// One more worker is at work.
     pub fn begin(&self) {
         self.count.fetch_add(1, Ordering::SeqCst);
     }
 
-    /// A checker that was at work has ended, or was not started.
+    /// A worker that was at work has ended, or was not started.
     pub fn end(&self) {
         self.count.fetch_sub(1, Ordering::SeqCst);
     }

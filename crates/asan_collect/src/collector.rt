@@ -10,8 +10,8 @@ ghost use Rattle.asan_senders.specs.Ranges.{most_senders};
 use crate::NoMemory;
 use crate::arrivals::let_in;
 use crate::rooms::Rooms;
-use crate::threads::{Returned, run_all};
-use asan_senders::{Seats, check_alone, only_feed, open_all, place_all, settle_all};
+use crate::threads::{Work, run_all};
+use asan_senders::{Heaps, Seats, check_alone, only_feed, open_all, place_all, settle_all};
 use asan_stream::{Gate, OpenGate, Options, Outcome};
 use std::alloc::Allocator;
 use std::sync::Wait;
@@ -19,12 +19,25 @@ use std::thread::Threads;
 use std::time::Clock;
 use trace_feed::{Arrival, Door, Feed};
 
+/// What a collection runs with.
+#[derive(Drop)]
+pub struct Collector<'a, R, G, A: Allocator + Copy> {
+    /// Where its threads run.
+    pub rt: &'a R,
+    /// What is called after each event that was checked.
+    pub gate: &'a G,
+    /// Where its parts take their memory. If the allocator of one checker refuses a growth, that
+    /// sender alone ends as `NoMemory`. Reports stay in the memory of their checker.
+    pub heaps: Heaps<'a, A>,
+    pub options: Options,
+}
+
 /// Asks the door until it is over or has given 256 other answers, and then reads and checks the
 /// feeds that came, all at the same time: each feed is read on a thread of its own, and there are
-/// `workers` checkers. Sender i is checked by the checker i mod `workers`; the first one works on
-/// the calling thread, and each other that has a sender on a thread of its own. What a reader puts
-/// reaches its checker through a lane of `ring` items. The lists, the lanes and the checkers take
-/// their memory from `alloc`.
+/// `workers` workers. Sender i is checked by worker i mod `workers`; worker 0 works on the calling
+/// thread, and each other that has a sender on its own thread. What a reader puts reaches its
+/// worker through a lane of `ring` items. The lists, the lanes and the checkers take their memory
+/// from `alloc`.
 ///
 /// The outcomes stand in the order of the answers: `NotOpened` for each sender that the door
 /// refused, `NotStarted` where a thread or a lane was missing, `Unsettled` where the bench or the
@@ -56,132 +69,113 @@ where
         (D.seen door.old) (D.seen door.new) outcomes.items) }
     ensures unasked { OnErr result (door.new ≡ door.old) }
 {
-    collect_within(rt, alloc, &[], door, gate, options)
+    let collector = Collector {
+        rt,
+        gate,
+        heaps: Heaps::all_from(alloc),
+        options,
+    };
+    collector.collect(door)
 }
 
-/// Does what [`collect`] does, with an allocator of its own for each sender's checker: the checker
-/// of sender i takes its memory from `own[i]`, where there is one, and else from `alloc`, as the
-/// lists and the lanes do. So where that allocator refuses a growth, this sender alone ends as
-/// `NoMemory`.
-///
-/// Its reports stay in the memory of its checker. No contract says which allocator was asked: tests
-/// show it.
-///
-/// # Errors
-///
-/// `NoMemory` where there was no room for the lists of 256 senders. The door was not asked then.
-pub fn collect_within<
-    D: Door,
+impl<R, G, A> Collector<'_, R, G, A>
+where
+    R: Threads + Wait + Clock + Sync,
     G: Gate + Sync,
     A: Allocator + Copy + Send,
-    R: Threads + Wait + Clock + Sync,
->(
-    rt: &R,
-    alloc: A,
-    own: &[A],
-    door: &mut D,
-    gate: &G,
-    options: Options,
-) -> Result<Vec<Outcome<D::Feed, A>, A>, NoMemory>
-where
-    D::Feed: Send + Drop,
-    requires { (D.seen door.old).refusals ≤ 2 ^ 32 }
-    ensures collected { IfOk result (λ outcomes. AreCollected D.Feed.seen options
-        (D.seen door.old) (D.seen door.new) outcomes.items) }
-    ensures unasked { OnErr result (door.new ≡ door.old) }
 {
-    let (arrivals, rooms) = let_in(alloc, door, options)?;
-    Ok(check_all(rt, alloc, own, gate, options, arrivals, rooms))
-}
+    /// Does what [`collect`](crate::collect) does.
+    ///
+    /// # Errors
+    ///
+    /// `NoMemory` where there was no room for the lists of 256 senders. The door was not asked
+    /// then.
+    pub fn collect<D: Door>(&self, door: &mut D) -> Result<Vec<Outcome<D::Feed, A>, A>, NoMemory>
+    where
+        D::Feed: Send + Drop,
+        requires { (D.seen door.old).refusals ≤ 2 ^ 32 }
+        ensures collected { IfOk result (λ outcomes. AreCollected D.Feed.seen self.now.options
+            (D.seen door.old) (D.seen door.new) outcomes.items) }
+        ensures unasked { OnErr result (door.new ≡ door.old) }
+    {
+        let (arrivals, rooms) = let_in(self.heaps.shared, door, self.options)?;
+        Ok(self.check_all(arrivals, rooms))
+    }
 
-/// Does what [`collect_within`] does with an open gate. Where one sender came and no other, it is
-/// read and checked on the calling thread, and no thread is started.
-///
-/// No contract says on which thread a feed is read: tests show it.
-///
-/// # Errors
-///
-/// `NoMemory` where there was no room for the lists of 256 senders. The door was not asked then.
-pub fn collect_openly<D: Door, A: Allocator + Copy + Send, R: Threads + Wait + Clock + Sync>(
-    rt: &R,
-    alloc: A,
-    own: &[A],
-    door: &mut D,
-    options: Options,
-) -> Result<Vec<Outcome<D::Feed, A>, A>, NoMemory>
-where
-    D::Feed: Send + Drop,
-    requires { (D.seen door.old).refusals ≤ 2 ^ 32 }
-    ensures collected { IfOk result (λ outcomes. AreCollected D.Feed.seen options
-        (D.seen door.old) (D.seen door.new) outcomes.items) }
-    ensures unasked { OnErr result (door.new ≡ door.old) }
-{
-    let (arrivals, rooms) = let_in(alloc, door, options)?;
-    Ok(check_openly(rt, alloc, own, options, arrivals, rooms))
-}
-
-/// What became of these senders, in order: of the only one on the calling thread, and of any others
-/// over threads.
-fn check_openly<
-    F: Feed + Send + Drop,
-    A: Allocator + Copy + Send,
-    R: Threads + Wait + Clock + Sync,
->(
-    rt: &R,
-    alloc: A,
-    own: &[A],
-    options: Options,
-    arrivals: Vec<Arrival<F>, A>,
-    rooms: Rooms<F, A>,
-) -> Vec<Outcome<F, A>, A>
-    requires arrived { All (IsArrived F.seen) arrivals.items }
-    requires few { length arrivals.items ≤ most_senders }
-    requires room { AreEmptyRooms rooms }
-    ensures { Pairwise (IsAnswerTo F.seen options) arrivals.items result.items }
-{
-    match only_feed(arrivals) {
-        Ok(feed) => {
-            let of_checker = own.first().copied().unwrap_or(alloc);
-            check_alone(of_checker, feed, options, rooms.outcomes)
-        }
-        Err(arrivals) => check_all(rt, alloc, own, &OpenGate, options, arrivals, rooms),
+    /// What became of these senders, in order, which are read and checked over threads.
+    fn check_all<F: Feed + Send + Drop>(
+        &self,
+        arrivals: Vec<Arrival<F>, A>,
+        rooms: Rooms<F, A>,
+    ) -> Vec<Outcome<F, A>, A>
+        requires arrived { All (IsArrived F.seen) arrivals.items }
+        requires few { length arrivals.items ≤ most_senders }
+        requires room { AreEmptyRooms rooms }
+        ensures { Pairwise (IsAnswerTo F.seen self.now.options) arrivals.items result.items }
+    {
+        let Rooms {
+            seats,
+            workers,
+            outcomes,
+        } = rooms;
+        let opened = open_all(&self.heaps, arrivals, seats, self.options, false);
+        let Seats {
+            senders,
+            shares,
+            ports: _,
+        } = opened;
+        let back = run_all(self, Work { senders, shares }, workers);
+        let Work { senders, shares } = back;
+        let mut senders = senders;
+        place_all(&mut senders, shares, self.options.quarantine);
+        settle_all(senders, outcomes)
     }
 }
 
-/// What became of these senders, in order, which are read and checked over threads.
-fn check_all<
-    F: Feed + Send + Drop,
-    G: Gate + Sync,
-    A: Allocator + Copy + Send,
+impl<R, A> Collector<'_, R, OpenGate, A>
+where
     R: Threads + Wait + Clock + Sync,
->(
-    rt: &R,
-    alloc: A,
-    own: &[A],
-    gate: &G,
-    options: Options,
-    arrivals: Vec<Arrival<F>, A>,
-    rooms: Rooms<F, A>,
-) -> Vec<Outcome<F, A>, A>
-    requires arrived { All (IsArrived F.seen) arrivals.items }
-    requires few { length arrivals.items ≤ most_senders }
-    requires room { AreEmptyRooms rooms }
-    ensures { Pairwise (IsAnswerTo F.seen options) arrivals.items result.items }
+    A: Allocator + Copy + Send,
 {
-    let Rooms {
-        seats,
-        checkers,
-        outcomes,
-    } = rooms;
-    let opened = open_all(alloc, own, arrivals, seats, options, false);
-    let Seats {
-        senders,
-        shares,
-        ports: _,
-    } = opened;
-    let back = run_all(rt, alloc, gate, senders, shares, checkers, options);
-    let Returned { senders, shares } = back;
-    let mut senders = senders;
-    place_all(&mut senders, shares, options.quarantine);
-    settle_all(senders, outcomes)
+    /// Does what [`collect`](crate::collect) does. Where one sender came and no other, it is read
+    /// and checked on the calling thread, and no thread is started.
+    ///
+    /// No contract says on which thread a feed is read: tests show it.
+    ///
+    /// # Errors
+    ///
+    /// `NoMemory` where there was no room for the lists of 256 senders. The door was not asked
+    /// then.
+    pub fn collect_openly<D: Door>(
+        &self,
+        door: &mut D,
+    ) -> Result<Vec<Outcome<D::Feed, A>, A>, NoMemory>
+    where
+        D::Feed: Send + Drop,
+        requires { (D.seen door.old).refusals ≤ 2 ^ 32 }
+        ensures collected { IfOk result (λ outcomes. AreCollected D.Feed.seen self.now.options
+            (D.seen door.old) (D.seen door.new) outcomes.items) }
+        ensures unasked { OnErr result (door.new ≡ door.old) }
+    {
+        let (arrivals, rooms) = let_in(self.heaps.shared, door, self.options)?;
+        Ok(self.check_openly(arrivals, rooms))
+    }
+
+    /// What became of these senders, in order: of the only one on the calling thread, and of any
+    /// others over threads.
+    fn check_openly<F: Feed + Send + Drop>(
+        &self,
+        arrivals: Vec<Arrival<F>, A>,
+        rooms: Rooms<F, A>,
+    ) -> Vec<Outcome<F, A>, A>
+        requires arrived { All (IsArrived F.seen) arrivals.items }
+        requires few { length arrivals.items ≤ most_senders }
+        requires room { AreEmptyRooms rooms }
+        ensures { Pairwise (IsAnswerTo F.seen self.now.options) arrivals.items result.items }
+    {
+        match only_feed(arrivals) {
+            Ok(feed) => check_alone(&self.heaps, feed, self.options, rooms.outcomes),
+            Err(arrivals) => self.check_all(arrivals, rooms),
+        }
+    }
 }

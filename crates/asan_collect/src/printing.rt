@@ -1,4 +1,4 @@
-//! The calling thread of a collection with live printing: it prints what the checkers report.
+//! The calling thread of a collection with live printing: it prints what the workers report.
 
 ghost use Rattle.asan_senders.specs.Closings.{HasPrinted};
 
@@ -17,7 +17,7 @@ fn print_round<W: Write, A: Allocator + Copy>(w: &mut W, printers: &mut Printers
     printers.printer.round(w, &mut printers.ports)
 }
 
-/// Prints the reports that come through the ports, until no checker is at work and none is left.
+/// Prints the reports that come through the ports, until no worker is at work and none is left.
 pub(crate) fn print_to_the_end<W: Write, A: Allocator + Copy, R: Wait + Clock>(
     rt: &R,
     w: &mut W,
@@ -28,7 +28,7 @@ pub(crate) fn print_to_the_end<W: Write, A: Allocator + Copy, R: Wait + Clock>(
 {
     let mut pause = Pause::new();
     for _ in rt.forever() {
-        // What was reported before the last checker ended is found after this look.
+        // What was reported before the last worker ended is found after this look.
         let is_last = at_work.is_over();
         if print_round(w, printers) {
             pause.reset();

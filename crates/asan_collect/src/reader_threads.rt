@@ -24,7 +24,7 @@ fn start<
     G: Gate + Sync,
     A: Allocator + Copy + Send + 's,
     R: Threads + Wait + Clock + Sync,
->(crew: &Crew<'s, 'e, G, R>, sender: Sender<F, A>) -> Sender<F, A>
+>(crew: &Crew<'s, 'e, G, R, A>, sender: Sender<F, A>) -> Sender<F, A>
     requires fresh { IsFresh F.seen sender }
     ensures { WillBe F.seen crew.now.options.limit sender result }
 {
@@ -57,7 +57,7 @@ fn start_at<
     G: Gate + Sync,
     A: Allocator + Copy + Send + 's,
     R: Threads + Wait + Clock + Sync,
->(crew: &Crew<'s, 'e, G, R>, sender: &mut Sender<F, A>)
+>(crew: &Crew<'s, 'e, G, R, A>, sender: &mut Sender<F, A>)
     requires fresh { IsFresh F.seen sender.old }
     ensures { WillBe F.seen crew.now.options.limit sender.old sender.new }
 {
@@ -73,7 +73,7 @@ pub(crate) fn start_readers<
     G: Gate + Sync,
     A: Allocator + Copy + Send + 's,
     R: Threads + Wait + Clock + Sync,
->(crew: &Crew<'s, 'e, G, R>, senders: &mut Vec<Sender<F, A>, A>)
+>(crew: &Crew<'s, 'e, G, R, A>, senders: &mut Vec<Sender<F, A>, A>)
     requires fresh { AllFresh F.seen senders.old.items }
     ensures { Each (WillBe F.seen crew.now.options.limit) senders.old.items senders.new.items }
 {

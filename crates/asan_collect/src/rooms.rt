@@ -3,7 +3,7 @@
 ghost use Rattle.std.specs.Prelude.{IfOk};
 
 use crate::NoMemory;
-use asan_senders::{CheckerThread, MOST_SENDERS, Seats};
+use asan_senders::{MAX_SENDERS, Seats, WorkerThread};
 use asan_stream::{Options, Outcome};
 use std::alloc::Allocator;
 use trace_feed::Feed;
@@ -12,7 +12,7 @@ use trace_feed::Feed;
 #[derive(Drop)]
 pub(crate) struct Rooms<F: Feed, A: Allocator + Copy> {
     pub seats: Seats<F, A>,
-    pub checkers: Vec<CheckerThread<A>, A>,
+    pub workers: Vec<WorkerThread<A>, A>,
     pub outcomes: Vec<Outcome<F, A>, A>,
 }
 
@@ -24,11 +24,11 @@ impl<F: Feed + Drop, A: Allocator + Copy> Rooms<F, A> {
         ensures { IfOk result AreEmptyRooms }
     {
         let seats = Seats::new(alloc, options)?;
-        let checkers = Vec::with_capacity(alloc, seats.shares.len())?;
-        let outcomes = Vec::with_capacity(alloc, MOST_SENDERS)?;
+        let workers = Vec::with_capacity(alloc, seats.shares.len())?;
+        let outcomes = Vec::with_capacity(alloc, MAX_SENDERS)?;
         Ok(Rooms {
             seats,
-            checkers,
+            workers,
             outcomes,
         })
     }

@@ -6,7 +6,7 @@ ghost use Rattle.asan_inputs.specs.declared.names.BadNames.TheVariants.{NoMemory
 ghost use Rattle.asan_inputs.specs.Sources.{inputs_among};
 
 use crate::input_door::INPUT;
-use asan_senders::MOST_SENDERS;
+use asan_senders::MAX_SENDERS;
 use std::alloc::{AllocError, AllocFailed, Global};
 
 /// Why the files of some names are not checked.
@@ -47,7 +47,7 @@ pub fn names_of(alloc: Global, files: &[&str]) -> Result<Vec<String>, BadNames>
     ensures twice { result ≡ Err BadNames.InputTwice →
         1 < inputs_among (map (λ file. file.now) files.now) }
 {
-    if files.len() > MOST_SENDERS {
+    if files.len() > MAX_SENDERS {
         return Err(BadNames::TooMany);
     }
     let mut names = Vec::new(alloc);

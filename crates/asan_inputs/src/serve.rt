@@ -3,7 +3,7 @@
 ghost use Rattle.std.specs.Prelude.{◌≡◌, ◌<◌, ◌≤◌, ◌↔◌, [], IfOk, IsErr, IsTrue, string_bytes};
 ghost use Rattle.asan_senders.specs.Ranges.{most_senders};
 
-use asan_senders::MOST_SENDERS;
+use asan_senders::MAX_SENDERS;
 use asan_stream::Options;
 use std::net::Net;
 use std::os::unix::net::UnixListener;
@@ -33,7 +33,7 @@ pub struct Serving {
 pub fn is_sender_count(count: u32) -> bool
     ensures { IsTrue result ↔ ((0 < count) × (count ≤ most_senders)) }
 {
-    0 < count && count <= MOST_SENDERS as u32
+    0 < count && count <= MAX_SENDERS as u32
 }
 
 /// The socket can't be bound, or the file that says that it listens can't be made.

@@ -1,21 +1,22 @@
 -- What one more line does to a log, and to what went out of it.
-use Rattle.std.proofs.Common.{ℕ, ◌≡◌, ◌≢◌, ◌+◌, ◌<◌, List, [], ◌∷◌, ◌++◌, length, Option, None, Some, refl, sym, ap}
+use Rattle.std.proofs.Common.{ℕ, ◌≡◌, ◌≢◌, ◌+◌, ◌<◌, List, [], ◌∷◌, ◌++◌, length, Option, refl, sym, ap}
 use Rattle.std.proofs.Common.{subst, ◌∙◌, arith, append_assoc, length-append, eqb, cond, inl, inr, true, false, take}
 use Rattle.std.proofs.Common.{get_or}
-use Rattle.std.specs.Prelude.{Result, Ok, Err, OnOk, IfErr, is_some}
-use Rattle.std.specs.Result.{result_err}
 use Rattle.std.proofs.Math.Seq.{take-append_seam}
 use Rattle.std.proofs.lemmas.List.{append-nil, take_more}
-use Rattle.std.proofs.lemmas.Bool.{eq-eqb, false≢true}
+use Rattle.std.proofs.lemmas.Bool.{eq-eqb}
 use Rattle.std.proofs.lemmas.Bool.Decides.{eqb_tells}
 use Rattle.std.specs.Io.KnownBytes.{Appends}
-use Rattle.std.proofs.KnownBytes.{Appends-trans}
+use Rattle.std.proofs.KnownBytes.{Appends-nil, Appends-trans}
 use Rattle.asan_check.specs.declared.report.Report.{Report}
 use Rattle.asan_check.specs.Lines.{report_line}
 use Rattle.asan_print.specs.declared.fault.WriteFault.{WriteFault}
+use Rattle.asan_print.specs.declared.counted.Counted.{Counted}
 use Rattle.asan_print.specs.declared.live_printer.LivePrinter.{LivePrinter}
+use Rattle.asan_print.specs.declared.live_printer.LivePrinter.TheVariants as live
+use Rattle.asan_print.specs.declared.printer.Printer.{Printer}
 use Rattle.asan_print.specs.Printing.{Prints, BreaksOff, held_of, written_of}
-use Rattle.asan_print.specs.Logs.{Line, joined, lines_of, report_lines, fault_of, Printed, Adds}
+use Rattle.asan_print.specs.Logs.{Line, joined, lines_of, report_lines, IsBroken, StaysBroken, Printed, Adds}
 
 pub joined-snoc : (log : List Line) (i : ℕ) (l : List ℕ) → joined (log ++ (i, l) ∷ []) ≡ joined log ++ l
 joined-snoc [] i l = append-nil l
@@ -44,139 +45,124 @@ report_lines-append i [] ys = refl
 report_lines-append i (x ∷ xs) ys = ap (λ r. report_line i x ∷ r) (report_lines-append i xs ys)
 
 module _ {A : Type 0} where
-  -- the log is as the printer has it where nothing was lost
-  pub printed_open : (start now : Option (List ℕ)) (p : LivePrinter A) (log : List Line) → p.fault ≡ None
-      → Printed start now p log
-      → (out : List ℕ) × Appends start now out × (joined log ≡ out ++ held_of p.printer)
-      × (written_of p.printer ≡ length out)
-  printed_open start now p log none r =
-      let e = rw none at r.ends in
-      (r.out, r.sent, r.parts ∙ ap (λ xs. r.out ++ xs) e.0, e.1)
-
-  -- a line was printed, or lost after some of it
-  pub printed_line : (start now next : Option (List ℕ)) (p q : LivePrinter A) (r : Result (Unit {0}) WriteFault)
-      (log : List Line) (i : ℕ) (l : List ℕ)
-      → p.fault ≡ None → q.fault ≡ result_err r → OnOk r (Prints now next p.printer q.printer l)
-      → IfErr r (λ e. BreaksOff now next p.printer l e.written)
-      → Printed start now p log → Printed start next q (log ++ (i, l) ∷ [])
-  printed_line start now next p q (Ok x) log i l none is prints off r =
-      let o = printed_open start now p log none r in
+  -- a line was printed
+  pub printed_line : (start now next : Option (List ℕ)) (p q : Counted A) (log : List Line) (i : ℕ) (l : List ℕ)
+      → Prints now next p.printer q.printer l → Printed start now (live.Prints p) log
+      → Printed start next (live.Prints q) (log ++ (i, l) ∷ [])
+  printed_line start now next p q log i l prints r =
       let count = prints.count in
-      let was = o.3 in
+      let was = r.ends.1 in
       record {
-        out = o.0 ++ prints.out;
+        out = r.out ++ prints.out;
         rest = held_of q.printer;
-        sent = Appends-trans start now next o.0 prints.out o.1 prints.sent;
-        parts = joined-snoc log i l ∙ ap (λ xs. xs ++ l) o.2 ∙ append_assoc o.0 (held_of p.printer) l
-            ∙ ap (λ xs. o.0 ++ xs) prints.parts ∙ sym (append_assoc o.0 prints.out (held_of q.printer));
-        ends = rw is (refl, omega (arith, length-append o.0 prints.out));
-      }
-  printed_line start now next p q (Err fault) log i l none is prints off r =
-      let o = printed_open start now p log none r in
-      let count = off.count in
-      let was = o.3 in
-      record {
-        out = o.0 ++ off.out;
-        rest = off.rest;
-        sent = Appends-trans start now next o.0 off.out o.1 off.sent;
-        parts = joined-snoc log i l ∙ ap (λ xs. xs ++ l) o.2 ∙ append_assoc o.0 (held_of p.printer) l
-            ∙ ap (λ xs. o.0 ++ xs) off.parts ∙ sym (append_assoc o.0 off.out off.rest);
-        ends = rw is (off.short, omega (arith, length-append o.0 off.out));
+        sent = Appends-trans start now next r.out prints.out r.sent prints.sent;
+        parts = joined-snoc log i l ∙ ap (λ xs. xs ++ l) (r.parts ∙ ap (λ xs. r.out ++ xs) r.ends.0)
+            ∙ append_assoc r.out (held_of p.printer) l
+            ∙ ap (λ xs. r.out ++ xs) prints.parts ∙ sym (append_assoc r.out prints.out (held_of q.printer));
+        ends = (refl, omega (arith, length-append r.out prints.out));
       }
 
-  -- what is held back was written, or some of it was lost
-  pub printed_sent : (start now next : Option (List ℕ)) (p q : LivePrinter A) (r : Result (Unit {0}) WriteFault)
-      (log : List Line)
-      → p.fault ≡ None → q.fault ≡ result_err r → OnOk r (Prints now next p.printer q.printer [])
-      → IfErr r (λ e. BreaksOff now next p.printer [] e.written)
-      → Printed start now p log → Printed start next q log
-  printed_sent start now next p q (Ok x) log none is prints off r =
-      let o = printed_open start now p log none r in
-      let count = prints.count in
-      let was = o.3 in
-      record {
-        out = o.0 ++ prints.out;
-        rest = held_of q.printer;
-        sent = Appends-trans start now next o.0 prints.out o.1 prints.sent;
-        parts = o.2 ∙ ap (λ xs. o.0 ++ xs) (sym (append-nil (held_of p.printer)) ∙ prints.parts)
-            ∙ sym (append_assoc o.0 prints.out (held_of q.printer));
-        ends = rw is (refl, omega (arith, length-append o.0 prints.out));
-      }
-  printed_sent start now next p q (Err fault) log none is prints off r =
-      let o = printed_open start now p log none r in
+  -- a line was lost after some of it
+  pub lost_line : (start now next : Option (List ℕ)) (p : Counted A) (fault : WriteFault) (log : List Line) (i : ℕ)
+      (l : List ℕ)
+      → BreaksOff now next p.printer l fault.written → Printed start now (live.Prints p) log
+      → Printed {A = A} start next (live.Broken fault) (log ++ (i, l) ∷ [])
+  lost_line start now next p fault log i l off r =
       let count = off.count in
-      let was = o.3 in
+      let was = r.ends.1 in
       record {
-        out = o.0 ++ off.out;
+        out = r.out ++ off.out;
         rest = off.rest;
-        sent = Appends-trans start now next o.0 off.out o.1 off.sent;
-        parts = o.2 ∙ ap (λ xs. o.0 ++ xs) (sym (append-nil (held_of p.printer)) ∙ off.parts)
-            ∙ sym (append_assoc o.0 off.out off.rest);
-        ends = rw is (off.short, omega (arith, length-append o.0 off.out));
+        sent = Appends-trans start now next r.out off.out r.sent off.sent;
+        parts = joined-snoc log i l ∙ ap (λ xs. xs ++ l) (r.parts ∙ ap (λ xs. r.out ++ xs) r.ends.0)
+            ∙ append_assoc r.out (held_of p.printer) l
+            ∙ ap (λ xs. r.out ++ xs) off.parts ∙ sym (append_assoc r.out off.out off.rest);
+        ends = (off.short, omega (arith, length-append r.out off.out));
       }
 
   -- after a line that was lost the next one is lost too
-  pub printed_none : (start now : Option (List ℕ)) (p q : LivePrinter A) (fault : WriteFault) (log : List Line) (i : ℕ)
-      (l : List ℕ)
-      → p.fault ≡ Some fault → q.fault ≡ Some fault → Printed start now p log → Printed start now q (log ++ (i, l) ∷ [])
-  printed_none start now p q fault log i l is still r =
-      let e = rw is at r.ends in
-      let some = e.0 in
+  pub lost_too : (start now : Option (List ℕ)) (p : LivePrinter A) (log : List Line) (i : ℕ) (l : List ℕ)
+      → IsBroken p → Printed start now p log → Printed start now p (log ++ (i, l) ∷ [])
+  lost_too start now (live.Prints printer) log i l broken r = absurd broken
+  lost_too start now (live.Broken fault) log i l broken r =
+      let some = r.ends.0 in
       record {
         out = r.out;
         rest = r.rest ++ l;
         sent = r.sent;
         parts = joined-snoc log i l ∙ ap (λ xs. xs ++ l) r.parts ∙ append_assoc r.out r.rest l;
-        ends = rw still (omega (arith, length-append r.rest l), e.1);
+        ends = (omega (arith, length-append r.rest l), r.ends.1);
       }
 
-  -- a line is lost that can't be counted
-  pub printed_full : (start now : Option (List ℕ)) (p q : LivePrinter A) (fault : WriteFault) (log : List Line) (i : ℕ)
-      (l : List ℕ)
-      → p.fault ≡ None → q.fault ≡ Some fault → fault.written ≡ written_of p.printer → 0 < length l
-      → Printed start now p log → Printed start now q (log ++ (i, l) ∷ [])
-  printed_full start now p q fault log i l none is at some r =
-      let o = printed_open start now p log none r in
-      let was = o.3 in
+  -- what is held back was written
+  pub sent_whole : (start now next : Option (List ℕ)) (p q : Counted A) (log : List Line)
+      → Prints now next p.printer q.printer [] → Printed start now (live.Prints p) log
+      → Printed start next (live.Prints q) log
+  sent_whole start now next p q log prints r =
+      let count = prints.count in
+      let was = r.ends.1 in
       record {
-        out = o.0;
-        rest = held_of p.printer ++ l;
-        sent = o.1;
-        parts = joined-snoc log i l ∙ ap (λ xs. xs ++ l) o.2 ∙ append_assoc o.0 (held_of p.printer) l;
-        ends = rw is (omega (arith, length-append (held_of p.printer) l), omega arith);
+        out = r.out ++ prints.out;
+        rest = held_of q.printer;
+        sent = Appends-trans start now next r.out prints.out r.sent prints.sent;
+        parts = r.parts ∙ ap (λ xs. r.out ++ xs) (r.ends.0 ∙ sym (append-nil (held_of p.printer)) ∙ prints.parts)
+            ∙ sym (append_assoc r.out prints.out (held_of q.printer));
+        ends = (refl, omega (arith, length-append r.out prints.out));
       }
 
-  -- what is held back broke off
-  pub broken_front : (start now next : Option (List ℕ)) (p : LivePrinter A) (k : ℕ) (log : List Line)
-      → p.fault ≡ None → BreaksOff now next p.printer [] k → Printed start now p log
-      → Appends start next (take k (joined log)) × (k < length (joined log))
-  broken_front start now next p k log none off r =
-      let o = printed_open start now p log none r in
-      let was = o.3 in
-      let some = off.short in
-      let added = off.count in
-      let out = o.0 ++ off.out in
-      let whole : joined log ≡ out ++ off.rest = o.2
-      ∙ ap (λ xs. o.0 ++ xs) (sym (append-nil (held_of p.printer)) ∙ off.parts)
-      ∙ sym (append_assoc o.0 off.out off.rest) in
-      let count : k ≡ length out = omega (arith, length-append o.0 off.out) in
-      let front : take k (joined log) ≡ out = ap (λ n. take n (joined log)) count ∙ ap (take (length out)) whole
-      ∙ take-append_seam out off.rest in (
-        rw front (Appends-trans start now next o.0 off.out o.1 off.sent),
-        let n = ap length whole in
-            omega (arith, length-append out off.rest),
-      )
+  -- or some of it was lost
+  pub sent_part : (start now next : Option (List ℕ)) (p : Counted A) (fault : WriteFault) (log : List Line)
+      → BreaksOff now next p.printer [] fault.written → Printed start now (live.Prints p) log
+      → Printed {A = A} start next (live.Broken fault) log
+  sent_part start now next p fault log off r =
+      let count = off.count in
+      let was = r.ends.1 in
+      record {
+        out = r.out ++ off.out;
+        rest = off.rest;
+        sent = Appends-trans start now next r.out off.out r.sent off.sent;
+        parts = r.parts ∙ ap (λ xs. r.out ++ xs) (r.ends.0 ∙ sym (append-nil (held_of p.printer)) ∙ off.parts)
+            ∙ sym (append_assoc r.out off.out off.rest);
+        ends = (off.short, omega (arith, length-append r.out off.out));
+      }
 
-  -- a printer that had broken off wrote nothing and is as it was
-  abbrev pub Still : {W : Type 0} → W → W → LivePrinter A → LivePrinter A → Type 0
-  Still w next p q = fault_of p ≢ None → (next ≡ w) × (q ≡ p)
+  -- all lines went out, where nothing is held back after that
+  pub all_out : (start now next : Option (List ℕ)) (p q : Counted A) (log : List Line)
+      → Prints now next p.printer q.printer [] × (held_of q.printer ≡ []) → Printed start now (live.Prints p) log
+      → Appends start next (joined log)
+  all_out start now next p q log sent r =
+      let s = sent_whole start now next p q log sent.0 r in
+      rw (s.parts ∙ ap (λ xs. s.out ++ xs) (s.ends.0 ∙ sent.1) ∙ append-nil s.out) s.sent
 
-  pub still_on : {W : Type 0} (w next last : W) (p q r : LivePrinter A) → (fault_of q ≢ None → last ≡ next)
-      → (fault_of q ≢ None → r ≡ q) → Still w next p q → Still w last p r
-  still_on w next last p q r quiet stays still broken =
+  -- a line whose bytes can't be counted is lost as a whole
+  pub lost_whole : (now : Option (List ℕ)) (p : Printer A) (l : List ℕ) (written : ℕ) → written ≡ written_of p
+      → 0 < length l → BreaksOff now now p l written
+  lost_whole now p l written is some = record {
+    out = [];
+    rest = held_of p ++ l;
+    sent = Appends-nil now;
+    parts = refl;
+    short = omega (arith, length-append (held_of p) l);
+    count = omega arith;
+  }
+
+  -- what went out of a log that broke off is the front of it, and not all
+  pub broken_front : (start now : Option (List ℕ)) (fault : WriteFault) (log : List Line)
+      → Printed {A = A} start now (live.Broken fault) log
+      → Appends start now (take fault.written (joined log)) × (fault.written < length (joined log))
+  broken_front start now fault log r =
+      let count = r.ends.1 in
+      let some = r.ends.0 in
+      let front : take fault.written (joined log) ≡ r.out = ap (λ n. take n (joined log)) count
+      ∙ ap (take (length r.out)) r.parts ∙ take-append_seam r.out r.rest in
+      (rw front r.sent, let n = ap length r.parts in omega (arith, length-append r.out r.rest))
+
+  pub still_on : {W : Type 0} (w next last : W) (p q r : LivePrinter A) → StaysBroken next last q r
+      → StaysBroken w next p q → StaysBroken w last p r
+  still_on w next last p q r stays still broken =
       let was = still broken in
-      let is : fault_of q ≢ None = subst (λ l. fault_of l ≢ None) (sym was.1) broken in
-      (quiet is ∙ was.0, stays is ∙ was.1)
+      let is = stays (subst IsBroken (sym was.1) broken) in
+      (is.0 ∙ was.0, is.1 ∙ was.1)
 
   -- lines of one process alone
   pub adds_start : (start now : Option (List ℕ)) (p : LivePrinter A) (i : ℕ) (lines : List (List ℕ)) (log : List Line)
@@ -223,12 +209,3 @@ rest_further i k d lines xs low =
     ap (λ rs. lines ++ report_lines i rs) (take_more xs k d low)
     ∙ ap (λ ls. lines ++ ls) (report_lines-append i (take k xs) (get_or xs k d ∷ []))
     ∙ sym (append_assoc lines (report_lines i (take k xs)) (report_line i (get_or xs k d) ∷ []))
-
--- what an Option holds
-pub some_of : {T : Type 0} (o : Option T) → is_some o ≡ true → (x : T) × (o ≡ Some x)
-some_of None holds = absurd (false≢true holds)
-some_of (Some x) holds = (x, refl)
-
-pub none_of : {T : Type 0} (o : Option T) → is_some o ≡ false → o ≡ None
-none_of None holds = refl
-none_of (Some x) holds = absurd (false≢true (sym holds))

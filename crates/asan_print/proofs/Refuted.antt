@@ -1,29 +1,30 @@
 -- Printing that the contracts of a live printer refuse.
 -- Each lemma is named for what would have gone wrong.
-use Rattle.std.proofs.Common.{◌≡◌, ◌<◌, ℕ, List, [], ◌∷◌, length, Option, None, Some, sym, ap, ◌∙◌, arith}
-use Rattle.std.specs.Prelude.{◌≢◌, slice_index_or}
+use Rattle.std.proofs.Common.{◌≡◌, ◌<◌, ℕ, List, [], ◌∷◌, length, Option, ap, arith}
+use Rattle.std.specs.Prelude.{slice_index_or}
+use Rattle.asan_print.specs.declared.counted.Counted.{Counted}
 use Rattle.asan_print.specs.declared.fault.WriteFault.{WriteFault}
-use Rattle.asan_print.specs.declared.live_printer.LivePrinter.{LivePrinter}
+use Rattle.asan_print.specs.declared.live_printer.LivePrinter.TheVariants as live
 use Rattle.asan_print.specs.declared.port.Port.{Port}
-use Rattle.asan_print.specs.Logs.{fault_of, held_by}
+use Rattle.asan_print.specs.Logs.{HoldsNothing, StaysBroken}
+use Rattle.asan_print.specs.Printing.{held_of}
 use Rattle.asan_print.specs.Ports.{HasReport, taken_at}
 
 module _ {A : Type 0} where
   -- a byte goes out after a line was lost
   writes_on_after_a_lost_line :
-      (p : LivePrinter A) (fault : WriteFault) → fault_of p ≡ Some fault →
-      ¬ (fault_of p ≢ None → ◌≡◌ {A = List ℕ} (97 ∷ []) [])
-  writes_on_after_a_lost_line p fault lost broken =
-      let same = broken (λ none. let is = sym lost ∙ none in absurd cc) in
-      let one_is_none : ◌≡◌ {A = ℕ} 1 0 = ap length same in
+      (fault : WriteFault) →
+      ¬ (StaysBroken {A = A} {W = List ℕ} [] (97 ∷ []) (live.Broken fault) (live.Broken fault))
+  writes_on_after_a_lost_line fault broken =
+      let one_is_none : ◌≡◌ {A = ℕ} 1 0 = ap length (broken tt).0 in
       absurd (omega arith)
 
   -- no line was lost, and some text waits for the next round
   text_waits_for_the_next_round :
-      (p : LivePrinter A) → fault_of p ≡ None → 0 < length (held_by p) →
-      ¬ (fault_of p ≡ None → held_by p ≡ [])
-  text_waits_for_the_next_round p none some sent =
-      let empty = ap length (sent none) in
+      (printer : Counted A) → 0 < length (held_of printer.printer) →
+      ¬ (HoldsNothing (live.Prints printer))
+  text_waits_for_the_next_round printer some sent =
+      let empty = ap length sent in
       absurd (omega arith)
 
   -- nothing is taken from the second port, where a report waits, since the first gave one

@@ -1,12 +1,12 @@
 -- The lines of several processes, in the order in which they are printed.
 use Rattle.std.specs.Prelude.{◌≡◌, ◌≢◌, ℕ, ◌<◌, List, [], ◌∷◌, ◌++◌, length, map, cond, eqb}
-use Rattle.std.specs.Prelude.{Option, MatchOption}
+use Rattle.std.specs.Prelude.{Option}
 use Rattle.std.specs.List.{flat_map}
 use Rattle.std.specs.Io.KnownBytes.{Appends}
 use Rattle.asan_check.specs.declared.report.Report.{Report}
 use Rattle.asan_check.specs.Lines.{report_line}
-use Rattle.asan_print.specs.declared.fault.WriteFault.{WriteFault}
 use Rattle.asan_print.specs.declared.live_printer.LivePrinter.{LivePrinter}
+use Rattle.asan_print.specs.declared.live_printer.LivePrinter.TheVariants as live
 use Rattle.asan_print.specs.Printing.{held_of, written_of}
 
 -- the number of a process, and a line of it
@@ -28,13 +28,25 @@ abbrev pub report_lines : ℕ → List Report → List (List ℕ)
 report_lines process reports = map (report_line process) reports
 
 module _ {A : Type 0} where
-  -- what a contract sees of a live printer: why it has broken off, if a line could not be printed,
-  -- and the text that it holds back
-  abbrev pub fault_of : LivePrinter A → Option WriteFault
-  fault_of p = p.fault
+  -- a live printer has broken off: a line could not be printed
+  abbrev pub IsBroken : LivePrinter A → Type 0
+  IsBroken (live.Prints printer) = ⊥
+  IsBroken (live.Broken fault) = Unit {0}
 
-  abbrev pub held_by : LivePrinter A → List ℕ
-  held_by p = held_of p.printer
+  -- if it had, nothing was written, and it is as it was
+  abbrev pub StaysBroken : {W : Type 0} → W → W → LivePrinter A → LivePrinter A → Type 0
+  StaysBroken w next p q = IsBroken p → (next ≡ w) × (q ≡ p)
+
+  -- if it has not, no text is held back
+  abbrev pub HoldsNothing : LivePrinter A → Type 0
+  HoldsNothing (live.Prints printer) = held_of printer.printer ≡ []
+  HoldsNothing (live.Broken fault) = Unit {0}
+
+  -- what went out was counted; the rest is held back, or was lost
+  abbrev pub IsRest : LivePrinter A → (out rest : List ℕ) → Type 0
+  IsRest (live.Prints printer) out rest =
+      (rest ≡ held_of printer.printer) × (written_of printer.printer ≡ length out)
+  IsRest (live.Broken fault) out rest = (0 < length rest) × (fault.written ≡ length out)
 
   -- these lines were printed: what went out begins them, and the rest is held back, or was lost
   -- with the first line that could not be printed
@@ -44,9 +56,7 @@ module _ {A : Type 0} where
     pub rest : List ℕ
     pub sent : Appends start now out
     pub parts : joined log ≡ out ++ rest
-    pub ends : MatchOption (fault_of p)
-        ((rest ≡ held_by p) × (written_of p.printer ≡ length out))
-        (λ fault. (0 < length rest) × (fault.written ≡ length out))
+    pub ends : IsRest p out rest
 
   -- lines of this process alone were added to a log, until its lines were these
   pub record Adds

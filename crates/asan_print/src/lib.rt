@@ -2,6 +2,7 @@
 //! processes as they come.
 #![tactic(auto)]
 
+mod counted;
 mod fault;
 mod live_printer;
 mod port;

@@ -1,33 +1,34 @@
 //! Printing lines of several processes as they come.
 
 ghost use Rattle.std.specs.Prelude.{◌≡◌, ℕ, ◌+◌, ◌<◌, ◌^◌, ◌∷◌, ◌++◌, List, [], Option, OnOk};
-ghost use Rattle.std.specs.Prelude.{◌≢◌, IfErr, IsTrue, None, false, length, slice_index_or, take};
+ghost use Rattle.std.specs.Prelude.{◌≢◌, IfErr, IsTrue, false, length, slice_index_or, take};
 ghost use Rattle.std.specs.Io.KnownBytes.{Appends};
-ghost use Rattle.asan_check.specs.Lines.{report_line, end_line, longest_line};
-ghost use Rattle.asan_print.specs.Printing.{printed_of};
+ghost use Rattle.asan_check.specs.Lines.{report_line, end_line};
 
-use crate::fault::{Why, WriteFault};
+use crate::counted::Counted;
+use crate::fault::WriteFault;
 use crate::port::Port;
-use crate::printer::Printer;
 use asan_check::{Ending, Report};
 use std::alloc::Allocator;
 use std::io::Write;
 
 /// How many reports are taken from one lane at most before the next lane's turn.
-const MOST_AT_ONCE: usize = 64;
+const MAX_AT_ONCE: usize = 64;
 
 /// Prints lines of several processes to a writer as they come. After the first line that can't be
 /// printed it prints nothing more, and keeps why.
 #[derive(Drop)]
-pub struct LivePrinter<A: Allocator + Copy> {
-    printer: Printer<A>,
-    fault: Option<WriteFault>,
-    ghost counts: { fault ≡ None → printed_of printer < 2 ^ 64 },
+pub enum LivePrinter<A: Allocator + Copy> {
+    /// No line was lost so far.
+    Prints(Counted<A>),
+    /// A line was lost.
+    Broken(WriteFault),
 }
 
 impl<A: Allocator + Copy> LivePrinter<A> {
+    ghost use Rattle.asan_print.specs.declared.live_printer.LivePrinter.TheVariants as live;
     ghost use Rattle.asan_print.specs.Logs.{Line, Printed, Adds, joined, lines_of, report_lines};
-    ghost use Rattle.asan_print.specs.Logs.{fault_of, held_by};
+    ghost use Rattle.asan_print.specs.Logs.{HoldsNothing, IsBroken, StaysBroken};
     ghost use Rattle.asan_print.specs.Ports.{Follows, SameLanes, lane_at, taken_at, taken_of};
     ghost use Rattle.asan_print.specs.Ports.{EachTakesMore, HasReport, TakesMore};
 
@@ -35,10 +36,7 @@ impl<A: Allocator + Copy> LivePrinter<A> {
     pub fn new(alloc: A) -> LivePrinter<A>
         ensures { (start : Option (List ℕ)) → Printed start start result [] }
     {
-        LivePrinter {
-            printer: Printer::new(alloc),
-            fault: None,
-        }
+        LivePrinter::Prints(Counted::new(alloc))
     }
 
     /// Prints the line of a report.
@@ -46,13 +44,15 @@ impl<A: Allocator + Copy> LivePrinter<A> {
         ensures prints { (start : Option (List ℕ)) (log : List Line) →
             Printed start (W.contents w.old) self.old log → Printed start (W.contents w.new)
             self.new (log ++ (process, report_line process report.now) ∷ []) }
-        ensures broken { fault_of self.old ≢ None → w.new ≡ w.old }
-        ensures stays { fault_of self.old ≢ None → self.new ≡ self.old }
+        ensures broken { StaysBroken w.old w.new self.old self.new }
     {
-        if !self.is_ready() {
-            return;
+        let printer = match self {
+            LivePrinter::Prints(printer) => printer,
+            LivePrinter::Broken(_) => return,
+        };
+        if let Err(fault) = printer.report(w, process, report) {
+            *self = LivePrinter::Broken(fault);
         }
-        self.fault = self.printer.report(w, process, report).err();
     }
 
     /// Prints the line of an end.
@@ -60,37 +60,15 @@ impl<A: Allocator + Copy> LivePrinter<A> {
         ensures prints { (start : Option (List ℕ)) (log : List Line) →
             Printed start (W.contents w.old) self.old log → Printed start (W.contents w.new)
             self.new (log ++ (process, end_line process ending.now) ∷ []) }
-        ensures broken { fault_of self.old ≢ None → w.new ≡ w.old }
-        ensures stays { fault_of self.old ≢ None → self.new ≡ self.old }
+        ensures broken { StaysBroken w.old w.new self.old self.new }
     {
-        if !self.is_ready() {
-            return;
+        let printer = match self {
+            LivePrinter::Prints(printer) => printer,
+            LivePrinter::Broken(_) => return,
+        };
+        if let Err(fault) = printer.end(w, process, ending) {
+            *self = LivePrinter::Broken(fault);
         }
-        self.fault = self.printer.end(w, process, ending).err();
-    }
-
-    /// Whether the next line can be printed. It can't once a line was lost. Where its bytes can't
-    /// be counted, it is lost.
-    fn is_ready(&mut self) -> bool
-        ensures same { IsTrue result → self.new ≡ self.old }
-        ensures open { IsTrue result → fault_of self.old ≡ None }
-        ensures stays { fault_of self.old ≢ None → self.new ≡ self.old }
-        ensures room { IsTrue result → printed_of self.old.printer + longest_line < 2 ^ 64 }
-        ensures lost { result ≡ false → (start now : Option (List ℕ)) (log : List Line)
-            (process : ℕ) (line : List ℕ) → 0 < length line → Printed start now self.old log →
-            Printed start now self.new (log ++ (process, line) ∷ []) }
-    {
-        if self.fault.is_some() {
-            return false;
-        }
-        if self.printer.has_room() {
-            return true;
-        }
-        self.fault = Some(WriteFault {
-            written: self.printer.written(),
-            why: Why::Write,
-        });
-        false
     }
 
     /// Writes the lines that are held back.
@@ -98,12 +76,15 @@ impl<A: Allocator + Copy> LivePrinter<A> {
         ensures lines { (start : Option (List ℕ)) (log : List Line) →
             Printed start (W.contents w.old) self.old log →
             Printed start (W.contents w.new) self.new log }
-        ensures sent { fault_of self.new ≡ None → held_by self.new ≡ [] }
-        ensures broken { fault_of self.old ≢ None → w.new ≡ w.old }
-        ensures stays { fault_of self.old ≢ None → self.new ≡ self.old }
+        ensures sent { HoldsNothing self.new }
+        ensures broken { StaysBroken w.old w.new self.old self.new }
     {
-        if self.fault.is_none() {
-            self.fault = self.printer.send(w).err();
+        let printer = match self {
+            LivePrinter::Prints(printer) => printer,
+            LivePrinter::Broken(_) => return,
+        };
+        if let Err(fault) = printer.send(w) {
+            *self = LivePrinter::Broken(fault);
         }
     }
 
@@ -122,9 +103,8 @@ impl<A: Allocator + Copy> LivePrinter<A> {
         ensures lines { (start : Option (List ℕ)) →
             Follows start (W.contents w.old) self.old ports.old →
             Follows start (W.contents w.new) self.new ports.new }
-        ensures sent { fault_of self.new ≡ None → held_by self.new ≡ [] }
-        ensures broken { fault_of self.old ≢ None → w.new ≡ w.old }
-        ensures stays { fault_of self.old ≢ None → self.new ≡ self.old }
+        ensures sent { HoldsNothing self.new }
+        ensures broken { StaysBroken w.old w.new self.old self.new }
     {
         let mut any = false;
         for process in 0..ports.len() {
@@ -149,13 +129,12 @@ impl<A: Allocator + Copy> LivePrinter<A> {
             lines_of process log ≡ report_lines process (taken_at port.old) →
             Adds start (W.contents w.new) self.new process
             (report_lines process (taken_at port.new)) log }
-        ensures broken { fault_of self.old ≢ None → w.new ≡ w.old }
-        ensures stays { fault_of self.old ≢ None → self.new ≡ self.old }
+        ensures broken { StaysBroken w.old w.new self.old self.new }
     {
         let Some(port) = port else {
             return false;
         };
-        for count in 0..MOST_AT_ONCE {
+        for count in 0..MAX_AT_ONCE {
             let Some(report) = port.take() else {
                 return count > 0;
             };
@@ -170,8 +149,7 @@ impl<A: Allocator + Copy> LivePrinter<A> {
             Printed start (W.contents w.old) self.old log → lines_of process log ≡ lines →
             Adds start (W.contents w.new) self.new process
             (lines ++ report_lines process reports.now) log }
-        ensures broken { fault_of self.old ≢ None → w.new ≡ w.old }
-        ensures stays { fault_of self.old ≢ None → self.new ≡ self.old }
+        ensures broken { StaysBroken w.old w.new self.old self.new }
     {
         for report in reports {
             self.report(w, process, report);
@@ -184,9 +162,8 @@ impl<A: Allocator + Copy> LivePrinter<A> {
             Printed start (W.contents w.old) self.old log → lines_of process log ≡ lines →
             Adds start (W.contents w.new) self.new process
             (lines ++ report_lines process reports.now) log }
-        ensures sent { fault_of self.new ≡ None → held_by self.new ≡ [] }
-        ensures broken { fault_of self.old ≢ None → w.new ≡ w.old }
-        ensures stays { fault_of self.old ≢ None → self.new ≡ self.old }
+        ensures sent { HoldsNothing self.new }
+        ensures broken { StaysBroken w.old w.new self.old self.new }
     {
         self.report_all(w, process, reports);
         self.flush(w);
@@ -199,8 +176,7 @@ impl<A: Allocator + Copy> LivePrinter<A> {
             Printed start (W.contents w.old) self.old log → lines_of process log ≡ lines →
             Adds start (W.contents w.new) self.new process
             ((lines ++ report_lines process rest.now) ++ end_line process ending.now ∷ []) log }
-        ensures broken { fault_of self.old ≢ None → w.new ≡ w.old }
-        ensures stays { fault_of self.old ≢ None → self.new ≡ self.old }
+        ensures broken { StaysBroken w.old w.new self.old self.new }
     {
         self.report_all(w, process, rest);
         self.end(w, process, ending);
@@ -222,13 +198,12 @@ impl<A: Allocator + Copy> LivePrinter<A> {
         ensures short { IfErr result (λ e. (start : Option (List ℕ)) (log : List Line) →
             Printed start (W.contents w.old) self log →
             e.written < length (joined log)) }
-        ensures broken { fault_of self ≢ None → w.new ≡ w.old }
-        ensures same { (fault : WriteFault) → fault_of self ≡ Some fault → result ≡ Err fault }
+        ensures broken { IsBroken self → w.new ≡ w.old }
+        ensures same { (fault : WriteFault) → self ≡ live.Broken fault → result ≡ Err fault }
     {
-        let LivePrinter { mut printer, fault } = self;
-        if let Some(fault) = fault {
-            return Err(fault);
+        match self {
+            LivePrinter::Prints(mut printer) => printer.send(w),
+            LivePrinter::Broken(fault) => Err(fault),
         }
-        printer.send(w)
     }
 }

@@ -14,7 +14,7 @@ use trace_feed::put_all;
 const HELD_BACK: usize = 1 << 15;
 
 /// No line is longer, in bytes.
-const LONGEST_LINE: u64 = 200;
+const MAX_LINE: u64 = 200;
 
 /// Prints lines to a writer, many at a write: the text that is held back, and how many bytes went
 /// out before it.
@@ -50,7 +50,7 @@ impl<A: Allocator + Copy> Printer<A> {
     pub fn has_room(&self) -> bool
         ensures { IsTrue result ↔ printed_of self.now + longest_line < 2 ^ 64 }
     {
-        self.written().saturating_add(self.text.len() as u64) <= u64::MAX - LONGEST_LINE
+        self.written().saturating_add(self.text.len() as u64) <= u64::MAX - MAX_LINE
     }
 
     /// Writes what is held back.
@@ -60,6 +60,7 @@ impl<A: Allocator + Copy> Printer<A> {
             × (held_of self.new ≡ [])) }
         ensures fault { IfErr result (λ e.
             BreaksOff (W.contents w.old) (W.contents w.new) self.old [] e.written) }
+        ensures grows { printed_of self.new ≡ printed_of self.old }
     {
         let Printer { text, sent } = self;
         match put_all(w, text.as_bytes()) {
@@ -85,7 +86,7 @@ impl<A: Allocator + Copy> Printer<A> {
         requires room { printed_of self.old + longest_line < 2 ^ 64 }
         ensures ok { OnOk result (Prints (W.contents w.old) (W.contents w.new)
             self.old self.new (report_line process report.now)) }
-        ensures grows { OnOk result (printed_of self.new ≤ printed_of self.old + longest_line) }
+        ensures grows { printed_of self.new ≤ printed_of self.old + longest_line }
         ensures fault { IfErr result (λ e. BreaksOff (W.contents w.old) (W.contents w.new)
             self.old (report_line process report.now) e.written) }
     {
@@ -105,7 +106,7 @@ impl<A: Allocator + Copy> Printer<A> {
         requires room { printed_of self.old + longest_line < 2 ^ 64 }
         ensures ok { OnOk result (Prints (W.contents w.old) (W.contents w.new)
             self.old self.new (end_line process ending.now)) }
-        ensures grows { OnOk result (printed_of self.new ≤ printed_of self.old + longest_line) }
+        ensures grows { printed_of self.new ≤ printed_of self.old + longest_line }
         ensures fault { IfErr result (λ e. BreaksOff (W.contents w.old) (W.contents w.new)
             self.old (end_line process ending.now) e.written) }
     {
@@ -122,6 +123,7 @@ impl<A: Allocator + Copy> Printer<A> {
             (Prints (W.contents w.old) (W.contents w.new) self.old self.new []) }
         ensures fault { IfErr result (λ e.
             BreaksOff (W.contents w.old) (W.contents w.new) self.old [] e.written) }
+        ensures grows { printed_of self.new ≡ printed_of self.old }
     {
         if self.text.len() < HELD_BACK {
             return Ok(());
@@ -132,8 +134,9 @@ impl<A: Allocator + Copy> Printer<A> {
     /// Answers that there was no memory for a line, once what stands before it is written.
     fn no_memory<W: Write>(&mut self, w: &mut W) -> WriteFault
         requires room { printed_of self.old < 2 ^ 64 }
-        ensures { (line : List ℕ) → 0 < length line →
+        ensures breaks { (line : List ℕ) → 0 < length line →
             BreaksOff (W.contents w.old) (W.contents w.new) self.old line result.written }
+        ensures grows { printed_of self.new ≡ printed_of self.old }
     {
         match self.send(w) {
             Ok(()) => WriteFault {

@@ -6,10 +6,10 @@ ghost use Rattle.asan_inputs.specs.Verbose.{is_verbose};
 ghost use Rattle.asan_session.specs.Printed.{IsInputPrinted};
 ghost use Rattle.asan_request.specs.Refusals.{IsStatusFor, refused};
 
-use asan_inputs::{Serving, door_of, listen};
+use asan_inputs::{door_of, listen};
 use asan_request::{Refusal, Request, read_words};
 use asan_senders::{UNCHECKED, UNWRITTEN};
-use asan_session::{no_memory, report_each, report_feed, say};
+use asan_session::{Checking, Session, no_memory, report_feed, say};
 use clap::error::ErrorKind;
 use std::alloc::AllocError;
 use std::fs::File;
@@ -31,8 +31,8 @@ const REFUSED: u8 = 2;
 ///
 /// With no words it checks one trace from `input`. The texts of all processes go to `output`. Only
 /// what is wrong with the command line, that there is no memory to start, or that the socket can't
-/// be served goes to `faults`, and with `--verbose` what became of each file. A write to `faults`
-/// that fails changes nothing.
+/// be served goes to `faults`, which is standard error, and with `--verbose` what became of each
+/// file. A write to `faults` that fails changes nothing.
 pub fn run<R, I, O, E>(rt: &R, words: &[String], input: I, output: &mut O, faults: &mut E) -> u8
 where
     R: Files<File = File> + Net + Threads + Wait + Clock + Sync + AllocGlobal,
@@ -53,32 +53,28 @@ where
     let alloc = rt.alloc();
     let request = match read_words(alloc, words) {
         Ok(request) => request,
-        Err(refusal) => return refuse(refusal, output, faults),
+        Err(refusal) => return refuse(refusal, words, output, faults),
     };
     let reported = match request {
         Request::Input => report_feed(alloc, ReadFeed::new(input), output),
-        Request::Files {
-            names,
-            options,
-            verbose,
-            is_live,
-        } => match door_of(rt, alloc, &names, input) {
+        Request::Files(files) => match door_of(rt, alloc, &files.names, input) {
             Ok(mut door) => {
-                let names = verbose.then_some(names.as_slice());
-                report_each(
-                    rt, alloc, &mut door, options, is_live, output, names, faults,
-                )
+                let names = files.verbose.then_some(files.names.as_slice());
+                let checking = Checking {
+                    options: files.options,
+                    is_live: files.is_live,
+                };
+                Session { rt, checking }.report_each(&mut door, output, names, faults)
             }
             Err(error) => Err(error),
         },
         Request::Serve(serving) => match listen(rt, &serving) {
             Ok(mut door) => {
-                let Serving {
-                    options,
-                    is_live,
-                    ..
-                } = serving;
-                report_each(rt, alloc, &mut door, options, is_live, output, None, faults)
+                let checking = Checking {
+                    options: serving.options,
+                    is_live: serving.is_live,
+                };
+                Session { rt, checking }.report_each(&mut door, output, None, faults)
             }
             Err(error) => return say(faults, &error, UNCHECKED),
         },
@@ -90,11 +86,16 @@ where
 }
 
 /// Says why the words are not carried out, and gives the status to end with.
-fn refuse<O: Write, E: Write>(refusal: Refusal, output: &mut O, faults: &mut E) -> u8
+fn refuse<O: Write, E: Write>(
+    refusal: Refusal,
+    words: &[String],
+    output: &mut O,
+    stderr: &mut E,
+) -> u8
     ensures status { IsStatusFor refusal result }
     ensures refused { result ≡ refused → output.new ≡ output.old }
-    ensures quiet { result ≢ refused → result ≢ unchecked → faults.new ≡ faults.old }
-    ensures apart { (output.new ≡ output.old) ⊎ (faults.new ≡ faults.old) }
+    ensures quiet { result ≢ refused → result ≢ unchecked → stderr.new ≡ stderr.old }
+    ensures apart { (output.new ≡ output.old) ⊎ (stderr.new ≡ stderr.old) }
 {
     match refusal {
         Refusal::Help(help) => {
@@ -103,25 +104,43 @@ fn refuse<O: Write, E: Write>(refusal: Refusal, output: &mut O, faults: &mut E) 
         }
         Refusal::Mistake(mistake) => {
             // The text ends with a line feed of its own.
-            let _ = write!(faults, "{mistake}");
-            if mistake.kind() == ErrorKind::InvalidSubcommand {
-                let _ = writeln!(faults, "\nTo check a trace in a file: asancol check FILE");
+            let _ = write!(stderr, "{mistake}");
+            if let Some(hint) = hint_for(mistake.kind(), words) {
+                let _ = writeln!(stderr, "\n{hint}");
             }
             REFUSED
         }
-        Refusal::OptionOutOfRange(bad) => say(faults, &bad, REFUSED),
-        Refusal::TooManyFiles => say(faults, &"too many files", REFUSED),
-        Refusal::InputTwice => say(faults, &"error: '-' is given more than once", REFUSED),
-        Refusal::NoMemory => no_memory(faults),
+        Refusal::OptionOutOfRange(bad) => say(stderr, &bad, REFUSED),
+        Refusal::TooManyFiles => say(stderr, &"too many files", REFUSED),
+        Refusal::InputTwice => say(stderr, &"error: '-' is given more than once", REFUSED),
+        Refusal::NoMemory => no_memory(stderr),
     }
 }
 
+/// What else to say of words with a mistake of this kind.
+fn hint_for(kind: ErrorKind, words: &[String]) -> Option<&'static str> {
+    match kind {
+        ErrorKind::InvalidSubcommand => Some("To check a trace in a file: asancol check FILE"),
+        ErrorKind::UnknownArgument if has_short_form(words) => {
+            Some("The options --verbose and --version have no short form")
+        }
+        _ => None,
+    }
+}
+
+/// Whether one of these words is what other programs take for `--verbose` or `--version`.
+fn has_short_form(words: &[String]) -> bool {
+    words
+        .iter()
+        .any(|word| word.as_str() == "-v" || word.as_str() == "-V")
+}
+
 /// Says that this word of the command line is no text, and gives the status to end with.
-pub fn no_text<E: Write>(faults: &mut E, word: &[u8]) -> u8
+pub fn no_text<E: Write>(stderr: &mut E, word: &[u8]) -> u8
     ensures { result ≡ refused }
 {
     let _ = writeln!(
-        faults,
+        stderr,
         "error: a word of the command line is not valid UTF-8: '{}'",
         word.escape_ascii()
     );

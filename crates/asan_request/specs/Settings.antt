@@ -8,8 +8,7 @@ use Rattle.asan_stream.specs.BadOptions.{bad_option_of, is_memory_bound}
 use Rattle.asan_stream.specs.declared.options.BadOption.{BadOption}
 use Rattle.asan_stream.specs.declared.options.BadOption.TheVariants as option
 use Rattle.asan_stream.specs.declared.options.Options.{Options}
-use Rattle.asan_request.specs.declared.request.Request.{Request}
-use Rattle.asan_request.specs.declared.request.Request.TheVariants as request
+use Rattle.asan_request.specs.declared.request.TraceFiles.{TraceFiles}
 use Rattle.clap.specs.Words.{matched_of, one_text, raw_values}
 use Rattle.clap.specs.declared.parser.matches.Found.{Found}
 
@@ -77,20 +76,12 @@ abbrev pub IsBadOption : Found → BadOption → Type 0
 IsBadOption found bad = IsBadSize found bad ⊎ ((bad ≡ option.Memory) × IsBadMemory found)
 
 -- the files that were found, in order, with their options
-abbrev pub AreFilesOf : Found → Request → Type 0
-AreFilesOf found request.Input = ⊥
-AreFilesOf found (request.Files names options verbose is_live) =
-    (map string_bytes names.items ≡ option_map_or raw_values (matched_of found (codes "files")) [])
-    × AreOptionsOf found options
-    × IsFlag (one_text found (codes "live")) is_live
-AreFilesOf found (request.Serve serving) = ⊥
-
--- whether what became of each file is said is what was found of the flag
-abbrev pub SaysVerbose : Found → Request → Type 0
-SaysVerbose found request.Input = Unit {0}
-SaysVerbose found (request.Files names options verbose is_live) =
-    IsFlag (one_text found (codes "verbose")) verbose
-SaysVerbose found (request.Serve serving) = Unit {0}
+abbrev pub AreFilesOf : Found → TraceFiles → Type 0
+AreFilesOf found files =
+    (map string_bytes files.names.items
+    ≡ option_map_or raw_values (matched_of found (codes "files")) [])
+    × AreOptionsOf found files.options
+    × IsFlag (one_text found (codes "live")) files.is_live
 
 -- the number is the one that was given
 abbrev pub IsGiven : ℕ → Option (List ℕ) → ℕ → Type 0

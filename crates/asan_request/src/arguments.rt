@@ -1,8 +1,8 @@
 //! The commands that the command line may have, and their arguments.
 
-use asan_senders::MOST_SENDERS;
-use asan_stream::{LEAST_MEMORY, MOST_EVENTS, MOST_MEMORY, MOST_RING, MOST_WORKERS, Options};
-use asan_units::LARGEST_QUARANTINE;
+use asan_senders::MAX_SENDERS;
+use asan_stream::{MAX_EVENTS, MAX_MEMORY, MAX_RING, MAX_WORKERS, MIN_MEMORY, Options};
+use asan_units::MAX_QUARANTINE;
 use clap::{Arg, ArgAction, Command, value_parser};
 use std::alloc::{AllocError, Global};
 
@@ -78,31 +78,32 @@ impl HelpTexts {
             files: format!(in alloc;
                 "The traces, 1 to {} of them: the first is process 0, the next process 1 and so \
                  on; - is standard input",
-                MOST_SENDERS
+                MAX_SENDERS
             )?,
             count: format!(in alloc;
                 "Connections to accept before the first is read, 1 to {}: the first is process 0",
-                MOST_SENDERS
+                MAX_SENDERS
             )?,
             quarantine: format!(in alloc;
                 "Bytes of freed blocks and their redzones to hold back, 0 to {} [default: {}]",
-                LARGEST_QUARANTINE, usual.quarantine
+                MAX_QUARANTINE, usual.quarantine
             )?,
             ring: format!(in alloc;
                 "Events of each process that may wait for its checker, 1 to {} [default: {}]",
-                MOST_RING, usual.ring
+                MAX_RING, usual.ring
             )?,
             workers: format!(in alloc;
-                "Checkers that share the processes and work side by side, 1 to {} [default: {}]",
-                MOST_WORKERS, usual.workers
+                "Worker threads that share the processes and work side by side, 1 to {} \
+                 [default: {}]",
+                MAX_WORKERS, usual.workers
             )?,
             limit: format!(in alloc;
                 "Events that each trace may have, 1 to {} [default: {}]",
-                MOST_EVENTS, usual.limit
+                MAX_EVENTS, usual.limit
             )?,
             memory: format!(in alloc;
                 "Bytes that the checker of each process may hold, {} to {} [default: no bound]",
-                LEAST_MEMORY, MOST_MEMORY
+                MIN_MEMORY, MAX_MEMORY
             )?,
             after_help: format!(in alloc; "{NO_WORDS}\n\n{STATUSES}")?,
         })
@@ -172,27 +173,27 @@ fn with_options<'a>(
 ) -> Result<Command<'a>, AllocError> {
     command
         .arg(number(alloc, QUARANTINE, "BYTES", texts.quarantine.as_str()).value_parser(
-            value_parser!(u64).range(0..=LARGEST_QUARANTINE as i64),
+            value_parser!(u64).range(0..=MAX_QUARANTINE as i64),
         ))?
         .arg(number(alloc, RING, "EVENTS", texts.ring.as_str()).value_parser(value_parser!(
             u32
-        ).range(1..=i64::from(MOST_RING))))?
-        .arg(number(alloc, WORKERS, "CHECKERS", texts.workers.as_str()).value_parser(value_parser!(
+        ).range(1..=i64::from(MAX_RING))))?
+        .arg(number(alloc, WORKERS, "WORKERS", texts.workers.as_str()).value_parser(value_parser!(
             u32
-        ).range(1..=i64::from(MOST_WORKERS))))?
+        ).range(1..=i64::from(MAX_WORKERS))))?
         .arg(number(alloc, LIMIT, "EVENTS", texts.limit.as_str()).value_parser(value_parser!(
             u32
-        ).range(1..=i64::from(MOST_EVENTS))))?
+        ).range(1..=i64::from(MAX_EVENTS))))?
         .arg(number(alloc, MEMORY, "BYTES", texts.memory.as_str()).value_parser(value_parser!(
             u64
-        ).range(LEAST_MEMORY as i64..=MOST_MEMORY as i64)))?
+        ).range(MIN_MEMORY as i64..=MAX_MEMORY as i64)))?
         .arg(live(alloc))
 }
 
 fn count<'a>(alloc: Global, texts: &'a HelpTexts) -> Arg<'a> {
     number(alloc, COUNT, "SENDERS", texts.count.as_str())
         .required(true)
-        .value_parser(value_parser!(u32).range(1..=MOST_SENDERS as i64))
+        .value_parser(value_parser!(u32).range(1..=MAX_SENDERS as i64))
 }
 
 /// An option whose value is a number. One below 0 is refused as a value, and not taken for an

@@ -4,15 +4,13 @@ ghost use Rattle.std.specs.Prelude.{◌≡◌, ◌↔◌, [], Ok, IfOk, IfSome, 
 ghost use Rattle.std.specs.Prelude.{option_map, string_bytes};
 ghost use Rattle.clap.specs.Words.{first_value, found_of, one_text};
 ghost use Rattle.asan_inputs.specs.Verbose.{is_verbose as is_verbose_of};
-ghost use Rattle.asan_request.specs.Requests.{HasFewFiles, IsQuiet};
 ghost use Rattle.asan_request.specs.Settings.{AreFilesOf, AreOptionsOf, IsFlag, IsGiven};
-ghost use Rattle.asan_request.specs.Settings.{SaysVerbose};
 
 use crate::arguments::{
     CHECK, COUNT, FILES, HelpTexts, LIVE, READY, SERVE, SOCKET, VERBOSE, command,
 };
 use crate::refusal::Refusal;
-use crate::request::Request;
+use crate::request::{Request, TraceFiles};
 use crate::settings::options_of;
 use asan_inputs::{Serving, is_sender_count, is_verbose, names_of};
 use clap::ArgMatches;
@@ -22,8 +20,8 @@ use std::alloc::Global;
 /// What the words after the program's name ask for, or why they are not carried out.
 pub fn read_words(alloc: Global, words: &[String]) -> Result<Request, Refusal>
     ensures input { (result ≡ Ok Request.Input) ↔ (words.now ≡ []) }
-    ensures few_files { IfOk result HasFewFiles }
-    ensures quiet { is_verbose_of words.now ≡ false → IfOk result IsQuiet }
+    ensures quiet { is_verbose_of words.now ≡ false → (files : TraceFiles) →
+        result ≡ Ok (Request.Files files) → files.verbose ≡ false }
 {
     if words.is_empty() {
         return Ok(Request::Input);
@@ -32,7 +30,7 @@ pub fn read_words(alloc: Global, words: &[String]) -> Result<Request, Refusal>
     let mut command = command(alloc, &texts)?;
     let matches = command.try_get_matches_from_mut(words)?;
     let request = match matches.subcommand() {
-        Some((CHECK, of_check)) => Some(files_of(alloc, of_check, words)?),
+        Some((CHECK, of_check)) => Some(Request::Files(files_of(alloc, of_check, words)?)),
         Some((SERVE, of_serve)) => serving_of(alloc, of_serve)?.map(Request::Serve),
         _ => None,
     };
@@ -46,14 +44,18 @@ pub fn read_words(alloc: Global, words: &[String]) -> Result<Request, Refusal>
 }
 
 /// The files that were found, and how they are checked.
-fn files_of(alloc: Global, matches: &ArgMatches<'_>, words: &[String]) -> Result<Request, Refusal>
+fn files_of(
+    alloc: Global,
+    matches: &ArgMatches<'_>,
+    words: &[String],
+) -> Result<TraceFiles, Refusal>
     ensures found { IfOk result (AreFilesOf (found_of matches.now)) }
-    ensures few_files { IfOk result HasFewFiles }
-    ensures verbose { IsTrue (is_verbose_of words.now) →
-        IfOk result (SaysVerbose (found_of matches.now)) }
-    ensures quiet { is_verbose_of words.now ≡ false → IfOk result IsQuiet }
+    ensures verbose { IsTrue (is_verbose_of words.now) → IfOk result (λ files.
+        IsFlag (one_text (found_of matches.now) (codes "verbose")) files.verbose) }
+    ensures quiet { is_verbose_of words.now ≡ false →
+        IfOk result (λ files. files.verbose ≡ false) }
 {
-    Ok(Request::Files {
+    Ok(TraceFiles {
         names: names_of(alloc, matches.get_strs(FILES).unwrap_or(&[]))?,
         options: options_of(matches)?,
         verbose: is_verbose(words, matches.get_flag(VERBOSE)),

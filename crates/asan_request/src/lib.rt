@@ -9,4 +9,4 @@ mod settings;
 
 pub use command_line::read_words;
 pub use refusal::Refusal;
-pub use request::Request;
+pub use request::{Request, TraceFiles};

@@ -1,5 +1,8 @@
 //! What the words of the command line ask for.
 
+ghost use Rattle.std.specs.Prelude.{◌≤◌, length};
+ghost use Rattle.asan_senders.specs.Ranges.{most_senders};
+
 use asan_inputs::Serving;
 use asan_stream::Options;
 
@@ -8,16 +11,21 @@ use asan_stream::Options;
 pub enum Request {
     /// Check the trace on standard input with the usual options.
     Input,
-    /// Check the traces in the files of these names, in order, with these options. `-` is standard
-    /// input, and is there at most once.
-    Files {
-        names: Vec<String>,
-        options: Options,
-        /// Whether to say at the end what became of each file.
-        verbose: bool,
-        /// Whether to print each report when it is found.
-        is_live: bool,
-    },
+    /// Check the traces in some files.
+    Files(TraceFiles),
     /// Check the traces that come through a socket.
     Serve(Serving),
+}
+
+/// The files to check, no more than one call takes, and how they are checked.
+#[derive(Drop)]
+pub struct TraceFiles {
+    /// Their names, in order. `-` is standard input, and is there at most once.
+    pub names: Vec<String>,
+    pub options: Options,
+    /// Whether to say at the end what became of each file.
+    pub verbose: bool,
+    /// Whether to print each report when it is found.
+    pub is_live: bool,
+    pub ghost few: { length names.items ≤ most_senders },
 }

@@ -1,4 +1,4 @@
--- The benches of each checker, as they go on.
+-- The benches of each worker, as they go on.
 use Rattle.std.proofs.Common.{ℕ, suc, ◌≡◌, ◌<◌, ◌≤◌, ◌+◌, ◌*◌, ◌%◌, ◌/◌, ◌++◌, ◌∷◌, [], List, length, length-append}
 use Rattle.std.proofs.Common.{refl, ◌∙◌, sym, ap, arith, slice_index_or, slice_set, ◌⊎◌, inl, inr, ◌≢◌}
 use Rattle.std.specs.Vec.{vec_capacity}
@@ -10,8 +10,8 @@ use Rattle.trace_feed.specs.Feeds.{FeedState}
 use Rattle.asan_stream.specs.declared.bench.Bench.{Bench}
 use Rattle.asan_senders.specs.declared.sender.Sender.{Sender}
 use Rattle.asan_senders.specs.declared.sender.Sender.TheVariants as sender
-use Rattle.asan_senders.specs.declared.checker_thread.CheckerThread.{CheckerThread}
-use Rattle.asan_senders.specs.declared.checker_thread.CheckerThread.TheVariants as running
+use Rattle.asan_senders.specs.declared.worker_thread.WorkerThread.{WorkerThread}
+use Rattle.asan_senders.specs.declared.worker_thread.WorkerThread.TheVariants as running
 use Rattle.asan_senders.specs.Arrivals.{Pairwise}
 use Rattle.asan_senders.specs.Shares.{Share, ComesBack, GivesUp, Returns, SharesAt, AreEmpty, HasRoom, Deals}
 use Rattle.asan_senders.specs.Shares.{WillComeBack, GivesUpWith, EachGivesUp}
@@ -19,7 +19,7 @@ use Rattle.asan_senders.specs.Ranges.{most_senders}
 use Rattle.asan_senders.specs.Senders.{Each, Becomes, Ends, Keeps, IsAt, AreAt, IsFresh, AllFresh, WillBe}
 use Rattle.asan_senders.proofs.Senders.{at_kept, at_later, at_more, at_push, each_after}
 
--- a checker has fewer benches than it has senders up to this one
+-- a worker has fewer benches than it has senders up to this one
 few_dealt : (w i n : ℕ) → w * n + i % w < i + w → w * n ≤ w * (i / w)
 few_dealt w i n few =
     let whole = div-add-mod i w in
@@ -99,58 +99,58 @@ module _ {A : Type 0} where
     room = h.room;
   }
 
-  -- the checker whose number is that of a sender mod their number, by whatever default it was found
-  pub checker_at : (checkers : List (CheckerThread A)) (i n : ℕ) (c d : CheckerThread A) → n ≡ length checkers
-      → 0 < length checkers → c ≡ slice_index_or checkers (i % n) c
-      → slice_index_or checkers (i % length checkers) d ≡ c
-  checker_at checkers i n c d same some is =
+  -- the worker whose number is that of a sender mod their number, by whatever default it was found
+  pub checker_at : (workers : List (WorkerThread A)) (i n : ℕ) (c d : WorkerThread A) → n ≡ length workers
+      → 0 < length workers → c ≡ slice_index_or workers (i % n) c
+      → slice_index_or workers (i % length workers) d ≡ c
+  checker_at workers i n c d same some is =
       let some_here : 0 < n = omega arith in
-      let low : i % n < length checkers = rw (sym same) (mod-lt i some_here) in
-      rw (sym same) (sym (is ∙ get_or_default checkers (i % n) c d low))
+      let low : i % n < length workers = rw (sym same) (mod-lt i some_here) in
+      rw (sym same) (sym (is ∙ get_or_default workers (i % n) c d low))
 
 module _ {F A : Type 0} where
-  -- a sender whose checker may have been lost
+  -- a sender whose worker may have been lost
   abbrev pub StaysOrGivesUp : Sender F A → Sender F A → Type 0
   StaysOrGivesUp x y = (y ≡ x) ⊎ GivesUp x y
 
-  stays_or_gives_up : (c : CheckerThread A) (x y : Sender F A) → GivesUpWith c x y → StaysOrGivesUp x y
+  stays_or_gives_up : (c : WorkerThread A) (x y : Sender F A) → GivesUpWith c x y → StaysOrGivesUp x y
   stays_or_gives_up running.Lost x y p = inr p
   stays_or_gives_up (running.Idle benches) x y p = inl p
   stays_or_gives_up (running.Running h) x y p = inl p
 
-  pub each_stays_or_gives_up : (checkers : List (CheckerThread A)) (xs ys : List (Sender F A))
-      → EachGivesUp checkers xs ys → Each StaysOrGivesUp xs ys
-  each_stays_or_gives_up checkers xs ys p = record {
+  pub each_stays_or_gives_up : (workers : List (WorkerThread A)) (xs ys : List (Sender F A))
+      → EachGivesUp workers xs ys → Each StaysOrGivesUp xs ys
+  each_stays_or_gives_up workers xs ys p = record {
     same_length = p.same_length;
-    each = λ i d below. stays_or_gives_up (slice_index_or checkers (i % length checkers) running.Lost)
+    each = λ i d below. stays_or_gives_up (slice_index_or workers (i % length workers) running.Lost)
         (slice_index_or xs i d) (slice_index_or ys i d) (p.each i d running.Lost below);
   }
 
-  pub stays_with : (c : CheckerThread A) (s : Sender F A) → c ≢ running.Lost → GivesUpWith c s s
+  pub stays_with : (c : WorkerThread A) (s : Sender F A) → c ≢ running.Lost → GivesUpWith c s s
   stays_with running.Lost s n = absurd (n refl)
   stays_with (running.Idle benches) s n = refl
   stays_with (running.Running h) s n = refl
 
-  -- below a place each sender has given up with its checker, and from it on nothing changed
-  pub record GivenUpTo (checkers : List (CheckerThread A)) (to : ℕ) (xs ys : List (Sender F A)) : Type 0 where
+  -- below a place each sender has given up with its worker, and from it on nothing changed
+  pub record GivenUpTo (workers : List (WorkerThread A)) (to : ℕ) (xs ys : List (Sender F A)) : Type 0 where
     pub same_length : length ys ≡ length xs
     pub done :
-        (i : ℕ) (d : Sender F A) (c : CheckerThread A) → i < to → i < length xs →
-        GivesUpWith (slice_index_or checkers (i % length checkers) c) (slice_index_or xs i d) (slice_index_or ys i d)
+        (i : ℕ) (d : Sender F A) (c : WorkerThread A) → i < to → i < length xs →
+        GivesUpWith (slice_index_or workers (i % length workers) c) (slice_index_or xs i d) (slice_index_or ys i d)
     pub rest : (i : ℕ) (d : Sender F A) → to ≤ i → slice_index_or ys i d ≡ slice_index_or xs i d
 
-  pub given_up_none : (checkers : List (CheckerThread A)) (xs : List (Sender F A)) → GivenUpTo checkers 0 xs xs
-  given_up_none checkers xs = record {
+  pub given_up_none : (workers : List (WorkerThread A)) (xs : List (Sender F A)) → GivenUpTo workers 0 xs xs
+  given_up_none workers xs = record {
     same_length = refl;
     done = λ i d c low below. absurd (omega arith);
     rest = λ i d above. refl;
   }
 
   -- the next sender stays as it is
-  pub given_up_same : (checkers : List (CheckerThread A)) (at : ℕ) (xs ys : List (Sender F A))
-      → ((c : CheckerThread A) (s : Sender F A) → GivesUpWith (slice_index_or checkers (at % length checkers) c) s s)
-      → GivenUpTo checkers at xs ys → GivenUpTo checkers (at + 1) xs ys
-  given_up_same checkers at xs ys stays r = record {
+  pub given_up_same : (workers : List (WorkerThread A)) (at : ℕ) (xs ys : List (Sender F A))
+      → ((c : WorkerThread A) (s : Sender F A) → GivesUpWith (slice_index_or workers (at % length workers) c) s s)
+      → GivenUpTo workers at xs ys → GivenUpTo workers (at + 1) xs ys
+  given_up_same workers at xs ys stays r = record {
     same_length = r.same_length;
     done = λ i d c before below. elim (cases_eq i at) [
       | inl e ↦ rw (e, r.rest at d (omega arith)) (stays c (slice_index_or xs at d))
@@ -160,12 +160,12 @@ module _ {F A : Type 0} where
   }
 
   -- the next sender has become this one
-  pub given_up_set : (checkers : List (CheckerThread A)) (at : ℕ) (xs ys : List (Sender F A)) (z : Sender F A)
+  pub given_up_set : (workers : List (WorkerThread A)) (at : ℕ) (xs ys : List (Sender F A)) (z : Sender F A)
       → at < length ys
-      → ((d : Sender F A) (c : CheckerThread A) →
-      GivesUpWith (slice_index_or checkers (at % length checkers) c) (slice_index_or ys at d) z)
-      → GivenUpTo checkers at xs ys → GivenUpTo checkers (at + 1) xs (slice_set ys at z)
-  given_up_set checkers at xs ys z low will r =
+      → ((d : Sender F A) (c : WorkerThread A) →
+      GivesUpWith (slice_index_or workers (at % length workers) c) (slice_index_or ys at d) z)
+      → GivenUpTo workers at xs ys → GivenUpTo workers (at + 1) xs (slice_set ys at z)
+  given_up_set workers at xs ys z low will r =
       let len : length ys ≡ length xs = r.same_length in record {
         same_length = length-set ys at z ∙ len;
         done = λ i d c before below. elim (cases_eq i at) [
@@ -175,9 +175,9 @@ module _ {F A : Type 0} where
         rest = λ i d above. get_or-set_other ys at i z d (λ e. omega arith) ∙ r.rest i d (omega arith);
       }
 
-  pub given_up_all : (checkers : List (CheckerThread A)) (to : ℕ) (xs ys : List (Sender F A)) → length xs ≤ to
-      → GivenUpTo checkers to xs ys → EachGivesUp checkers xs ys
-  given_up_all checkers to xs ys all r = record {
+  pub given_up_all : (workers : List (WorkerThread A)) (to : ℕ) (xs ys : List (Sender F A)) → length xs ≤ to
+      → GivenUpTo workers to xs ys → EachGivesUp workers xs ys
+  given_up_all workers to xs ys all r = record {
     same_length = r.same_length;
     each = λ i d c below. r.done i d c (omega arith) below;
   }
@@ -240,7 +240,7 @@ module _ {F A : Type 0} where
     each = λ k d below.
         let few : k < length xs = let e = r.same_length in omega arith in
         elim (r.each k d few) [
-          | inl on ↦ at_later bound senders (slice_index_or xs k d).items (slice_index_or ys k d).items on
+          | inl on ↦ at_later bound senders (slice_index_or xs k d).items (slice_index_or ys k d).items on.0
               (h.each k d few)
           | inr none ↦ rw none (record { each = λ i b low. absurd (omega arith) })
         ];
@@ -256,7 +256,7 @@ module _ {F A : Type 0} (seen : F → FeedState) where
   becomes_after limit (sender.Ready feed lane) y z (inr p) q = rw (rw p at q) tt
   becomes_after limit (sender.Running h) y z (inr p) q = rw p at q
   becomes_after limit (sender.Read d) y z (inr p) q = rw p at q
-  becomes_after limit (sender.Joined d b) y z (inr p) q = rw p at q
+  becomes_after limit (sender.Joined d b reports) y z (inr p) q = rw p at q
 
   gives_up_fresh : (x y : Sender F A) → StaysOrGivesUp x y → IsFresh seen x → IsFresh seen y
   gives_up_fresh x y (inl same) h = rw same h
@@ -265,7 +265,7 @@ module _ {F A : Type 0} (seen : F → FeedState) where
   gives_up_fresh (sender.Ready feed lane) y (inr p) h = rw p tt
   gives_up_fresh (sender.Running k) y (inr p) h = elim h [ ]
   gives_up_fresh (sender.Read d) y (inr p) h = rw p tt
-  gives_up_fresh (sender.Joined d b) y (inr p) h = rw p tt
+  gives_up_fresh (sender.Joined d b reports) y (inr p) h = rw p tt
 
   pub fresh_left : (xs ys : List (Sender F A)) → Each StaysOrGivesUp xs ys → AllFresh seen xs → AllFresh seen ys
   fresh_left xs ys r h = record {
@@ -281,7 +281,7 @@ module _ {F A : Type 0} (seen : F → FeedState) where
   will_after limit x y (sender.Ready feed lane) p q = becomes_after limit x y (sender.Ready feed lane) p q
   will_after limit x y (sender.Running h) p q = λ d kept. becomes_after limit x y (sender.Read d) p (q d kept)
   will_after limit x y (sender.Read d) p q = becomes_after limit x y (sender.Read d) p q
-  will_after limit x y (sender.Joined d b) p q = becomes_after limit x y (sender.Joined d b) p q
+  will_after limit x y (sender.Joined d b reports) p q = becomes_after limit x y (sender.Joined d b reports) p q
 
   -- all readers were started and have ended
   pub read_all : (limit : ℕ) (xs ys zs : List (Sender F A)) → Each (WillBe seen limit) xs ys → Each (Ends seen) ys zs
@@ -290,10 +290,10 @@ module _ {F A : Type 0} (seen : F → FeedState) where
       xs ys zs
 
 module _ {A : Type 0} where
-  -- all checkers were started and have ended
-  pub checked_all : (xs zs : List (Share A)) (checkers : List (CheckerThread A)) → Pairwise WillComeBack xs checkers
-      → Pairwise Returns checkers zs → Each ComesBack xs zs
-  checked_all xs zs checkers p q = record {
+  -- all workers were started and have ended
+  pub checked_all : (xs zs : List (Share A)) (workers : List (WorkerThread A)) → Pairwise WillComeBack xs workers
+      → Pairwise Returns workers zs → Each ComesBack xs zs
+  checked_all xs zs workers p q = record {
     same_length = q.same_length ∙ p.same_length;
     each = λ i d below. q.each i running.Lost d (let e = p.same_length in
         omega arith) (slice_index_or xs i d) (p.each i d running.Lost below);

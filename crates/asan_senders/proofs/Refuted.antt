@@ -1,8 +1,11 @@
 -- Outcomes, texts and statuses that the contracts refuse.
 -- Each lemma is named for what would have gone wrong.
-use Rattle.std.proofs.Common.{◌≡◌, ◌⊎◌, inl, inr, ℕ, true, false, List, [], ◌∷◌, Some, refl, sym, ap, ◌∙◌, arith}
+use Rattle.std.proofs.Common.{◌≡◌, ◌⊎◌, inl, inr, ℕ, true, false, List, [], ◌∷◌, Option, Some, None, refl, sym, ap, ◌∙◌}
+use Rattle.std.proofs.Common.{arith}
 use Rattle.std.specs.Prelude.{◌≢◌, IsTrue, Vec}
 use Rattle.std.specs.Io.KnownBytes.{Appends}
+use Rattle.std.proofs.lemmas.Bool.{false≢true}
+use Rattle.trace_lane.specs.declared.lane_end.LaneEnd.{LaneEnd}
 use Rattle.trace_lane.specs.declared.lane_in.LaneIn.{LaneIn}
 use Rattle.trace_record.specs.declared.end.End.{End}
 use Rattle.trace_record.specs.declared.end.Fate.TheVariants as fate
@@ -10,13 +13,17 @@ use Rattle.trace_feed.specs.Feeds.{FeedState}
 use Rattle.trace_feed.specs.declared.door.Arrival.TheVariants as arrival
 use Rattle.asan_check.specs.declared.report.Report.{Report}
 use Rattle.asan_check.specs.Lines.{end_line, report_line}
+use Rattle.asan_print.specs.declared.port.Port.{Port}
+use Rattle.asan_stream.specs.declared.bench.Bench.{Bench}
 use Rattle.asan_stream.specs.declared.options.Options.{Options}
 use Rattle.asan_stream.specs.declared.outcome.Outcome.TheVariants as outcome
 use Rattle.asan_stream.specs.declared.item.Item.{Item}
-use Rattle.asan_senders.specs.declared.checker_thread.CheckerThread.TheVariants as running
+use Rattle.asan_stream.specs.declared.reader.ReaderDone.{ReaderDone}
+use Rattle.asan_senders.specs.declared.worker_thread.WorkerThread.TheVariants as running
 use Rattle.asan_senders.specs.declared.sender.Sender.{Sender}
 use Rattle.asan_senders.specs.declared.sender.Sender.TheVariants as sender
 use Rattle.asan_senders.specs.Arrivals.{IsAnswerTo}
+use Rattle.asan_senders.specs.Senders.{SaysHowFar}
 use Rattle.asan_senders.specs.Shares.{EachGivesUp, Share}
 use Rattle.asan_senders.specs.Live.{ArePrintedOf}
 use Rattle.asan_stream.specs.Outcomes.{faults_of, ending_of}
@@ -51,10 +58,10 @@ stops_asking_at_255 : ¬ (IsTrue false ⊎ ◌≡◌ {A = ℕ} 255 most_senders)
 stops_asking_at_255 (inl over) = absurd cc
 stops_asking_at_255 (inr all) = absurd (omega arith)
 
--- ---- checkers that were lost
+-- ---- workers that were lost
 
 module _ {F A : Type 0} (feed : F) (lane : LaneIn Item A) where
-  -- the checker was lost, and its sender waits for a reader on
+  -- the worker was lost, and its sender is still ready for a reader
   nobody_gives_up :
       ¬ EachGivesUp {F = F} {A = A} (running.Lost ∷ []) (sender.Ready feed lane ∷ [])
       (sender.Ready feed lane ∷ [])
@@ -62,7 +69,7 @@ module _ {F A : Type 0} (feed : F) (lane : LaneIn Item A) where
       let gone : ◌≡◌ {A = Sender F A} (sender.Ready feed lane) sender.NotStarted =
       p.each 0 sender.NotStarted running.Lost (omega arith) in absurd cc
 
-  -- the second checker was lost, and the first one's sender gives up
+  -- the second worker was lost, and the first one's sender gives up
   sender_of_another_checker_gives_up :
       (benches : Share A) →
       ¬ EachGivesUp {F = F} {A = A} (running.Idle benches ∷ running.Lost ∷ [])
@@ -70,6 +77,23 @@ module _ {F A : Type 0} (feed : F) (lane : LaneIn Item A) where
   sender_of_another_checker_gives_up benches p =
       let same : ◌≡◌ {A = Sender F A} sender.NotStarted (sender.Ready feed lane) =
       p.each 0 sender.NotStarted running.Lost (omega arith) in absurd cc
+
+-- ---- settling
+
+module _ {F A : Type 0} (done : ReaderDone F A) (bench : Bench A) (port : Port A) where
+  -- the lane has its end, and the outcome is that it has none
+  unsettled_where_the_lane_has_its_end :
+      (end : LaneEnd Item A) (reports : Option (LaneEnd Report A)) → done.lane_end ≡ Some end →
+      ¬ SaysHowFar None (sender.Joined done bench reports) outcome.Unsettled
+  unsettled_where_the_lane_has_its_end end reports has far =
+      absurd (false≢true (rw has at far))
+
+  -- so has the report lane
+  unsettled_where_both_lanes_have_their_ends :
+      (end : LaneEnd Item A) (reports : LaneEnd Report A) → done.lane_end ≡ Some end →
+      ¬ SaysHowFar (Some port) (sender.Joined done bench (Some reports)) outcome.Unsettled
+  unsettled_where_both_lanes_have_their_ends end reports has far =
+      absurd (false≢true (rw has at far))
 
 -- ---- lines
 

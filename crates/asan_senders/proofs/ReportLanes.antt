@@ -52,7 +52,7 @@ module _ {A : Type 0} where
     each = λ i d below. q.each i d (let e = p.same_length in omega arith) ∙ p.each i d below;
   }
 
-  -- the benches of a checker, where one came and where one went
+  -- the benches of a worker, where one came and where one went
   have_push : (lanes : ℕ → Option (Lane A)) (xs : List (Bench A)) (b : Bench A) → AllHave lanes xs → HasLaneOf lanes b
       → AllHave lanes (xs ++ b ∷ [])
   have_push lanes xs b h here = record {
@@ -104,7 +104,7 @@ module _ {A : Type 0} where
         λ k d below. rw (h.none k d below) (record { each = λ i b low. absurd (omega arith) });
   }
 
-  -- the checker at this place got one bench more
+  -- the worker at this place got one bench more
   pub have_dealt : (lanes : ℕ → Option (Lane A)) (at : ℕ) (b : Bench A) (shares after : List (Share A))
       → at < length shares → SharesHave lanes shares → HasLaneOf lanes b → Deals at b shares after
       → SharesHave lanes after
@@ -121,14 +121,14 @@ module _ {A : Type 0} where
       → KeepsLane (lane_at p) (report_lane_of b) → HasLaneOf (lanes_of (ports ++ p ∷ [])) b
   have_new ports p b is keeps = rw (lanes_last ports p (process_of b) is) keeps
 
-  -- the checkers have worked
+  -- the workers have worked
   pub have_back : (lanes : ℕ → Option (Lane A)) (xs ys : List (Share A)) → Each ComesBack xs ys → SharesHave lanes xs
       → SharesHave lanes ys
   have_back lanes xs ys r h = record {
     each = λ k d below.
         let few : k < length xs = let e = r.same_length in omega arith in
         elim (r.each k d few) [
-          | inl on ↦ have_later lanes (slice_index_or xs k d).items (slice_index_or ys k d).items on (h.each k d few)
+          | inl on ↦ have_later lanes (slice_index_or xs k d).items (slice_index_or ys k d).items on.0 (h.each k d few)
           | inr none ↦ rw none (record { each = λ i b low. absurd (omega arith) })
         ];
   }
@@ -187,10 +187,10 @@ module _ {F A : Type 0} (seen : F → FeedState) where
   becomes_fit limit lane (sender.Ready feed into) (sender.Ready g other) h f = elim h [ ]
   becomes_fit limit lane (sender.Ready feed into) (sender.Read d) h f = tt
   becomes_fit limit lane (sender.Ready feed into) (sender.Running k) h f = elim h [ ]
-  becomes_fit limit lane (sender.Ready feed into) (sender.Joined d b) h f = elim h [ ]
+  becomes_fit limit lane (sender.Ready feed into) (sender.Joined d b reports) h f = elim h [ ]
   becomes_fit limit lane (sender.Running k) t h f = elim h [ ]
   becomes_fit limit lane (sender.Read d) t h f = rw h tt
-  becomes_fit limit lane (sender.Joined d b) t h f = rw h f
+  becomes_fit limit lane (sender.Joined d b reports) t h f = rw h f
 
   -- the readers are done
   pub fit_read : (limit : ℕ) (lanes : ℕ → Option (Lane A)) (xs ys : List (Sender F A)) → Each (Becomes seen limit) xs ys

@@ -1,6 +1,6 @@
 -- What settling makes of a sender.
 use Rattle.std.proofs.Common.{◌≡◌, ◌≤◌, List, [], Option, Some, None, refl, ap, arith, true, All, slice_index_or}
-use Rattle.std.specs.Prelude.{IfSome, length, Bool, false}
+use Rattle.std.specs.Prelude.{IfSome, IsTrue, length, Bool, false}
 use Rattle.std.proofs.lemmas.Bool.{false≢true}
 use Rattle.trace_feed.specs.declared.door.Arrival.{Arrival}
 use Rattle.trace_feed.specs.declared.door.Arrival.TheVariants as arrival
@@ -17,15 +17,33 @@ use Rattle.asan_senders.specs.declared.sender.Sender.{Sender}
 use Rattle.asan_senders.specs.declared.sender.Sender.TheVariants as sender
 use Rattle.asan_stream.specs.declared.bench.Bench.{Bench}
 use Rattle.asan_stream.specs.declared.reader.ReaderDone.{ReaderDone}
-use Rattle.asan_stream.specs.Benches.{bench_bound, lane_of}
+use Rattle.asan_stream.specs.Benches.{bench_bound}
 use Rattle.asan_stream.specs.Items.{items_of}
 use Rattle.asan_stream.specs.Outcomes.{IsSpelled, HasResults}
 use Rattle.asan_stream.specs.Ranges.{most_events, most_reports}
 use Rattle.asan_stream.specs.Readers.{IsPut}
-use Rattle.asan_senders.specs.Senders.{AllJoined, Came, IsJoined}
+use Rattle.asan_senders.specs.Senders.{AllJoined, Came, IsJoined, IsSettledBy}
 use Rattle.asan_senders.specs.Arrivals.{Pairwise, IsAnswerTo, IsAnswerToFeed}
-use Rattle.asan_stream.specs.Outcomes.{reports_of}
+use Rattle.asan_stream.specs.Outcomes.{is_read, reports_of}
+use Rattle.asan_check.specs.declared.report.Report.{Report}
+use Rattle.asan_print.specs.declared.port.Port.{Port}
 use Rattle.asan_stream.proofs.Consequences.{ended_within, few_reports}
+
+module _ {F A : Type 0} where
+  -- what `settle` made of a lane, where no end of a report lane is asked for, and where it is there
+  pub settled_without_port : (lane_end : Option (LaneEnd Item A)) (reports : Option (LaneEnd Report A))
+      (result : Outcome F A)
+      → (lane_end ≡ None → result ≡ outcome.Unsettled) → IfSome lane_end (λ e. IsTrue (is_read result))
+      → IsSettledBy None lane_end reports result
+  settled_without_port None reports result none read = none refl
+  settled_without_port (Some e) reports result none read = read
+
+  pub settled_at_port : (port : Port A) (lane_end : Option (LaneEnd Item A)) (end : LaneEnd Report A)
+      (result : Outcome F A)
+      → (lane_end ≡ None → result ≡ outcome.Unsettled) → IfSome lane_end (λ e. IsTrue (is_read result))
+      → IsSettledBy (Some port) lane_end (Some end) result
+  settled_at_port port None end result none read = none refl
+  settled_at_port port (Some e) end result none read = read
 
 module _ {F A : Type 0} (seen : F → FeedState) where
   -- what has the verdicts on the events of a feed is its outcome
@@ -61,27 +79,19 @@ module _ {F A : Type 0} (seen : F → FeedState) where
   was_refused (sender.Ready feed lane) = false
   was_refused (sender.Running h) = false
   was_refused (sender.Read done) = false
-  was_refused (sender.Joined done bench) = false
+  was_refused (sender.Joined done bench reports) = false
 
   pub settled_came : (options : Options) (a : Arrival F) (done : ReaderDone F A) (bench : Bench A)
-      (result : Outcome F A)
+      (reports : Option (LaneEnd Report A)) (result : Outcome F A)
       → (done.lane_end ≡ None → result ≡ outcome.Unsettled)
       → IfSome done.lane_end (λ e. (events : List Event) → end_list e ≡ items_of events done.end
       → length events ≤ most_events → HasResults (bench_bound bench) events done.feed done.end result)
-      → Came seen options a (sender.Joined done bench) → IsAnswerTo seen options a result
-  settled_came options arrival.Over done bench result none some came = absurd came
-  settled_came options arrival.Refused done bench result none some came = absurd (false≢true (ap was_refused came))
-  settled_came options (arrival.Came feed) done bench result none some came =
+      → Came seen options a (sender.Joined done bench reports) → IsAnswerTo seen options a result
+  settled_came options arrival.Over done bench reports result none some came = absurd came
+  settled_came options arrival.Refused done bench reports result none some came =
+      absurd (false≢true (ap was_refused came))
+  settled_came options (arrival.Came feed) done bench reports result none some came =
       settled_by options feed done.feed done.end done.lane_end result none (rw came.0 at some) came.2
-
-  -- a bench whose report lane was ended, and nothing else
-  pub finished_came : (options : Options) (a : Arrival F) (done : ReaderDone F A) (bench finished : Bench A)
-      → bench_bound finished ≡ bench_bound bench → lane_of finished ≡ lane_of bench
-      → Came seen options a (sender.Joined done bench) → Came seen options a (sender.Joined done finished)
-  finished_came options arrival.Over done bench finished bound lane came = absurd came
-  finished_came options arrival.Refused done bench finished bound lane came = absurd (false≢true (ap was_refused came))
-  finished_came options (arrival.Came feed) done bench finished bound lane came =
-      (rw bound came.0, rw lane came.1, came.2)
 
   -- a bench that came back fits
   came_met : (options : Options) (a : Arrival F) (s : Sender F A) → Came seen options a s → IsJoined s
@@ -92,9 +102,9 @@ module _ {F A : Type 0} (seen : F → FeedState) where
   came_met options arrival.Refused (sender.Running k) h = absurd (false≢true (ap was_refused h))
   came_met options (arrival.Came feed) (sender.Running k) h = absurd h
   came_met options a (sender.Read done) h = tt
-  came_met options arrival.Over (sender.Joined done bench) h = absurd h
-  came_met options arrival.Refused (sender.Joined done bench) h = absurd (false≢true (ap was_refused h))
-  came_met options (arrival.Came feed) (sender.Joined done bench) h = h.1
+  came_met options arrival.Over (sender.Joined done bench reports) h = absurd h
+  came_met options arrival.Refused (sender.Joined done bench reports) h = absurd (false≢true (ap was_refused h))
+  came_met options (arrival.Came feed) (sender.Joined done bench reports) h = h.1
 
   pub pairs_joined : (options : Options) (arrivals : List (Arrival F)) (xs : List (Sender F A))
       → Pairwise (Came seen options) arrivals xs → AllJoined xs

@@ -194,11 +194,11 @@ module _ {F A : Type 0} (seen : F → FeedState) where
   becomes_keeps limit (sender.Ready f lane) sender.NotOpened h x l = elim h [ ]
   becomes_keeps limit (sender.Ready f lane) (sender.Ready g other) h x l = elim h [ ]
   becomes_keeps limit (sender.Ready f lane) (sender.Running k) h x l = elim h [ ]
-  becomes_keeps limit (sender.Ready f lane) (sender.Joined d bench) h x l = elim h [ ]
+  becomes_keeps limit (sender.Ready f lane) (sender.Joined d bench reports) h x l = elim h [ ]
   becomes_keeps limit (sender.Ready f lane) (sender.Read d) h x l = if_some d.lane_end _ _ h (λ e k. k.0 ∙ l)
   becomes_keeps limit (sender.Running k) t h x l = elim h [ ]
   becomes_keeps limit (sender.Read d) t h x l = rw h l
-  becomes_keeps limit (sender.Joined d bench) t h x l = rw h tt
+  becomes_keeps limit (sender.Joined d bench reports) t h x l = rw h tt
 
   pub came_on : (options : Options) (a : Arrival F) (s t : Sender F A) → Came seen options a s
       → Becomes seen options.limit s t → Came seen options a t
@@ -209,13 +209,13 @@ module _ {F A : Type 0} (seen : F → FeedState) where
   came_on options (arrival.Came feed) (sender.Ready f lane) sender.NotOpened h b = elim b [ ]
   came_on options (arrival.Came feed) (sender.Ready f lane) (sender.Ready g other) h b = elim b [ ]
   came_on options (arrival.Came feed) (sender.Ready f lane) (sender.Running k) h b = elim b [ ]
-  came_on options (arrival.Came feed) (sender.Ready f lane) (sender.Joined d bench) h b = elim b [ ]
+  came_on options (arrival.Came feed) (sender.Ready f lane) (sender.Joined d bench reports) h b = elim b [ ]
   came_on options (arrival.Came feed) (sender.Ready f lane) sender.NotStarted h b = tt
   came_on options (arrival.Came feed) (sender.Ready f lane) (sender.Read d) h b =
       if_some d.lane_end _ _ b (λ e k. rw (h.0, h.1) at k.1)
   came_on options (arrival.Came feed) (sender.Running k) t h b = elim h [ ]
   came_on options (arrival.Came feed) (sender.Read d) t h b = rw b h
-  came_on options (arrival.Came feed) (sender.Joined d bench) t h b = rw b h
+  came_on options (arrival.Came feed) (sender.Joined d bench reports) t h b = rw b h
 
   pub pairs_on : (options : Options) (R : Sender F A → Sender F A → Type 0)
       → ((a : Arrival F) (s t : Sender F A) → Came seen options a s → R s t → Came seen options a t)

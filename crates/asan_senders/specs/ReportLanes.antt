@@ -1,15 +1,15 @@
 -- Whose report lane is whose: each process has one, or none.
-use Rattle.std.specs.Prelude.{◌≡◌, ℕ, ◌<◌, ◌≤◌, List, [], length, Option, None, slice_index_or}
-use Rattle.std.specs.Prelude.{vec_len, vec_capacity}
-use Rattle.trace_lane.specs.Lanes.{Lane}
+use Rattle.std.specs.Prelude.{◌≡◌, ℕ, ◌<◌, ◌≤◌, List, [], length, Option, None, Some, IfSome}
+use Rattle.std.specs.Prelude.{slice_index_or, vec_len, vec_capacity}
+use Rattle.trace_lane.specs.Lanes.{Lane, end_lane, end_list}
 use Rattle.asan_print.specs.declared.port.Port.{Port}
 use Rattle.asan_print.specs.Ports.{lane_at, taken_at}
 use Rattle.asan_stream.specs.declared.bench.Bench.{Bench}
 use Rattle.asan_senders.specs.declared.lanes.Seats.{Seats}
 use Rattle.asan_senders.specs.declared.sender.Sender.{Sender}
 use Rattle.asan_senders.specs.declared.sender.Sender.TheVariants as sender
-use Rattle.asan_stream.specs.Benches.{process_of, report_lane_of}
-use Rattle.asan_stream.specs.Outboxes.{KeepsLane}
+use Rattle.asan_stream.specs.Benches.{process_of, report_lane_of, found_of}
+use Rattle.asan_stream.specs.Outboxes.{IsFront, KeepsLane}
 use Rattle.asan_senders.specs.Ranges.{most_senders}
 use Rattle.asan_senders.specs.Shares.{AreEmpty, Share}
 
@@ -37,15 +37,16 @@ module _ {A : Type 0} where
         (k : ℕ) (d : Share A) → k < length shares → AllHave lanes (slice_index_or shares k d).items
 
 module _ {F A : Type 0} where
-  -- this is the report lane of a sender: there is none where its feed could not be opened, and a
-  -- bench that is back has it, or none any more
+  -- this is the report lane of a sender: there is none where its feed could not be opened, and the
+  -- end that came back with a bench is of it, and carries the first of the bench's reports
   abbrev pub Fits : Option (Lane A) → Sender F A → Type 0
   Fits lane sender.NotOpened = lane ≡ None
   Fits lane sender.NotStarted = Unit {0}
   Fits lane (sender.Ready feed into) = Unit {0}
   Fits lane (sender.Running h) = Unit {0}
   Fits lane (sender.Read d) = Unit {0}
-  Fits lane (sender.Joined d b) = KeepsLane lane (report_lane_of b)
+  Fits lane (sender.Joined d b reports) =
+      IfSome reports (λ e. (lane ≡ Some (end_lane e)) × IsFront (end_list e) (found_of b))
 
   -- each sender has the report lane of its process
   pub record AllFit (lanes : ℕ → Option (Lane A)) (senders : List (Sender F A)) : Type 0 where

@@ -1,13 +1,18 @@
 -- How far a sender may come.
-use Rattle.std.specs.Prelude.{◌≡◌, ℕ, ◌<◌, ◌⊎◌, List, [], length, slice_index_or, IfSome, IsTrue}
+use Rattle.std.specs.Prelude.{◌≡◌, ℕ, ◌<◌, List, [], length, slice_index_or, IfSome, IsTrue}
+use Rattle.std.specs.Prelude.{Option, None, Some}
 use Rattle.trace_feed.specs.declared.door.Arrival.{Arrival}
 use Rattle.trace_feed.specs.declared.door.Arrival.TheVariants as arrival
 use Rattle.trace_feed.specs.Feeds.{FeedState}
 use Rattle.trace_lane.specs.Lanes.{Lane, in_lane, end_lane, put_list, end_list}
+use Rattle.trace_lane.specs.declared.lane_end.LaneEnd.{LaneEnd}
+use Rattle.asan_check.specs.declared.report.Report.{Report}
+use Rattle.asan_print.specs.declared.port.Port.{Port}
 use Rattle.asan_stream.specs.declared.options.Options.{Options}
 use Rattle.asan_stream.specs.declared.outcome.Outcome.{Outcome}
 use Rattle.asan_stream.specs.declared.outcome.Outcome.TheVariants as outcome
 use Rattle.asan_stream.specs.declared.bench.Bench.{Bench}
+use Rattle.asan_stream.specs.declared.item.Item.{Item}
 use Rattle.asan_senders.specs.declared.sender.Sender.{Sender}
 use Rattle.asan_senders.specs.declared.sender.Sender.TheVariants as sender
 use Rattle.asan_stream.specs.declared.reader.ReaderDone.{ReaderDone}
@@ -33,7 +38,7 @@ module _ {F A : Type 0} (seen : F → FeedState) where
   Came options (arrival.Came feed) (sender.Running h) = ⊥
   Came options (arrival.Came feed) (sender.Read d) =
       IfSome d.lane_end (λ e. IsPut seen options.limit feed d.feed d.end [] (end_list e))
-  Came options (arrival.Came feed) (sender.Joined d b) =
+  Came options (arrival.Came feed) (sender.Joined d b reports) =
       (bench_bound b ≡ options.quarantine) × IfSome d.lane_end (λ e. end_lane e ≡ lane_of b)
       × IfSome d.lane_end (λ e. IsPut seen options.limit feed d.feed d.end [] (end_list e))
 
@@ -44,7 +49,7 @@ module _ {F A : Type 0} (seen : F → FeedState) where
   IsFresh sender.NotStarted = Unit {0}
   IsFresh (sender.Running h) = ⊥
   IsFresh (sender.Read d) = Unit {0}
-  IsFresh (sender.Joined d b) = Unit {0}
+  IsFresh (sender.Joined d b reports) = Unit {0}
 
   pub record AllFresh (senders : List (Sender F A)) : Type 0 where
     pub each : (i : ℕ) (d : Sender F A) → i < length senders → IsFresh (slice_index_or senders i d)
@@ -57,12 +62,12 @@ module _ {F A : Type 0} (seen : F → FeedState) where
   Becomes limit (sender.Ready feed lane) sender.NotOpened = ⊥
   Becomes limit (sender.Ready feed lane) (sender.Ready f l) = ⊥
   Becomes limit (sender.Ready feed lane) (sender.Running h) = ⊥
-  Becomes limit (sender.Ready feed lane) (sender.Joined d b) = ⊥
+  Becomes limit (sender.Ready feed lane) (sender.Joined d b reports) = ⊥
   Becomes limit sender.NotOpened s = s ≡ sender.NotOpened
   Becomes limit sender.NotStarted s = s ≡ sender.NotStarted
   Becomes limit (sender.Running h) s = ⊥
   Becomes limit (sender.Read d) s = s ≡ sender.Read d
-  Becomes limit (sender.Joined d b) s = s ≡ sender.Joined d b
+  Becomes limit (sender.Joined d b reports) s = s ≡ sender.Joined d b reports
 
   -- what a sender is while the readers run: what its reader promised is what may become of it
   abbrev pub WillBe : ℕ → Sender F A → Sender F A → Type 0
@@ -74,7 +79,7 @@ module _ {F A : Type 0} (seen : F → FeedState) where
   WillBe limit s sender.NotStarted = Becomes limit s sender.NotStarted
   WillBe limit s (sender.Ready feed lane) = Becomes limit s (sender.Ready feed lane)
   WillBe limit s (sender.Read d) = Becomes limit s (sender.Read d)
-  WillBe limit s (sender.Joined d b) = Becomes limit s (sender.Joined d b)
+  WillBe limit s (sender.Joined d b reports) = Becomes limit s (sender.Joined d b reports)
 
   -- the reader of a sender has ended, if it had one, and its promise was kept
   abbrev pub Ends : Sender F A → Sender F A → Type 0
@@ -89,7 +94,7 @@ module _ {F A : Type 0} where
   HasLane (sender.Ready feed lane) x = in_lane lane ≡ x
   HasLane (sender.Running h) x = Unit {0}
   HasLane (sender.Read d) x = IfSome d.lane_end (λ e. end_lane e ≡ x)
-  HasLane (sender.Joined d b) x = Unit {0}
+  HasLane (sender.Joined d b reports) x = Unit {0}
 
   abbrev pub Keeps : Sender F A → Sender F A → Type 0
   Keeps s t = (x : Lane A) → HasLane s x → HasLane t x
@@ -113,21 +118,32 @@ module _ {F A : Type 0} where
   IsJoined (sender.Ready feed lane) = Unit {0}
   IsJoined (sender.Running h) = ⊥
   IsJoined (sender.Read d) = Unit {0}
-  IsJoined (sender.Joined d b) = IfSome d.lane_end (λ e. end_lane e ≡ lane_of b)
+  IsJoined (sender.Joined d b reports) = IfSome d.lane_end (λ e. end_lane e ≡ lane_of b)
 
   pub record AllJoined (senders : List (Sender F A)) : Type 0 where
     pub each : (i : ℕ) (d : Sender F A) → i < length senders → IsJoined (slice_index_or senders i d)
 
+  -- the outcome of a sender whose bench is back, by the end of its lane, and by that of its report
+  -- lane if its reports are taken at a port: unsettled if such an end is missing, and else what was
+  -- read
+  abbrev pub IsSettledBy :
+      Option (Port A) → Option (LaneEnd Item A) → Option (LaneEnd Report A) → Outcome F A → Type 0
+  IsSettledBy port None reports result = result ≡ outcome.Unsettled
+  IsSettledBy None (Some end) reports result = IsTrue (is_read result)
+  IsSettledBy (Some port) (Some end) None result = result ≡ outcome.Unsettled
+  IsSettledBy (Some port) (Some end) (Some reports) result = IsTrue (is_read result)
+
   -- the outcome says how far the sender came: not opened where its feed was refused; not started
   -- where it had no reader; unsettled where its bench did not come back; and where the bench did,
-  -- what was read, or unsettled
-  abbrev pub SaysHowFar : Sender F A → Outcome F A → Type 0
-  SaysHowFar sender.NotOpened result = result ≡ outcome.NotOpened
-  SaysHowFar sender.NotStarted result = result ≡ outcome.NotStarted
-  SaysHowFar (sender.Ready feed lane) result = result ≡ outcome.NotStarted
-  SaysHowFar (sender.Running h) result = Unit {0}
-  SaysHowFar (sender.Read d) result = result ≡ outcome.Unsettled
-  SaysHowFar (sender.Joined d b) result = IsTrue (is_read result) ⊎ (result ≡ outcome.Unsettled)
+  -- by the ends of its lanes
+  abbrev pub SaysHowFar : Option (Port A) → Sender F A → Outcome F A → Type 0
+  SaysHowFar port sender.NotOpened result = result ≡ outcome.NotOpened
+  SaysHowFar port sender.NotStarted result = result ≡ outcome.NotStarted
+  SaysHowFar port (sender.Ready feed lane) result = result ≡ outcome.NotStarted
+  SaysHowFar port (sender.Running h) result = Unit {0}
+  SaysHowFar port (sender.Read d) result = result ≡ outcome.Unsettled
+  SaysHowFar port (sender.Joined d b reports) result =
+      IsSettledBy port d.lane_end reports result
 
 module _ {F A : Type 0} (seen : F → FeedState) where
   -- a bench of this bound may have come to the sender, which keeps what was right of it, and its

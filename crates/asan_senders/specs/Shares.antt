@@ -1,44 +1,48 @@
--- The benches of each checker.
+-- The benches of each worker.
 use Rattle.std.specs.Prelude.{◌≡◌, ℕ, ◌<◌, ◌≤◌, ◌+◌, ◌*◌, ◌%◌, ◌⊎◌, ◌++◌, ◌∷◌, List, [], Vec, length}
 use Rattle.std.specs.Prelude.{slice_index_or, slice_set, vec_capacity}
 use Rattle.asan_stream.specs.declared.bench.Bench.{Bench}
-use Rattle.asan_senders.specs.declared.checker_thread.CheckerThread.{CheckerThread}
-use Rattle.asan_senders.specs.declared.checker_thread.CheckerThread.TheVariants as running
+use Rattle.asan_senders.specs.declared.worker_thread.WorkerThread.{WorkerThread}
+use Rattle.asan_senders.specs.declared.worker_thread.WorkerThread.TheVariants as running
 use Rattle.asan_senders.specs.declared.sender.Sender.{Sender}
 use Rattle.asan_senders.specs.declared.sender.Sender.TheVariants as sender
 use Rattle.asan_senders.specs.Ranges.{most_senders}
-use Rattle.asan_stream.specs.Benches.{EachLater}
+use Rattle.asan_stream.specs.Benches.{EachLater, EachTakesNoMore}
 use Rattle.asan_senders.specs.Senders.{AreAt}
 
--- the benches of one checker
+-- the benches of one worker
 abbrev pub Share : Type 0 → Type 0
 Share A = Vec (Bench A) A
 
 module _ {A : Type 0} where
-  -- the benches came back, or were lost
-  abbrev pub ComesBack : Share A → Share A → Type 0
-  ComesBack before after = EachLater before.items after.items ⊎ (after.items ≡ [])
+  -- benches have worked to the end
+  abbrev pub HaveWorked : List (Bench A) → List (Bench A) → Type 0
+  HaveWorked before after = EachLater before after × EachTakesNoMore after
 
-  -- what became of the benches that a checker was to be started with
-  abbrev pub WillComeBack : Share A → CheckerThread A → Type 0
+  -- the benches came back and have worked to the end, or were lost
+  abbrev pub ComesBack : Share A → Share A → Type 0
+  ComesBack before after = HaveWorked before.items after.items ⊎ (after.items ≡ [])
+
+  -- what became of the benches that a worker was to be started with
+  abbrev pub WillComeBack : Share A → WorkerThread A → Type 0
   WillComeBack share (running.Idle benches) = ComesBack share benches
   WillComeBack share (running.Running h) =
-      (benches : Share A) → EachLater h.promise.benches.value.items benches.items →
+      (benches : Share A) → HaveWorked h.promise.benches.value.items benches.items →
       ComesBack share benches
   WillComeBack share running.Lost = Unit {0}
 
-  -- a checker has ended, if one was started, and its promise was kept
-  abbrev pub Returns : CheckerThread A → Share A → Type 0
+  -- a worker has ended, if one was started, and its promise was kept
+  abbrev pub Returns : WorkerThread A → Share A → Type 0
   Returns checker after = (before : Share A) → WillComeBack before checker → ComesBack before after
 
-  -- each checker has no bench yet, and together they have room for one for each sender
+  -- each worker has no bench yet, and together they have room for one for each sender
   pub record AreEmpty (workers : ℕ) (shares : List (Share A)) : Type 0 where
     pub none : (k : ℕ) (d : Share A) → k < length shares → (slice_index_or shares k d).items ≡ []
     pub room :
         (k : ℕ) (d : Share A) → k < length shares →
         most_senders ≤ workers * vec_capacity (slice_index_or shares k d)
 
-  -- the benches of the first `dealt` senders were dealt out in turn, and each checker has room for
+  -- the benches of the first `dealt` senders were dealt out in turn, and each worker has room for
   -- the rest of its own
   pub record HasRoom (workers dealt : ℕ) (shares : List (Share A)) : Type 0 where
     pub some : 0 < workers
@@ -50,7 +54,7 @@ module _ {A : Type 0} where
         (k : ℕ) (d : Share A) → k < length shares →
         most_senders ≤ workers * vec_capacity (slice_index_or shares k d)
 
-  -- the checker at this place got one bench more
+  -- the worker at this place got one bench more
   pub record Deals (at : ℕ) (b : Bench A) (before after : List (Share A)) : Type 0 where
     pub share : Share A
     pub set : after ≡ slice_set before at share
@@ -65,24 +69,24 @@ module _ {F A : Type 0} where
   GivesUp (sender.Ready feed lane) s = s ≡ sender.NotStarted
   GivesUp (sender.Running h) s = s ≡ sender.Running h
   GivesUp (sender.Read d) s = s ≡ sender.Read d
-  GivesUp (sender.Joined d b) s = s ≡ sender.Joined d b
+  GivesUp (sender.Joined d b reports) s = s ≡ sender.Joined d b reports
 
-  -- a sender of this checker gives up if the checker was lost, and else stays as it is
-  abbrev pub GivesUpWith : CheckerThread A → Sender F A → Sender F A → Type 0
+  -- a sender of this worker gives up if the worker was lost, and else stays as it is
+  abbrev pub GivesUpWith : WorkerThread A → Sender F A → Sender F A → Type 0
   GivesUpWith running.Lost s t = GivesUp s t
   GivesUpWith (running.Idle benches) s t = t ≡ s
   GivesUpWith (running.Running h) s t = t ≡ s
 
-  -- each sender gives up with its checker: that of sender i is the checker i mod their number
+  -- each sender gives up with its worker: that of sender i is the worker i mod their number
   pub record EachGivesUp
-      (checkers : List (CheckerThread A)) (before after : List (Sender F A)) : Type 0 where
+      (workers : List (WorkerThread A)) (before after : List (Sender F A)) : Type 0 where
     pub same_length : length after ≡ length before
     pub each :
-        (i : ℕ) (d : Sender F A) (c : CheckerThread A) → i < length before →
-        GivesUpWith (slice_index_or checkers (i % length checkers) c)
+        (i : ℕ) (d : Sender F A) (c : WorkerThread A) → i < length before →
+        GivesUpWith (slice_index_or workers (i % length workers) c)
         (slice_index_or before i d) (slice_index_or after i d)
 
-  -- each bench of each checker has the lane of its sender, and this bound
+  -- each bench of each worker has the lane of its sender, and this bound
   pub record SharesAt
       (bound : ℕ) (senders : List (Sender F A)) (shares : List (Share A)) : Type 0 where
     pub each :

@@ -7,6 +7,7 @@ ghost use Rattle.asan_stream.specs.Outcomes.{IsOutcomeOf, reports_of};
 ghost use Rattle.asan_senders.specs.Arrivals.{IsAnswerTo, Pairwise};
 ghost use Rattle.asan_senders.specs.Live.{ArePrinted};
 
+use crate::heaps::Heaps;
 use crate::live::Live;
 use asan_print::LivePrinter;
 use asan_stream::{Options, Outcome, Replay, check_feed};
@@ -37,10 +38,9 @@ pub fn only_feed<F: Drop, A: Allocator + Copy>(
     }
 }
 
-/// What became of the only sender that came, which has this feed. Its checker takes its memory from
-/// `alloc`. There is room for its outcome.
+/// What became of the only sender that came, which has this feed. There is room for its outcome.
 pub fn check_alone<F: Feed + Drop, A: Allocator + Copy>(
-    alloc: A,
+    heaps: &Heaps<'_, A>,
     feed: F,
     options: Options,
     room: Vec<Outcome<F, A>, A>,
@@ -51,16 +51,16 @@ pub fn check_alone<F: Feed + Drop, A: Allocator + Copy>(
     ensures { Pairwise (IsAnswerTo F.seen options) (arrival.Came feed ∷ []) result.items }
 {
     let mut outcomes = room;
-    outcomes.push(check_feed(alloc, feed, options)).unwrap();
+    let outcome = check_feed(heaps.of_checker(0), feed, options);
+    outcomes.push(outcome).unwrap();
     outcomes
 }
 
 /// What became of the only sender that came, which has this feed, and whether its lines went out.
-/// Each of its reports is printed once the batch of its event is checked. The checker takes its
-/// memory from `own`, and the printer from `alloc`. There is room for the outcome.
+/// Each of its reports is printed once the batch of its event is checked. There is room for the
+/// outcome.
 pub fn check_alone_live<F: Feed + Drop, W: Write, A: Allocator + Copy>(
-    alloc: A,
-    own: A,
+    heaps: &Heaps<'_, A>,
     feed: F,
     options: Options,
     w: &mut W,
@@ -74,8 +74,8 @@ pub fn check_alone_live<F: Feed + Drop, W: Write, A: Allocator + Copy>(
     ensures printed { ArePrinted (W.contents w.old) (W.contents w.new)
         result.outcomes.items result.wrote }
 {
-    let mut printer = LivePrinter::new(alloc);
-    let outcome = check_showing(own, feed, options, &mut printer, w);
+    let mut printer = LivePrinter::new(heaps.shared);
+    let outcome = check_showing(heaps.of_checker(0), feed, options, &mut printer, w);
     printer.close(w, 0, &[], &outcome.ending());
     let wrote = printer.finish(w);
     let mut outcomes = room;

@@ -9,7 +9,7 @@ use std::alloc::Allocator;
 use trace_feed::{Arrival, Door};
 
 /// The most senders that one call takes.
-pub const MOST_SENDERS: usize = 256;
+pub const MAX_SENDERS: usize = 256;
 
 /// Asks the door until it is over or has given 256 other answers, which are these. There is room
 /// for all of them.
@@ -29,7 +29,7 @@ pub fn ask<D: Door, A: Allocator + Copy>(
     ensures few { length result.items ≤ most_senders }
 {
     let mut arrivals = room;
-    for _ in 0..MOST_SENDERS {
+    for _ in 0..MAX_SENDERS {
         let arrival = match door.next() {
             Arrival::Came(feed) => Arrival::Came(feed),
             Arrival::Refused => Arrival::Refused,

@@ -26,7 +26,7 @@ pub fn close<F: Feed + Drop, W: Write, A: Allocator + Copy>(
     requires joined { IsJoined sender }
     requires port { IfSome port (λ p. Fits (Some (port_lane p)) sender) }
     ensures outcome { Gets F.seen sender result }
-    ensures far { SaysHowFar sender result }
+    ensures far { SaysHowFar port sender result }
     ensures lines { (start : Option (List ℕ)) (log : List Line) →
         Printed start (W.contents w.old) printer.old log →
         lines_of process log ≡ report_lines process (taken_at port) →

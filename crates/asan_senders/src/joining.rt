@@ -1,12 +1,12 @@
-//! All threads of a collection are joined: the readers, and then the checkers.
+//! All threads of a collection are joined: the readers, and then the workers.
 
 ghost use Rattle.std.specs.Prelude.{◌≡◌, vec_len};
 ghost use Rattle.asan_senders.specs.Arrivals.{Pairwise};
 ghost use Rattle.asan_senders.specs.Senders.{Each, Ends};
 ghost use Rattle.asan_senders.specs.Shares.{Returns};
 
-use crate::checker_thread::CheckerThread;
 use crate::sender::Sender;
+use crate::worker_thread::WorkerThread;
 use asan_stream::Bench;
 use std::alloc::Allocator;
 use std::mem;
@@ -46,50 +46,50 @@ fn join_readers<F: Feed + Drop, A: Allocator + Copy, R: Threads>(
     }
 }
 
-/// Waits for the checker, where one was started. Of benches that are gone nothing comes back.
+/// Waits for the worker, where one was started. Of benches that are gone nothing comes back.
 fn end<A: Allocator + Copy, R: Threads>(
     rt: &R,
     alloc: A,
-    checker: CheckerThread<A>,
+    checker: WorkerThread<A>,
 ) -> Vec<Bench<A>, A>
     ensures { Returns checker result }
 {
     match checker {
-        CheckerThread::Idle(share) => share,
-        CheckerThread::Running(handle) => handle.join(rt),
-        CheckerThread::Lost => Vec::new(alloc),
+        WorkerThread::Idle(share) => share,
+        WorkerThread::Running(handle) => handle.join(rt),
+        WorkerThread::Lost => Vec::new(alloc),
     }
 }
 
-/// Waits for all checkers. The benches come back to their shares.
-fn join_checkers<A: Allocator + Copy, R: Threads>(
+/// Waits for all workers. The benches come back to their shares.
+fn join_workers<A: Allocator + Copy, R: Threads>(
     rt: &R,
     alloc: A,
-    checkers: Vec<CheckerThread<A>, A>,
+    workers: Vec<WorkerThread<A>, A>,
     shares: &mut Vec<Vec<Bench<A>, A>, A>,
 )
-    requires { vec_len checkers ≡ vec_len shares.old }
-    ensures { Pairwise Returns checkers.items shares.new.items }
+    requires { vec_len workers ≡ vec_len shares.old }
+    ensures { Pairwise Returns workers.items shares.new.items }
 {
-    let mut checkers = checkers;
+    let mut workers = workers;
     for k in 0..shares.len() {
-        let checker = mem::replace(&mut checkers[k], CheckerThread::Lost);
+        let checker = mem::replace(&mut workers[k], WorkerThread::Lost);
         shares[k] = end(rt, alloc, checker);
     }
 }
 
-/// Waits for the readers, and then for the checkers.
+/// Waits for the readers, and then for the workers.
 pub fn join_all<F: Feed + Drop, A: Allocator + Copy, R: Threads>(
     rt: &R,
     alloc: A,
     senders: &mut Vec<Sender<F, A>, A>,
     shares: &mut Vec<Vec<Bench<A>, A>, A>,
-    checkers: Vec<CheckerThread<A>, A>,
+    workers: Vec<WorkerThread<A>, A>,
 )
-    requires { vec_len checkers ≡ vec_len shares.old }
+    requires { vec_len workers ≡ vec_len shares.old }
     ensures senders { Each (Ends F.seen) senders.old.items senders.new.items }
-    ensures shares { Pairwise Returns checkers.items shares.new.items }
+    ensures shares { Pairwise Returns workers.items shares.new.items }
 {
     join_readers(rt, senders);
-    join_checkers(rt, alloc, checkers, shares);
+    join_workers(rt, alloc, workers, shares);
 }

@@ -1,4 +1,4 @@
-//! A lane and a bench for each sender, and the share of the benches that each checker gets.
+//! A lane and a bench for each sender, and the share of the benches that each worker gets.
 
 ghost use Rattle.std.specs.Prelude.{◌≡◌, ◌<◌, ◌≤◌, ◌%◌, [], All, IfOk, IfSome, None, length};
 ghost use Rattle.std.specs.Prelude.{vec_len};
@@ -14,7 +14,8 @@ ghost use Rattle.asan_senders.specs.Senders.{AllFresh, Came, HasLane, IsFresh};
 ghost use Rattle.asan_senders.specs.Shares.{AreEmpty, Deals, HasRoom, SharesAt};
 
 use crate::NoMemory;
-use crate::arrivals::MOST_SENDERS;
+use crate::arrivals::MAX_SENDERS;
+use crate::heaps::Heaps;
 use crate::sender::Sender;
 use asan_check::Checker;
 use asan_print::Port;
@@ -24,7 +25,7 @@ use std::mem;
 use trace_feed::{Arrival, Feed};
 use trace_lane::lane;
 
-/// An empty share for each checker, with room for all benches that it gets.
+/// An empty share for each worker, with room for all benches that it gets.
 pub(crate) fn no_shares<A: Allocator + Copy>(
     alloc: A,
     workers: usize,
@@ -33,7 +34,7 @@ pub(crate) fn no_shares<A: Allocator + Copy>(
     requires few { workers ≤ most_workers }
     ensures { IfOk result (λ shares. (vec_len shares ≡ workers) × AreEmpty workers shares.items) }
 {
-    let room = MOST_SENDERS / workers + 1;
+    let room = MAX_SENDERS / workers + 1;
     let mut shares = Vec::with_capacity(alloc, workers)?;
     for _ in 0..workers {
         let share = Vec::with_capacity(alloc, room)?;
@@ -67,10 +68,9 @@ impl<F: Feed, A: Allocator + Copy> Seat<F, A> {
 }
 
 /// A lane and a bench for a sender whose feed came, and a report lane too where the reports are
-/// printed as they come. The lanes take their memory from `alloc`, and the checker from `own`.
+/// printed as they come.
 fn open<F: Feed + Drop, A: Allocator + Copy>(
-    alloc: A,
-    own: A,
+    heaps: &Heaps<'_, A>,
     arrival: Arrival<F>,
     process: u32,
     options: Options,
@@ -92,9 +92,11 @@ fn open<F: Feed + Drop, A: Allocator + Copy>(
         Arrival::Refused => return Seat::without_bench(Sender::NotOpened),
         Arrival::Over => unreachable!(),
     };
+    let alloc = heaps.shared;
     let Ok((into, out)) = lane(alloc, options.ring as usize) else {
         return Seat::without_bench(Sender::NotStarted);
     };
+    let own = heaps.of_checker(process as usize);
     let checker = Checker::new(own, options.quarantine).unwrap();
     if !is_live {
         return Seat {
@@ -113,7 +115,7 @@ fn open<F: Feed + Drop, A: Allocator + Copy>(
     }
 }
 
-/// The bench of this process goes to its checker, which has room for it.
+/// The bench of this process goes to its worker, which has room for it.
 fn deal<A: Allocator + Copy>(shares: &mut Vec<Vec<Bench<A>, A>, A>, process: usize, bench: Bench<A>)
     requires room { HasRoom (vec_len shares.old) process shares.old.items }
     requires few { process < most_senders }
@@ -127,7 +129,7 @@ fn deal<A: Allocator + Copy>(shares: &mut Vec<Vec<Bench<A>, A>, A>, process: usi
 #[derive(Drop)]
 pub struct Seats<F: Feed, A: Allocator + Copy> {
     pub senders: Vec<Sender<F, A>, A>,
-    /// The benches of each checker.
+    /// The benches of each worker.
     pub shares: Vec<Vec<Bench<A>, A>, A>,
     /// For each sender where its reports are taken, if they are printed as they come.
     pub ports: Vec<Option<Port<A>>, A>,
@@ -138,9 +140,9 @@ impl<F: Feed + Drop, A: Allocator + Copy> Seats<F, A> {
     pub fn new(alloc: A, options: Options) -> Result<Seats<F, A>, NoMemory>
         ensures { IfOk result AreEmptySeats }
     {
-        let senders = Vec::with_capacity(alloc, MOST_SENDERS)?;
+        let senders = Vec::with_capacity(alloc, MAX_SENDERS)?;
         let shares = no_shares(alloc, options.workers as usize)?;
-        let ports = Vec::with_capacity(alloc, MOST_SENDERS)?;
+        let ports = Vec::with_capacity(alloc, MAX_SENDERS)?;
         Ok(Seats {
             senders,
             shares,
@@ -149,12 +151,10 @@ impl<F: Feed + Drop, A: Allocator + Copy> Seats<F, A> {
     }
 }
 
-/// Each arrival becomes a sender, and the benches of those that came are dealt out to the checkers
-/// in turn. The checker of sender i takes its memory from `own[i]`, where there is one, and else
-/// from `alloc`. Where the reports are printed as they come, each bench has a report lane.
+/// Each arrival becomes a sender, and the benches of those that came are dealt out to the workers
+/// in turn. Where the reports are printed as they come, each bench has a report lane.
 pub fn open_all<F: Feed + Drop, A: Allocator + Copy>(
-    alloc: A,
-    own: &[A],
+    heaps: &Heaps<'_, A>,
     arrivals: Vec<Arrival<F>, A>,
     seats: Seats<F, A>,
     options: Options,
@@ -180,8 +180,7 @@ pub fn open_all<F: Feed + Drop, A: Allocator + Copy>(
     } = seats;
     for i in 0..arrivals.len() {
         let arrival = mem::replace(&mut arrivals[i], Arrival::Refused);
-        let of_checker = own.get(i).copied().unwrap_or(alloc);
-        let seat = open(alloc, of_checker, arrival, i as u32, options, is_live);
+        let seat = open(heaps, arrival, i as u32, options, is_live);
         let Seat {
             sender,
             bench,

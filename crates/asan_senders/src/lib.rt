@@ -4,8 +4,8 @@
 
 mod alone;
 mod arrivals;
-mod checker_thread;
 mod closing;
+mod heaps;
 mod joining;
 mod lanes;
 mod laws;
@@ -15,12 +15,13 @@ mod reading;
 mod returns;
 mod sender;
 mod status;
+mod worker_thread;
 mod write;
 
 pub use alone::{check_alone, check_alone_live, only_feed};
-pub use arrivals::{MOST_SENDERS, ask};
-pub use checker_thread::{CheckerThread, Checking, give_up_senders};
+pub use arrivals::{MAX_SENDERS, ask};
 pub use closing::close;
+pub use heaps::Heaps;
 pub use joining::join_all;
 pub use lanes::{Seats, open_all};
 pub use laws::answers_are_outcomes;
@@ -31,4 +32,5 @@ pub use returns::{place_all, settle_all};
 pub use sender::Sender;
 pub use status::{UNCHECKED, UNWRITTEN, exit_status};
 pub use std::alloc::AllocError as NoMemory;
+pub use worker_thread::{Checking, WorkerThread, give_up_senders};
 pub use write::write_outcomes;

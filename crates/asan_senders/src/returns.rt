@@ -1,6 +1,7 @@
 //! The benches come back to their senders, and each sender is settled.
 
-ghost use Rattle.std.specs.Prelude.{◌≡◌, ◌≤◌, [], ℕ, IfSome, Option, Some, vec_len, vec_capacity};
+ghost use Rattle.std.specs.Prelude.{◌≡◌, ◌≤◌, [], ℕ, IfSome, None, Option, Some};
+ghost use Rattle.std.specs.Prelude.{vec_len, vec_capacity};
 ghost use Rattle.trace_lane.specs.Lanes.{Lane};
 ghost use Rattle.asan_print.specs.Ports.{port_lane, taken_at};
 ghost use Rattle.asan_senders.specs.Arrivals.{Pairwise};
@@ -13,13 +14,16 @@ ghost use Rattle.asan_senders.specs.Senders.{Rejoins, SaysHowFar};
 ghost use Rattle.asan_senders.specs.Shares.{SharesAt};
 
 use crate::sender::Sender;
+use asan_check::Report;
 use asan_print::Port;
 use asan_stream::{Bench, Outcome, ReaderDone, settle};
 use std::alloc::Allocator;
 use std::mem;
 use trace_feed::Feed;
+use trace_lane::LaneEnd;
 
-/// A bench comes back to its sender. It is dropped where the sender had no reader.
+/// A bench comes back to its sender, and ends its report lane. It is dropped where the sender had
+/// no reader.
 fn rejoin<F: Feed + Drop, A: Allocator + Copy>(
     sender: Sender<F, A>,
     bench: Bench<A>,
@@ -29,8 +33,12 @@ fn rejoin<F: Feed + Drop, A: Allocator + Copy>(
     ensures fits { (lane : Option (Lane A)) → Fits lane sender →
         KeepsLane lane (report_lane_of bench) → Fits lane result }
 {
+    let mut bench = bench;
     match sender {
-        Sender::Read(done) => Sender::Joined(done, bench),
+        Sender::Read(done) => {
+            let reports = bench.finish_reports();
+            Sender::Joined(done, bench, reports)
+        }
         other => other,
     }
 }
@@ -64,7 +72,7 @@ pub(crate) fn place<F: Feed + Drop, A: Allocator + Copy>(
     }
 }
 
-/// The benches of all checkers come back to their senders.
+/// The benches of all workers come back to their senders.
 pub fn place_all<F: Feed + Drop, A: Allocator + Copy>(
     senders: &mut Vec<Sender<F, A>, A>,
     shares: Vec<Vec<Bench<A>, A>, A>,
@@ -101,21 +109,23 @@ impl<F, A: Allocator + Copy> Answer<F, A> {
     }
 }
 
-/// What became of a sender whose bench is back, and whose reports were printed from this port. It
-/// is `Unsettled` where the report lane has no end.
+/// What became of a sender whose bench is back, and whose reports were printed from this port, if
+/// they were. It is `Unsettled` where its lane has no end, and where they were and its report lane
+/// has none.
 fn settle_joined<F: Feed + Drop, A: Allocator + Copy>(
     done: ReaderDone<F, A>,
     bench: Bench<A>,
+    reports: Option<LaneEnd<Report, A>>,
     port: Option<Port<A>>,
 ) -> Answer<F, A>
-    requires joined { IsJoined (Sender.Joined done bench) }
-    requires port { IfSome port (λ p. KeepsLane (Some (port_lane p)) (report_lane_of bench)) }
-    ensures outcome { Gets F.seen (Sender.Joined done bench) result.outcome }
-    ensures far { SaysHowFar (Sender.Joined done bench) result.outcome }
+    requires joined { IsJoined (Sender.Joined done bench reports) }
+    requires port { IfSome port (λ p.
+        Fits (Some (port_lane p)) (Sender.Joined done bench reports)) }
+    ensures outcome { Gets F.seen (Sender.Joined done bench reports) result.outcome }
+    ensures far { SaysHowFar port (Sender.Joined done bench reports) result.outcome }
     ensures printed { WerePrinted (taken_at port) result.printed result.outcome }
 {
-    let mut bench = bench;
-    let printed = match (port, bench.finish_reports()) {
+    let printed = match (port, reports) {
         (None, _) => 0,
         (Some(port), Some(end)) => port.settle(end),
         (Some(_), None) => return Answer::without_reports(Outcome::Unsettled),
@@ -135,7 +145,7 @@ pub(crate) fn settle_sender<F: Feed + Drop, A: Allocator + Copy>(
     requires joined { IsJoined sender }
     requires port { IfSome port (λ p. Fits (Some (port_lane p)) sender) }
     ensures outcome { Gets F.seen sender result.outcome }
-    ensures far { SaysHowFar sender result.outcome }
+    ensures far { SaysHowFar port sender result.outcome }
     ensures printed { WerePrinted (taken_at port) result.printed result.outcome }
 {
     match sender {
@@ -143,7 +153,7 @@ pub(crate) fn settle_sender<F: Feed + Drop, A: Allocator + Copy>(
         Sender::NotStarted | Sender::Ready(_, _) => Answer::without_reports(Outcome::NotStarted),
         Sender::Running(_) => unreachable!(),
         Sender::Read(_) => Answer::without_reports(Outcome::Unsettled),
-        Sender::Joined(done, bench) => settle_joined(done, bench, port),
+        Sender::Joined(done, bench, reports) => settle_joined(done, bench, reports, port),
     }
 }
 
@@ -156,7 +166,7 @@ pub fn settle_all<F: Feed + Drop, A: Allocator + Copy>(
     requires room { vec_len senders ≤ vec_capacity room }
     requires joined { AllJoined senders.items }
     ensures outcomes { Pairwise (Gets F.seen) senders.items result.items }
-    ensures far { Pairwise SaysHowFar senders.items result.items }
+    ensures far { Pairwise (SaysHowFar None) senders.items result.items }
 {
     let (mut senders, mut outcomes) = (senders, room);
     for i in 0..senders.len() {

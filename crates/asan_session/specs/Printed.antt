@@ -15,6 +15,7 @@ use Rattle.asan_senders.specs.Live.{AreLinesOf}
 use Rattle.asan_stream.specs.Outcomes.{IsOutcomeOf}
 use Rattle.asan_senders.specs.Statuses.{status_of, unwritten}
 use Rattle.asan_senders.specs.Texts.{texts_from}
+use Rattle.asan_session.specs.declared.session.Checking.{Checking}
 use Rattle.asan_session.specs.Usual.{AreUsual}
 
 -- a `&` to an allocator that refuses: one that may have a bound
@@ -72,14 +73,14 @@ module _ {F : Type 0} (seen : F → FeedState) where
 module _ {F : Type 0} (seen : F → FeedState) (A : Type 0) where
   -- these outcomes of the senders that came through a door were printed
   pub record AreOutcomesPrinted
-      (options : Options) (is_live : Bool) (old new : DoorState F) (before after : Option (List ℕ))
+      (checking : Checking) (old new : DoorState F) (before after : Option (List ℕ))
       (outcomes : List (Outcome F A)) (status : ℕ) : Type 0 where
-    pub collected : AreCollected seen options old new outcomes
-    pub printed : IsPrintedAs is_live before after outcomes status
+    pub collected : AreCollected seen checking.options old new outcomes
+    pub printed : IsPrintedAs checking.is_live before after outcomes status
 
   -- the senders that came through a door have such outcomes
   abbrev pub AreSendersPrinted :
-      Options → Bool → (old new : DoorState F) → (before after : Option (List ℕ)) → ℕ → Type 0
-  AreSendersPrinted options is_live old new before after status =
+      Checking → (old new : DoorState F) → (before after : Option (List ℕ)) → ℕ → Type 0
+  AreSendersPrinted checking old new before after status =
       (outcomes : List (Outcome F A))
-      × AreOutcomesPrinted options is_live old new before after outcomes status
+      × AreOutcomesPrinted checking old new before after outcomes status

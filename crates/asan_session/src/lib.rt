@@ -5,6 +5,8 @@
 mod memory;
 mod print;
 mod said;
+mod session;
 
-pub use print::{report_each, report_feed};
+pub use print::report_feed;
 pub use said::{no_memory, say};
+pub use session::{Checking, Session};

@@ -1,24 +1,33 @@
-//! The memory of the checkers, where it is bounded.
+//! The memory that checking takes.
 
-ghost use Rattle.std.specs.Prelude.{◌≡◌, All, IfOk, Some, length};
+ghost use Rattle.std.specs.Prelude.{◌≡◌, IfOk, Some, length};
 ghost use Rattle.asan_senders.specs.Ranges.{most_senders};
-ghost use Rattle.refusing_allocator.specs.Rules.{bound_of};
 
-use asan_collect::MOST_SENDERS;
+use asan_collect::MAX_SENDERS;
 use refusing_allocator::RefusingAllocator;
 use std::alloc::{AllocError, Global};
 
-/// An allocator for the checker of each sender of a call, each with this bound.
-pub fn bounded_heaps(
-    alloc: Global,
-    bound: u64,
-) -> Result<Vec<RefusingAllocator<Global>>, AllocError>
-    ensures each_has_one { IfOk result (λ heaps. length heaps.items ≡ most_senders) }
-    ensures bound { IfOk result (λ heaps. All (λ heap. bound_of heap ≡ Some bound) heaps.items) }
-{
-    let mut heaps = Vec::with_capacity(alloc, MOST_SENDERS)?;
-    for _ in 0..MOST_SENDERS {
-        heaps.push(RefusingAllocator::with_bound(alloc, bound))?;
+/// Memory in which each checker has a bound: an allocator for the checker of each sender of a call,
+/// and one without a bound for what they share.
+#[derive(Drop)]
+pub struct BoundedHeaps {
+    pub shared: RefusingAllocator<Global>,
+    pub own: Vec<RefusingAllocator<Global>>,
+    pub ghost each_has_one: { length own.items ≡ most_senders },
+}
+
+impl BoundedHeaps {
+    ghost use Rattle.asan_session.specs.Bounds.{AreBounded};
+
+    /// Allocators with this bound.
+    pub fn new(alloc: Global, bound: u64) -> Result<BoundedHeaps, AllocError>
+        ensures bound { IfOk result (AreBounded (Some bound)) }
+    {
+        let mut own = Vec::with_capacity(alloc, MAX_SENDERS)?;
+        for _ in 0..MAX_SENDERS {
+            own.push(RefusingAllocator::with_bound(alloc, bound))?;
+        }
+        let shared = RefusingAllocator::counting(alloc);
+        Ok(BoundedHeaps { shared, own })
     }
-    Ok(heaps)
 }

@@ -9,17 +9,17 @@ use std::io::Write;
 
 /// Says that there is no memory to read the command line or to start, and gives the status to end
 /// with.
-pub fn no_memory<E: Write>(faults: &mut E) -> u8
+pub fn no_memory<E: Write>(stderr: &mut E) -> u8
     ensures { result ≡ unchecked }
 {
-    say(faults, &"no memory", UNCHECKED)
+    say(stderr, &"no memory", UNCHECKED)
 }
 
 /// Says what is wrong in a line of its own, and gives the status to end with, whether or not the
 /// line could be written.
-pub fn say<E: Write, T: Display>(faults: &mut E, text: &T, status: u8) -> u8
+pub fn say<E: Write, T: Display>(stderr: &mut E, text: &T, status: u8) -> u8
     ensures { result ≡ status }
 {
-    let _ = writeln!(faults, "{text}");
+    let _ = writeln!(stderr, "{text}");
     status
 }

@@ -1,14 +1,10 @@
 -- Benches that go on.
-use Rattle.std.proofs.Common.{ℕ, ◌≡◌, ◌+◌, ◌<◌, ◌++◌, List, [], length, take, refl, ap, ◌∙◌, sym, arith, append_assoc}
+use Rattle.std.proofs.Common.{ℕ, ◌≡◌, ◌+◌, ◌<◌, ◌++◌, List, [], length, refl, ap, ◌∙◌, sym, arith, append_assoc}
 use Rattle.std.proofs.Common.{append-nil, slice_index_or, slice_set, subst, inl, inr}
 use Rattle.std.proofs.lemmas.Bool.{cases_eq}
 use Rattle.std.proofs.lemmas.List.{length-set, get_or-set_same, get_or-set_other, get_or_default}
-use Rattle.trace_lane.specs.Lanes.{out_lane, taken_list}
-use Rattle.asan_check.specs.Standing.{bound_of, reports_of}
 use Rattle.asan_stream.specs.declared.bench.Bench.{Bench}
-use Rattle.asan_stream.specs.Benches.{lane_of, taken_of, found_of, report_lane_of}
-use Rattle.asan_stream.specs.Outboxes.{IsFront, KeepsLane, lane_into}
-use Rattle.asan_stream.specs.Benches.{Later, EachLater, HasReported}
+use Rattle.asan_stream.specs.Benches.{Later, EachLater, HasReported, TakesNoMore, found_of}
 use Rattle.asan_stream.proofs.Reporting.{front_same, front_trans, keeps_same, keeps_trans}
 
 module _ {A : Type 0} where
@@ -33,32 +29,6 @@ module _ {A : Type 0} where
     more = [];
     taken = sym (append-nil _);
   }
-
-  -- a bench that has put some reports, and done nothing else
-  pub later_reported : (a b : Bench A) → KeepsLane (report_lane_of a) (report_lane_of b) → b.process ≡ a.process
-      → b.lane ≡ a.lane → b.checker ≡ a.checker → Later a b
-  later_reported a b keeps process lane checker = record {
-    process = process;
-    lane = ap out_lane lane;
-    bound = ap bound_of checker;
-    report_lane = keeps;
-    found = ap (take (length (found_of a))) (ap reports_of checker) ∙ front_same (found_of a);
-    more = [];
-    taken = ap taken_list lane ∙ sym (append-nil _);
-  }
-
-  -- a bench that was asked in between whether its lane was left
-  pub later_left : (a b x c : Bench A) → Later a b → Later x c → x.process ≡ b.process → lane_of x ≡ lane_of b
-      → taken_of x ≡ taken_of b → x.outbox ≡ b.outbox → x.checker ≡ b.checker → Later a c
-  later_left a b x c first second process lane taken outbox checker = later_trans a b c first (record {
-    process = second.process ∙ process;
-    lane = second.lane ∙ lane;
-    bound = second.bound ∙ ap bound_of checker;
-    report_lane = subst (λ l. KeepsLane l (report_lane_of c)) (ap (λ o. lane_into o.lane) outbox) second.report_lane;
-    found = subst (λ rs. IsFront rs (found_of c)) (ap reports_of checker) second.found;
-    more = second.more;
-    taken = second.taken ∙ ap (λ items. items ++ second.more) taken;
-  })
 
   pub each_refl : (xs : List (Bench A)) → EachLater xs xs
   each_refl xs = record { same_length = refl; each = λ i d below. later_refl (slice_index_or xs i d) }
@@ -87,16 +57,30 @@ module _ {A : Type 0} where
         ];
       }
 
-  -- the first of the benches, as many as this, have put all their reports
-  abbrev pub FirstReported : ℕ → List (Bench A) → Type 0
-  FirstReported n xs =
-      (k : ℕ) (d : Bench A) → k < n →
-      HasReported (slice_index_or xs k d) (found_of (slice_index_or xs k d))
+  -- the first of the benches, as many as this, are so
+  abbrev First : (Bench A → Type 0) → ℕ → List (Bench A) → Type 0
+  First Is n xs = (k : ℕ) (d : Bench A) → k < n → Is (slice_index_or xs k d)
 
   -- and one more, which has worked
-  pub reported_worked : (xs : List (Bench A)) (i : ℕ) (new : Bench A) → i < length xs → FirstReported i xs
-      → HasReported new (found_of new) → FirstReported (i + 1) (slice_set xs i new)
-  reported_worked xs i new low before all k d below = elim (cases_eq k i) [
-    | inl e ↦ rw (e, get_or-set_same xs i new d low) all
+  first_worked : (Is : Bench A → Type 0) (xs : List (Bench A)) (i : ℕ) (new : Bench A) → i < length xs
+      → First Is i xs → Is new → First Is (i + 1) (slice_set xs i new)
+  first_worked Is xs i new low before here k d below = elim (cases_eq k i) [
+    | inl e ↦ rw (e, get_or-set_same xs i new d low) here
     | inr n ↦ rw (get_or-set_other xs i k new d n) (before k d (omega arith))
   ]
+
+  -- they have put all their reports
+  abbrev pub FirstReported : ℕ → List (Bench A) → Type 0
+  FirstReported = First (λ b. HasReported b (found_of b))
+
+  pub reported_worked : (xs : List (Bench A)) (i : ℕ) (new : Bench A) → i < length xs → FirstReported i xs
+      → HasReported new (found_of new) → FirstReported (i + 1) (slice_set xs i new)
+  reported_worked = first_worked (λ b. HasReported b (found_of b))
+
+  -- they take no more
+  abbrev pub FirstTakeNoMore : ℕ → List (Bench A) → Type 0
+  FirstTakeNoMore = First TakesNoMore
+
+  pub no_more_worked : (xs : List (Bench A)) (i : ℕ) (new : Bench A) → i < length xs → FirstTakeNoMore i xs
+      → TakesNoMore new → FirstTakeNoMore (i + 1) (slice_set xs i new)
+  no_more_worked = first_worked TakesNoMore

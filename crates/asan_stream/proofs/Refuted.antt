@@ -1,6 +1,6 @@
 -- Outcomes and lists that the contracts refuse.
 -- Each lemma is named for what would have gone wrong.
-use Rattle.std.proofs.Common.{◌≡◌, inl, inr, ℕ, List, [], ◌∷◌, Some, refl, sym, ap, subst, ◌∙◌, arith}
+use Rattle.std.proofs.Common.{◌≡◌, inl, inr, ℕ, false, List, [], ◌∷◌, Some, refl, sym, ap, subst, ◌∙◌, arith}
 use Rattle.std.specs.Prelude.{◌≢◌, ◌≤◌, IsTrue, length, Vec}
 use Rattle.std.specs.Coded.{le_prop}
 use Rattle.std.proofs.Math.Logic.{∥∥₁_elim}
@@ -21,7 +21,7 @@ use Rattle.asan_stream.specs.declared.item.Item.TheVariants as item
 use Rattle.asan_stream.specs.declared.bench.Bench.{Bench}
 use Rattle.asan_stream.specs.declared.bench.Turn.TheVariants as turn
 use Rattle.asan_stream.specs.declared.outcome.Outcome.TheVariants as outcome
-use Rattle.asan_stream.specs.Benches.{Takes, is_over, taken_of}
+use Rattle.asan_stream.specs.Benches.{Takes, TakesNoMore, is_dry, is_over, taken_of}
 use Rattle.asan_stream.specs.Checking.{StandsAfter}
 use Rattle.asan_stream.specs.Items.{items_of}
 use Rattle.asan_stream.specs.Outcomes.{IsSpelled, HasResults, is_read}
@@ -116,6 +116,13 @@ takes_on_after_the_end before after end x was is over =
     subst (λ items. IsTrue (is_over items)) (sym was) refl in
     let same : item.End end ∷ x ∷ [] ≡ item.End end ∷ [] = sym is ∙ over ended ∙ was in
     let two_is_one : ◌≡◌ {A = ℕ} 2 1 = ap length same in absurd (omega arith)
+
+-- a bench ends whose lane was not seen to be empty after it was seen to be left
+ends_without_a_second_look :
+    {A : Type 0} (b : Bench A) → taken_of b ≡ [] → is_dry b ≡ false → ¬ TakesNoMore b
+ends_without_a_second_look b none wet (inl over) =
+    let no : IsTrue false = subst (λ items. IsTrue (is_over items)) none over in absurd cc
+ends_without_a_second_look b none wet (inr dry) = absurd (false≢true (sym wet ∙ dry))
 
 module _ {A : Type 0} (c : Checker A) (bound : ℕ) (e : Event) where
   other_number_was_checked :

@@ -1,6 +1,6 @@
 -- Where a bench and its checker stand.
 use Rattle.std.specs.Prelude.{◌≡◌, ℕ, ◌<◌, Bool, ◌||◌, nat_le, List, [], ◌∷◌, ◌++◌, length}
-use Rattle.std.specs.Prelude.{Option}
+use Rattle.std.specs.Prelude.{Option, IsTrue, ◌⊎◌}
 use Rattle.std.specs.Prelude.{slice_index_or}
 use Rattle.trace_lane.specs.Lanes.{Lane, out_lane, taken_list}
 use Rattle.asan_check.specs.declared.checker.Checker.{Checker}
@@ -45,6 +45,10 @@ module _ {A : Type 0} where
   abbrev pub found_of : Bench A → List Report
   found_of b = reports_of b.checker
 
+  -- and whether its lane has run dry: it was seen to be left, and then it was found empty
+  abbrev pub is_dry : Bench A → Bool
+  is_dry b = b.dry
+
   -- and its report lane, if it has one, and the reports that it has put into it
   abbrev pub report_lane_of : Bench A → Option (Lane A)
   report_lane_of b = lane_into b.outbox.lane
@@ -55,6 +59,10 @@ module _ {A : Type 0} where
   -- the bench has put all of these reports, or has no report lane
   abbrev pub HasReported : Bench A → List Report → Type 0
   HasReported b reports = HasPut b.outbox reports
+
+  -- a bench takes no more: it is over, or its lane has run dry
+  abbrev pub TakesNoMore : Bench A → Type 0
+  TakesNoMore b = IsTrue (is_over (taken_of b)) ⊎ IsTrue (is_dry b)
 
   -- a turn of a bench leaves it the same process, lane and bound, and its report lane if that is
   -- still there; reports come only after those that it had
@@ -83,6 +91,11 @@ module _ {A : Type 0} where
     pub each :
         (i : ℕ) (d : Bench A) → i < length before →
         Later (slice_index_or before i d) (slice_index_or after i d)
+
+  -- each of these benches takes no more
+  abbrev pub EachTakesNoMore : List (Bench A) → Type 0
+  EachTakesNoMore benches =
+      (i : ℕ) (d : Bench A) → i < length benches → TakesNoMore (slice_index_or benches i d)
 
   -- each of these benches has put all its checker's reports, or has no report lane
   abbrev pub EachReported : List (Bench A) → Type 0

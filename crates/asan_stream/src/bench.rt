@@ -12,7 +12,7 @@ ghost use Rattle.asan_stream.specs.Outboxes.{Holds};
 use crate::drain::{Drained, drain};
 use crate::gate::Gate;
 use crate::item::Item;
-use crate::options::MOST_EVENTS;
+use crate::options::MAX_EVENTS;
 use crate::outbox::Outbox;
 use crate::replay::check_each;
 use crate::room::{Room, pick_events};
@@ -35,6 +35,10 @@ pub struct Bench<A: Allocator + Copy = Global> {
     events: u32,
     /// Whether the end was taken.
     ended: bool,
+    /// Whether the lane was seen to be left.
+    left: bool,
+    /// Whether the lane was found empty after it was seen to be left.
+    dry: bool,
     outbox: Outbox<A>,
     /// Of how many events the gate was called.
     announced: u64,
@@ -76,7 +80,7 @@ impl<A: Allocator + Copy> Bench<A> {
     ghost use Rattle.asan_stream.specs.Benches.{Later};
     ghost use Rattle.asan_stream.specs.Benches.{lane_of, process_of, taken_of, bench_bound};
     ghost use Rattle.asan_stream.specs.Benches.{report_lane_of, put_of, found_of, HasReported};
-    ghost use Rattle.asan_stream.specs.Benches.{is_over, Turns, checker_of};
+    ghost use Rattle.asan_stream.specs.Benches.{is_over, TakesNoMore, Turns, checker_of};
 
     /// A bench of this process, without a report lane. Nothing was taken from its lane, and its
     /// checker has checked nothing. Takes no memory.
@@ -143,6 +147,8 @@ impl<A: Allocator + Copy> Bench<A> {
             checker,
             events: 0,
             ended: false,
+            left: false,
+            dry: false,
             outbox,
             announced: 0,
         }
@@ -152,7 +158,7 @@ impl<A: Allocator + Copy> Bench<A> {
     fn is_done(&self) -> bool
         ensures { result ≡ is_over (taken_of self.now) }
     {
-        self.ended || self.events >= MOST_EVENTS
+        self.ended || self.events >= MAX_EVENTS
     }
 
     /// Puts the reports that wait, as many as there is room for, and calls the gate for each event
@@ -211,7 +217,7 @@ impl<A: Allocator + Copy> Bench<A> {
             return Turn::Took;
         };
         self.events += 1;
-        // A checker that has failed stays so, and says it in the end.
+        // A failed checker stays failed: the outcome says so.
         let _ = self.checker.step(&event);
         self.report(gate);
         Turn::Took
@@ -228,13 +234,16 @@ impl<A: Allocator + Copy> Bench<A> {
         ensures over { IsTrue (is_over (taken_of self.old)) →
             taken_of self.new ≡ taken_of self.old }
         ensures finds { result ≢ Found.Items → found_of self.new ≡ found_of self.old }
+        ensures ends { result ≡ Found.End → IsTrue (is_over (taken_of self.old)) }
+        ensures dry { result ≡ Found.None → self.new.dry ≡ self.old.left }
     {
         if self.is_done() {
             return Found::End;
         }
-        let most = BATCH_SIZE.min((MOST_EVENTS - self.events) as usize);
+        let most = BATCH_SIZE.min((MAX_EVENTS - self.events) as usize);
         let count = self.lane.take_some(&mut room.items[..most]);
         if count == 0 {
+            self.dry = self.left;
             return Found::None;
         }
         let among = pick_events(&room.items[..count], &mut room.events);
@@ -246,8 +255,8 @@ impl<A: Allocator + Copy> Bench<A> {
     }
 
     /// Takes and checks a batch of items, unless a report waits, and answers whether there may be
-    /// more to do: not once it is over, or its lane was left and is empty, and no report waits. It
-    /// takes none once the end or 2^24 events were taken.
+    /// more to do: not once no report waits, and it is over or its lane was found empty after it
+    /// was seen to be left. It takes none once the end or 2^24 events were taken.
     pub(crate) fn work<G: Gate>(&mut self, gate: &G, room: &mut Room) -> Found
         ensures later { Later self.old self.new }
         ensures takes { result ≢ Found.Items → taken_of self.new ≡ taken_of self.old }
@@ -255,18 +264,23 @@ impl<A: Allocator + Copy> Bench<A> {
             taken_of self.new ≡ taken_of self.old }
         ensures waits { result ≡ Found.Items → HasReported self.new (found_of self.old) }
         ensures ends { result ≡ Found.End → HasReported self.new (found_of self.new) }
+        ensures no_more { result ≡ Found.End → TakesNoMore self.new }
     {
         let sent = self.report(gate);
         if !sent {
             return Found::None;
         }
+        let found = self.take_batch(gate, room);
+        if !matches!(found, Found::None) {
+            return found;
+        }
+        self.left = self.lane.is_left();
+        if !self.left {
+            return Found::None;
+        }
+        // It may have been left only after the first look: what was put until then is taken first.
         match self.take_batch(gate, room) {
-            // It may have been left only after the first look: what was put until then is taken
-            // first.
-            Found::None if self.lane.is_left() => match self.take_batch(gate, room) {
-                Found::None => Found::End,
-                found => found,
-            },
+            Found::None => Found::End,
             found => found,
         }
     }
@@ -309,6 +323,8 @@ impl<A: Allocator + Copy> Bench<A> {
             checker,
             events,
             ended: _,
+            left: _,
+            dry: _,
             outbox: _,
             announced: _,
         } = self;

@@ -7,7 +7,7 @@ ghost use Rattle.asan_stream.specs.declared.item.Item.{Item as AnItem};
 ghost use Rattle.asan_stream.specs.Checking.{HasChecked};
 
 use crate::item::Item;
-use crate::options::MOST_EVENTS;
+use crate::options::MAX_EVENTS;
 use asan_check::Checker;
 use std::alloc::Allocator;
 use trace_lane::{LaneEnd, LaneOut};
@@ -31,11 +31,11 @@ fn check_item<A: Allocator + Copy>(checker: &mut Checker<A>, events: &mut u32, i
     let Item::Event(event) = item else {
         return;
     };
-    if *events >= MOST_EVENTS {
+    if *events >= MAX_EVENTS {
         return;
     }
     *events += 1;
-    // A checker that has failed stays so, and says it in the end.
+    // A failed checker stays failed: the outcome says so.
     let _ = checker.step(&event);
 }
 

@@ -7,7 +7,6 @@
 #![tactic(auto)]
 
 mod bench;
-mod checker;
 mod decode;
 mod drain;
 mod gate;
@@ -23,17 +22,16 @@ mod replay;
 mod room;
 mod settlement;
 mod source;
+mod worker;
 
 pub use bench::{Bench, Turn};
-pub use checker::run_checker;
 pub use gate::{Gate, OpenGate};
 pub use item::Item;
 pub use laws::{bytes_spell_one_end, outcomes_agree};
-pub use options::{
-    BadOption, LEAST_MEMORY, MOST_EVENTS, MOST_MEMORY, MOST_RING, MOST_WORKERS, Options,
-};
+pub use options::{BadOption, MAX_EVENTS, MAX_MEMORY, MAX_RING, MAX_WORKERS, MIN_MEMORY, Options};
 pub use outcome::Outcome;
 pub use pause::Pause;
 pub use reader::{ReaderDone, run_reader};
 pub use replay::{Replay, check_feed};
 pub use settlement::settle;
+pub use worker::run_checker;

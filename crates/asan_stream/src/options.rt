@@ -8,34 +8,34 @@ ghost use Rattle.asan_stream.specs.BadOptions.{is_in_range};
 ghost use Rattle.asan_stream.specs.Ranges.{usual_quarantine, usual_ring, usual_workers};
 ghost use Rattle.asan_stream.specs.Ranges.{usual_limit};
 
-use asan_units::LARGEST_QUARANTINE;
+use asan_units::MAX_QUARANTINE;
 use thiserror::Error;
-use trace_lane::MOST_ITEMS;
-use trace_record::LARGEST_LIMIT;
+use trace_lane::MAX_ITEMS;
+use trace_record::MAX_LIMIT;
 
 /// The most items that a ring may hold.
-pub const MOST_RING: u32 = MOST_ITEMS as u32;
+pub const MAX_RING: u32 = MAX_ITEMS as u32;
 
-/// The most checkers that one call may have.
-pub const MOST_WORKERS: u32 = 64;
+/// The most workers that one call may have.
+pub const MAX_WORKERS: u32 = 64;
 
 /// The greatest event limit, which is the most events of one stream.
-pub const MOST_EVENTS: u32 = LARGEST_LIMIT;
+pub const MAX_EVENTS: u32 = MAX_LIMIT;
 
 /// The least bound on the memory of a sender's checker, in bytes.
-pub const LEAST_MEMORY: u64 = 1 << 20;
+pub const MIN_MEMORY: u64 = 1 << 20;
 
 /// The greatest bound on the memory of a sender's checker, in bytes.
-pub const MOST_MEMORY: u64 = 1 << 40;
+pub const MAX_MEMORY: u64 = 1 << 40;
 
 /// How many bytes of spans a quarantine holds by default.
-const USUAL_QUARANTINE: u64 = 1 << 28;
+const DEFAULT_QUARANTINE: u64 = 1 << 28;
 
 /// How many items a ring holds by default.
-const USUAL_RING: u32 = 1024;
+const DEFAULT_RING: u32 = 1024;
 
-/// How many checkers there are by default.
-const USUAL_WORKERS: u32 = 2;
+/// How many workers there are by default.
+const DEFAULT_WORKERS: u32 = 2;
 
 /// How streams are checked. Each option is in its range, which the type keeps.
 #[derive(Clone, Copy, Debug)]
@@ -44,7 +44,7 @@ pub struct Options {
     pub quarantine: u64,
     /// How many items the ring between a reader and its checker holds, 1 to 65,536.
     pub ring: u32,
-    /// How many checkers there are, 1 to 64.
+    /// How many workers there are, 1 to 64.
     pub workers: u32,
     /// How many events a stream may have, 1 to 2^24.
     pub limit: u32,
@@ -70,7 +70,7 @@ pub enum BadOption {
     /// The ring has no item, or more than 65,536.
     #[error("the ring is not of 1 to 65,536 items")]
     Ring,
-    /// There is no checker, or more than 64.
+    /// There is no worker, or more than 64.
     #[error("the workers are not 1 to 64")]
     Workers,
     /// The event limit is 0, or over 2^24.
@@ -96,16 +96,16 @@ impl Options {
             (λ bad. bad_option_of quarantine ring workers limit ≡ Some bad) }
         ensures unbounded { IfOk result (λ o. o.memory ≡ None) }
     {
-        if quarantine > LARGEST_QUARANTINE {
+        if quarantine > MAX_QUARANTINE {
             return Err(BadOption::Quarantine);
         }
-        if !(1..=MOST_RING).contains(&ring) {
+        if !(1..=MAX_RING).contains(&ring) {
             return Err(BadOption::Ring);
         }
-        if !(1..=MOST_WORKERS).contains(&workers) {
+        if !(1..=MAX_WORKERS).contains(&workers) {
             return Err(BadOption::Workers);
         }
-        if !(1..=MOST_EVENTS).contains(&limit) {
+        if !(1..=MAX_EVENTS).contains(&limit) {
             return Err(BadOption::Limit);
         }
         Ok(Options {
@@ -117,8 +117,8 @@ impl Options {
         })
     }
 
-    /// The options where nothing else is said: a quarantine of 2^28 bytes, rings of 1,024 items, 2
-    /// checkers, at most 2^24 events, and no bound on memory.
+    /// The defaults: a quarantine of 2^28 bytes, rings of 1,024 items, 2 workers, at most 2^24
+    /// events, and no bound on memory.
     pub fn usual() -> Options
         ensures quarantine { result.quarantine ≡ usual_quarantine }
         ensures ring { result.ring ≡ usual_ring }
@@ -127,10 +127,10 @@ impl Options {
         ensures memory { result.memory ≡ None }
     {
         Options {
-            quarantine: USUAL_QUARANTINE,
-            ring: USUAL_RING,
-            workers: USUAL_WORKERS,
-            limit: MOST_EVENTS,
+            quarantine: DEFAULT_QUARANTINE,
+            ring: DEFAULT_RING,
+            workers: DEFAULT_WORKERS,
+            limit: MAX_EVENTS,
             memory: None,
         }
     }
@@ -147,7 +147,7 @@ impl Options {
         ensures range { is_ok result ≡ is_memory_bound bytes }
         ensures bad { IfErr result (λ bad. bad ≡ BadOption.Memory) }
     {
-        if !(LEAST_MEMORY..=MOST_MEMORY).contains(&bytes) {
+        if !(MIN_MEMORY..=MAX_MEMORY).contains(&bytes) {
             return Err(BadOption::Memory);
         }
         Ok(Options {

@@ -13,7 +13,7 @@ const YIELDS: u32 = 20;
 const FIRST_SLEEP: u64 = 16;
 
 /// How long it sleeps at most.
-const LONGEST_SLEEP: u64 = 1024;
+const MAX_SLEEP: u64 = 1024;
 
 /// How a thread waits for others: it spins, then it yields its processor, and at last it sleeps,
 /// each time twice as long, up to about a millisecond.
@@ -45,7 +45,7 @@ impl Pause {
     pub fn wait<R: Wait + Clock>(&mut self, rt: &R) {
         if self.yields >= YIELDS {
             thread::sleep(rt, Duration::from_micros(self.sleep));
-            self.sleep = self.sleep.saturating_mul(2).min(LONGEST_SLEEP);
+            self.sleep = self.sleep.saturating_mul(2).min(MAX_SLEEP);
             return;
         }
         if self.backoff.is_completed() {

@@ -13,7 +13,7 @@ ghost use Rattle.asan_stream.specs.Outcomes.{reports_of};
 use crate::options::Options;
 use crate::outcome::Outcome;
 use crate::source::{BATCH_SIZE, Source, batch_room};
-use asan_check::{Checker, Report};
+use asan_check::{Checker, MAX_FETCHED, Report};
 use std::alloc::{Allocator, Global};
 use trace_feed::Feed;
 use trace_record::{End, Event};
@@ -113,11 +113,7 @@ impl<F: Feed, A: Allocator + Copy> Replay<F, A> {
     }
 }
 
-/// How many events the checker is to fetch at once.
-const AHEAD: usize = 8;
-
-/// Hands the events to the checker, in order. A checker that has failed stays so, and says it in
-/// the end.
+/// Hands the events to the checker, in order. A failed checker stays failed: the outcome says so.
 pub(crate) fn check_each<A: Allocator + Copy>(checker: &mut Checker<A>, events: &[Event])
     requires room { checked_of checker.old + length events.now < 2 ^ 64 }
     ensures stands { (bound : ℕ) (past : List AnEvent) → StandsOrFailed bound checker.old past →
@@ -153,7 +149,7 @@ fn fetch_ahead<A: Allocator + Copy>(
     if fetched > 0 {
         return fetched;
     }
-    let count = events.len().min(AHEAD);
+    let count = events.len().min(MAX_FETCHED);
     checker.fetch(&events[..count]);
     count
 }

@@ -20,7 +20,7 @@ pub const GRANULES: u64 = ADDRESS_END / GRANULE;
 pub const REDZONE: u64 = 32;
 
 /// The greatest bound of a quarantine, in bytes of spans.
-pub const LARGEST_QUARANTINE: u64 = 1 << 40;
+pub const MAX_QUARANTINE: u64 = 1 << 40;
 
 /// Whether an access can have this width. It is computed without branches: of four comparisons a
 /// processor would often predict one wrong.

@@ -75,12 +75,12 @@ const POISON: [u8; 37] = [
 ];
 
 /// How many turns something waits at most.
-const MOST_TURNS: u32 = 10_000_000;
+const MAX_TURNS: u32 = 10_000_000;
 
 /// Waits until the counter has come so far, yielding the processor in each turn, and answers
 /// whether it has.
 fn wait_until(counter: &AtomicU64, least: u64) -> bool {
-    for _ in 0..MOST_TURNS {
+    for _ in 0..MAX_TURNS {
         if counter.load(Ordering::SeqCst) >= least {
             return true;
         }

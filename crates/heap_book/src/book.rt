@@ -12,11 +12,14 @@ use crate::NoMemory;
 use crate::answers::{Admit, Bound, Freed};
 use crate::block::Block;
 use crate::slots::is_free;
-use asan_units::LARGEST_QUARANTINE;
+use asan_units::MAX_QUARANTINE;
 use line_map::{LineMap, Slot};
 use std::alloc::{Allocator, Global};
 use std::collections::VecDeque;
 use std::marker::Model;
+
+/// How many blocks that are to be freed are read ahead at once, each with one that is to be let go.
+pub const MAX_FETCHED: usize = line_map::MAX_FETCHED / 2;
 
 /// The live blocks of a process and those in quarantine.
 #[derive(Drop)]
@@ -61,7 +64,7 @@ impl<A: Allocator + Copy> Book<A> {
         ensures ok { IfOk result (λ book.
             (book.live ≡ []) × (book.queue ≡ []) × (book.bound ≡ bound)) }
     {
-        if bound > LARGEST_QUARANTINE {
+        if bound > MAX_QUARANTINE {
             return Err(Bound);
         }
         Ok(Book {
@@ -72,25 +75,27 @@ impl<A: Allocator + Copy> Book<A> {
         })
     }
 
-    /// Reads what the book keeps at an address, so that the processor has it at hand when a malloc
-    /// or a free of this address follows. Changes nothing.
+    /// Reads what the book keeps of blocks that are to be freed, by their addresses, and of as many
+    /// of those in quarantine that were freed first, so that the processor has it at hand. The
+    /// addresses may be any numbers. Of more than 16 it reads the first ones. Changes nothing.
     #[inline]
-    pub fn fetch(&mut self, at: u64)
+    pub fn fetch(&mut self, frees: &[u64])
         ensures { self.new ≡ self.old }
     {
-        self.blocks.fetch(at);
-    }
-
-    /// Does the same for a block in quarantine, by its place there: 0 is the one that was freed
-    /// first. There need not be one.
-    #[inline]
-    pub fn fetch_held(&mut self, place: usize)
-        ensures { self.new ≡ self.old }
-    {
-        match self.queue.get(place) {
-            Some(block) => self.blocks.fetch(block.at()),
-            None => {}
+        let mut addresses = [0; 2 * MAX_FETCHED];
+        let mut count = 0;
+        for place in 0..frees.len().min(MAX_FETCHED) {
+            addresses[count] = frees[place];
+            count += 1;
+            match self.queue.get(place) {
+                Some(block) => {
+                    addresses[count] = block.at();
+                    count += 1;
+                }
+                None => {}
+            }
         }
+        self.blocks.fetch(&addresses[..count]);
     }
 
     /// Takes in what a malloc gave: a block of `size` bytes at the address `at`, which ends at most

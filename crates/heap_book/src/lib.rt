@@ -25,5 +25,5 @@ mod slots;
 
 pub use answers::{Admit, Bound, Freed};
 pub use block::Block;
-pub use book::Book;
+pub use book::{Book, MAX_FETCHED};
 pub use std::alloc::AllocError as NoMemory;

@@ -11,7 +11,7 @@ use Rattle.std.proofs.Math.Seq.{get_or-append_seam}
 use Rattle.std.proofs.lemmas.Nat.{div-mul-add, mod-mul-add, div-add-mod'}
 use Rattle.std.proofs.Math.Nat.{mod-lt, mul-le-mul_right}
 use Rattle.line_map.specs.declared.mark.Mark.{Mark}
-use Rattle.line_map.specs.Nodes.{IsPut, IsLastLine}
+use Rattle.line_map.specs.Nodes.{IsPut, IsLastLine, IsLastBelow, StandsFrom, IsLastBeforePlace}
 use Rattle.line_map.specs.Branches.{nodes_mark}
 
 -- ---- a line of the branch, and the same line within its node
@@ -61,6 +61,20 @@ raised marks low end None le none last = λ line lt.
       | inr above ↦ none line above lt
     ]
 raised marks low end (Some found) le none last = (
+  let below = last.0 in omega arith,
+  last.1,
+  λ line past lt.
+      elim (cases_lt line low) [
+        | inl below ↦ last.2 line past below
+        | inr above ↦ none line above lt
+      ],
+)
+
+pub raised_entry : (marks : ℕ → Option Mark) (low end : ℕ) (result : Option (ℕ × Mark)) → low ≤ end →
+    ((line : ℕ) → low ≤ line → line < end → marks line ≡ None) → IsLastBelow marks low result
+    → IsLastBelow marks end result
+raised_entry marks low end None le none last = raised marks low end None le none last
+raised_entry marks low end (Some found) le none last = (
   let below = last.0 in omega arith,
   last.1,
   λ line past lt.
@@ -130,6 +144,57 @@ module _ {S : Type 0} (mark_at : S → ℕ → Option Mark) (width first : ℕ) 
               let same : line / width * width ≡ (first + place) * width = ap (λ i. i * width) there in
               kept_mark place line node kept is there ∙ last.2 (line % width) (omega arith) (omega arith),
         )
+
+    entry_below : (end found : ℕ) (mark : Mark) → end ≤ width → IsLastBelow (mark_at node) end (Some (found, mark)) →
+        IsLastBelow marks ((first + place) * width + end) (Some ((first + place) * width + found, mark))
+    entry_below end found mark most last =
+        let line = last_below end found most (last.0, some_of last.1 refl, last.2) in
+        let below : found < end = last.0 in
+        let here : ((first + place) * width + found) / width ≡ first + place =
+        div-mul-add (first + place) width found (omega arith) in
+        let rest : ((first + place) * width + found) % width ≡ found =
+        mod-mul-add (first + place) width found (omega arith) in (
+          line.0,
+          kept_mark place ((first + place) * width + found) node kept is here ∙ ap (mark_at node) rest ∙ last.1,
+          line.2,
+        )
+
+    -- ---- the last mark of a node before an offset of a line, as one of the branch
+    module _ (line offset : ℕ) (here : line / width ≡ first + place) where
+      own : marks line ≡ mark_at node (line % width)
+      own = kept_mark place line node kept is here
+
+      whole : (first + place) * width + line % width ≡ line
+      whole =
+          let split : line / width * width + line % width ≡ line = div-add-mod' line width in
+          let same : line / width * width ≡ (first + place) * width = ap (λ i. i * width) here in
+          omega arith
+
+      from_of : StandsFrom offset (mark_at node (line % width)) → StandsFrom offset (marks line)
+      from_of from = λ mark some. from mark (sym own ∙ some)
+
+      pub place_some : (found : ℕ) (mark : Mark)
+          → IsLastBeforePlace (mark_at node) (line % width) offset (Some (found, mark))
+          → IsLastBeforePlace marks line offset (Some ((first + place) * width + found, mark))
+      place_some found mark (inl (there, same, some, before)) =
+          let pair : (found, mark) ≡ (line % width, there) = cc in
+          let line_is : found ≡ line % width = ap (λ (last : ℕ × Mark). last.0) pair in
+          let mark_is : mark ≡ there = ap (λ (last : ℕ × Mark). last.1) pair in
+          rw (line_is, mark_is, whole) (inl (there, refl, own ∙ some, before))
+      place_some found mark (inr (from, last)) =
+          let rest : line % width < width = mod-lt line positive in
+          let lower = entry_below (line % width) found mark (omega arith) last in
+          inr (from_of from, rw whole at lower)
+
+      pub place_none : IsLastBeforePlace (mark_at node) (line % width) offset None → StandsFrom offset (marks line)
+          × ((index : ℕ) → (first + place) * width ≤ index → index < line → marks index ≡ None)
+      place_none (inl (there, same, some, before)) = absurd cc
+      place_none (inr (from, none)) =
+          let rest : line % width < width = mod-lt line positive in
+          let all = whole in (
+            from_of from,
+            λ index low high. none_below (line % width) (omega arith) none index low (omega arith),
+          )
 
 module _ {S : Type 0} (mark_at : S → ℕ → Option Mark) (width first : ℕ) (nodes : List S) where
   abbrev old : ℕ → Option Mark

@@ -1,7 +1,7 @@
 -- What the entries of all lines have, by the marks of the lines.
-use Rattle.std.proofs.Common.{◌≡◌, ◌≢◌, ℕ, ◌+◌, ◌*◌, ◌/◌, ◌%◌, ◌^◌, ◌<◌, ◌≤◌, true, false, eqb, [], Option, Some, None}
-use Rattle.std.proofs.Common.{Result, Ok, Err, OnOk, OnErr, refl, sym, ap, ◌∙◌, arith, inl, inr}
-use Rattle.std.specs.Prelude.{IsSome}
+use Rattle.std.proofs.Common.{◌≡◌, ◌≢◌, ℕ, suc, ◌+◌, ◌*◌, ◌/◌, ◌%◌, ◌^◌, ◌<◌, ◌≤◌, true, false, eqb, [], Option, Some}
+use Rattle.std.proofs.Common.{None, Result, Ok, Err, OnOk, OnErr, refl, sym, ap, ◌∙◌, arith, inl, inr}
+use Rattle.std.specs.Prelude.{IsSome, min}
 use Rattle.std.specs.Map.{remove_entry, set_value}
 use Rattle.std.specs.BTreeMap.{is_at, insert_entry}
 use Rattle.std.specs.Ordering.{nat_cmp}
@@ -9,7 +9,8 @@ use Rattle.std.proofs.lemmas.Bool.{cases_eq, cases_lt}
 use Rattle.std.proofs.lemmas.Bool.Decides.{nat_tests}
 use Rattle.line_map.specs.declared.mark.Slot.{Slot}
 use Rattle.line_map.specs.declared.mark.Mark.{Mark}
-use Rattle.line_map.specs.Nodes.{IsPut, IsLastBelow}
+use Rattle.std.proofs.Math.Nat.{le-min, min-le_left}
+use Rattle.line_map.specs.Nodes.{IsPut, IsLastBelow, IsLastBeforePlace, StandsFrom}
 use Rattle.line_map.specs.Maps.{slot_at, IsLastBefore}
 use Rattle.line_map.specs.Entries.{entries_of, AreInLine}
 use Rattle.line_map.proofs.Entries.{slot_in, found-past, found-in, entries-same, entries-insert, entries-set}
@@ -130,6 +131,45 @@ module _ (marks : ℕ → Option Mark) (within : AreInLine marks) where
                 | inr le ↦ le
               ],
         )
+
+  -- ---- the last one before an offset of a line
+  module _ (line offset end : ℕ) (high : line < 2 ^ 41) (most : offset ≤ 64)
+      (place : line * 64 + offset ≡ min end (2 ^ 47)) where
+    -- the line has none before the end, from the offset on
+    rest-from : StandsFrom offset (marks line) → (at : ℕ) → at < end → line ≤ at / 64 → at / 64 < 2 ^ 41
+        → slot_at (entries_of marks) at ≡ None
+    rest-from from at lt low less =
+        let under : suc at ≤ min end (2 ^ 47) = le-min lt (omega arith) in
+        let here : at / 64 ≡ line = omega arith in
+        go here (let below : at % 64 < offset = omega arith in below) (marks line) refl
+      where
+        go : at / 64 ≡ line → at % 64 < offset → (had : Option Mark) → marks line ≡ had
+            → slot_at (entries_of marks) at ≡ None
+        go here below None is = no-mark at less (ap marks here ∙ is)
+        go here below (Some mark) is =
+            let past : offset ≤ mark.offset = from mark is in
+            let elsewhere : mark.offset ≢ at % 64 = omega arith in
+            other-place at mark less (ap marks here ∙ is) elsewhere
+
+    pub place-none : IsLastBeforePlace marks line offset None → IsLastBefore (entries_of marks) end None
+    place-none (inl (own, same, is, before)) = absurd cc
+    place-none (inr below) = last-none line end (omega arith) (rest-from below.0) below.1
+
+    pub place-some : (found : ℕ) (mark : Mark) → IsLastBeforePlace marks line offset (Some (found, mark))
+        → IsLastBefore (entries_of marks) end (Some (found * 64 + mark.offset, mark.slot))
+    place-some found mark (inl (own, same, is, before)) =
+        let upto : min end (2 ^ 47) ≤ end = min-le_left end (2 ^ 47) in
+        let pair : (found, mark) ≡ (line, own) = cc in
+        let line_is : found ≡ line = ap (λ (last : ℕ × Mark). last.0) pair in
+        let mark_is : mark ≡ own = ap (λ (last : ℕ × Mark). last.1) pair in
+        rw (line_is, mark_is) (last-some (line + 1) end (omega arith)
+        (λ at lt low less. absurd (let under : suc at ≤ min end (2 ^ 47) = le-min lt (omega arith) in omega arith))
+        line own (omega arith, is, λ other past under. absurd (omega arith)) (omega arith))
+    place-some found mark (inr below) =
+        let upto : min end (2 ^ 47) ≤ end = min-le_left end (2 ^ 47) in
+        let under : found < line = below.1.0 in
+        let inside : mark.offset < 64 = within found mark (omega arith) below.1.1 in
+        last-some line end (omega arith) (rest-from below.0) found mark below.1 (omega arith)
 
 -- ---- one mark that is another now
 module _ (marks new : ℕ → Option Mark) (at : ℕ) where

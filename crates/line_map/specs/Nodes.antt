@@ -1,5 +1,5 @@
 -- What the marks of a node come to.
-use Rattle.std.specs.Prelude.{◌≡◌, ℕ, ◌<◌, ◌≤◌, ◌^◌, ◌==◌, if◌then◌else◌}
+use Rattle.std.specs.Prelude.{◌≡◌, ℕ, ◌<◌, ◌≤◌, ◌^◌, ◌==◌, ◌⊎◌, if◌then◌else◌}
 use Rattle.std.specs.Prelude.{Option, Some, None, IsSome}
 use Rattle.line_map.specs.declared.mark.Mark.{Mark}
 
@@ -25,3 +25,15 @@ IsLastBelow marks end None = (line : ℕ) → line < end → marks line ≡ None
 IsLastBelow marks end (Some found) =
     (found.0 < end) × (marks found.0 ≡ Some found.1)
     × ((line : ℕ) → found.0 < line → line < end → marks line ≡ None)
+
+-- a mark, if there is one, stands at an offset or past it
+abbrev pub StandsFrom : ℕ → Option Mark → Type 0
+StandsFrom offset mark = (found : Mark) → mark ≡ Some found → offset ≤ found.offset
+
+-- the last mark before an offset of a line, with its line: that of the line itself, if it stands
+-- before the offset, and else the last of the lines below
+abbrev pub IsLastBeforePlace : (ℕ → Option Mark) → ℕ → ℕ → Option (ℕ × Mark) → Type 0
+IsLastBeforePlace marks line offset result =
+    ((mark : Mark) × (result ≡ Some (line, mark)) × (marks line ≡ Some mark)
+    × (mark.offset < offset))
+    ⊎ (StandsFrom offset (marks line) × IsLastBelow marks line result)

@@ -1,8 +1,9 @@
 //! A branch of a map: nodes side by side.
 ghost use Rattle.std.specs.Prelude.{◌≡◌, ℕ, ◌+◌, ◌*◌, ◌/◌, ◌<◌, ◌≤◌, true};
-ghost use Rattle.std.specs.Prelude.{None, IfOk, IfSome, IfNone, vec_len};
+ghost use Rattle.std.specs.Prelude.{None, IfOk, IfSome, IfNone, option_map, vec_len};
 ghost use Rattle.line_map.specs.declared.branch.TheConstants.{NODES};
-ghost use Rattle.line_map.specs.Nodes.{IsWidth, IsLastLine};
+ghost use Rattle.line_map.specs.Marks.{mark_of};
+ghost use Rattle.line_map.specs.Nodes.{IsWidth, IsLastLine, IsLastBelow};
 
 use crate::entry::Entry;
 use crate::mark::Mark;
@@ -10,7 +11,7 @@ use crate::node::Node;
 use std::alloc::{AllocError, Allocator, Global};
 
 /// How many nodes a branch has.
-const NODES: usize = 128;
+pub const NODES: usize = 128;
 
 /// Nodes of one width, side by side. Those that are not kept have no marks.
 #[derive(Drop)]
@@ -58,15 +59,6 @@ impl<S: Node<A>, A: Allocator + Copy> Node<A> for Branch<S, A> {
     }
 
     #[inline]
-    fn fetch(&self, line: u64) -> u64 {
-        let width = S::width();
-        match self.place_of((line / width) as usize) {
-            Some(place) => self.kept[place].fetch(line % width),
-            None => 0,
-        }
-    }
-
-    #[inline]
     fn last(&self, end: u64) -> Option<u64> {
         let width = S::width();
         let node = (end / width) as usize;
@@ -78,6 +70,20 @@ impl<S: Node<A>, A: Allocator + Copy> Node<A> for Branch<S, A> {
             None => {}
         }
         self.last_of(node)
+    }
+
+    #[inline]
+    fn before(&self, line: u64, offset: u8) -> Option<(u64, &Entry)> {
+        let width = S::width();
+        let node = (line / width) as usize;
+        match self.place_of(node) {
+            Some(place) => match self.kept[place].before(line % width, offset) {
+                Some((found, entry)) => return Some((node as u64 * width + found, entry)),
+                None => {}
+            },
+            None => {}
+        }
+        self.last_entry(node)
     }
 
     #[inline]
@@ -126,6 +132,12 @@ impl<S: Node<A>, A: Allocator + Copy> Node<A> for Branch<S, A> {
 impl<S: Node<A>, A: Allocator + Copy> Branch<S, A> {
     ghost use Rattle.line_map.specs.Branches.{branch_mark};
 
+    /// A node, by its number, if it is kept. No clause speaks of it.
+    #[inline]
+    pub fn node(&self, number: u64) -> Option<&S> {
+        self.kept.get((number as usize).checked_sub(self.first)?)
+    }
+
     /// The place of a node, by its number, among those that are kept.
     #[inline]
     fn place_of(&self, node: usize) -> Option<usize>
@@ -163,6 +175,20 @@ impl<S: Node<A>, A: Allocator + Copy> Branch<S, A> {
             }
         }
         None
+    }
+
+    /// The last entry of the nodes below one, with its line.
+    #[inline(never)]
+    fn last_entry(&self, end: usize) -> Option<(u64, &Entry)>
+        requires fits { S.fits }
+        requires width { IsWidth (NODES * S.width) }
+        requires end { end ≤ NODES }
+        ensures { IsLastBelow (branch_mark S.mark_at S.width self.now) (end * S.width)
+            (option_map (λ found. (found.0, mark_of found.1.now)) result) }
+    {
+        let line = self.last_of(end)?;
+        let entry = self.get(line)?;
+        Some((line, entry))
     }
 
     /// Keeps a node, by its number, and those between it and the ones that are kept. Gives its

@@ -32,6 +32,20 @@ impl Entry {
         }
     }
 
+    /// One of its numbers, for a caller that only wants it read.
+    #[inline]
+    pub fn number(&self) -> u32 {
+        self.size_low
+    }
+
+    /// The offset of its mark.
+    #[inline]
+    pub fn offset(&self) -> u8
+        ensures { result ≡ self.now.offset }
+    {
+        self.offset
+    }
+
     #[inline]
     pub fn mark(&self) -> Mark
         ensures { result ≡ mark_of self.now }

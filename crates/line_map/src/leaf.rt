@@ -1,15 +1,16 @@
 //! A leaf of a map: lines side by side, some of which have a mark.
-ghost use Rattle.std.specs.Prelude.{◌≡◌, ◌-◌, ◌^◌, ◌<◌, ◌≤◌, count_ones, length};
+ghost use Rattle.std.specs.Prelude.{◌≡◌, ◌-◌, ◌^◌, ◌<◌, ◌≤◌, count_ones, length, option_map};
 ghost use Rattle.line_map.specs.declared.leaf.TheConstants.{LINES};
-ghost use Rattle.line_map.specs.Nodes.{IsWidth};
+ghost use Rattle.line_map.specs.Marks.{mark_of};
+ghost use Rattle.line_map.specs.Nodes.{IsWidth, IsLastBelow};
 
 use crate::entry::Entry;
 use crate::mark::Mark;
-use crate::node::Node;
+use crate::node::{Node, entry_before};
 use std::alloc::{AllocError, Allocator, Global};
 
 /// How many lines a leaf has.
-const LINES: usize = 64;
+pub const LINES: usize = 64;
 
 /// Lines side by side. Those that have a mark have an entry, and nothing else takes memory.
 #[derive(Drop)]
@@ -44,7 +45,24 @@ fn bits_below(end: u64) -> u64
 }
 
 impl<A: Allocator + Copy> Leaf<A> {
-    ghost use Rattle.line_map.specs.Leaves.{has_entry, entries_below};
+    ghost use Rattle.line_map.specs.Leaves.{has_entry, entries_below, leaf_mark};
+
+    /// Which lines have an entry.
+    #[inline]
+    pub fn lines(&self) -> u64 {
+        self.lines
+    }
+
+    /// Some number of the entry at a line's place, and 0 if there is none.
+    #[inline]
+    pub fn number(&self, line: u64) -> u32
+        requires { line < LINES }
+    {
+        match self.entries.get(self.place_of(line)) {
+            Some(entry) => entry.number(),
+            None => 0,
+        }
+    }
 
     /// Whether a line has an entry.
     #[inline]
@@ -53,6 +71,18 @@ impl<A: Allocator + Copy> Leaf<A> {
         ensures { result ≡ has_entry self.now.lines line }
     {
         self.lines & bit(line) != 0
+    }
+
+    /// The last entry of the lines below one, with its line.
+    #[inline]
+    fn last_entry(&self, end: u64) -> Option<(u64, &Entry)>
+        requires { end ≤ LINES }
+        ensures { IsLastBelow (leaf_mark self.now) end
+            (option_map (λ found. (found.0, mark_of found.1.now)) result) }
+    {
+        let line = self.last(end)?;
+        let entry = self.get(line)?;
+        Some((line, entry))
     }
 
     /// The place of a line's entry: how many entries the lines below it have.
@@ -102,17 +132,17 @@ impl<A: Allocator + Copy> Node<A> for Leaf<A> {
     }
 
     #[inline]
-    fn fetch(&self, line: u64) -> u64 {
-        match self.entries.get(self.place_of(line)) {
-            Some(entry) => entry.mark().slot.size,
-            None => self.lines,
-        }
-    }
-
-    #[inline]
     fn last(&self, end: u64) -> Option<u64> {
         let below = self.lines & bits_below(end);
         Some(u64::from(below.checked_ilog2()?))
+    }
+
+    #[inline]
+    fn before(&self, line: u64, offset: u8) -> Option<(u64, &Entry)> {
+        match entry_before(self.get(line), offset) {
+            Some(entry) => Some((line, entry)),
+            None => self.last_entry(line),
+        }
     }
 
     #[inline]

@@ -2,12 +2,12 @@
 //!
 //! A line is 64 bytes side by side: line `l` has the addresses from `64 * l` on. A leaf has 64
 //! lines side by side, and is found through a tree, five branches deep, by the number of a line.
-//! One way down this tree finds the slot at an address, or the place for a new one. The last slot
-//! before an address takes two: one finds its line, the other its entry; and two more where the
-//! slot of the address's own line is not before it. A leaf or a branch without slots holds no
-//! memory of its own.
+//! One way down this tree finds the slot at an address, the place for a new one, or the last slot
+//! before an address; if this slot lies in another leaf, two short ways more. A leaf or a branch
+//! without slots holds no memory of its own.
 #![tactic(auto)]
 
+mod ahead;
 mod branch;
 mod entry;
 mod leaf;
@@ -16,5 +16,6 @@ mod mark;
 mod node;
 mod tree;
 
+pub use ahead::MAX_FETCHED;
 pub use map::LineMap;
 pub use mark::Slot;

@@ -1,12 +1,14 @@
 //! The map: slots by address.
-ghost use Rattle.std.specs.Prelude.{◌≡◌, ℕ, ◌/◌, ◌<◌, None, Some, [], IsSome, OnOk, OnErr};
+ghost use Rattle.std.specs.Prelude.{◌≡◌, ℕ, ◌+◌, ◌*◌, ◌/◌, ◌<◌, ◌≤◌, None, Some, []};
+ghost use Rattle.std.specs.Prelude.{IsSome, OnOk, OnErr, min};
 ghost use Rattle.std.specs.Map.{set_value, remove_entry};
 ghost use Rattle.std.specs.BTreeMap.{insert_entry, is_at};
 ghost use Rattle.std.specs.Ordering.{nat_cmp};
 ghost use Rattle.asan_units.specs.Units.{address_end};
-ghost use Rattle.line_map.specs.Entries.{line_size};
+ghost use Rattle.line_map.specs.Entries.{line_count, line_size};
 ghost use Rattle.line_map.specs.Maps.{slot_at, IsLastBefore};
 
+use crate::ahead::read_lines;
 use crate::mark::{Mark, Slot};
 use crate::tree::Tree;
 use asan_units::ADDRESS_END;
@@ -14,10 +16,25 @@ use std::alloc::{AllocError, Allocator, Global};
 use std::marker::Model;
 
 /// How many bytes a line has.
-const LINE: u64 = 64;
+pub const LINE: u64 = 64;
 
 /// How many lines a map has.
 const ALL: u64 = ADDRESS_END / LINE;
+
+/// The line of an address, and its offset in it. That of an address past the last line is the end
+/// of the last line.
+#[inline]
+fn place_of(at: u64) -> (u64, u8)
+    ensures line { result.0 < line_count }
+    ensures offset { result.1 ≤ line_size }
+    ensures place { result.0 * line_size + result.1 ≡ min at address_end }
+{
+    if at < ADDRESS_END {
+        (at / LINE, (at % LINE) as u8)
+    } else {
+        (ALL - 1, LINE as u8)
+    }
+}
 
 /// Slots by address, at most one in each line of 64 bytes. Contracts see a map as the list of its
 /// addresses and their slots, in the order of the addresses.
@@ -60,16 +77,14 @@ impl<A: Allocator + Copy> LineMap<A> {
         }
     }
 
-    /// Reads what the map keeps of an address' line, so that the processor has it at hand when a
-    /// call on this address follows. The address may be any number.
+    /// Reads what the map keeps of the lines of some addresses, so that the processor has it at
+    /// hand if calls on these addresses follow. They may be any numbers. Of more than 32 it reads
+    /// the first ones.
     #[inline]
-    pub fn fetch(&mut self, at: u64)
+    pub fn fetch(&mut self, addresses: &[u64])
         ensures { self.new ≡ self.old }
     {
-        let line = at / LINE;
-        if line < ALL {
-            self.fetched ^= self.tree.fetch(line);
-        }
+        self.fetched ^= read_lines(&self.tree, addresses);
     }
 
     /// The slot at an address, which may be any number.
@@ -100,20 +115,9 @@ impl<A: Allocator + Copy> LineMap<A> {
     pub fn last_before(&self, end: u64) -> Option<(u64, Slot)>
         ensures { IsLastBefore self.now end result }
     {
-        let lines = end.div_ceil(LINE).min(ALL);
-        match self.tree.last(lines) {
-            Some((line, mark)) => {
-                let at = line * LINE + u64::from(mark.offset);
-                if at < end {
-                    return Some((at, mark.slot));
-                }
-                match self.tree.last(line) {
-                    Some((before, mark)) => {
-                        Some((before * LINE + u64::from(mark.offset), mark.slot))
-                    }
-                    None => None,
-                }
-            }
+        let (line, offset) = place_of(end);
+        match self.tree.before(line, offset) {
+            Some((line, mark)) => Some((line * LINE + u64::from(mark.offset), mark.slot)),
             None => None,
         }
     }

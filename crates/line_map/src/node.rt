@@ -1,9 +1,10 @@
 //! What the leaves and the branches of a map have in common.
 ghost use Rattle.std.specs.Prelude.{◌≡◌, ℕ, ◌<◌, ◌≤◌, true};
-ghost use Rattle.std.specs.Prelude.{Option, None, Some, IsSome, OnOk, OnErr, option_map};
+ghost use Rattle.std.specs.Prelude.{Option, None, Some, IsSome, IfSome, IfNone, OnOk, OnErr};
+ghost use Rattle.std.specs.Prelude.{option_map};
 ghost use Rattle.line_map.specs.declared.mark.Mark.{Mark};
 ghost use Rattle.line_map.specs.Marks.{mark_of};
-ghost use Rattle.line_map.specs.Nodes.{IsWidth, IsPut, IsLastLine};
+ghost use Rattle.line_map.specs.Nodes.{IsWidth, IsPut, IsLastLine, IsLastBeforePlace, StandsFrom};
 
 use crate::entry::Entry;
 use crate::mark::Mark;
@@ -37,17 +38,18 @@ pub trait Node<A: Allocator + Copy>: Drop {
         requires within { line < width }
         ensures { option_map (λ entry. mark_of entry.now) result ≡ mark_at self.now line };
 
-    /// Reads what it keeps of a line, so that the processor has it at hand, and answers some
-    /// number that depends on it.
-    fn fetch(&self, line: u64) -> u64
-        requires fits { fits }
-        requires within { line < width };
-
     /// The last line that has a mark, of those below one.
     fn last(&self, end: u64) -> Option<u64>
         requires fits { fits }
         requires end { end ≤ width }
         ensures { IsLastLine (mark_at self.now) end result };
+
+    /// The entry of the last mark before an offset of a line, with its line.
+    fn before(&self, line: u64, offset: u8) -> Option<(u64, &Entry)>
+        requires fits { fits }
+        requires within { line < width }
+        ensures { IsLastBeforePlace (mark_at self.now) line offset
+            (option_map (λ found. (found.0, mark_of found.1.now)) result) };
 
     /// Gives a line a mark.
     ///
@@ -76,4 +78,24 @@ pub trait Node<A: Allocator + Copy>: Drop {
         ensures { IsPut width (mark_at self.old) (mark_at self.new) line None };
 
     ghost is_width: { fits → IsWidth width };
+}
+
+/// The entry of a line, if there is one and it stands before an offset of the line.
+#[inline]
+pub fn entry_before(own: Option<&Entry>, offset: u8) -> Option<&Entry>
+    ensures some { IfSome result (λ found. (found.now.offset < offset)
+        × (option_map (λ entry. mark_of entry.now) own.entry ≡ Some (mark_of found.now))) }
+    ensures none { IfNone result
+        (StandsFrom offset (option_map (λ entry. mark_of entry.now) own.entry)) }
+{
+    match own {
+        Some(entry) => {
+            if entry.offset() < offset {
+                Some(entry)
+            } else {
+                None
+            }
+        }
+        None => None,
+    }
 }

@@ -1,10 +1,10 @@
 //! The tree of lines: five levels of branches over the leaves.
-ghost use Rattle.std.specs.Prelude.{◌≡◌, ℕ, ◌<◌, ◌≤◌, Some, None, IsSome, OnOk, OnErr};
+ghost use Rattle.std.specs.Prelude.{◌≡◌, ℕ, ◌<◌, Some, None, IsSome, OnOk, OnErr};
 ghost use Rattle.line_map.specs.Entries.{line_count};
-ghost use Rattle.line_map.specs.Nodes.{IsPut, IsLastBelow};
+ghost use Rattle.line_map.specs.Nodes.{IsPut, IsLastBeforePlace};
 ghost use Rattle.line_map.specs.Trees.{tree_mark};
 
-use crate::branch::Branch;
+use crate::branch::{Branch, NODES};
 use crate::leaf::Leaf;
 use crate::mark::Mark;
 use crate::node::Node;
@@ -21,6 +21,9 @@ type Level3<A> = Branch<Level2<A>, A>;
 type Level4<A> = Branch<Level3<A>, A>;
 
 type Level5<A> = Branch<Level4<A>, A>;
+
+/// A part of a tree: 2^27 lines, the first of which has a number that 2^27 divides.
+pub type Part<A> = Level3<A>;
 
 // What a node takes where it stands, without what it holds.
 const _: () = prove!(size_of::<Leaf>() == 32);
@@ -54,25 +57,22 @@ impl<A: Allocator + Copy> Tree<A> {
         Some(self.root.get(line)?.mark())
     }
 
-    /// Reads what it keeps of a line, so that the processor has it at hand, and answers some
-    /// number that depends on it.
+    /// The part with a number, if the tree keeps it. No clause speaks of it.
     #[inline]
-    pub fn fetch(&self, line: u64) -> u64
-        requires { line < line_count }
-    {
-        self.root.fetch(line)
+    pub fn part(&self, number: u64) -> Option<&Part<A>> {
+        let nodes = NODES as u64;
+        self.root.node(number / nodes)?.node(number % nodes)
     }
 
-    /// The last mark of the lines below one, with its line.
+    /// The last mark before an offset of a line, with its line.
     #[inline]
     #[tactic(auto, unfolding(crate::specs::Trees::tree_mark))]
-    pub fn last(&self, end: u64) -> Option<(u64, Mark)>
-        requires { end ≤ line_count }
-        ensures { IsLastBelow (tree_mark self.now) end result }
+    pub fn before(&self, line: u64, offset: u8) -> Option<(u64, Mark)>
+        requires { line < line_count }
+        ensures { IsLastBeforePlace (tree_mark self.now) line offset result }
     {
-        let line = self.root.last(end)?;
-        let mark = self.get(line)?;
-        Some((line, mark))
+        let (line, entry) = self.root.before(line, offset)?;
+        Some((line, entry.mark()))
     }
 
     /// Gives a line a mark.

@@ -10,7 +10,7 @@ use asan_units::GRANULE;
 const WHOLE: u8 = GRANULE as u8;
 
 /// The least shadow byte that is a code. A granule with a code has no addressable byte.
-pub const LEAST_CODE: u8 = 0x80;
+pub const MIN_CODE: u8 = 0x80;
 
 /// The shadow byte of a granule whose bytes are a redzone of a block on the heap.
 pub const HEAP_REDZONE: u8 = 0xfa;

@@ -10,7 +10,7 @@ ghost use Rattle.shadow_map.specs.Causes.{deciding_granule};
 ghost use Rattle.shadow_map.specs.Shows.{Shows, value_at};
 
 use crate::NoMemory;
-use crate::granule::{LEAST_CODE, front};
+use crate::granule::{MIN_CODE, front};
 use crate::reader::{ShadowReader, bad_byte_by};
 use asan_units::{GRANULE, GRANULES};
 use page_table::{PageTable, Run};
@@ -94,7 +94,7 @@ impl<A: Allocator + Copy> Shadow<A> {
             result.deciding ≡ lift (state_of marks) (deciding_granule (state_of marks) at) }
     {
         let own = self.value(at / GRANULE);
-        let deciding = if own < LEAST_CODE {
+        let deciding = if own < MIN_CODE {
             self.value(at / GRANULE + 1)
         } else {
             own

@@ -28,4 +28,4 @@ mod make;
 pub use lane_end::LaneEnd;
 pub use lane_in::LaneIn;
 pub use lane_out::LaneOut;
-pub use make::{LaneError, MOST_ITEMS, lane};
+pub use make::{LaneError, MAX_ITEMS, lane};

@@ -10,10 +10,10 @@ use std::alloc::Allocator;
 use thiserror::Error;
 
 /// The most items that a ring holds.
-pub const MOST_ITEMS: usize = 1 << 16;
+pub const MAX_ITEMS: usize = 1 << 16;
 
 /// The most items that the buffer of the taking end holds.
-const MOST_BUFFERED: usize = 64;
+const MAX_BUFFERED: usize = 64;
 
 /// No lane was made.
 #[derive(Clone, Copy, Debug, PartialEq, Eq, Error)]
@@ -46,10 +46,10 @@ pub fn lane<T: Copy + Send, A: Allocator + Copy>(
     ensures refused { IfErr result (λ e.
         e ≡ LaneError.Capacity ↔ ((capacity ≡ 0) ⊎ (most_items < capacity))) }
 {
-    if !(1..=MOST_ITEMS).contains(&capacity) {
+    if !(1..=MAX_ITEMS).contains(&capacity) {
         return Err(LaneError::Capacity);
     }
-    let Ok(buffer) = Vec::with_capacity(alloc, capacity.min(MOST_BUFFERED)) else {
+    let Ok(buffer) = Vec::with_capacity(alloc, capacity.min(MAX_BUFFERED)) else {
         return Err(LaneError::NoMemory);
     };
     let Ok((producer, consumer)) = RingBuffer::new(alloc, capacity) else {

@@ -16,7 +16,7 @@ use crate::version::Version;
 use std::marker::Model;
 
 /// The greatest event limit.
-pub const LARGEST_LIMIT: u32 = 1 << 24;
+pub const MAX_LIMIT: u32 = 1 << 24;
 
 /// Reads one stream, whose bytes come in pieces of any lengths, record by record.
 ///
@@ -87,7 +87,7 @@ impl Decoder {
         ensures made { IsSome result ↔ ((0 < limit) × (limit ≤ largest_limit)) }
         ensures at_start { IfSome result (λ d. (d.limit ≡ limit) × StandsAt d [] []) }
     {
-        if limit == 0 || limit > LARGEST_LIMIT {
+        if limit == 0 || limit > MAX_LIMIT {
             return None;
         }
         Some(Decoder {
@@ -122,8 +122,7 @@ impl Decoder {
         if self.is_between_records() && !piece.is_empty() {
             return self.take_first(piece);
         }
-        // Split into its fields and put together again, so that the answer of the common way above
-        // stays in registers too.
+        // Rebuilt from its fields, so that both paths return in registers.
         let Step { used, out } = self.next_apart(piece);
         Step { used, out }
     }

@@ -13,7 +13,7 @@ mod partial;
 mod shade;
 mod version;
 
-pub use decoder::{Ahead, Decoder, LARGEST_LIMIT, Out, Step};
+pub use decoder::{Ahead, Decoder, MAX_LIMIT, Out, Step};
 pub use encoding::encode;
 pub use end::{End, Fate, Flaw};
 pub use event::{Access, Event, Place, Region};

@@ -56,8 +56,8 @@ static void look_at(const struct settings *settings)
 
 int LLVMFuzzerTestOneInput(const uint8_t *data, size_t size)
 {
-    enum { MOST_ENTRIES = 64 };
-    char **before = environ, *entries[MOST_ENTRIES + 1];
+    enum { MAX_ENTRIES = 64 };
+    char **before = environ, *entries[MAX_ENTRIES + 1];
     char *text = malloc(size + 1);
     struct settings settings = {0};
     size_t count = 0;
@@ -65,7 +65,7 @@ int LLVMFuzzerTestOneInput(const uint8_t *data, size_t size)
         return 0;
     memcpy(text, data, size);
     text[size] = 0;
-    for (char *at = text; at < text + size && count < MOST_ENTRIES; at += strlen(at) + 1)
+    for (char *at = text; at < text + size && count < MAX_ENTRIES; at += strlen(at) + 1)
         entries[count++] = at;
     entries[count] = NULL;
     environ = entries;

@@ -77,7 +77,7 @@ static void *write_records(void *number)
     uint64_t first = (uint64_t)(uintptr_t)number << 32;
     for (uint64_t i = 0; i < RECORDS; i++) {
         bool is_malloc = i % 3 == 0;
-        unsigned char *at = stream_reserve(is_malloc ? REGION_LENGTH : PLACE_LENGTH, false);
+        unsigned char *at = stream_reserve(is_malloc ? REGION_LENGTH : FREE_LENGTH, false);
         if (at == NULL)
             continue;
         put_number(at + 1, first + i);
@@ -125,10 +125,10 @@ static uint64_t look_at(const unsigned char *bytes, size_t size)
 
 static uint64_t look_at_file(const char *path)
 {
-    unsigned char *bytes = malloc(LARGEST_STREAM);
+    unsigned char *bytes = malloc(MAX_STREAM_SIZE);
     FILE *file = fopen(path, "rb");
     expect(file != NULL && bytes != NULL, "the file");
-    size_t size = fread(bytes, 1, LARGEST_STREAM, file);
+    size_t size = fread(bytes, 1, MAX_STREAM_SIZE, file);
     fclose(file);
     unlink(path);
     uint64_t count = look_at(bytes, size);
@@ -151,7 +151,7 @@ static void check_file(void)
 
 static void check_segments(void)
 {
-    struct settings settings = {.trace = "threads.trace", .limit = LIMIT, .segments = MOST_SEGMENTS_KEPT};
+    struct settings settings = {.trace = "threads.trace", .limit = LIMIT, .segments = MAX_SEGMENTS_KEPT};
     char path[64];
     write_all(&settings);
     uint64_t count = look_at_file(settings.trace);
@@ -188,7 +188,7 @@ static void check_socket(void)
     strcpy(name.sun_path, settings.socket);
     unlink(settings.socket);
     reader.listener = socket(AF_UNIX, SOCK_STREAM, 0);
-    reader.bytes = malloc(LARGEST_STREAM);
+    reader.bytes = malloc(MAX_STREAM_SIZE);
     expect(bind(reader.listener, (struct sockaddr *)&name, sizeof name) == 0, "the name");
     expect(listen(reader.listener, 1) == 0, "the socket");
     expect(pthread_create(&thread, NULL, read_all, NULL) == 0, "the reader");

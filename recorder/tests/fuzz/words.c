@@ -27,7 +27,7 @@ static void give_back(struct wish *wish)
 int LLVMFuzzerTestOneInput(const uint8_t *data, size_t size)
 {
     char *text = malloc(size + 1), *last = text;
-    struct wish wish = {.response_files = MOST_RESPONSE_FILES - 10}; /* it may name itself, and that takes time */
+    struct wish wish = {.response_files = MAX_RESPONSE_FILES - 10}; /* it may name itself, and that takes time */
     if (text == NULL)
         return 0;
     memcpy(text, data, size);

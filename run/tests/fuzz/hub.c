@@ -15,7 +15,7 @@
 #include "../../processes.h"
 #include "../../verdict.h"
 
-enum { HEAD = 160, MOST_SENT = 8, WORDS = 3 };
+enum { HEAD = 160, MAX_SENT = 8, WORDS = 3 };
 
 int LLVMFuzzerTestOneInput(const uint8_t *data, size_t size);
 
@@ -48,14 +48,14 @@ static int make_side(const uint8_t *data, size_t size)
 /* Sends so many descriptors, of which the first is the side memory or another. */
 static void send_first(int to, unsigned kind, int side)
 {
-    int others[] = {side, STDIN_FILENO, to}, sent[MOST_SENT];
-    unsigned count = kind / 4 % (MOST_SENT + 1);
+    int others[] = {side, STDIN_FILENO, to}, sent[MAX_SENT];
+    unsigned count = kind / 4 % (MAX_SENT + 1);
     char bytes[] = HEADER;
     union {
         char room[CMSG_SPACE(sizeof sent)];
         struct cmsghdr align;
     } control = {0};
-    for (unsigned i = 0; i < MOST_SENT; i++)
+    for (unsigned i = 0; i < MAX_SENT; i++)
         sent[i] = others[(kind + i) % 3];
     struct iovec piece = {bytes, HEADER_LENGTH};
     struct msghdr message = {.msg_iov = &piece, .msg_iovlen = 1};

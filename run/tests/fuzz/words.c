@@ -6,7 +6,7 @@
 #include "../../options.h"
 #include "ends.h"
 
-enum { MOST_WORDS = 64 };
+enum { MAX_WORDS = 64 };
 
 int LLVMFuzzerTestOneInput(const uint8_t *data, size_t size);
 
@@ -28,13 +28,13 @@ static void read_words(char **words)
 
 int LLVMFuzzerTestOneInput(const uint8_t *data, size_t size)
 {
-    char *text = malloc(size + 1), *words[MOST_WORDS + 2] = {"asancol-run"};
+    char *text = malloc(size + 1), *words[MAX_WORDS + 2] = {"asancol-run"};
     size_t count = 1;
     if (text == NULL)
         return 0;
     memcpy(text, data, size);
     text[size] = 0;
-    for (char *at = text; at < text + size && count <= MOST_WORDS; at += strlen(at) + 1)
+    for (char *at = text; at < text + size && count <= MAX_WORDS; at += strlen(at) + 1)
         words[count++] = at;
     if (setjmp(fuzz_end) == 0)
         read_words(words);

@@ -13,7 +13,7 @@ use std::alloc::Allocator;
 const BASE: u64 = 16;
 
 /// The most hexadecimal digits that a number of 64 bits has.
-const MOST_DIGITS: usize = 16;
+const MAX_DIGITS: usize = 16;
 
 /// Appends a label, and then a number in lower-case hexadecimal digits with zeros before it up to a
 /// width.
@@ -23,27 +23,27 @@ pub fn push_hex<A: Allocator>(
     width: usize,
     text: &mut String<A>,
 ) -> Result<(), NoMemory>
-    requires { width ≤ MOST_DIGITS }
+    requires { width ≤ MAX_DIGITS }
     ensures appends { AppendsPiece (label.now ++ hex_text width number) text.old text.new result }
-    ensures short { length (hex_text width number) ≤ MOST_DIGITS }
+    ensures short { length (hex_text width number) ≤ MAX_DIGITS }
 {
     let (digits, first) = hex_digits(number);
-    let start = first.min(MOST_DIGITS - width);
+    let start = first.min(MAX_DIGITS - width);
     // Each byte of the buffer is a digit.
     let padded = unsafe { std::str::from_utf8_unchecked(&digits[start..]) };
     push_words(label, padded, text)
 }
 
 /// The digits of a number, at the end of a buffer of zeros, and the place where they begin.
-fn hex_digits(number: u64) -> ([u8; MOST_DIGITS], usize)
+fn hex_digits(number: u64) -> ([u8; MAX_DIGITS], usize)
     ensures digits { drop result.1 result.0 ≡ digits BASE false number }
     ensures zeros { take result.1 result.0 ≡ replicate result.1 48 }
-    ensures long { length result.0 ≡ MOST_DIGITS }
-    ensures within { result.1 < MOST_DIGITS }
+    ensures long { length result.0 ≡ MAX_DIGITS }
+    ensures within { result.1 < MAX_DIGITS }
     ensures ascii { IsAscii result.0 }
 {
-    let mut digits = [b'0'; MOST_DIGITS];
-    let mut first = MOST_DIGITS - 1;
+    let mut digits = [b'0'; MAX_DIGITS];
+    let mut first = MAX_DIGITS - 1;
     let mut left = number;
     while left >= BASE {
         digits[first] = hex_digit((left % BASE) as u8);

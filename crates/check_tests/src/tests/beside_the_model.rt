@@ -21,7 +21,7 @@ const EVENTS: u64 = 70;
 const WINDOW: u64 = 0x200;
 
 /// The greatest size of most blocks and regions.
-const GREATEST_SIZE: u64 = 40;
+const MAX_SIZE: u64 = 40;
 
 /// How far apart blocks start, most of them: by their sizes, spans of neighbours have room between
 /// them, touch or meet.
@@ -33,7 +33,7 @@ fn drawn_size(draws: &mut Draws) -> u64 {
         let power = 1u64 << draws.below(33);
         power.saturating_add(draws.below(9))
     } else {
-        draws.below(GREATEST_SIZE + 1)
+        draws.below(MAX_SIZE + 1)
     }
 }
 

@@ -1,5 +1,5 @@
 //! Lines, and texts that have no room for one.
-use asan_check::{Class, Ending, Fault, NoMemory, Report, end_text, report_text};
+use asan_check::{Class, Ending, Fault, NoMemory, Report, end_text, ending_text, report_text};
 use refusing_allocator::RefusingAllocator;
 use std::alloc::{Allocator, Global};
 use std::process::Abort;
@@ -221,10 +221,24 @@ p0 end not-opened
     expect_ends(&rt, rt.alloc(), 0, &endings, lines)
 }
 
-/// Adds a line of a report and one of an end to a text.
+#[test]
+fn what_became_of_a_process(rt: HostRuntime) -> Result<(), Fail> {
+    let mut text = String::new(rt.alloc());
+    ending_text(&ran(Fate::Malformed(Flaw::Code), 2, 36), &mut text)?;
+    text.push_str(", ")?;
+    ending_text(&Ending::NotOpened, &mut text)?;
+    assert_eq!(rt;
+        text.as_str(),
+        "malformed code events 2 offset 36 reports 1, not-opened"
+    );
+    Ok(())
+}
+
+/// Adds a line of a report, one of an end and what became of a process to a text.
 fn add_lines<A: Allocator + Copy>(bad: &Report, text: &mut String<A>) -> Result<(), NoMemory> {
     report_text(0, bad, text)?;
-    end_text(0, &Ending::Unsettled, text)
+    end_text(0, &Ending::Unsettled, text)?;
+    ending_text(&Ending::NotStarted, text)
 }
 
 #[test]

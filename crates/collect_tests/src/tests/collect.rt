@@ -9,7 +9,7 @@ use super::{
     LENGTH, LOADS, MISS, STREAM_AND_MORE, THREE_TEXTS, feed_of, outcome_of_feed, text_and_status,
     three_arrivals,
 };
-use asan_collect::{Gate, MOST_SENDERS, OpenGate, Options, Outcome, collect};
+use asan_collect::{Gate, MAX_SENDERS, OpenGate, Options, Outcome, collect};
 use refusing_allocator::RefusingAllocator;
 use std::alloc::{AllocError, Allocator, Global};
 use std::io::Write;
@@ -278,7 +278,7 @@ fn the_257th_sender_stays_at_the_door(rt: HostRuntime) -> Result<(), Fail> {
         let mut door = misses(alloc, 257);
         let options = Options::new(1 << 28, 2, workers, 1 << 24)?;
         let outcomes = outcomes_of(&rt, alloc, &mut door, &OpenGate, options)?;
-        assert_eq!(rt; outcomes.len(), MOST_SENDERS, "workers {workers}");
+        assert_eq!(rt; outcomes.len(), MAX_SENDERS, "workers {workers}");
         for outcome in &outcomes {
             expect_miss(&rt, outcome);
         }

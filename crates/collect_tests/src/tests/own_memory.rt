@@ -1,13 +1,10 @@
-//! Tests of `collect_within` and `collect_live_within`: each checker has the memory of its own
-//! allocator.
+//! Tests of collections in which each checker has the memory of its own allocator.
 
 ghost use Rattle.std.specs.Prelude.{◌≡◌, ◌≤◌, ◌^◌, IfOk};
 
 use super::collect::misses;
 use super::{STREAM_AND_MORE, feed_of};
-use asan_collect::{
-    BadOption, MOST_SENDERS, OpenGate, Options, Outcome, collect_live_within, collect_within,
-};
+use asan_collect::{BadOption, Collector, Heaps, MAX_SENDERS, OpenGate, Options, Outcome};
 use refusing_allocator::RefusingAllocator;
 use std::alloc::{Allocator, Global};
 use std::process::Abort;
@@ -43,7 +40,13 @@ where
     D::Feed: Send + Drop,
     requires { (D.seen door.old).refusals ≤ 2 ^ 32 }
 {
-    Ok(collect_within(rt, shared, own, door, &OpenGate, Options::usual())?)
+    let collector = Collector {
+        rt,
+        gate: &OpenGate,
+        heaps: Heaps { shared, own },
+        options: Options::usual(),
+    };
+    Ok(collector.collect(door)?)
 }
 
 /// Does what [`outcomes_within`] does, where the lines are printed as they come.
@@ -61,9 +64,38 @@ where
     D::Feed: Send + Drop,
     requires { (D.seen door.old).refusals ≤ 2 ^ 32 }
 {
-    let live = collect_live_within(rt, shared, own, door, &OpenGate, Options::usual(), text)?;
+    let collector = Collector {
+        rt,
+        gate: &OpenGate,
+        heaps: Heaps { shared, own },
+        options: Options::usual(),
+    };
+    let live = collector.collect_live(door, text)?;
     live.wrote?;
     Ok(live.outcomes)
+}
+
+/// Does what [`outcomes_within`] does, but a sender that comes alone is checked on this thread.
+fn outcomes_openly<'a, D: Door, R: Threads + Wait + Clock + Sync>(
+    rt: &R,
+    shared: &'a RefusingAllocator<Global>,
+    own: &[&'a RefusingAllocator<Global>],
+    door: &mut D,
+) -> Result<
+    Vec<Outcome<D::Feed, &'a RefusingAllocator<Global>>, &'a RefusingAllocator<Global>>,
+    Fail,
+>
+where
+    D::Feed: Send + Drop,
+    requires { (D.seen door.old).refusals ≤ 2 ^ 32 }
+{
+    let collector = Collector {
+        rt,
+        gate: &OpenGate,
+        heaps: Heaps { shared, own },
+        options: Options::usual(),
+    };
+    Ok(collector.collect_openly(door)?)
 }
 
 /// Asserts that a sender ran out of memory if it was short of it, and was settled else.
@@ -143,6 +175,21 @@ fn memory_runs_out_for_one_sender(rt: HostRuntime) -> Result<(), Fail> {
     Ok(())
 }
 
+#[test]
+fn a_sender_alone_has_the_first_memory(rt: HostRuntime) -> Result<(), Fail> {
+    let ample = RefusingAllocator::counting(rt.alloc());
+    let little = RefusingAllocator::with_bound(rt.alloc(), 100);
+    let mut arrivals = Vec::new(rt.alloc());
+    arrivals.push(Arrival::Came(feed_of(rt.alloc(), &STREAM_AND_MORE, &[], None)?))?;
+    let mut door = ListDoor::new(arrivals);
+    let outcomes = outcomes_openly(&rt, &ample, &[&little, &ample], &mut door)?;
+    assert_eq!(rt; outcomes.len(), 1);
+    for outcome in &outcomes {
+        expect_short(&rt, outcome, true);
+    }
+    Ok(())
+}
+
 /// Asserts that each outcome has one report.
 fn expect_a_report_each<A: Allocator + Copy>(rt: &impl Abort, outcomes: &[Outcome<MemFeed, A>]) {
     for outcome in outcomes {
@@ -175,14 +222,14 @@ fn expect_same_requests(rt: &impl Abort, heaps: &[RefusingAllocator<Global>]) {
 #[test]
 fn each_sender_has_its_own_memory(rt: HostRuntime) -> Result<(), Fail> {
     let mut heaps = Vec::new(rt.alloc());
-    for _ in 0..MOST_SENDERS {
+    for _ in 0..MAX_SENDERS {
         heaps.push(RefusingAllocator::counting(rt.alloc()))?;
     }
     let own = heaps.iter().collect::<Vec<_>>(rt.alloc())?;
     let shared = RefusingAllocator::counting(rt.alloc());
-    let mut door = misses(rt.alloc(), MOST_SENDERS as u32);
+    let mut door = misses(rt.alloc(), MAX_SENDERS as u32);
     let outcomes = outcomes_within(&rt, &shared, &own, &mut door)?;
-    assert_eq!(rt; outcomes.len(), MOST_SENDERS);
+    assert_eq!(rt; outcomes.len(), MAX_SENDERS);
     // All senders send the same, so that their checkers ask for the same.
     expect_same_requests(&rt, &heaps);
     Ok(())

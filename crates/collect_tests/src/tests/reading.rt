@@ -14,13 +14,13 @@ const HEADER_2: [u8; 8] = [0x41, 0x53, 0x54, 0x52, 0x02, 0x00, 0x00, 0x00];
 const PAST_ADDRESSES: u128 = 1 << 47;
 
 /// The greatest size of a region in version 1.
-const GREATEST_SIZE_1: u128 = 268_435_456;
+const MAX_SIZE_1: u128 = 268_435_456;
 
 /// The greatest size of a region in version 2.
-const GREATEST_SIZE_2: u128 = 4_294_967_296;
+const MAX_SIZE_2: u128 = 4_294_967_296;
 
 /// The greatest kind of a poison.
-const GREATEST_KIND: u128 = 2;
+const MAX_KIND: u128 = 2;
 
 /// The version of a stream, by its first eight bytes.
 fn version_of(text: &[u8]) -> Option<u8> {
@@ -56,11 +56,7 @@ fn number(record: &[u8], from: usize, to: usize) -> u128 {
 
 /// The first flaw of an address and a size that stand in a record from this byte on.
 fn region_flaw(version: u8, record: &[u8], from: usize) -> Option<Flaw> {
-    let greatest = if version == 1 {
-        GREATEST_SIZE_1
-    } else {
-        GREATEST_SIZE_2
-    };
+    let greatest = if version == 1 { MAX_SIZE_1 } else { MAX_SIZE_2 };
     let middle = from.wrapping_add(8);
     let address = number(record, from, middle);
     let size = number(record, middle, from.wrapping_add(16));
@@ -89,7 +85,7 @@ fn flaw_of(version: u8, code: u8, record: &[u8]) -> Option<Flaw> {
         }
         0x04 if number(record, 1, 9) >= PAST_ADDRESSES => Some(Flaw::Range),
         0x04 => None,
-        0x05 if version == 2 && number(record, 1, 2) > GREATEST_KIND => Some(Flaw::Kind),
+        0x05 if version == 2 && number(record, 1, 2) > MAX_KIND => Some(Flaw::Kind),
         0x05 if version == 2 => region_flaw(version, record, 2),
         _ => region_flaw(version, record, 1),
     }

@@ -117,7 +117,7 @@ fn region_record(
 
 /// A version, the size of a region, where the last region of this size starts, and what becomes of
 /// a region of this size.
-const LARGEST_REGIONS: [(Version, u64, u64, Fate); 5] = [
+const MAX_REGIONS: [(Version, u64, u64, Fate); 5] = [
     (Version::One, 0x1000_0000, 0x7fff_f000_0000, Fate::Closed),
     (
         Version::One,
@@ -137,7 +137,7 @@ const LARGEST_REGIONS: [(Version, u64, u64, Fate); 5] = [
 
 #[test]
 fn largest_region_of_each_version(rt: HostRuntime) -> Result<(), Fail> {
-    for (version, size, last, fate) in LARGEST_REGIONS {
+    for (version, size, last, fate) in MAX_REGIONS {
         let header = header_of(version);
         let past = match fate {
             Fate::Closed => Fate::Malformed(Flaw::Range),

@@ -127,7 +127,7 @@ fn ask(map: &mut LineMap, call: Call) -> Result<Answer, AllocError> {
             Ok(Answer::Made(is_there))
         }
         Call::Fetch(at) => {
-            map.fetch(at);
+            map.fetch(&[at]);
             Ok(Answer::Made(true))
         }
         Call::Get(at) => Ok(Answer::Slot(map.get(at))),

@@ -3,10 +3,11 @@ use Rattle.asan_collect.proofs.threads.print_in.Goals as goal
 
 pub returns-clause-senders : goal.returns-clause-senders
 returns-clause-senders g c =
-    read_all g.F.Feed.seen c.args.crew.now.options.limit c.args.senders.now.items c.start_all-checkers.new.senders.items
-    c.join_all.new.senders.items c.start_all-checkers.ensures.senders c.join_all.ensures.senders
+    read_all g.F.Feed.seen c.args.crew.now.options.limit c.args.work.now.senders.items
+    c.start_all-workers.new.work.senders.items c.join_all.new.senders.items
+    c.start_all-workers.ensures.senders c.join_all.ensures.senders
 
 pub returns-clause-shares : goal.returns-clause-shares
 returns-clause-shares g c =
-    checked_all c.args.shares.now.items c.join_all.new.shares.items c.start_all-checkers.result.items
-    c.start_all-checkers.ensures.shares c.join_all.ensures.shares
+    checked_all c.args.work.now.shares.items c.join_all.new.shares.items c.start_all-workers.result.items
+    c.start_all-workers.ensures.shares c.join_all.ensures.shares

@@ -7,34 +7,35 @@ use Rattle.asan_collect.proofs.threads.run_in.Goals as goal
 
 pub returns-clause-senders : goal.returns-clause-senders
 returns-clause-senders g c =
-    read_all g.F.Feed.seen c.args.crew.now.options.limit c.args.senders.now.items c.start_all-checkers.new.senders.items
-    c.join_all.new.senders.items c.start_all-checkers.ensures.senders c.join_all.ensures.senders
+    read_all g.F.Feed.seen c.args.crew.now.options.limit c.args.work.now.senders.items
+    c.start_all-workers.new.work.senders.items c.join_all.new.senders.items
+    c.start_all-workers.ensures.senders c.join_all.ensures.senders
 
 pub returns-clause-shares : goal.returns-clause-shares
 returns-clause-shares g c =
-    let xs = c.args.shares.now.items in
+    let xs = c.args.work.now.shares.items in
     let low : 0 < length xs = search rules in
     let was = c.replace-benches.result in
     let is : (d : _) → was ≡ slice_index_or xs 0 d = λ d. c.replace-benches.ensures.value
     ∙ (c.index_mut.ensures.value ∙ get_or_default xs 0 c.index_mut.result.now d low) in
     each_put ComesBack 0 xs c.join_all.new.shares.items c.replace-benches.new.dest c.run_checker-benches.result low
-    (λ d. rw (← is d) (inl c.run_checker-benches.ensures.later))
-    (checked_all _ c.join_all.new.shares.items c.start_all-checkers.result.items c.start_all-checkers.ensures.shares
+    (λ d. rw (← is d) (inl (c.run_checker-benches.ensures.later, c.run_checker-benches.ensures.no_more)))
+    (checked_all _ c.join_all.new.shares.items c.start_all-workers.result.items c.start_all-workers.ensures.shares
     c.join_all.ensures.shares)
 
 pub join_all-requires : goal.join_all-requires
 join_all-requires g c =
-    let begun = c.start_all-checkers.ensures.shares.same_length in
-    let same = c.start_all-checkers.ensures.same in
-    let before = c.args.shares.now.ok in
-    let checkers = c.start_all-checkers.result.ok in
-    omega (arith, before.0, checkers.0, length-set c.args.shares.now.items 0 c.replace-benches.new.dest)
+    let begun = c.start_all-workers.ensures.shares.same_length in
+    let same = c.start_all-workers.ensures.same in
+    let before = c.args.work.now.shares.ok in
+    let workers = c.start_all-workers.result.ok in
+    omega (arith, before.0, workers.0, length-set c.args.work.now.shares.items 0 c.replace-benches.new.dest)
 
 pub index_mut-requires-2 : goal.index_mut-requires-2
 index_mut-requires-2 g c =
     let some = c.requires.some in
-    let begun = c.start_all-checkers.ensures.shares.same_length in
+    let begun = c.start_all-workers.ensures.shares.same_length in
     let back = c.join_all.ensures.shares.same_length in
-    let before = c.args.shares.now.ok in
+    let before = c.args.work.now.shares.ok in
     let after = c.join_all.new.shares.ok in
-    omega (arith, before.0, after.0, length-set c.args.shares.now.items 0 c.replace-benches.new.dest)
+    omega (arith, before.0, after.0, length-set c.args.work.now.shares.items 0 c.replace-benches.new.dest)

@@ -17,3 +17,6 @@ loop-preserved g c =
       room = search rules;
       empty = rw pushed (empty_push w c.loop.shares.items c.in_ok-share.share inv.empty (search rules) (omega arith));
     }
+
+pub unwrap-requires : goal.unwrap-requires
+unwrap-requires g c = c.push.ensures.succeeds (search rules)

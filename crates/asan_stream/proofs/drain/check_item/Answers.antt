@@ -9,8 +9,8 @@ pub returns-in_default : goal.returns-in_default
 returns-in_default g c first items seen = rw c.in_default.is
     (seen_end first c.args.checker.now c.args.events.now items _ seen)
 
-pub returns-then-events-ge-MOST_EVENTS : goal.returns-then-events-ge-MOST_EVENTS
-returns-then-events-ge-MOST_EVENTS g c first items seen =
+pub returns-then-events-ge-MAX_EVENTS : goal.returns-then-events-ge-MAX_EVENTS
+returns-then-events-ge-MAX_EVENTS g c first items seen =
     rw c.in-Event.is (seen_past first c.args.checker.now c.args.events.now items c.in-Event.event (search rules) seen)
 
 pub step-requires : goal.step-requires

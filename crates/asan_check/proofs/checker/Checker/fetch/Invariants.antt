@@ -3,4 +3,4 @@ use Rattle.asan_check.proofs.checker.Checker.fetch.Given as goal
 
 -- the checker is what it was
 abbrev pub invariant-loop-event : goal.invariant-loop-event
-invariant-loop-event g l = (l.self ≡ l.fn.self) × (l.frees ≤ l.event-index)
+invariant-loop-event g l = (l.self ≡ l.fn.self) × (l.count ≤ 16)

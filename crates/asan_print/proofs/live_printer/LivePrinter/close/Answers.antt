@@ -7,9 +7,4 @@ returns-clause-adds g c = λ start log lines r own.
     (c.report_all.ensures.adds start log lines r own)
 
 pub returns-clause-broken : goal.returns-clause-broken
-returns-clause-broken g c = λ broken. (still_on _ _ _ _ _ _ c.end.ensures.broken c.end.ensures.stays
-    (λ b. (c.report_all.ensures.broken b, c.report_all.ensures.stays b)) broken).0
-
-pub returns-clause-stays : goal.returns-clause-stays
-returns-clause-stays g c = λ broken. (still_on _ _ _ _ _ _ c.end.ensures.broken c.end.ensures.stays
-    (λ b. (c.report_all.ensures.broken b, c.report_all.ensures.stays b)) broken).1
+returns-clause-broken g c = still_on _ _ _ _ _ _ c.end.ensures.broken c.report_all.ensures.broken

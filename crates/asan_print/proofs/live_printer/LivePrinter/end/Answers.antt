@@ -1,11 +1,18 @@
-use Rattle.std.proofs.Common.{rules, sym, subst}
-use Rattle.asan_print.specs.Logs.{Printed}
-use Rattle.asan_print.proofs.Logging.{printed_line}
+use Rattle.std.proofs.Common.{rules, subst, sym}
+use Rattle.asan_print.specs.Logs.{IsBroken, Printed}
+use Rattle.asan_print.proofs.Logging.{lost_line, lost_too, printed_line}
 use Rattle.asan_print.proofs.live_printer.LivePrinter.end.Goals as goal
 
-pub returns-clause-prints : goal.returns-clause-prints
-returns-clause-prints g c start log r =
-    let same = c.is_ready.ensures.same (search rules) in
-    let none = rw (sym same) at c.is_ready.ensures.open (search rules) in
-    printed_line start _ _ c.is_ready.new.self _ c.end.result log _ _ none c.err-self.ensures.value c.end.ensures.ok
-    c.end.ensures.fault (subst (λ p. Printed start (g.W.Write.contents c.args.w.now) p log) (sym same) r)
+pub returns-in-Err-clause-prints : goal.returns-in-Err-clause-prints
+returns-in-Err-clause-prints g c start log r =
+    lost_line start _ _ c.in-Prints.printer c.in-Err.fault log _ _ c.in-Err.ensures.fault
+    (subst (λ p. Printed start (g.W.Write.contents c.args.w.now) p log) c.in-Prints.is r)
+
+pub returns-in_default-clause-prints : goal.returns-in_default-clause-prints
+returns-in_default-clause-prints g c start log r =
+    printed_line start _ _ c.in-Prints.printer c.end.new.self log _ _ (search rules)
+    (subst (λ p. Printed start (g.W.Write.contents c.args.w.now) p log) c.in-Prints.is r)
+
+pub returns-in-Broken-clause-prints : goal.returns-in-Broken-clause-prints
+returns-in-Broken-clause-prints g c start log r =
+    lost_too start _ c.args.self.now log _ _ (subst IsBroken (sym c.in-Broken.is) tt) r

@@ -18,5 +18,5 @@ loop-count-preserved g c =
       first = λ none. absurd (omega arith);
       lines = λ start log r own. adds_report start _ _ _ _ c.args.process report _ _ log c.in-Some-take.ensures.some
           (c.report.ensures.prints start) (c.loop-count.invariant.lines start log r own);
-      still = still_on _ _ _ _ _ _ c.report.ensures.broken c.report.ensures.stays c.loop-count.invariant.still;
+      still = still_on _ _ _ _ _ _ c.report.ensures.broken c.loop-count.invariant.still;
     }

@@ -21,7 +21,7 @@ loop-report-preserved g c = record {
       rw (rest_further c.args.process c.loop-report.report-index none lines c.args.reports.now c.loop-report-test.true)
       (adds_line start _ _ _ _ c.args.process _ _ log (c.report.ensures.prints start)
       (c.loop-report.invariant.adds start log lines r own));
-  still = still_on _ _ _ _ _ _ c.report.ensures.broken c.report.ensures.stays c.loop-report.invariant.still;
+  still = still_on _ _ _ _ _ _ c.report.ensures.broken c.loop-report.invariant.still;
 }
 
 pub returns-clause-adds : goal.returns-clause-adds

@@ -1,6 +1,5 @@
 use Rattle.std.proofs.Common.{◌≡◌, ◌++◌, List, ℕ, Option, take}
-use Rattle.asan_print.specs.Logs.{Line, Printed, Adds, lines_of, report_lines}
-use Rattle.asan_print.proofs.Logging.{Still}
+use Rattle.asan_print.specs.Logs.{Line, Printed, Adds, StaysBroken, lines_of, report_lines}
 use Rattle.asan_print.proofs.live_printer.LivePrinter.report_all.Given as goal
 
 abbrev pub invariant-loop-report : goal.invariant-loop-report
@@ -9,5 +8,5 @@ invariant-loop-report g l = record {
       → Printed start (g.W.Write.contents l.initial.w) l.initial.self log → lines_of l.process log ≡ lines
       → Adds start (g.W.Write.contents l.w) l.self l.process
       (lines ++ report_lines l.process (take l.report-index l.reports)) log;
-  still : Still l.initial.w l.w l.initial.self l.self;
+  still : StaysBroken l.initial.w l.w l.initial.self l.self;
 }

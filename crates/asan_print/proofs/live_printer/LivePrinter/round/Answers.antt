@@ -34,7 +34,7 @@ loop-process-preserved g c =
       lanes = lanes_on c.args.ports.now ports process old new low is called.lane c.loop-process.invariant.lanes;
       lines = λ start f. follows_on start _ _ _ _ ports process old new low is (called.lines start)
           (c.loop-process.invariant.lines start f);
-      still = still_on _ _ _ _ _ _ called.broken called.stays c.loop-process.invariant.still;
+      still = still_on _ _ _ _ _ _ called.broken c.loop-process.invariant.still;
       asked =
           subst (Asked c.args.ports.now (slice_set ports process new) (process + 1)) any
           (asked_on c.args.ports.now ports process old new took c.loop-process.any low is called.takes called.none
@@ -60,9 +60,4 @@ returns-clause-finds g c =
     λ i d within has. c.loop-process.invariant.asked.finds i d (omega arith) has
 
 pub returns-clause-broken : goal.returns-clause-broken
-returns-clause-broken g c = λ broken. (still_on _ _ _ _ _ _ c.flush.ensures.broken c.flush.ensures.stays
-    c.loop-process.invariant.still broken).0
-
-pub returns-clause-stays : goal.returns-clause-stays
-returns-clause-stays g c = λ broken. (still_on _ _ _ _ _ _ c.flush.ensures.broken c.flush.ensures.stays
-    c.loop-process.invariant.still broken).1
+returns-clause-broken g c = still_on _ _ _ _ _ _ c.flush.ensures.broken c.loop-process.invariant.still

@@ -2,6 +2,6 @@ use Rattle.std.proofs.Crossing.{frees as of_global}
 use Rattle.collect_tests.proofs.tests.own_memory.printed_within.Goals as goal
 
 -- an allocator that counts or has a bound gives its memory back to the one that it passes requests on to
-pub collect_live_within-requires-frees-A-Allocator : goal.collect_live_within-requires-frees-A-Allocator
-collect_live_within-requires-frees-A-Allocator g c κs bounds =
+pub collect_live-requires-frees-A-Allocator : goal.collect_live-requires-frees-A-Allocator
+collect_live-requires-frees-A-Allocator g c κs bounds =
     record { frees = λ heap τ p. of_global.frees heap.now.inner τ p }

@@ -1,0 +1,20 @@
+use Rattle.std.proofs.Common.{◌≡◌, ℕ, true, eqb, inl, inr, arith, length}
+use Rattle.std.specs.Prelude.{vec_len}
+use Rattle.std.proofs.lemmas.Bool.Decides.{nat_tests}
+use Rattle.std.proofs.lemmas.List.{nil_from_length}
+use Rattle.asan_collect.proofs.worker_threads.begin.Goals as goal
+
+is_zero : (n : ℕ) → true ≡ eqb n 0 → n ≡ 0
+is_zero n same = grind (arith, nat_tests)
+
+pub returns-then-is_empty : goal.returns-then-is_empty
+returns-then-is_empty g c =
+    let share = c.args.share in
+    let none : vec_len share ≡ 0 = is_zero (vec_len share) c.if-is_empty.ensures in
+    let zero : length share.items ≡ 0 = (let is = share.ok.0 in omega arith) in
+    inr (nil_from_length share.items zero)
+
+pub returns-in-Ok : goal.returns-in-Ok
+returns-in-Ok g c benches later =
+    let promise = c.in-Ok.ensures.ok in
+    inl (rw c.of.ensures at (rw promise at later))

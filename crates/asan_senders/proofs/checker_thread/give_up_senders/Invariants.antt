@@ -1,5 +1,0 @@
-use Rattle.asan_senders.proofs.Dealing.{GivenUpTo}
-use Rattle.asan_senders.proofs.checker_thread.give_up_senders.Given as goal
-
-abbrev pub invariant-loop-i : goal.invariant-loop-i
-invariant-loop-i g l = GivenUpTo l.checkers.items l.i l.initial.senders.items l.senders.items

@@ -1,9 +1,0 @@
-use Rattle.std.specs.Prelude.{IsTrue}
-use Rattle.asan_stream.specs.Benches.{EachLater}
-use Rattle.asan_stream.proofs.Later.{FirstReported}
-use Rattle.asan_stream.proofs.checker.go_round.Given as goal
-
-abbrev pub invariant-loop-i : goal.invariant-loop-i
-invariant-loop-i g l =
-    EachLater l.initial.benches.items l.benches.items
-    × (IsTrue l.round.ended → FirstReported l.i l.benches.items)
