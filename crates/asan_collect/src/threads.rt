@@ -1,6 +1,7 @@
 //! All threads of one collection: the workers, the readers, and the calling thread.
 
 ghost use Rattle.std.specs.Prelude.{◌≡◌, ◌<◌, ◌≤◌, [], vec_capacity, vec_len};
+ghost use Rattle.asan_collect.specs.FirstWorker.{FirstHasWorked};
 ghost use Rattle.asan_senders.specs.Arrivals.{Pairwise};
 ghost use Rattle.asan_senders.specs.Closings.{HasPrinted};
 ghost use Rattle.asan_senders.specs.Senders.{AllFresh, Becomes, Each, WillBe};
@@ -74,6 +75,7 @@ fn run_in<
     ensures senders { Each (Becomes F.seen crew.now.options.limit)
         work.old.senders.items work.new.senders.items }
     ensures shares { Each ComesBack work.old.shares.items work.new.shares.items }
+    ensures first { FirstHasWorked work.old.shares.items work.new.shares.items }
 {
     // The first share is empty then, and gets no thread.
     let benches = mem::replace(&mut work.shares[0], Vec::new(crew.alloc));
@@ -101,6 +103,7 @@ pub(crate) fn run_all<
     ensures senders { Each (Becomes F.seen collector.now.options.limit)
         work.senders.items result.senders.items }
     ensures shares { Each ComesBack work.shares.items result.shares.items }
+    ensures first { FirstHasWorked work.shares.items result.shares.items }
 {
     let at_work = &AtWork::new();
     let (rt, gate, options) = (collector.rt, collector.gate, collector.options);
@@ -114,6 +117,7 @@ pub(crate) fn run_all<
             ensures senders { Each (Becomes F.seen options.limit)
                 work.senders.items result.senders.items }
             ensures shares { Each ComesBack work.shares.items result.shares.items }
+            ensures first { FirstHasWorked work.shares.items result.shares.items }
         {
             let mut work = work;
             let crew = Crew {

@@ -1,5 +1,5 @@
 use Rattle.std.proofs.Common.{◌≡◌, rules, arith, ◌∙◌, inl, ◌<◌, length, slice_index_or}
-use Rattle.std.proofs.lemmas.List.{get_or_default, length-set}
+use Rattle.std.proofs.lemmas.List.{get_or-set_same, get_or_default, length-set}
 use Rattle.asan_senders.specs.Shares.{ComesBack}
 use Rattle.asan_senders.proofs.Dealing.{checked_all, read_all}
 use Rattle.asan_senders.proofs.Senders.{each_put}
@@ -22,6 +22,19 @@ returns-clause-shares g c =
     (λ d. rw (← is d) (inl (c.run_checker-benches.ensures.later, c.run_checker-benches.ensures.no_more)))
     (checked_all _ c.join_all.new.shares.items c.start_all-workers.result.items c.start_all-workers.ensures.shares
     c.join_all.ensures.shares)
+
+pub returns-clause-first : goal.returns-clause-first
+returns-clause-first g c d =
+    let xs = c.args.work.now.shares.items in
+    let low : 0 < length xs = search rules in
+    let same = c.start_all-workers.ensures.same in
+    let begun = c.start_all-workers.ensures.shares.same_length in
+    let back = c.join_all.ensures.shares.same_length in
+    let is : c.replace-benches.result ≡ slice_index_or xs 0 d = c.replace-benches.ensures.value
+    ∙ (c.index_mut.ensures.value ∙ get_or_default xs 0 c.index_mut.result.now d low) in
+    let there : 0 < length c.join_all.new.shares.items = omega (arith, length-set xs 0 c.replace-benches.new.dest) in
+    rw (← is, get_or-set_same c.join_all.new.shares.items 0 c.run_checker-benches.result d there)
+    (c.run_checker-benches.ensures.later, c.run_checker-benches.ensures.no_more)
 
 pub join_all-requires : goal.join_all-requires
 join_all-requires g c =
