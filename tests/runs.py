@@ -3,7 +3,7 @@
 
 usage: tests/runs.py PROGRAM..
 
-Each case runs in a folder of its own. The last line is 'N passed, M failed', and the status is 1
+Each case runs in its own folder. The last line is 'N passed, M failed', and the status is 1
 where a case failed. Where root runs it, the programs run as nobody, so that a file can be
 unreadable.
 """
@@ -533,7 +533,7 @@ def refused_words(program):
 
 def word_that_is_no_text(program):
     put(b"caf\xe9", SOUND)
-    said = "error: a word of the command line is not valid UTF-8: '{}'\n"
+    said = "error: an argument is not valid UTF-8: '{}'\n"
     for words, named in [
         ([b"check", b"caf\xe9"], r"caf\xe9"),
         ([b"\xff"], r"\xff"),
@@ -555,7 +555,7 @@ def name_that_is_no_text(program):
     moved.expect(["check", "trace"], 1, past_the_end())
     moved.expect([], 1, past_the_end(), given=PAST_THE_END)
     moved.expect_refused(["trace"], HINT)
-    said = r"error: a word of the command line is not valid UTF-8: '\xff'" "\n"
+    said = r"error: an argument is not valid UTF-8: '\xff'" "\n"
     moved.expect(["check", b"\xff"], 2, "", said)
     moved.expect(["check", "a" * 5000, b"\xff"], 2, "", said)
 
@@ -566,7 +566,7 @@ def help_texts(program):
         (["--help"], "Usage: asancol < TRACE\n"),
         (["-h"], "       asancol check [OPTIONS] <FILE>...\n       " + serve),
         (["help"], "The status is 0 if there is nothing to report"),
-        (["help"], "With no words it checks one trace from standard input, as process 0.\n\nThe "),
+        (["help"], "Without arguments it checks one trace from standard input, as process 0.\n\nThe "),
         (["check", "--help"], "\n\nThe status is 0 if there is nothing to report"),
         (["serve", "--help"], "\n\nThe status is 0 if there is nothing to report"),
         (["check", "--help"], "Usage: asancol check [OPTIONS] <FILE>...\n"),
@@ -875,7 +875,7 @@ def peers_beside_closed_streams(program):
 
 
 def threads_of_workers(program):
-    """Each worker but the first has a thread of its own, and each peer a reader."""
+    """Each worker but the first has its own thread, and each peer a reader."""
     for workers in [1, 2, 3]:
         served = Served(program, "--count", "3", "--workers", str(workers))
         peers = [served.connect() for _ in range(3)]
@@ -1165,7 +1165,7 @@ CASES = [
 
 
 def passes(case, program, room):
-    """Whether the case passes, in a folder of its own."""
+    """Whether the case passes, in its own folder."""
     folder = f"{room}/{case.__name__}"
     os.mkdir(folder)
     os.chdir(folder)

@@ -1,10 +1,10 @@
 //! The program `asancol`, over any runtime, a reader and two writers.
 #![tactic(auto)]
 
+mod arguments;
 mod closed_streams;
 mod entry;
 mod program;
-mod words;
 
 pub use closed_streams::ClosedStreams;
 pub use entry::start;

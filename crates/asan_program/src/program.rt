@@ -7,7 +7,7 @@ ghost use Rattle.asan_session.specs.Printed.{IsInputPrinted};
 ghost use Rattle.asan_request.specs.Refusals.{IsStatusFor, refused};
 
 use asan_inputs::{door_of, listen};
-use asan_request::{Refusal, Request, read_words};
+use asan_request::{Refusal, Request, read_arguments};
 use asan_senders::{UNCHECKED, UNWRITTEN};
 use asan_session::{Checking, Session, no_memory, report_feed, say};
 use clap::error::ErrorKind;
@@ -51,7 +51,7 @@ where
     ensures known { result ≤ unwritten }
 {
     let alloc = rt.alloc();
-    let request = match read_words(alloc, words) {
+    let request = match read_arguments(alloc, words) {
         Ok(request) => request,
         Err(refusal) => return refuse(refusal, words, output, faults),
     };
@@ -85,10 +85,10 @@ where
     }
 }
 
-/// Says why the words are not carried out, and gives the status to end with.
+/// Says why the arguments are not carried out, and gives the status to end with.
 fn refuse<O: Write, E: Write>(
     refusal: Refusal,
-    words: &[String],
+    arguments: &[String],
     output: &mut O,
     stderr: &mut E,
 ) -> u8
@@ -103,9 +103,9 @@ fn refuse<O: Write, E: Write>(
             if wrote { HELPED } else { UNWRITTEN }
         }
         Refusal::Mistake(mistake) => {
-            // The text ends with a line feed of its own.
+            // The text ends with a line feed.
             let _ = write!(stderr, "{mistake}");
-            if let Some(hint) = hint_for(mistake.kind(), words) {
+            if let Some(hint) = hint_for(mistake.kind(), arguments) {
                 let _ = writeln!(stderr, "\n{hint}");
             }
             REFUSED
@@ -117,32 +117,32 @@ fn refuse<O: Write, E: Write>(
     }
 }
 
-/// What else to say of words with a mistake of this kind.
-fn hint_for(kind: ErrorKind, words: &[String]) -> Option<&'static str> {
+/// What else to say of arguments with a mistake of this kind.
+fn hint_for(kind: ErrorKind, arguments: &[String]) -> Option<&'static str> {
     match kind {
         ErrorKind::InvalidSubcommand => Some("To check a trace in a file: asancol check FILE"),
-        ErrorKind::UnknownArgument if has_short_form(words) => {
+        ErrorKind::UnknownArgument if has_short_form(arguments) => {
             Some("The options --verbose and --version have no short form")
         }
         _ => None,
     }
 }
 
-/// Whether one of these words is what other programs take for `--verbose` or `--version`.
-fn has_short_form(words: &[String]) -> bool {
-    words
+/// Whether one of these arguments is what other programs take for `--verbose` or `--version`.
+fn has_short_form(arguments: &[String]) -> bool {
+    arguments
         .iter()
-        .any(|word| word.as_str() == "-v" || word.as_str() == "-V")
+        .any(|it| it.as_str() == "-v" || it.as_str() == "-V")
 }
 
-/// Says that this word of the command line is no text, and gives the status to end with.
-pub fn no_text<E: Write>(stderr: &mut E, word: &[u8]) -> u8
+/// Says that this argument is not UTF-8, and gives the status to end with.
+pub fn not_utf8<E: Write>(stderr: &mut E, argument: &[u8]) -> u8
     ensures { result ≡ refused }
 {
     let _ = writeln!(
         stderr,
-        "error: a word of the command line is not valid UTF-8: '{}'",
-        word.escape_ascii()
+        "error: an argument is not valid UTF-8: '{}'",
+        argument.escape_ascii()
     );
     REFUSED
 }

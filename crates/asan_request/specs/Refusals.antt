@@ -10,7 +10,7 @@ use Rattle.asan_request.specs.declared.refusal.Refusal.{Refusal}
 use Rattle.asan_request.specs.declared.refusal.Refusal.TheVariants as refusal
 
 -- what an error of this kind means: that there was no memory, the help or the release that the
--- words ask for, or a mistake in them
+-- arguments ask for, or a mistake in them
 abbrev pub refusal_of : ErrorKind → Error → Refusal
 refusal_of kind.OutOfMemory error = refusal.NoMemory
 refusal_of kind.DisplayHelp error = refusal.Help error
@@ -31,8 +31,8 @@ refused = 2
 abbrev pub helped : ℕ
 helped = 0
 
--- the status: that of a refused command line for a mistake in the words, and that of a program that
--- could not begin where there was no memory to read them; where they ask for help or the release it
+-- the status: that of a refused command line for a mistake in the arguments, and that of a program
+-- that could not begin if there was no memory to read them; if they ask for help or the release it
 -- depends on whether that could be printed
 abbrev pub IsStatusFor : Refusal → ℕ → Type 0
 IsStatusFor (refusal.Help text) status = (status ≡ helped) ⊎ (status ≡ unwritten)

@@ -1,4 +1,4 @@
--- What the words of the command line set, by what was found among them.
+-- What the arguments set, by what was found among them.
 use Rattle.std.specs.Prelude.{◌≡◌, ℕ, ◌<◌, ◌^◌, ◌⊎◌, Bool, true, false, List, [], Option, None}
 use Rattle.std.specs.Prelude.{Some, codes, map, string_bytes}
 use Rattle.std.specs.Option.{option_map_or}

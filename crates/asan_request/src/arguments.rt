@@ -49,7 +49,8 @@ const USAGE: &str = "asancol < TRACE
        asancol serve [OPTIONS] --count <SENDERS> <SOCKET>";
 
 /// What it ends with.
-const NO_WORDS: &str = "With no words it checks one trace from standard input, as process 0.";
+const WITHOUT_ARGUMENTS: &str =
+    "Without arguments it checks one trace from standard input, as process 0.";
 
 /// What each help ends with.
 const STATUSES: &str =
@@ -105,7 +106,7 @@ impl HelpTexts {
                 "Bytes that the checker of each process may hold, {} to {} [default: no bound]",
                 MIN_MEMORY, MAX_MEMORY
             )?,
-            after_help: format!(in alloc; "{NO_WORDS}\n\n{STATUSES}")?,
+            after_help: format!(in alloc; "{WITHOUT_ARGUMENTS}\n\n{STATUSES}")?,
         })
     }
 }
@@ -142,7 +143,7 @@ fn check_command<'a>(alloc: Global, texts: &'a HelpTexts) -> Result<Command<'a>,
         .help("Say at the end, on standard error, what became of each file")
         .action(ArgAction::SetTrue);
     let command = Command::new(alloc, CHECK)
-        .about("Checks the traces in files, each as a process of its own")
+        .about("Checks the traces in files, each as one process")
         .after_help(STATUSES);
     with_options(alloc, texts, command)?
         .arg(verbose)?
@@ -157,7 +158,7 @@ fn serve_command<'a>(alloc: Global, texts: &'a HelpTexts) -> Result<Command<'a>,
         .required(true)
         .action(ArgAction::Set);
     let command = Command::new(alloc, SERVE)
-        .about("Checks the traces sent to a Unix socket, each connection as a process of its own")
+        .about("Checks the traces sent to a Unix socket, each connection as one process")
         .after_help(STATUSES)
         .arg(count(alloc, texts))?;
     with_options(alloc, texts, command)?

@@ -1,4 +1,4 @@
-//! What is read of the words of the command line.
+//! What is read of the arguments.
 
 ghost use Rattle.std.specs.Prelude.{◌≡◌, ◌↔◌, [], Ok, IfOk, IfSome, IsTrue, Some, codes, false};
 ghost use Rattle.std.specs.Prelude.{option_map, string_bytes};
@@ -17,20 +17,20 @@ use clap::ArgMatches;
 use clap::error::ErrorKind;
 use std::alloc::Global;
 
-/// What the words after the program's name ask for, or why they are not carried out.
-pub fn read_words(alloc: Global, words: &[String]) -> Result<Request, Refusal>
-    ensures input { (result ≡ Ok Request.Input) ↔ (words.now ≡ []) }
-    ensures quiet { is_verbose_of words.now ≡ false → (files : TraceFiles) →
+/// What the arguments after the program's name ask for, or why they are not carried out.
+pub fn read_arguments(alloc: Global, arguments: &[String]) -> Result<Request, Refusal>
+    ensures input { (result ≡ Ok Request.Input) ↔ (arguments.now ≡ []) }
+    ensures quiet { is_verbose_of arguments.now ≡ false → (files : TraceFiles) →
         result ≡ Ok (Request.Files files) → files.verbose ≡ false }
 {
-    if words.is_empty() {
+    if arguments.is_empty() {
         return Ok(Request::Input);
     }
     let texts = HelpTexts::new(alloc)?;
     let mut command = command(alloc, &texts)?;
-    let matches = command.try_get_matches_from_mut(words)?;
+    let matches = command.try_get_matches_from_mut(arguments)?;
     let request = match matches.subcommand() {
-        Some((CHECK, of_check)) => Some(Request::Files(files_of(alloc, of_check, words)?)),
+        Some((CHECK, of_check)) => Some(Request::Files(files_of(alloc, of_check, arguments)?)),
         Some((SERVE, of_serve)) => serving_of(alloc, of_serve)?.map(Request::Serve),
         _ => None,
     };
@@ -47,18 +47,18 @@ pub fn read_words(alloc: Global, words: &[String]) -> Result<Request, Refusal>
 fn files_of(
     alloc: Global,
     matches: &ArgMatches<'_>,
-    words: &[String],
+    arguments: &[String],
 ) -> Result<TraceFiles, Refusal>
     ensures found { IfOk result (AreFilesOf (found_of matches.now)) }
-    ensures verbose { IsTrue (is_verbose_of words.now) → IfOk result (λ files.
+    ensures verbose { IsTrue (is_verbose_of arguments.now) → IfOk result (λ files.
         IsFlag (one_text (found_of matches.now) (codes "verbose")) files.verbose) }
-    ensures quiet { is_verbose_of words.now ≡ false →
+    ensures quiet { is_verbose_of arguments.now ≡ false →
         IfOk result (λ files. files.verbose ≡ false) }
 {
     Ok(TraceFiles {
         names: names_of(alloc, matches.get_strs(FILES).unwrap_or(&[]))?,
         options: options_of(matches)?,
-        verbose: is_verbose(words, matches.get_flag(VERBOSE)),
+        verbose: is_verbose(arguments, matches.get_flag(VERBOSE)),
         is_live: matches.get_flag(LIVE),
     })
 }

@@ -1,4 +1,4 @@
-//! The command line: the words that it may have, and what they ask for.
+//! The command line: the arguments that it may have, and what they ask for.
 #![tactic(auto)]
 
 mod arguments;
@@ -7,6 +7,6 @@ mod refusal;
 mod request;
 mod settings;
 
-pub use command_line::read_words;
+pub use command_line::read_arguments;
 pub use refusal::Refusal;
 pub use request::{Request, TraceFiles};

@@ -1,4 +1,4 @@
-//! Why the words of the command line are not carried out.
+//! Why the arguments are not carried out.
 
 ghost use Rattle.std.specs.Prelude.{◌≡◌};
 ghost use Rattle.clap.specs.Values.{kind_of};
@@ -12,7 +12,7 @@ use clap::Error;
 use clap::error::ErrorKind;
 use std::alloc::AllocError;
 
-/// Why the words are not carried out.
+/// Why the arguments are not carried out.
 #[derive(Drop)]
 pub enum Refusal {
     /// They ask for help, or for the release, which is this text.

@@ -1,4 +1,4 @@
-//! The options that were found among the words of the command line.
+//! The options that were found among the arguments.
 
 ghost use Rattle.std.specs.Prelude.{◌≡◌, IfErr, IfOk, None, codes};
 ghost use Rattle.clap.specs.Words.{found_of, one_text};

@@ -7,7 +7,7 @@ use Rattle.asan_program.proofs.program.run.Goals as goal
 
 pub returns-in-Ok-reported-clause-no_words : goal.returns-in-Ok-reported-clause-no_words
 returns-in-Ok-reported-clause-no_words g c none =
-    let asked : Ok c.in-Ok.request ≡ Ok request.Input = sym c.in-Ok.is ∙ c.read_words.ensures.input.1 none in
+    let asked : Ok c.in-Ok.request ≡ Ok request.Input = sym c.in-Ok.is ∙ c.read_arguments.ensures.input.1 none in
     elim c.match-request.branch [
       | in-Input w ↦
           let reported = rw (sym w.reported-is ∙ c.in-Ok-reported.is) at w.report_feed-reported.ensures.ok in
@@ -18,7 +18,7 @@ returns-in-Ok-reported-clause-no_words g c none =
 
 pub returns-clause-no_words : goal.returns-clause-no_words
 returns-clause-no_words g c none =
-    let asked : Ok c.in-Ok.request ≡ Ok request.Input = sym c.in-Ok.is ∙ c.read_words.ensures.input.1 none in
+    let asked : Ok c.in-Ok.request ≡ Ok request.Input = sym c.in-Ok.is ∙ c.read_arguments.ensures.input.1 none in
     elim c.match-request.branch [
       | in-Input w ↦
           let unprinted = rw (sym w.reported-is ∙ c.in-Err-reported.is) at w.report_feed-reported.ensures.err in

@@ -1,4 +1,4 @@
-//! The words of the command line.
+//! The arguments of the command line.
 
 use std::alloc::Global;
 use std::env::FillError;
@@ -26,16 +26,16 @@ impl<R: Env> Env for AfterName<'_, R> {
     }
 }
 
-/// The words after the program's name.
-pub fn words_of<R: Env>(rt: &R, alloc: Global) -> io::Result<Vec<String>> {
+/// The arguments after the program's name.
+pub fn arguments_of<R: Env>(rt: &R, alloc: Global) -> io::Result<Vec<String>> {
     Ok(env::args(&(AfterName(rt), alloc))?.collect(alloc)?)
 }
 
-/// The first of them that is not UTF-8, or an empty one where there is none that fits into `room`.
-pub fn word_that_is_no_text<'a, R: Env>(rt: &R, room: &'a mut [u8]) -> &'a [u8] {
-    let words = AfterName(rt);
+/// The first of them that is not UTF-8, or an empty one if none fits into `room`.
+pub fn argument_not_utf8<'a, R: Env>(rt: &R, room: &'a mut [u8]) -> &'a [u8] {
+    let arguments = AfterName(rt);
     for number in 0..usize::MAX {
-        match words.arg(number, room) {
+        match arguments.arg(number, room) {
             Ok(length) if str::from_utf8(&room[..length]).is_err() => return &room[..length],
             Err(FillError::NotPresent) => break,
             _ => {}
