@@ -33,7 +33,7 @@ pub struct Collector<'a, R, G, A: Allocator + Copy> {
 }
 
 /// Asks the door until it is over or has given 256 other answers, and then reads and checks the
-/// feeds that came, all at the same time: each feed is read on a thread of its own, and there are
+/// feeds that came, all at the same time: each feed is read on its own thread, and there are
 /// `workers` workers. Sender i is checked by worker i mod `workers`; worker 0 works on the calling
 /// thread, and each other that has a sender on its own thread. What a reader puts reaches its
 /// worker through a lane of `ring` items. The lists, the lanes and the checkers take their memory

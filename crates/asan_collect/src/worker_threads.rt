@@ -5,7 +5,7 @@ ghost use Rattle.asan_senders.specs.Arrivals.{Pairwise};
 ghost use Rattle.asan_senders.specs.Shares.{HaveWorked, WillComeBack};
 
 use crate::crew::Crew;
-use asan_senders::{Checking, WorkerThread};
+use asan_senders::{WorkerThread, Working};
 use asan_stream::{Bench, Gate, run_checker};
 use std::alloc::Allocator;
 use std::mem;
@@ -27,7 +27,7 @@ fn begin<
     if share.is_empty() {
         return WorkerThread::Idle(share);
     }
-    let promise = Checking {
+    let promise = Working {
         benches: Snapshot::of(&share),
     };
     let (rt, gate, at_work) = (crew.rt, crew.gate, crew.at_work);

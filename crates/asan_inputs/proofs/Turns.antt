@@ -12,7 +12,7 @@ use Rattle.std.proofs.lemmas.List.Elements.{filter-append}
 use Rattle.std.proofs.lemmas.List.Filters.{length-filter_more}
 use Rattle.std.proofs.lemmas.List.Quantifiers.{position-Some}
 use Rattle.std.proofs.lemmas.Slice.Eq.{bytes_eq-Decides}
-use Rattle.asan_inputs.specs.Sources.{input_name, input_place, inputs_among, names_with, place_after, place_of}
+use Rattle.asan_inputs.specs.Inputs.{input_name, input_place, inputs_among, names_with, place_after, place_of}
 
 -- an element that was removed and put back into its place
 put_back : {X : Type 0} (xs : List X) (i : ℕ) (d : X) → i < length xs → insert (remove xs i) i (get_or xs i d) ≡ xs

@@ -4,10 +4,10 @@ ghost use Rattle.std.specs.Prelude.{◌≡◌, ◌==◌, ◌-◌, ◌<◌, ◌^�
 ghost use Rattle.std.specs.Prelude.{false};
 ghost use Rattle.std.specs.Prelude.{drop, length, map, string_bytes};
 ghost use Rattle.trace_feed.specs.Doors.{CountsDown, IfCame, is_over, refusals_after};
-ghost use Rattle.asan_inputs.specs.Sources.{input_place, is_input, names_with, place_after};
-ghost use Rattle.asan_inputs.specs.Sources.{source_seen, IfInput};
+ghost use Rattle.asan_inputs.specs.Inputs.{input_place, is_input, names_with, place_after};
+ghost use Rattle.asan_inputs.specs.Inputs.{input_feed_seen, IfInput};
 
-use crate::source::Source;
+use crate::input_feed::InputFeed;
 use std::alloc::{AllocError, Global};
 use std::io::Read;
 use std::marker::Model;
@@ -30,7 +30,7 @@ pub struct InputDoor<'a, R: Files, I: Read> {
 
 impl<'a, R: Files, I: Read> Model for InputDoor<'a, R, I> {
     ghost use Rattle.std.specs.Prelude.{◌≤◌, IfSome, length};
-    ghost use Rattle.asan_inputs.specs.Sources.{NamedFiles, bytes_of, names_with, place_of};
+    ghost use Rattle.asan_inputs.specs.Inputs.{NamedFiles, bytes_of, names_with, place_of};
 
     ghost Value = { NamedFiles };
 
@@ -93,7 +93,7 @@ fn place_of_input(names: &[String]) -> Option<usize>
 }
 
 impl<'a, R: Files, I: Read + Drop> Door for InputDoor<'a, R, I> {
-    type Feed = Source<ReadFeed<R::File>, ReadFeed<I>>;
+    type Feed = InputFeed<ReadFeed<R::File>, ReadFeed<I>>;
 
     ghost use Rattle.std.specs.Prelude.{None};
 
@@ -107,12 +107,12 @@ impl<'a, R: Files, I: Read + Drop> Door for InputDoor<'a, R, I> {
     /// Opens the next file, or gives the input in its turn. A file that can't be opened is
     /// `Refused`. Each call uses up one name, until none is left.
     #[tactic(auto, using(crate::proofs::Turns::names_in_turn, crate::proofs::Turns::place_in_turn))]
-    fn next(&mut self) -> Arrival<Source<ReadFeed<R::File>, ReadFeed<I>>>
+    fn next(&mut self) -> Arrival<InputFeed<ReadFeed<R::File>, ReadFeed<I>>>
         requires { self.old.refusals < 2 ^ 64 - 1 }
         ensures turn { CountsDown
             (Some (length self.old.names)) (Some (length self.new.names)) result }
         ensures count { self.new.refusals ≡ refusals_after result self.old.refusals }
-        ensures fresh { IfCame (λ f. (source_seen f).faults ≡ 0) result }
+        ensures fresh { IfCame (λ f. (input_feed_seen f).faults ≡ 0) result }
         ensures over { IsTrue (is_over result) → IsTrue (length self.new.names == 0) }
         ensures stays { IsTrue (length self.old.names == 0) → IsTrue (is_over result) }
 
@@ -126,11 +126,11 @@ impl<'a, R: Files, I: Read + Drop> Door for InputDoor<'a, R, I> {
         if self.before == 0
             && let Some(input) = self.input.take()
         {
-            return Arrival::Came(Source::Input(ReadFeed::new(input)));
+            return Arrival::Came(InputFeed::Input(ReadFeed::new(input)));
         }
         self.before = self.before.saturating_sub(1);
         match self.door.next() {
-            Arrival::Came(feed) => Arrival::Came(Source::File(feed)),
+            Arrival::Came(feed) => Arrival::Came(InputFeed::File(feed)),
             Arrival::Refused => Arrival::Refused,
             Arrival::Over => Arrival::Over,
         }

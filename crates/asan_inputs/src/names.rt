@@ -3,7 +3,7 @@
 ghost use Rattle.std.specs.Prelude.{◌≡◌, ◌<◌, ◌≤◌, ◌↔◌, Err, IfOk, length, map, string_bytes};
 ghost use Rattle.asan_senders.specs.Ranges.{most_senders};
 ghost use Rattle.asan_inputs.specs.declared.names.BadNames.TheVariants.{NoMemory};
-ghost use Rattle.asan_inputs.specs.Sources.{inputs_among};
+ghost use Rattle.asan_inputs.specs.Inputs.{inputs_among};
 
 use crate::input_door::INPUT;
 use asan_senders::MAX_SENDERS;

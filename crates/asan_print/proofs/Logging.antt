@@ -15,7 +15,7 @@ use Rattle.asan_print.specs.declared.counted.Counted.{Counted}
 use Rattle.asan_print.specs.declared.live_printer.LivePrinter.{LivePrinter}
 use Rattle.asan_print.specs.declared.live_printer.LivePrinter.TheVariants as live
 use Rattle.asan_print.specs.declared.printer.Printer.{Printer}
-use Rattle.asan_print.specs.Printing.{Prints, BreaksOff, held_of, written_of}
+use Rattle.asan_print.specs.Printing.{Prints, BreaksOff, held_back, written_of}
 use Rattle.asan_print.specs.Logs.{Line, joined, lines_of, report_lines, IsBroken, StaysBroken, Printed, Adds}
 
 pub joined-snoc : (log : List Line) (i : ℕ) (l : List ℕ) → joined (log ++ (i, l) ∷ []) ≡ joined log ++ l
@@ -54,11 +54,11 @@ module _ {A : Type 0} where
       let was = r.ends.1 in
       record {
         out = r.out ++ prints.out;
-        rest = held_of q.printer;
+        rest = held_back q.printer;
         sent = Appends-trans start now next r.out prints.out r.sent prints.sent;
         parts = joined-snoc log i l ∙ ap (λ xs. xs ++ l) (r.parts ∙ ap (λ xs. r.out ++ xs) r.ends.0)
-            ∙ append_assoc r.out (held_of p.printer) l
-            ∙ ap (λ xs. r.out ++ xs) prints.parts ∙ sym (append_assoc r.out prints.out (held_of q.printer));
+            ∙ append_assoc r.out (held_back p.printer) l
+            ∙ ap (λ xs. r.out ++ xs) prints.parts ∙ sym (append_assoc r.out prints.out (held_back q.printer));
         ends = (refl, omega (arith, length-append r.out prints.out));
       }
 
@@ -75,7 +75,7 @@ module _ {A : Type 0} where
         rest = off.rest;
         sent = Appends-trans start now next r.out off.out r.sent off.sent;
         parts = joined-snoc log i l ∙ ap (λ xs. xs ++ l) (r.parts ∙ ap (λ xs. r.out ++ xs) r.ends.0)
-            ∙ append_assoc r.out (held_of p.printer) l
+            ∙ append_assoc r.out (held_back p.printer) l
             ∙ ap (λ xs. r.out ++ xs) off.parts ∙ sym (append_assoc r.out off.out off.rest);
         ends = (off.short, omega (arith, length-append r.out off.out));
       }
@@ -103,10 +103,10 @@ module _ {A : Type 0} where
       let was = r.ends.1 in
       record {
         out = r.out ++ prints.out;
-        rest = held_of q.printer;
+        rest = held_back q.printer;
         sent = Appends-trans start now next r.out prints.out r.sent prints.sent;
-        parts = r.parts ∙ ap (λ xs. r.out ++ xs) (r.ends.0 ∙ sym (append-nil (held_of p.printer)) ∙ prints.parts)
-            ∙ sym (append_assoc r.out prints.out (held_of q.printer));
+        parts = r.parts ∙ ap (λ xs. r.out ++ xs) (r.ends.0 ∙ sym (append-nil (held_back p.printer)) ∙ prints.parts)
+            ∙ sym (append_assoc r.out prints.out (held_back q.printer));
         ends = (refl, omega (arith, length-append r.out prints.out));
       }
 
@@ -121,14 +121,14 @@ module _ {A : Type 0} where
         out = r.out ++ off.out;
         rest = off.rest;
         sent = Appends-trans start now next r.out off.out r.sent off.sent;
-        parts = r.parts ∙ ap (λ xs. r.out ++ xs) (r.ends.0 ∙ sym (append-nil (held_of p.printer)) ∙ off.parts)
+        parts = r.parts ∙ ap (λ xs. r.out ++ xs) (r.ends.0 ∙ sym (append-nil (held_back p.printer)) ∙ off.parts)
             ∙ sym (append_assoc r.out off.out off.rest);
         ends = (off.short, omega (arith, length-append r.out off.out));
       }
 
   -- all lines went out, where nothing is held back after that
   pub all_out : (start now next : Option (List ℕ)) (p q : Counted A) (log : List Line)
-      → Prints now next p.printer q.printer [] × (held_of q.printer ≡ []) → Printed start now (live.Prints p) log
+      → Prints now next p.printer q.printer [] × (held_back q.printer ≡ []) → Printed start now (live.Prints p) log
       → Appends start next (joined log)
   all_out start now next p q log sent r =
       let s = sent_whole start now next p q log sent.0 r in
@@ -139,10 +139,10 @@ module _ {A : Type 0} where
       → 0 < length l → BreaksOff now now p l written
   lost_whole now p l written is some = record {
     out = [];
-    rest = held_of p ++ l;
+    rest = held_back p ++ l;
     sent = Appends-nil now;
     parts = refl;
-    short = omega (arith, length-append (held_of p) l);
+    short = omega (arith, length-append (held_back p) l);
     count = omega arith;
   }
 

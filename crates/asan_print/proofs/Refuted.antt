@@ -7,7 +7,7 @@ use Rattle.asan_print.specs.declared.fault.WriteFault.{WriteFault}
 use Rattle.asan_print.specs.declared.live_printer.LivePrinter.TheVariants as live
 use Rattle.asan_print.specs.declared.port.Port.{Port}
 use Rattle.asan_print.specs.Logs.{HoldsNothing, StaysBroken}
-use Rattle.asan_print.specs.Printing.{held_of}
+use Rattle.asan_print.specs.Printing.{held_back}
 use Rattle.asan_print.specs.Ports.{HasReport, taken_at}
 
 module _ {A : Type 0} where
@@ -21,7 +21,7 @@ module _ {A : Type 0} where
 
   -- no line was lost, and some text waits for the next round
   text_waits_for_the_next_round :
-      (printer : Counted A) → 0 < length (held_of printer.printer) →
+      (printer : Counted A) → 0 < length (held_back printer.printer) →
       ¬ (HoldsNothing (live.Prints printer))
   text_waits_for_the_next_round printer some sent =
       let empty = ap length sent in

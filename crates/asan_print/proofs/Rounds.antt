@@ -9,7 +9,7 @@ use Rattle.std.proofs.lemmas.List.{length-set, get_or-set_same, get_or-set_other
 use Rattle.asan_print.specs.declared.live_printer.LivePrinter.{LivePrinter}
 use Rattle.asan_print.specs.declared.port.Port.{Port}
 use Rattle.asan_print.specs.Logs.{Line, lines_of, report_lines, Printed, Adds}
-use Rattle.asan_print.specs.Ports.{Follows, HasReport, SameLanes, TakesMore, lane_at, taken_at, taken_of}
+use Rattle.asan_print.specs.Ports.{Follows, HasReport, SameLanes, TakesMore, lane_at, taken_at, reports_taken}
 
 module _ {A : Type 0} where
   pub lanes_refl : (xs : List (Option (Port A))) → SameLanes xs xs
@@ -58,15 +58,15 @@ module _ {A : Type 0} where
   abbrev pub count_of : List (Option (Port A)) → ℕ
   count_of ports = sum_by (λ port. length (taken_at port)) ports
 
-  count_of-taken_of : (xs : List (Option (Port A))) → count_of xs ≡ sum_by length (taken_of xs)
-  count_of-taken_of [] = refl
-  count_of-taken_of (x ∷ xs) =
-      sum_by-cons (λ port. length (taken_at port)) x xs ∙ ap (λ n. length (taken_at x) + n) (count_of-taken_of xs)
-      ∙ sym (sum_by-cons length (taken_at x) (taken_of xs))
+  count_of-reports_taken : (xs : List (Option (Port A))) → count_of xs ≡ sum_by length (reports_taken xs)
+  count_of-reports_taken [] = refl
+  count_of-reports_taken (x ∷ xs) =
+      sum_by-cons (λ port. length (taken_at port)) x xs ∙ ap (λ n. length (taken_at x) + n) (count_of-reports_taken xs)
+      ∙ sym (sum_by-cons length (taken_at x) (reports_taken xs))
 
-  pub taken_apart : (xs ys : List (Option (Port A))) → count_of xs < count_of ys → taken_of ys ≢ taken_of xs
-  taken_apart xs ys more same = let is : count_of ys ≡ count_of xs = count_of-taken_of ys ∙ ap (sum_by length) same
-      ∙ sym (count_of-taken_of xs) in absurd (omega arith)
+  pub taken_apart : (xs ys : List (Option (Port A))) → count_of xs < count_of ys → reports_taken ys ≢ reports_taken xs
+  taken_apart xs ys more same = let is : count_of ys ≡ count_of xs = count_of-reports_taken ys ∙ ap (sum_by length) same
+      ∙ sym (count_of-reports_taken xs) in absurd (omega arith)
 
   -- the first ports were asked, whether any gave a report, and the others are as they were
   pub record Asked (xs ys : List (Option (Port A))) (asked : ℕ) (any : Bool) : Type 0 where
@@ -74,7 +74,7 @@ module _ {A : Type 0} where
     pub takes : (i : ℕ) (d : Option (Port A)) → i < asked → i < length xs
         → TakesMore (slice_index_or xs i d) (slice_index_or ys i d)
     pub rest : (i : ℕ) (d : Option (Port A)) → asked ≤ i → slice_index_or ys i d ≡ slice_index_or xs i d
-    pub none : any ≡ false → taken_of ys ≡ taken_of xs
+    pub none : any ≡ false → reports_taken ys ≡ reports_taken xs
     pub some : any ≡ true → count_of xs < count_of ys
     pub least : count_of xs ≤ count_of ys
     pub finds : (i : ℕ) (d : Option (Port A)) → i < asked → HasReport (slice_index_or xs i d)
@@ -112,7 +112,7 @@ module _ {A : Type 0} where
         ];
         rest = λ i d above. rw (get_or-set_other ys at i new d (λ e. absurd (omega arith))) (r.rest i d (omega arith));
         none = elim here as (λ b. (b ≡ false → taken_at new ≡ taken_at old) → cond b true any ≡ false
-            → taken_of (slice_set ys at new) ≡ taken_of xs) [
+            → reports_taken (slice_set ys at new) ≡ reports_taken xs) [
               | true ↦ λ same no. absurd (false≢true (sym no))
               | false ↦
                   λ same no. map-set_same taken_at ys at new old (same refl ∙ ap taken_at is) ∙ r.none no

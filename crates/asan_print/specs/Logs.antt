@@ -7,7 +7,7 @@ use Rattle.asan_check.specs.declared.report.Report.{Report}
 use Rattle.asan_check.specs.Lines.{report_line}
 use Rattle.asan_print.specs.declared.live_printer.LivePrinter.{LivePrinter}
 use Rattle.asan_print.specs.declared.live_printer.LivePrinter.TheVariants as live
-use Rattle.asan_print.specs.Printing.{held_of, written_of}
+use Rattle.asan_print.specs.Printing.{held_back, written_of}
 
 -- the number of a process, and a line of it
 abbrev pub Line : Type 0
@@ -39,13 +39,13 @@ module _ {A : Type 0} where
 
   -- if it has not, no text is held back
   abbrev pub HoldsNothing : LivePrinter A → Type 0
-  HoldsNothing (live.Prints printer) = held_of printer.printer ≡ []
+  HoldsNothing (live.Prints printer) = held_back printer.printer ≡ []
   HoldsNothing (live.Broken fault) = Unit {0}
 
   -- what went out was counted; the rest is held back, or was lost
   abbrev pub IsRest : LivePrinter A → (out rest : List ℕ) → Type 0
   IsRest (live.Prints printer) out rest =
-      (rest ≡ held_of printer.printer) × (written_of printer.printer ≡ length out)
+      (rest ≡ held_back printer.printer) × (written_of printer.printer ≡ length out)
   IsRest (live.Broken fault) out rest = (0 < length rest) × (fault.written ≡ length out)
 
   -- these lines were printed: what went out begins them, and the rest is held back, or was lost

@@ -23,19 +23,19 @@ module _ {A : Type 0} where
   abbrev pub port_waiting : Port A → List Report
   port_waiting port = waiting port.lane
 
-  -- which lane it is, where there is a port
+  -- which lane it is, if there is a port
   abbrev pub lane_at : Option (Port A) → Option (Lane A)
   lane_at None = None
   lane_at (Some port) = Some (port_lane port)
 
-  -- what was taken, where there is a port
+  -- what was taken, if there is a port
   abbrev pub taken_at : Option (Port A) → List Report
   taken_at None = []
   taken_at (Some port) = taken_from port
 
   -- what was taken from each port
-  abbrev pub taken_of : List (Option (Port A)) → List (List Report)
-  taken_of ports = map taken_at ports
+  abbrev pub reports_taken : List (Option (Port A)) → List (List Report)
+  reports_taken ports = map taken_at ports
 
   -- a report is known to wait at a port, and can be counted
   abbrev pub HasReport : Option (Port A) → Type 0

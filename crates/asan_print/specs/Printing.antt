@@ -6,15 +6,15 @@ use Rattle.asan_print.specs.declared.printer.Printer.{Printer}
 module _ {A : Type 0} where
   -- what a contract sees of a printer: the text that it holds back, and how many bytes went out
   -- before it
-  abbrev pub held_of : Printer A → List ℕ
-  held_of p = string_bytes p.text
+  abbrev pub held_back : Printer A → List ℕ
+  held_back p = string_bytes p.text
 
   abbrev pub written_of : Printer A → ℕ
   written_of p = p.sent
 
   -- how many bytes were printed so far: those that went out, and those that are held back
   abbrev pub printed_of : Printer A → ℕ
-  printed_of p = written_of p + length (held_of p)
+  printed_of p = written_of p + length (held_back p)
 
   -- a text was printed: what the printer had held back, and then the text, are what went out and
   -- what it holds back now
@@ -22,7 +22,7 @@ module _ {A : Type 0} where
       (before after : Option (List ℕ)) (old new : Printer A) (text : List ℕ) : Type 0 where
     pub out : List ℕ
     pub sent : Appends before after out
-    pub parts : held_of old ++ text ≡ out ++ held_of new
+    pub parts : held_back old ++ text ≡ out ++ held_back new
     pub count : written_of new ≡ written_of old + length out
 
   -- the printing of a text broke off: what the printer had held back, and then the text, are what
@@ -33,6 +33,6 @@ module _ {A : Type 0} where
     pub out : List ℕ
     pub rest : List ℕ
     pub sent : Appends before after out
-    pub parts : held_of old ++ text ≡ out ++ rest
+    pub parts : held_back old ++ text ≡ out ++ rest
     pub short : 0 < length rest
     pub count : written ≡ written_of old + length out

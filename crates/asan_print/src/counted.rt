@@ -18,11 +18,11 @@ pub struct Counted<A: Allocator + Copy> {
 }
 
 impl<A: Allocator + Copy> Counted<A> {
-    ghost use Rattle.asan_print.specs.Printing.{BreaksOff, Prints, held_of, written_of};
+    ghost use Rattle.asan_print.specs.Printing.{BreaksOff, Prints, held_back, written_of};
 
     /// A printer that has printed nothing.
     pub fn new(alloc: A) -> Counted<A>
-        ensures held { held_of result.printer ≡ [] }
+        ensures held { held_back result.printer ≡ [] }
         ensures written { written_of result.printer ≡ 0 }
     {
         Counted {
@@ -33,7 +33,7 @@ impl<A: Allocator + Copy> Counted<A> {
     /// Writes what is held back.
     pub fn send<W: Write>(&mut self, w: &mut W) -> Result<(), WriteFault>
         ensures ok { OnOk result (Prints (W.contents w.old) (W.contents w.new)
-            self.old.printer self.new.printer [] × (held_of self.new.printer ≡ [])) }
+            self.old.printer self.new.printer [] × (held_back self.new.printer ≡ [])) }
         ensures fault { IfErr result (λ e.
             BreaksOff (W.contents w.old) (W.contents w.new) self.old.printer [] e.written) }
     {

@@ -29,7 +29,7 @@ impl<A: Allocator + Copy> LivePrinter<A> {
     ghost use Rattle.asan_print.specs.declared.live_printer.LivePrinter.TheVariants as live;
     ghost use Rattle.asan_print.specs.Logs.{Line, Printed, Adds, joined, lines_of, report_lines};
     ghost use Rattle.asan_print.specs.Logs.{HoldsNothing, IsBroken, StaysBroken};
-    ghost use Rattle.asan_print.specs.Ports.{Follows, SameLanes, lane_at, taken_at, taken_of};
+    ghost use Rattle.asan_print.specs.Ports.{Follows, SameLanes, lane_at, taken_at, reports_taken};
     ghost use Rattle.asan_print.specs.Ports.{EachTakesMore, HasReport, TakesMore};
 
     /// A printer that has printed nothing.
@@ -94,8 +94,8 @@ impl<A: Allocator + Copy> LivePrinter<A> {
         requires few { length ports.old < 2 ^ 32 }
         ensures lanes { SameLanes ports.old ports.new }
         ensures takes { EachTakesMore ports.old ports.new }
-        ensures none { result ≡ false → taken_of ports.new ≡ taken_of ports.old }
-        ensures some { IsTrue result → taken_of ports.new ≢ taken_of ports.old }
+        ensures none { result ≡ false → reports_taken ports.new ≡ reports_taken ports.old }
+        ensures some { IsTrue result → reports_taken ports.new ≢ reports_taken ports.old }
         ensures finds { (i : ℕ) (d : Option (Port A)) → i < length ports.old →
             HasReport (slice_index_or ports.old i d) →
             length (taken_at (slice_index_or ports.old i d)) <

@@ -26,11 +26,11 @@ pub struct Printer<A: Allocator + Copy> {
 
 impl<A: Allocator + Copy> Printer<A> {
     ghost use Rattle.asan_print.specs.Printing.{Prints, BreaksOff};
-    ghost use Rattle.asan_print.specs.Printing.{held_of, printed_of, written_of};
+    ghost use Rattle.asan_print.specs.Printing.{held_back, printed_of, written_of};
 
     /// A printer that has printed nothing.
     pub fn new(alloc: A) -> Printer<A>
-        ensures held { held_of result ≡ [] }
+        ensures held { held_back result ≡ [] }
         ensures written { written_of result ≡ 0 }
     {
         Printer {
@@ -57,7 +57,7 @@ impl<A: Allocator + Copy> Printer<A> {
     pub fn send<W: Write>(&mut self, w: &mut W) -> Result<(), WriteFault>
         requires room { printed_of self.old < 2 ^ 64 }
         ensures ok { OnOk result (Prints (W.contents w.old) (W.contents w.new) self.old self.new []
-            × (held_of self.new ≡ [])) }
+            × (held_back self.new ≡ [])) }
         ensures fault { IfErr result (λ e.
             BreaksOff (W.contents w.old) (W.contents w.new) self.old [] e.written) }
         ensures grows { printed_of self.new ≡ printed_of self.old }

@@ -43,7 +43,7 @@ module _ {A : Type 0} where
         most_senders ≤ workers * vec_capacity (slice_index_or shares k d)
 
   -- the benches of the first `dealt` senders were dealt out in turn, and each worker has room for
-  -- the rest of its own
+  -- the rest of its benches
   pub record HasRoom (workers dealt : ℕ) (shares : List (Share A)) : Type 0 where
     pub some : 0 < workers
     pub all : length shares ≡ workers

@@ -32,5 +32,5 @@ pub use returns::{place_all, settle_all};
 pub use sender::Sender;
 pub use status::{UNCHECKED, UNWRITTEN, exit_status};
 pub use std::alloc::AllocError as NoMemory;
-pub use worker_thread::{Checking, WorkerThread, give_up_senders};
+pub use worker_thread::{WorkerThread, Working, give_up_senders};
 pub use write::write_outcomes;

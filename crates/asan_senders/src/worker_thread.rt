@@ -12,11 +12,11 @@ use trace_feed::Feed;
 
 /// What a worker was given.
 #[derive(Drop)]
-pub struct Checking<A: Allocator + Copy> {
+pub struct Working<A: Allocator + Copy> {
     pub benches: Snapshot<Vec<Bench<A>, A>>,
 }
 
-impl<A: Allocator + Copy> Promise<Vec<Bench<A>, A>> for Checking<A> {
+impl<A: Allocator + Copy> Promise<Vec<Bench<A>, A>> for Working<A> {
     ghost kept_by = { λ p r. HaveWorked p.benches.value.items r.items };
 }
 
@@ -26,7 +26,7 @@ pub enum WorkerThread<A: Allocator + Copy> {
     /// There are none, and no thread.
     Idle(Vec<Bench<A>, A>),
     /// The worker runs.
-    Running(PromisedHandle<Vec<Bench<A>, A>, Checking<A>>),
+    Running(PromisedHandle<Vec<Bench<A>, A>, Working<A>>),
     /// No thread could be made, and the benches are gone.
     Lost,
 }

@@ -196,7 +196,7 @@ impl<'a> Senders<'a> {
         }
     }
 
-    /// The feed of the sender of this number, or `None` where there is no memory for it.
+    /// The feed of the sender of this number, or `None` if there is no memory for it.
     fn feed(&self, number: usize) -> Option<MemFeed>
         ensures { IfSome result (λ f. f.faults ≡ 0) }
     {

@@ -18,7 +18,7 @@ use Rattle.std.proofs.lemmas.List.Sorted.{Contains-permutation, IsPermutation-to
 use Rattle.std.proofs.lemmas.List.Sorted.{sum_by-IsPermutation}
 use Rattle.std.proofs.lemmas.List.Sums.{sum_by-cons, sum_by-append}
 use Rattle.std.proofs.lemmas.Map.Keys.{IsDistinct-cons, IsDistinct-IsPermutation}
-use Rattle.line_map.specs.declared.mark.Slot.{Slot}
+use Rattle.line_map.specs.declared.tag.Slot.{Slot}
 use Rattle.heap_book.specs.Spans.{Extent, span_to, span_bytes, meets, starts_at}
 use Rattle.heap_book.specs.Slots.{block_of, blocks_of, live_of, freed_of, FollowFrom}
 use Rattle.heap_book.proofs.Permutations.{same, same-refl, same-true, IsPermutation-tail}

@@ -11,7 +11,7 @@ use Rattle.std.proofs.lemmas.Bool.{cases_lt, or_parts, or_from, or_left, or_righ
 use Rattle.std.proofs.lemmas.Bool.Decides.{nat_tests}
 use Rattle.std.proofs.lemmas.Grind.{common_steps}
 use Rattle.std.proofs.lemmas.List.Sums.{sum_by-cons}
-use Rattle.line_map.specs.declared.mark.Slot.{Slot}
+use Rattle.line_map.specs.declared.tag.Slot.{Slot}
 use Rattle.line_map.specs.Maps.{slot_at}
 use Rattle.heap_book.specs.Spans.{Extent, IsPlaced, span_from, span_to, span_bytes, meets}
 use Rattle.heap_book.specs.Slots.{block_of, blocks_of, FollowFrom}

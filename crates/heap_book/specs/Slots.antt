@@ -2,7 +2,7 @@
 use Rattle.std.specs.Prelude.{◌≡◌, ℕ, ◌<◌, ◌≤◌, Bool, if◌then◌else◌, List, [], ◌∷◌, ⊤}
 use Rattle.std.specs.Prelude.{Option, Some, None, IsSome, sum_by, IsPermutation}
 use Rattle.line_map.specs.Maps.{slot_at}
-use Rattle.line_map.specs.declared.mark.Slot.{Slot}
+use Rattle.line_map.specs.declared.tag.Slot.{Slot}
 use Rattle.heap_book.specs.Spans.{Extent, IsPlaced, span_from, span_to, span_bytes}
 
 -- the block of an entry

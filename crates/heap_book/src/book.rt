@@ -11,7 +11,7 @@ ghost use Rattle.heap_book.specs.Freed.{IsFreeAnswer, AfterFree};
 use crate::NoMemory;
 use crate::answers::{Admit, Bound, Freed};
 use crate::block::Block;
-use crate::slots::is_free;
+use crate::free_span::is_free;
 use asan_units::MAX_QUARANTINE;
 use line_map::{LineMap, Slot};
 use std::alloc::{Allocator, Global};

@@ -21,7 +21,7 @@
 mod answers;
 mod block;
 mod book;
-mod slots;
+mod free_span;
 
 pub use answers::{Admit, Bound, Freed};
 pub use block::Block;

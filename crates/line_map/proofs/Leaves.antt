@@ -1,4 +1,4 @@
--- The marks of a leaf: of one line more that has an entry, of one less, and the last of them.
+-- The tags of a leaf: of one line more that has an entry, of one less, and the last of them.
 use Rattle.std.proofs.Common.{◌≡◌, ◌≢◌, ℕ, zero, suc, ◌+◌, ◌-◌, ◌*◌, ◌/◌, ◌%◌, ◌^◌, ◌<◌, ◌≤◌, cond, eqb, ◌⊎◌, Bool}
 use Rattle.std.proofs.Common.{true, false, not, Option, Some, None, List, [], ◌∷◌, length, get_or, set, refl, sym, ap}
 use Rattle.std.proofs.Common.{◌∙◌, arith, inl, inr}
@@ -12,9 +12,9 @@ use Rattle.std.proofs.lemmas.Bool.Decides.{nat_tests}
 use Rattle.std.proofs.lemmas.Nat.{mod-pow-add, ones_cat, ones-le, shr_split, shr-shr, pow_pos, and_mask, zero_from_ones}
 use Rattle.std.proofs.lemmas.Nat.Bits.{bit_at-lt, bit_at_or, bit_at_xor, bit_at-pow_same, bit_at-pow_other, bit_at-zero}
 use Rattle.std.proofs.lemmas.Nat.Bits.{bit_at_cat_low, bit_at_cat_high, bit_at_above, same_from_bits, and_pow}
-use Rattle.line_map.specs.declared.mark.Mark.{Mark}
-use Rattle.line_map.specs.declared.entry.Entry.{Entry}
-use Rattle.line_map.specs.Marks.{mark_of}
+use Rattle.line_map.specs.declared.tag.Tag.{Tag}
+use Rattle.line_map.specs.declared.packed_tag.PackedTag.{PackedTag}
+use Rattle.line_map.specs.Tags.{tag_of}
 use Rattle.line_map.specs.Leaves.{has_entry, entries_below}
 
 -- ---- how many of the lines below one have an entry
@@ -156,66 +156,67 @@ module _ {X : Type 0} where
   unchanged (y ∷ xs) (suc i) x zero other = refl
   unchanged (y ∷ xs) (suc i) x (suc k) other = unchanged xs i x k (λ same. other (ap suc same))
 
--- ---- the marks
+-- ---- the tags
 
--- the mark of a line among entries that these lines have
-abbrev pub mark_at : ℕ → List Entry → ℕ → Option Mark
-mark_at lines es line = cond (has_entry lines line) (option_map mark_of (slice_get es (entries_below lines line))) None
+-- the tag of a line among entries that these lines have
+abbrev pub tag_at : ℕ → List PackedTag → ℕ → Option Tag
+tag_at lines es line = cond (has_entry lines line) (option_map tag_of (slice_get es (entries_below lines line))) None
 
-pub without : (lines : ℕ) (es : List Entry) (line : ℕ) → bit_at lines line ≡ 0 → mark_at lines es line ≡ None
+pub without : (lines : ℕ) (es : List PackedTag) (line : ℕ) → bit_at lines line ≡ 0 → tag_at lines es line ≡ None
 without lines es line none = rw none refl
 
-pub with_one : (lines : ℕ) (es : List Entry) (line : ℕ) → bit_at lines line ≡ 1
-    → mark_at lines es line ≡ option_map mark_of (slice_get es (entries_below lines line))
+pub with_one : (lines : ℕ) (es : List PackedTag) (line : ℕ) → bit_at lines line ≡ 1
+    → tag_at lines es line ≡ option_map tag_of (slice_get es (entries_below lines line))
 with_one lines es line one = rw one refl
 
--- where a line has a mark, it has an entry
-pub one_there : (lines : ℕ) (es : List Entry) (line : ℕ) → IsSome (mark_at lines es line) → bit_at lines line ≡ 1
+-- where a line has a tag, it has an entry
+pub one_there : (lines : ℕ) (es : List PackedTag) (line : ℕ) → IsSome (tag_at lines es line) → bit_at lines line ≡ 1
 one_there lines es line there = go (has_entry lines line) refl there
   where
     go : (has : Bool) → has_entry lines line ≡ has
-        → IsSome (cond has (option_map mark_of (slice_get es (entries_below lines line))) None) → bit_at lines line ≡ 1
+        → IsSome (cond has (option_map tag_of (slice_get es (entries_below lines line))) None) → bit_at lines line ≡ 1
     go true has there = has_one lines line has
     go false has there = absurd (false≢true there)
 
 -- a line without an entry stays without
-pub still_none : (lines : ℕ) (es : List Entry) (line : ℕ) → bit_at lines line ≡ 0 → (index : ℕ)
-    → mark_at lines es index ≡ cond (eqb index line) None (mark_at lines es index)
+pub still_none : (lines : ℕ) (es : List PackedTag) (line : ℕ) → bit_at lines line ≡ 0 → (index : ℕ)
+    → tag_at lines es index ≡ cond (eqb index line) None (tag_at lines es index)
 still_none lines es line none index =
     elim (cases_eq index line) [
       | inl same ↦ rw (same, itself line) (without lines es line none)
       | inr other ↦ rw (not_same index line other) refl
     ]
 
--- the mark is that of the entry in its place
-pub marked : (lines : ℕ) (es : List Entry) (line : ℕ) (d : Entry) → count_ones lines ≡ length es → bit_at lines line ≡ 1
-    → mark_at lines es line ≡ Some (mark_of (get_or es (entries_below lines line) d))
-marked lines es line d counted one =
+-- the tag is that of the entry in its place
+pub tagged : (lines : ℕ) (es : List PackedTag) (line : ℕ) (d : PackedTag) → count_ones lines ≡ length es
+    → bit_at lines line ≡ 1
+    → tag_at lines es line ≡ Some (tag_of (get_or es (entries_below lines line) d))
+tagged lines es line d counted one =
     let lt = place_lt lines line one in
-    with_one lines es line one ∙ ap (option_map mark_of) (some_at es (entries_below lines line) d (omega arith))
+    with_one lines es line one ∙ ap (option_map tag_of) (some_at es (entries_below lines line) d (omega arith))
 
--- a line with an entry has a mark
-pub mark_there : (lines : ℕ) (es : List Entry) (line : ℕ) → count_ones lines ≡ length es → bit_at lines line ≡ 1
-    → IsSome (mark_at lines es line)
-mark_there lines es line counted one = let lt = place_lt lines line one in
+-- a line with an entry has a tag
+pub tag_there : (lines : ℕ) (es : List PackedTag) (line : ℕ) → count_ones lines ≡ length es → bit_at lines line ≡ 1
+    → IsSome (tag_at lines es line)
+tag_there lines es line counted one = let lt = place_lt lines line one in
     rw (with_one lines es line one) (some_in es (entries_below lines line) (omega arith))
   where
-    some_in : (es : List Entry) (place : ℕ) → place < length es → IsSome (option_map mark_of (slice_get es place))
+    some_in : (es : List PackedTag) (place : ℕ) → place < length es → IsSome (option_map tag_of (slice_get es place))
     some_in [] place lt = absurd (omega arith)
     some_in (e ∷ es) zero lt = refl
     some_in (e ∷ es) (suc place) lt = some_in es place (omega arith)
 
 -- another entry in the place of a line's
-pub replaced : (lines : ℕ) (es : List Entry) (line : ℕ) (e : Entry) (mark : Mark) → mark_of e ≡ mark
+pub replaced : (lines : ℕ) (es : List PackedTag) (line : ℕ) (e : PackedTag) (tag : Tag) → tag_of e ≡ tag
     → count_ones lines ≡ length es → bit_at lines line ≡ 1 → (index : ℕ) →
-    mark_at lines (set es (entries_below lines line) e) index
-    ≡ cond (eqb index line) (Some mark) (mark_at lines es index)
-replaced lines es line e mark is counted one index =
+    tag_at lines (set es (entries_below lines line) e) index
+    ≡ cond (eqb index line) (Some tag) (tag_at lines es index)
+replaced lines es line e tag is counted one index =
     elim (cases_eq index line) [
       | inl same ↦
           let lt = place_lt lines line one in
           rw (same, itself line) (with_one lines (set es (entries_below lines line) e) line one
-          ∙ ap (option_map mark_of) (changed es (entries_below lines line) e (omega arith)) ∙ ap Some is)
+          ∙ ap (option_map tag_of) (changed es (entries_below lines line) e (omega arith)) ∙ ap Some is)
       | inr other ↦ rw (not_same index line other) (go other (bit_at lines index) refl (bit_at-lt lines index))
     ]
   where
@@ -227,12 +228,12 @@ replaced lines es line e mark is counted one index =
         ]
 
     go : index ≢ line → (b : ℕ) → bit_at lines index ≡ b → b < 2
-        → mark_at lines (set es (entries_below lines line) e) index ≡ mark_at lines es index
+        → tag_at lines (set es (entries_below lines line) e) index ≡ tag_at lines es index
     go other zero none lt = without lines (set es (entries_below lines line) e) index none
         ∙ sym (without lines es index none)
     go other (suc zero) used lt =
         with_one lines (set es (entries_below lines line) e) index used
-        ∙ ap (option_map mark_of) (unchanged es (entries_below lines line) e (entries_below lines index)
+        ∙ ap (option_map tag_of) (unchanged es (entries_below lines line) e (entries_below lines index)
         (apart other used))
         ∙ sym (with_one lines es index used)
     go other (suc (suc b)) none lt = absurd (omega arith)
@@ -305,17 +306,18 @@ module _ (few many line : ℕ) (more : OneMore few many line) where
       bit_past lines i = ap (λ n. n % 2) (shr-shr lines (line + 1) i)
 
   -- an entry more, in its place
-  pub added : (es : List Entry) (e : Entry) (mark : Mark) → mark_of e ≡ mark → count_ones few ≡ length es → (index : ℕ)
+  pub added : (es : List PackedTag) (e : PackedTag) (tag : Tag) → tag_of e ≡ tag → count_ones few ≡ length es
+      → (index : ℕ)
       →
-      mark_at many (insert es (entries_below few line) e) index
-      ≡ cond (eqb index line) (Some mark) (mark_at few es index)
-  added es e mark is counted index =
+      tag_at many (insert es (entries_below few line) e) index
+      ≡ cond (eqb index line) (Some tag) (tag_at few es index)
+  added es e tag is counted index =
       elim (cases_eq index line) [
         | inl same ↦ rw (same, itself line)
             (with_one many (insert es (entries_below few line) e) line more.1
-            ∙ ap (λ place. option_map mark_of (slice_get (insert es (entries_below few line) e) place))
+            ∙ ap (λ place. option_map tag_of (slice_get (insert es (entries_below few line) e) place))
             (same_place line (omega arith))
-            ∙ ap (option_map mark_of) (put_at es (entries_below few line) e within) ∙ ap Some is)
+            ∙ ap (option_map tag_of) (put_at es (entries_below few line) e within) ∙ ap Some is)
         | inr other ↦ rw (not_same index line other)
             (go (more.2 index other) (bit_at few index) refl (bit_at-lt few index) (cases_lt index line) other)
       ]
@@ -323,31 +325,31 @@ module _ (few many line : ℕ) (more : OneMore few many line) where
       within : entries_below few line ≤ length es
       within = let le = place_le few line in omega arith
 
-      at : ℕ → Option Mark
-      at place = option_map mark_of (slice_get (insert es (entries_below few line) e) place)
+      at : ℕ → Option Tag
+      at place = option_map tag_of (slice_get (insert es (entries_below few line) e) place)
 
       go : bit_at many index ≡ bit_at few index → (b : ℕ) → bit_at few index ≡ b → b < 2
           → (index < line) ⊎ (line ≤ index) → index ≢ line →
-          mark_at many (insert es (entries_below few line) e) index ≡ mark_at few es index
+          tag_at many (insert es (entries_below few line) e) index ≡ tag_at few es index
       go same zero none lt side other = without many (insert es (entries_below few line) e) index (same ∙ none)
           ∙ sym (without few es index none)
       go same (suc zero) used lt (inl low) other =
           with_one many (insert es (entries_below few line) e) index (same ∙ used)
           ∙ ap at (same_place index (omega arith))
-          ∙ ap (option_map mark_of) (put_past es (entries_below few line) e (entries_below few index)
+          ∙ ap (option_map tag_of) (put_past es (entries_below few line) e (entries_below few index)
           (below_lt few index line used low) within)
           ∙ sym (with_one few es index used)
       go same (suc zero) used lt (inr high) other =
           with_one many (insert es (entries_below few line) e) index (same ∙ used)
           ∙ ap at (later_place index (omega arith))
-          ∙ ap (option_map mark_of) (put_before es (entries_below few line) e (entries_below few index)
+          ∙ ap (option_map tag_of) (put_before es (entries_below few line) e (entries_below few index)
           (below_le few line index high) within)
           ∙ sym (with_one few es index used)
       go same (suc (suc b)) none lt side other = absurd (omega arith)
 
   -- an entry less
-  pub left_out : (es : List Entry) → count_ones many ≡ length es → (index : ℕ) →
-      mark_at few (remove es (entries_below many line)) index ≡ cond (eqb index line) None (mark_at many es index)
+  pub left_out : (es : List PackedTag) → count_ones many ≡ length es → (index : ℕ) →
+      tag_at few (remove es (entries_below many line)) index ≡ cond (eqb index line) None (tag_at many es index)
   left_out es counted index =
       elim (cases_eq index line) [
         | inl same ↦ rw (same, itself line) (without few (remove es (entries_below many line)) line more.0)
@@ -358,26 +360,26 @@ module _ (few many line : ℕ) (more : OneMore few many line) where
       within : entries_below many line < length es
       within = let lt = place_lt many line more.1 in omega arith
 
-      at : ℕ → Option Mark
-      at place = option_map mark_of (slice_get es place)
+      at : ℕ → Option Tag
+      at place = option_map tag_of (slice_get es place)
 
       go : bit_at many index ≡ bit_at few index → (b : ℕ) → bit_at few index ≡ b → b < 2
           → (index < line) ⊎ (line ≤ index) → index ≢ line →
-          mark_at few (remove es (entries_below many line)) index ≡ mark_at many es index
+          tag_at few (remove es (entries_below many line)) index ≡ tag_at many es index
       go same zero none lt side other = without few (remove es (entries_below many line)) index none
           ∙ sym (without many es index (same ∙ none))
       go same (suc zero) used lt (inl low) other =
           let place = same_place index (omega arith) in
           let less = below_lt many index line (same ∙ used) low in
           with_one few (remove es (entries_below many line)) index used
-          ∙ ap (option_map mark_of) (taken_past es (entries_below many line) (entries_below few index) (omega arith)
+          ∙ ap (option_map tag_of) (taken_past es (entries_below many line) (entries_below few index) (omega arith)
           within)
           ∙ sym (ap at place) ∙ sym (with_one many es index (same ∙ used))
       go same (suc zero) used lt (inr high) other =
           let place = later_place index (omega arith) in
           let less = below_lt many line index more.1 (omega arith) in
           with_one few (remove es (entries_below many line)) index used
-          ∙ ap (option_map mark_of) (taken_before es (entries_below many line) (entries_below few index) (omega arith)
+          ∙ ap (option_map tag_of) (taken_before es (entries_below many line) (entries_below few index) (omega arith)
           within)
           ∙ sym (ap at place) ∙ sym (with_one many es index (same ∙ used))
       go same (suc (suc b)) none lt side other = absurd (omega arith)

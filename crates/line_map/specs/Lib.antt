@@ -1,4 +1,4 @@
-pub mod Marks
+pub mod Tags
 pub mod Nodes
 pub mod Leaves
 pub mod Branches

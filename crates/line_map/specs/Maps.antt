@@ -3,7 +3,7 @@ use Rattle.std.specs.Prelude.{◌≡◌, ℕ, ◌<◌, ◌≤◌, List, Option, 
 use Rattle.std.specs.Map.{lookup}
 use Rattle.std.specs.BTreeMap.{is_at}
 use Rattle.std.specs.Ordering.{nat_cmp}
-use Rattle.line_map.specs.declared.mark.Slot.{Slot}
+use Rattle.line_map.specs.declared.tag.Slot.{Slot}
 
 -- the slot that the entries have at an address
 abbrev pub slot_at : List (ℕ × Slot) → ℕ → Option Slot

@@ -2,34 +2,34 @@
 ghost use Rattle.std.specs.Prelude.{◌≡◌, ℕ, ◌+◌, ◌*◌, ◌/◌, ◌<◌, ◌≤◌, true};
 ghost use Rattle.std.specs.Prelude.{None, IfOk, IfSome, IfNone, option_map, vec_len};
 ghost use Rattle.line_map.specs.declared.branch.TheConstants.{NODES};
-ghost use Rattle.line_map.specs.Marks.{mark_of};
+ghost use Rattle.line_map.specs.Tags.{tag_of};
 ghost use Rattle.line_map.specs.Nodes.{IsWidth, IsLastLine, IsLastBelow};
 
-use crate::entry::Entry;
-use crate::mark::Mark;
 use crate::node::Node;
+use crate::packed_tag::PackedTag;
+use crate::tag::Tag;
 use std::alloc::{AllocError, Allocator, Global};
 
 /// How many nodes a branch has.
 pub const NODES: usize = 128;
 
-/// Nodes of one width, side by side. Those that are not kept have no marks.
+/// Nodes of one width, side by side. Those that are not kept have no tags.
 #[derive(Drop)]
 pub struct Branch<S, A: Allocator = Global> {
     /// The number of the first node that is kept.
     first: usize,
-    /// The nodes from that one on: none where no line has a mark.
+    /// The nodes from that one on: none where no line has a tag.
     kept: Vec<S, A>,
 }
 
 impl<S: Node<A>, A: Allocator + Copy> Node<A> for Branch<S, A> {
-    ghost use Rattle.line_map.specs.Branches.{branch_mark};
+    ghost use Rattle.line_map.specs.Branches.{branch_tag};
 
     ghost width = { NODES * S.width };
 
     ghost fits = { IsWidth (NODES * S.width) × S.fits };
 
-    ghost mark_at = { branch_mark S.mark_at S.width };
+    ghost tag_at = { branch_tag S.tag_at S.width };
 
     #[inline]
     fn width() -> u64 {
@@ -50,7 +50,7 @@ impl<S: Node<A>, A: Allocator + Copy> Node<A> for Branch<S, A> {
     }
 
     #[inline]
-    fn get(&self, line: u64) -> Option<&Entry> {
+    fn get(&self, line: u64) -> Option<&PackedTag> {
         let width = S::width();
         match self.place_of((line / width) as usize) {
             Some(place) => self.kept[place].get(line % width),
@@ -73,7 +73,7 @@ impl<S: Node<A>, A: Allocator + Copy> Node<A> for Branch<S, A> {
     }
 
     #[inline]
-    fn before(&self, line: u64, offset: u8) -> Option<(u64, &Entry)> {
+    fn before(&self, line: u64, offset: u8) -> Option<(u64, &PackedTag)> {
         let width = S::width();
         let node = (line / width) as usize;
         match self.place_of(node) {
@@ -87,14 +87,14 @@ impl<S: Node<A>, A: Allocator + Copy> Node<A> for Branch<S, A> {
     }
 
     #[inline]
-    fn put(&mut self, alloc: A, line: u64, mark: Mark) -> Result<(), AllocError> {
+    fn put(&mut self, alloc: A, line: u64, tag: Tag) -> Result<(), AllocError> {
         let width = S::width();
         let node = (line / width) as usize;
         let place = match self.place_of(node) {
             Some(place) => place,
             None => self.keep(alloc, node)?,
         };
-        match self.kept[place].put(alloc, line % width, mark) {
+        match self.kept[place].put(alloc, line % width, tag) {
             Ok(()) => Ok(()),
             Err(refused) => {
                 self.give_back(alloc);
@@ -104,10 +104,10 @@ impl<S: Node<A>, A: Allocator + Copy> Node<A> for Branch<S, A> {
     }
 
     #[inline]
-    fn set(&mut self, line: u64, mark: Mark) {
+    fn set(&mut self, line: u64, tag: Tag) {
         let width = S::width();
         match self.place_of((line / width) as usize) {
-            Some(place) => self.kept[place].set(line % width, mark),
+            Some(place) => self.kept[place].set(line % width, tag),
             None => {}
         }
     }
@@ -130,7 +130,7 @@ impl<S: Node<A>, A: Allocator + Copy> Node<A> for Branch<S, A> {
 }
 
 impl<S: Node<A>, A: Allocator + Copy> Branch<S, A> {
-    ghost use Rattle.line_map.specs.Branches.{branch_mark};
+    ghost use Rattle.line_map.specs.Branches.{branch_tag};
 
     /// A node, by its number, if it is kept. No clause speaks of it.
     #[inline]
@@ -144,7 +144,7 @@ impl<S: Node<A>, A: Allocator + Copy> Branch<S, A> {
         ensures some { IfSome result (λ place.
             (node ≡ self.now.first + place) × (place < vec_len self.now.kept)) }
         ensures none { IfNone result ((line : ℕ) → line / S.width ≡ node →
-            branch_mark S.mark_at S.width self.now line ≡ None) }
+            branch_tag S.tag_at S.width self.now line ≡ None) }
     {
         let place = node.checked_sub(self.first)?;
         if place < self.kept.len() {
@@ -154,13 +154,13 @@ impl<S: Node<A>, A: Allocator + Copy> Branch<S, A> {
         }
     }
 
-    /// The last line that has a mark, of the nodes below one.
+    /// The last line that has a tag, of the nodes below one.
     #[inline(never)]
     fn last_of(&self, end: usize) -> Option<u64>
         requires fits { S.fits }
         requires width { IsWidth (NODES * S.width) }
         requires end { end ≤ NODES }
-        ensures { IsLastLine (branch_mark S.mark_at S.width self.now) (end * S.width) result }
+        ensures { IsLastLine (branch_tag S.tag_at S.width self.now) (end * S.width) result }
     {
         let width = S::width();
         let mut place = end.saturating_sub(self.first).min(self.kept.len());
@@ -179,12 +179,12 @@ impl<S: Node<A>, A: Allocator + Copy> Branch<S, A> {
 
     /// The last entry of the nodes below one, with its line.
     #[inline(never)]
-    fn last_entry(&self, end: usize) -> Option<(u64, &Entry)>
+    fn last_entry(&self, end: usize) -> Option<(u64, &PackedTag)>
         requires fits { S.fits }
         requires width { IsWidth (NODES * S.width) }
         requires end { end ≤ NODES }
-        ensures { IsLastBelow (branch_mark S.mark_at S.width self.now) (end * S.width)
-            (option_map (λ found. (found.0, mark_of found.1.now)) result) }
+        ensures { IsLastBelow (branch_tag S.tag_at S.width self.now) (end * S.width)
+            (option_map (λ found. (found.0, tag_of found.1.now)) result) }
     {
         let line = self.last_of(end)?;
         let entry = self.get(line)?;
@@ -202,8 +202,8 @@ impl<S: Node<A>, A: Allocator + Copy> Branch<S, A> {
         requires { node < NODES }
         ensures ok { IfOk result (λ place.
             (node ≡ self.new.first + place) × (place < vec_len self.new.kept)) }
-        ensures same { (line : ℕ) → branch_mark S.mark_at S.width self.new line
-            ≡ branch_mark S.mark_at S.width self.old line }
+        ensures same { (line : ℕ) → branch_tag S.tag_at S.width self.new line
+            ≡ branch_tag S.tag_at S.width self.old line }
     {
         if self.kept.is_empty() {
             self.first = node;
@@ -227,11 +227,11 @@ impl<S: Node<A>, A: Allocator + Copy> Branch<S, A> {
         Ok(place)
     }
 
-    /// Gives back the memory of the nodes, if none of them holds any of its own.
+    /// Gives back the memory of the nodes, if none of them holds any.
     #[inline(never)]
     fn give_back(&mut self, alloc: A)
-        ensures { (line : ℕ) → branch_mark S.mark_at S.width self.new line
-            ≡ branch_mark S.mark_at S.width self.old line }
+        ensures { (line : ℕ) → branch_tag S.tag_at S.width self.new line
+            ≡ branch_tag S.tag_at S.width self.old line }
     {
         if self.are_empty() {
             *self = Branch::empty(alloc);
@@ -242,7 +242,7 @@ impl<S: Node<A>, A: Allocator + Copy> Branch<S, A> {
     #[inline]
     fn are_empty(&self) -> bool
         ensures { result ≡ true → (line : ℕ) →
-            branch_mark S.mark_at S.width self.now line ≡ None }
+            branch_tag S.tag_at S.width self.now line ≡ None }
     {
         for node in &self.kept {
             if !node.is_empty() {

@@ -1,24 +1,24 @@
-//! A leaf of a map: lines side by side, some of which have a mark.
+//! A leaf of a map: lines side by side, some of which have a tag.
 ghost use Rattle.std.specs.Prelude.{◌≡◌, ◌-◌, ◌^◌, ◌<◌, ◌≤◌, count_ones, length, option_map};
 ghost use Rattle.line_map.specs.declared.leaf.TheConstants.{LINES};
-ghost use Rattle.line_map.specs.Marks.{mark_of};
+ghost use Rattle.line_map.specs.Tags.{tag_of};
 ghost use Rattle.line_map.specs.Nodes.{IsWidth, IsLastBelow};
 
-use crate::entry::Entry;
-use crate::mark::Mark;
 use crate::node::{Node, entry_before};
+use crate::packed_tag::PackedTag;
+use crate::tag::Tag;
 use std::alloc::{AllocError, Allocator, Global};
 
 /// How many lines a leaf has.
 pub const LINES: usize = 64;
 
-/// Lines side by side. Those that have a mark have an entry, and nothing else takes memory.
+/// Lines side by side. Those that have a tag have an entry, and nothing else takes memory.
 #[derive(Drop)]
 pub struct Leaf<A: Allocator = Global> {
     /// Which lines have an entry: a bit for each line, the lowest for the first.
     lines: u64,
     /// The entries, in the order of their lines.
-    entries: Vec<Entry, A>,
+    entries: Vec<PackedTag, A>,
     ghost counted: { count_ones lines ≡ length entries.items },
 }
 
@@ -45,7 +45,7 @@ fn bits_below(end: u64) -> u64
 }
 
 impl<A: Allocator + Copy> Leaf<A> {
-    ghost use Rattle.line_map.specs.Leaves.{has_entry, entries_below, leaf_mark};
+    ghost use Rattle.line_map.specs.Leaves.{has_entry, entries_below, leaf_tag};
 
     /// Which lines have an entry.
     #[inline]
@@ -75,10 +75,10 @@ impl<A: Allocator + Copy> Leaf<A> {
 
     /// The last entry of the lines below one, with its line.
     #[inline]
-    fn last_entry(&self, end: u64) -> Option<(u64, &Entry)>
+    fn last_entry(&self, end: u64) -> Option<(u64, &PackedTag)>
         requires { end ≤ LINES }
-        ensures { IsLastBelow (leaf_mark self.now) end
-            (option_map (λ found. (found.0, mark_of found.1.now)) result) }
+        ensures { IsLastBelow (leaf_tag self.now) end
+            (option_map (λ found. (found.0, tag_of found.1.now)) result) }
     {
         let line = self.last(end)?;
         let entry = self.get(line)?;
@@ -96,13 +96,13 @@ impl<A: Allocator + Copy> Leaf<A> {
 }
 
 impl<A: Allocator + Copy> Node<A> for Leaf<A> {
-    ghost use Rattle.line_map.specs.Leaves.{leaf_mark};
+    ghost use Rattle.line_map.specs.Leaves.{leaf_tag};
 
     ghost width = { LINES };
 
     ghost fits = { IsWidth LINES };
 
-    ghost mark_at = { leaf_mark };
+    ghost tag_at = { leaf_tag };
 
     #[inline]
     fn width() -> u64 {
@@ -123,7 +123,7 @@ impl<A: Allocator + Copy> Node<A> for Leaf<A> {
     }
 
     #[inline]
-    fn get(&self, line: u64) -> Option<&Entry> {
+    fn get(&self, line: u64) -> Option<&PackedTag> {
         if self.has(line) {
             Some(&self.entries[self.place_of(line)])
         } else {
@@ -138,7 +138,7 @@ impl<A: Allocator + Copy> Node<A> for Leaf<A> {
     }
 
     #[inline]
-    fn before(&self, line: u64, offset: u8) -> Option<(u64, &Entry)> {
+    fn before(&self, line: u64, offset: u8) -> Option<(u64, &PackedTag)> {
         match entry_before(self.get(line), offset) {
             Some(entry) => Some((line, entry)),
             None => self.last_entry(line),
@@ -146,21 +146,21 @@ impl<A: Allocator + Copy> Node<A> for Leaf<A> {
     }
 
     #[inline]
-    fn put(&mut self, _alloc: A, line: u64, mark: Mark) -> Result<(), AllocError> {
+    fn put(&mut self, _alloc: A, line: u64, tag: Tag) -> Result<(), AllocError> {
         let place = self.place_of(line);
         if self.has(line) {
-            self.entries[place] = Entry::new(mark);
+            self.entries[place] = PackedTag::new(tag);
         } else {
-            self.entries.insert(place, Entry::new(mark))?;
+            self.entries.insert(place, PackedTag::new(tag))?;
             self.lines |= bit(line);
         }
         Ok(())
     }
 
     #[inline]
-    fn set(&mut self, line: u64, mark: Mark) {
+    fn set(&mut self, line: u64, tag: Tag) {
         let place = self.place_of(line);
-        self.entries[place] = Entry::new(mark);
+        self.entries[place] = PackedTag::new(tag);
     }
 
     #[inline]

@@ -4,18 +4,18 @@
 //! lines side by side, and is found through a tree, five branches deep, by the number of a line.
 //! One way down this tree finds the slot at an address, the place for a new one, or the last slot
 //! before an address; if this slot lies in another leaf, two short ways more. A leaf or a branch
-//! without slots holds no memory of its own.
+//! without slots holds no memory.
 #![tactic(auto)]
 
 mod ahead;
 mod branch;
-mod entry;
 mod leaf;
 mod map;
-mod mark;
 mod node;
+mod packed_tag;
+mod tag;
 mod tree;
 
 pub use ahead::MAX_FETCHED;
 pub use map::LineMap;
-pub use mark::Slot;
+pub use tag::Slot;

@@ -9,7 +9,7 @@ ghost use Rattle.line_map.specs.Entries.{line_count, line_size};
 ghost use Rattle.line_map.specs.Maps.{slot_at, IsLastBefore};
 
 use crate::ahead::read_lines;
-use crate::mark::{Mark, Slot};
+use crate::tag::{Slot, Tag};
 use crate::tree::Tree;
 use asan_units::ADDRESS_END;
 use std::alloc::{AllocError, Allocator, Global};
@@ -53,16 +53,16 @@ pub struct LineMap<A: Allocator + Copy = Global> {
 
 impl<A: Allocator + Copy> Model for LineMap<A> {
     ghost use Rattle.std.specs.Prelude.{ℕ, List};
-    ghost use Rattle.line_map.specs.declared.mark.Slot.{Slot};
+    ghost use Rattle.line_map.specs.declared.tag.Slot.{Slot};
 
     ghost Value = { List (ℕ × Slot) };
 
     ghost use Rattle.line_map.specs.Entries.{entries_of, AreInLine};
-    ghost use Rattle.line_map.specs.Trees.{tree_mark};
+    ghost use Rattle.line_map.specs.Trees.{tree_tag};
 
-    ghost view = { λ m. entries_of (tree_mark m.tree) };
+    ghost view = { λ m. entries_of (tree_tag m.tree) };
 
-    ghost invariant = { λ m. AreInLine (tree_mark m.tree) };
+    ghost invariant = { λ m. AreInLine (tree_tag m.tree) };
 }
 
 impl<A: Allocator + Copy> LineMap<A> {
@@ -98,9 +98,9 @@ impl<A: Allocator + Copy> LineMap<A> {
             return None;
         }
         match tree.get(line) {
-            Some(mark) => {
-                if u64::from(mark.offset) == at % LINE {
-                    Some(mark.slot)
+            Some(tag) => {
+                if u64::from(tag.offset) == at % LINE {
+                    Some(tag.slot)
                 } else {
                     None
                 }
@@ -117,7 +117,7 @@ impl<A: Allocator + Copy> LineMap<A> {
     {
         let (line, offset) = place_of(end);
         match self.tree.before(line, offset) {
-            Some((line, mark)) => Some((line * LINE + u64::from(mark.offset), mark.slot)),
+            Some((line, tag)) => Some((line * LINE + u64::from(tag.offset), tag.slot)),
             None => None,
         }
     }
@@ -136,7 +136,7 @@ impl<A: Allocator + Copy> LineMap<A> {
         ensures err { OnErr result (self.new ≡ self.old) }
     {
         let offset = (at % LINE) as u8;
-        self.tree.put(self.alloc, at / LINE, Mark { offset, slot })
+        self.tree.put(self.alloc, at / LINE, Tag { offset, slot })
     }
 
     /// Puts another slot at an address that has one. Takes no memory.
@@ -146,7 +146,7 @@ impl<A: Allocator + Copy> LineMap<A> {
         ensures { self.new ≡ set_value (is_at (nat_cmp at)) self.old slot }
     {
         let offset = (at % LINE) as u8;
-        self.tree.set(at / LINE, Mark { offset, slot });
+        self.tree.set(at / LINE, Tag { offset, slot });
     }
 
     /// Takes out the slot at an address that has one. Gives back the memory of the leaf and the

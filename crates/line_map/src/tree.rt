@@ -2,12 +2,12 @@
 ghost use Rattle.std.specs.Prelude.{◌≡◌, ℕ, ◌<◌, Some, None, IsSome, OnOk, OnErr};
 ghost use Rattle.line_map.specs.Entries.{line_count};
 ghost use Rattle.line_map.specs.Nodes.{IsPut, IsLastBeforePlace};
-ghost use Rattle.line_map.specs.Trees.{tree_mark};
+ghost use Rattle.line_map.specs.Trees.{tree_tag};
 
 use crate::branch::{Branch, NODES};
 use crate::leaf::Leaf;
-use crate::mark::Mark;
 use crate::node::Node;
+use crate::tag::Tag;
 use std::alloc::{AllocError, Allocator, Global};
 
 // The branches, by how many levels of them there are. Each has 128 times the lines of one of the
@@ -30,31 +30,31 @@ const _: () = prove!(size_of::<Leaf>() == 32);
 
 const _: () = prove!(size_of::<Level1<Global>>() == 32);
 
-/// A mark or none for each line below 2^41.
+/// A tag or none for each line below 2^41.
 #[derive(Drop)]
 pub struct Tree<A: Allocator + Copy = Global> {
     root: Level5<A>,
 }
 
 impl<A: Allocator + Copy> Tree<A> {
-    /// The tree with no marks. Takes no memory.
-    #[tactic(auto, unfolding(crate::specs::Trees::tree_mark))]
+    /// The tree with no tags. Takes no memory.
+    #[tactic(auto, unfolding(crate::specs::Trees::tree_tag))]
     pub fn empty(alloc: A) -> Tree<A>
-        ensures { (line : ℕ) → tree_mark result line ≡ None }
+        ensures { (line : ℕ) → tree_tag result line ≡ None }
     {
         Tree {
             root: Branch::empty(alloc),
         }
     }
 
-    /// The mark of a line.
+    /// The tag of a line.
     #[inline]
-    #[tactic(auto, unfolding(crate::specs::Trees::tree_mark))]
-    pub fn get(&self, line: u64) -> Option<Mark>
+    #[tactic(auto, unfolding(crate::specs::Trees::tree_tag))]
+    pub fn get(&self, line: u64) -> Option<Tag>
         requires { line < line_count }
-        ensures { result ≡ tree_mark self.now line }
+        ensures { result ≡ tree_tag self.now line }
     {
-        Some(self.root.get(line)?.mark())
+        Some(self.root.get(line)?.tag())
     }
 
     /// The part with a number, if the tree keeps it. No clause speaks of it.
@@ -64,52 +64,52 @@ impl<A: Allocator + Copy> Tree<A> {
         self.root.node(number / nodes)?.node(number % nodes)
     }
 
-    /// The last mark before an offset of a line, with its line.
+    /// The last tag before an offset of a line, with its line.
     #[inline]
-    #[tactic(auto, unfolding(crate::specs::Trees::tree_mark))]
-    pub fn before(&self, line: u64, offset: u8) -> Option<(u64, Mark)>
+    #[tactic(auto, unfolding(crate::specs::Trees::tree_tag))]
+    pub fn before(&self, line: u64, offset: u8) -> Option<(u64, Tag)>
         requires { line < line_count }
-        ensures { IsLastBeforePlace (tree_mark self.now) line offset result }
+        ensures { IsLastBeforePlace (tree_tag self.now) line offset result }
     {
         let (line, entry) = self.root.before(line, offset)?;
-        Some((line, entry.mark()))
+        Some((line, entry.tag()))
     }
 
-    /// Gives a line a mark.
+    /// Gives a line a tag.
     ///
     /// # Errors
     ///
-    /// `AllocError` if memory is refused. The marks are then as they were.
+    /// `AllocError` if memory is refused. The tags are then as they were.
     #[inline]
-    #[tactic(auto, unfolding(crate::specs::Trees::tree_mark))]
-    pub fn put(&mut self, alloc: A, line: u64, mark: Mark) -> Result<(), AllocError>
+    #[tactic(auto, unfolding(crate::specs::Trees::tree_tag))]
+    pub fn put(&mut self, alloc: A, line: u64, tag: Tag) -> Result<(), AllocError>
         requires { line < line_count }
         ensures ok { OnOk result
-            (IsPut line_count (tree_mark self.old) (tree_mark self.new) line (Some mark)) }
+            (IsPut line_count (tree_tag self.old) (tree_tag self.new) line (Some tag)) }
         ensures err { OnErr result
-            ((line : ℕ) → tree_mark self.new line ≡ tree_mark self.old line) }
+            ((line : ℕ) → tree_tag self.new line ≡ tree_tag self.old line) }
     {
-        self.root.put(alloc, line, mark)
+        self.root.put(alloc, line, tag)
     }
 
-    /// Gives a line that has a mark another one.
+    /// Gives a line that has a tag another one.
     #[inline]
-    #[tactic(auto, unfolding(crate::specs::Trees::tree_mark))]
-    pub fn set(&mut self, line: u64, mark: Mark)
+    #[tactic(auto, unfolding(crate::specs::Trees::tree_tag))]
+    pub fn set(&mut self, line: u64, tag: Tag)
         requires within { line < line_count }
-        requires there { IsSome (tree_mark self.old line) }
-        ensures { IsPut line_count (tree_mark self.old) (tree_mark self.new) line (Some mark) }
+        requires there { IsSome (tree_tag self.old line) }
+        ensures { IsPut line_count (tree_tag self.old) (tree_tag self.new) line (Some tag) }
     {
-        self.root.set(line, mark);
+        self.root.set(line, tag);
     }
 
-    /// Takes a line's mark, if it has one. Gives back the memory of the leaf and the branches that
+    /// Takes a line's tag, if it has one. Gives back the memory of the leaf and the branches that
     /// have none then.
     #[inline]
-    #[tactic(auto, unfolding(crate::specs::Trees::tree_mark))]
+    #[tactic(auto, unfolding(crate::specs::Trees::tree_tag))]
     pub fn remove(&mut self, alloc: A, line: u64)
         requires { line < line_count }
-        ensures { IsPut line_count (tree_mark self.old) (tree_mark self.new) line None }
+        ensures { IsPut line_count (tree_tag self.old) (tree_tag self.new) line None }
     {
         self.root.remove(alloc, line);
     }

@@ -3,7 +3,7 @@
 use asan_program::run;
 use std::alloc::Global;
 use std::test::Fail;
-use test_writers::{Ending, ShortWriter};
+use test_writers::{ShortWriter, WhenFull};
 
 #[test]
 fn output_that_is_not_flushed(rt: HostRuntime) -> Result<(), Fail> {
@@ -30,7 +30,7 @@ fn writer(alloc: Global) -> ShortWriter {
         held: Vec::new(alloc),
         room: usize::MAX,
         step: 1000,
-        ending: Ending::Fails,
+        when_full: WhenFull::Fails,
         flushes: true,
     }
 }

@@ -3,4 +3,4 @@
 
 mod short_writer;
 
-pub use short_writer::{Ending, ShortWriter};
+pub use short_writer::{ShortWriter, WhenFull};

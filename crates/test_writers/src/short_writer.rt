@@ -11,7 +11,7 @@ use std::io::{Error, ErrorKind, Write};
 
 /// What a writer with no room left answers.
 #[derive(Clone, Copy, Debug, PartialEq, Eq)]
-pub enum Ending {
+pub enum WhenFull {
     /// An error.
     Fails,
     /// That it took 0 bytes.
@@ -28,7 +28,7 @@ pub struct ShortWriter<A: Allocator + Copy = Global> {
     /// How many bytes it takes at one call at most.
     pub step: usize,
     /// What it answers once there is no room.
-    pub ending: Ending,
+    pub when_full: WhenFull,
     /// Whether a flush succeeds.
     pub flushes: bool,
 }
@@ -46,17 +46,17 @@ impl<A: Allocator + Copy> Write for ShortWriter<A> {
             n ≡ min (length buf.now) (min self.old.room self.old.step)) }
         ensures room { IfOk result (λ n. self.new.room + n ≡ self.old.room) }
         ensures kept_room { OnErr result (self.new.room ≡ self.old.room) }
-        ensures fails { self.old.room ≡ 0 → self.old.ending ≡ Ending.Fails → IsErr result }
+        ensures fails { self.old.room ≡ 0 → self.old.when_full ≡ WhenFull.Fails → IsErr result }
         ensures takes_none { self.old.room ≡ 0 →
-            self.old.ending ≡ Ending.TakesNone → result ≡ Ok 0 }
+            self.old.when_full ≡ WhenFull.TakesNone → result ≡ Ok 0 }
         ensures step { self.new.step ≡ self.old.step }
-        ensures ending { self.new.ending ≡ self.old.ending }
+        ensures when_full { self.new.when_full ≡ self.old.when_full }
         ensures flushes { self.new.flushes ≡ self.old.flushes }
     {
         if self.room == 0 {
-            return match self.ending {
-                Ending::Fails => Err(Error::from(ErrorKind::BrokenPipe)),
-                Ending::TakesNone => Ok(0),
+            return match self.when_full {
+                WhenFull::Fails => Err(Error::from(ErrorKind::BrokenPipe)),
+                WhenFull::TakesNone => Ok(0),
             };
         }
         let count = buf.len().min(self.room).min(self.step);

@@ -207,7 +207,7 @@ impl Promise<ReaderDone<MemFeed>> for Given {
     ghost kept_by = { λ p r. IfSome r.lane_end (λ e. end_lane e ≡ in_lane p.lane.value) };
 }
 
-/// What becomes of a feed that is read on a thread of its own, into a lane with room for all of its
+/// What becomes of a feed that is read on its own thread, into a lane with room for all of its
 /// items. Its bench is settled once the reader was joined.
 fn outcome_of<R: Threads + Wait + Clock + Send + Copy + 'static>(
     rt: R,

@@ -118,7 +118,7 @@ fn written_at(alloc: Global, turn: u64) -> Result<Written, Fail> {
     })
 }
 
-/// A line of the text of the three outcomes, which was written to a text of its own.
+/// A line of the text of the three outcomes, which was written to its own text.
 #[derive(Clone, Copy, Debug)]
 struct Line {
     /// How many requests for memory were made up to its end.

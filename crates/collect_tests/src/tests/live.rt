@@ -16,7 +16,7 @@ use std::sync::atomic::{AtomicU64, Ordering};
 use std::test::Fail;
 use std::thread::Threads;
 use std::time::Clock;
-use test_writers::{Ending, ShortWriter};
+use test_writers::{ShortWriter, WhenFull};
 use trace_feed::{Arrival, Door, Feed, FeedFault, ListDoor, MemFeed};
 
 /// What is printed of each of the three senders.
@@ -132,7 +132,7 @@ fn an_output_that_takes_no_more(rt: HostRuntime) -> Result<(), Fail> {
                 held: Vec::new(rt.alloc()),
                 room: 10,
                 step: 10,
-                ending: Ending::Fails,
+                when_full: WhenFull::Fails,
                 flushes: true,
             };
             let printed = print_three(&rt, rt.alloc(), ring, workers, &mut output)?;

@@ -16,7 +16,7 @@ use std::time::Clock;
 use trace_feed::{Arrival, Feed, FeedFault, ListDoor};
 
 /// A feed whose second read waits for a flag, and its first one too if `waits_first`. Where it
-/// waits in vain, the read fails. It sets a flag of its own when its second read begins.
+/// waits in vain, the read fails. It sets its own flag when its second read begins.
 #[derive(Drop)]
 struct Waiting<'a> {
     bytes: &'static [u8],

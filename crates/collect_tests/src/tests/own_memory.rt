@@ -1,4 +1,4 @@
-//! Tests of collections in which each checker has the memory of its own allocator.
+//! Tests of collections in which each checker takes its memory from its own allocator.
 
 ghost use Rattle.std.specs.Prelude.{◌≡◌, ◌≤◌, ◌^◌, IfOk};
 
@@ -26,7 +26,7 @@ fn three_of_a_kind(alloc: Global) -> Result<ListDoor<MemFeed>, Fail>
     Ok(ListDoor::new(arrivals))
 }
 
-/// What becomes of the senders of a door, where each of the first has an allocator of its own.
+/// What becomes of the senders of a door, where each of the first has its own allocator.
 fn outcomes_within<'a, D: Door, R: Threads + Wait + Clock + Sync>(
     rt: &R,
     shared: &'a RefusingAllocator<Global>,

@@ -88,7 +88,7 @@ pub enum Step {
     Finish(bool),
 }
 
-/// A rig whose lane has room for this many items, without a report lane, or `None` where there is
+/// A rig whose lane has room for this many items, without a report lane, or `None` if there is
 /// no memory for the lane.
 pub fn plain_rig<A: Allocator + Copy>(alloc: A, room: usize) -> Result<Option<Rig<A>>, Fail> {
     let Ok((into, out)) = lane(alloc, room) else {
@@ -152,7 +152,7 @@ pub fn run_all<A: Allocator + Copy, G: Gate, R: Wait + Clock>(
     run_checker(rt, benches, gate)
 }
 
-/// Runs the checker of a rig up to its end, or answers `None` where there is no memory for a list
+/// Runs the checker of a rig up to its end, or answers `None` if there is no memory for a list
 /// of it.
 pub fn run_rig<A: Allocator + Copy, R: Wait + Clock>(
     rt: &R,

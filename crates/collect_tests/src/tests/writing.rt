@@ -15,7 +15,7 @@ use std::alloc::{AllocError, Global};
 use std::io::Write;
 use std::process::Abort;
 use std::test::Fail;
-use test_writers::{Ending, ShortWriter};
+use test_writers::{ShortWriter, WhenFull};
 use trace_record::{End, Fate, Flaw};
 
 #[test]
@@ -44,13 +44,13 @@ fn expect_front(
     alloc: Global,
     room: usize,
     step: usize,
-    ending: Ending,
+    when_full: WhenFull,
 ) -> Result<(), Fail> {
     let mut writer = ShortWriter {
         held: Vec::new(alloc),
         room,
         step,
-        ending,
+        when_full,
         flushes: true,
     };
     let wanted = if room == 121 {
@@ -72,9 +72,9 @@ fn expect_front(
 #[test]
 fn writer_fails_after_k_bytes(rt: HostRuntime) -> Result<(), Fail> {
     for step in [1, TEXT.len()] {
-        for ending in [Ending::Fails, Ending::TakesNone] {
+        for when_full in [WhenFull::Fails, WhenFull::TakesNone] {
             for room in 0..=TEXT.len() {
-                expect_front(&rt, rt.alloc(), room, step, ending)?;
+                expect_front(&rt, rt.alloc(), room, step, when_full)?;
             }
         }
     }

@@ -5,7 +5,7 @@ use std::alloc::Global;
 use std::io::Write;
 use std::process::Abort;
 use std::test::Fail;
-use test_writers::{Ending, ShortWriter};
+use test_writers::{ShortWriter, WhenFull};
 use trace_feed::{PutFault, put_all};
 
 const TEXT: &[u8; 11] = b"hello world";
@@ -26,12 +26,12 @@ fn no_write_follows_one_that_fails(rt: HostRuntime) {
 
 /// Asserts that a writer that takes a number of bytes, a few at a time, and then ends so, is given
 /// the front of the text.
-fn expect_front(rt: &impl Abort, alloc: Global, room: usize, step: usize, ending: Ending) {
+fn expect_front(rt: &impl Abort, alloc: Global, room: usize, step: usize, when_full: WhenFull) {
     let mut writer = ShortWriter {
         held: Vec::new(alloc),
         room,
         step,
-        ending,
+        when_full,
         flushes: true,
     };
     let wanted = if room < TEXT.len() {
@@ -45,14 +45,14 @@ fn expect_front(rt: &impl Abort, alloc: Global, room: usize, step: usize, ending
 
 #[test]
 fn the_first_bytes_go_out(rt: HostRuntime) {
-    for (step, ending) in [
-        (1, Ending::Fails),
-        (1, Ending::TakesNone),
-        (100, Ending::Fails),
-        (100, Ending::TakesNone),
+    for (step, when_full) in [
+        (1, WhenFull::Fails),
+        (1, WhenFull::TakesNone),
+        (100, WhenFull::Fails),
+        (100, WhenFull::TakesNone),
     ] {
         for room in 0..=TEXT.len() {
-            expect_front(&rt, rt.alloc(), room, step, ending);
+            expect_front(&rt, rt.alloc(), room, step, when_full);
         }
     }
 }

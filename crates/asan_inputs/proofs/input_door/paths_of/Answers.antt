@@ -1,6 +1,6 @@
 use Rattle.std.proofs.Common.{arith, ◌≡◌, Some, ap, map, string_bytes, sym, ◌∙◌}
 use Rattle.std.proofs.lemmas.List.{take_all}
-use Rattle.asan_inputs.specs.Sources.{input_place}
+use Rattle.asan_inputs.specs.Inputs.{input_place}
 use Rattle.asan_inputs.proofs.Turns.{names_restored}
 use Rattle.asan_inputs.proofs.input_door.paths_of.Goals as goal
 

@@ -1,7 +1,7 @@
 use Rattle.std.proofs.Common.{arith, ◌≡◌, ◌<◌, ◌∙◌, [], ℕ, Bor, List, ap, length, map, get_or, sym, take, true}
 use Rattle.std.proofs.lemmas.List.{get_or-map, length-map, take-map}
 use Rattle.std.specs.Str.{bytes_eq}
-use Rattle.asan_inputs.specs.Sources.{input_name, inputs_among}
+use Rattle.asan_inputs.specs.Inputs.{input_name, inputs_among}
 use Rattle.asan_inputs.proofs.Turns.{one_more_input}
 use Rattle.asan_inputs.proofs.names.names_of.Goals as goal
 

@@ -1,5 +1,5 @@
 use Rattle.std.proofs.Common.{◌≡◌, cond, take, map, string_bytes}
-use Rattle.asan_inputs.specs.Sources.{inputs_among}
+use Rattle.asan_inputs.specs.Inputs.{inputs_among}
 use Rattle.asan_inputs.proofs.names.names_of.Given as goal
 
 abbrev pub invariant-loop-file : goal.invariant-loop-file

@@ -2,7 +2,7 @@ use Rattle.std.proofs.Common.{◌≡◌, true, false, not, ◌++◌, None, refl,
 use Rattle.std.specs.List.{list_any}
 use Rattle.std.proofs.lemmas.Bool.{not-true, not-false}
 use Rattle.std.proofs.lemmas.Result.{err_from_is_err_and}
-use Rattle.line_map.specs.declared.mark.Slot.{Slot}
+use Rattle.line_map.specs.declared.tag.Slot.{Slot}
 use Rattle.heap_book.specs.Spans.{Extent, meets}
 use Rattle.heap_book.specs.Slots.{blocks_of, live_of}
 use Rattle.line_map.specs.Maps.{slot_at}

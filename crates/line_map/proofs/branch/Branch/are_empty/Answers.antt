@@ -1,6 +1,6 @@
 use Rattle.std.proofs.Common.{◌+◌, ◌/◌, ◌%◌, ◌∙◌, arith, inl, inr}
 use Rattle.std.proofs.lemmas.Bool.{cases_lt}
-use Rattle.line_map.proofs.Branches.{kept_mark}
+use Rattle.line_map.proofs.Branches.{kept_tag}
 use Rattle.line_map.proofs.branch.Branch.are_empty.Goals as goal
 
 pub loop-node-preserved : goal.loop-node-preserved
@@ -12,7 +12,7 @@ loop-node-preserved g c = λ line lt.
     elim (cases_lt (line / width) (branch.first + place)) [
       | inl below ↦ c.loop-node.invariant line below
       | inr above ↦
-          kept_mark g.S.Node.mark_at width branch.first branch.kept.items place line c.node-item.result
+          kept_tag g.S.Node.tag_at width branch.first branch.kept.items place line c.node-item.result
           (rw items at c.loop-node-test.true) (rw items at c.node-item.is) (omega arith)
           ∙ c.is_empty.ensures c.if-not-is_empty.false (line % width)
     ]

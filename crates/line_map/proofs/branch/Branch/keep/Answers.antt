@@ -10,7 +10,7 @@ loop-place-preserved g c =
       at = c.loop-place.invariant.at;
       long = (let len = c.in_ok-push.ensures.len in let le = c.loop-place.invariant.long in omega arith);
       same = λ line.
-          rw items (pushed g.S.Node.mark_at g.S.Node.width branch.first branch.kept.items c.empty-in-loop-place.result
+          rw items (pushed g.S.Node.tag_at g.S.Node.width branch.first branch.kept.items c.empty-in-loop-place.result
           c.empty-in-loop-place.ensures line)
           ∙ c.loop-place.invariant.same line;
     }

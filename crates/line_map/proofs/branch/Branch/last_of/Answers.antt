@@ -1,13 +1,13 @@
 use Rattle.std.proofs.Common.{◌≡◌, ◌+◌, ◌-◌, ◌*◌, ◌/◌, ◌<◌, Some, length, arith, inl, inr}
 use Rattle.std.proofs.Math.Nat.{mul-le-mul_right}
 use Rattle.std.proofs.lemmas.Bool.{cases_lt}
-use Rattle.line_map.specs.Branches.{branch_mark}
-use Rattle.line_map.proofs.Branches.{below_mark, one_lower, reached, raised, none_below, last_below}
+use Rattle.line_map.specs.Branches.{branch_tag}
+use Rattle.line_map.proofs.Branches.{below_tag, one_lower, reached, raised, none_below, last_below}
 use Rattle.line_map.proofs.branch.Branch.last_of.Goals as goal
 
 pub returns-in-Some : goal.returns-in-Some
 returns-in-Some g c =
-    let mark_at = g.S.Node.mark_at in
+    let tag_at = g.S.Node.tag_at in
     let width = g.S.Node.width in
     let branch = c.args.self.now in
     let place = c.loop-place.place in
@@ -18,11 +18,11 @@ returns-in-Some g c =
     let step = one_lower branch.first place width c.loop-place-test.true in
     let last = rw c.width-width.ensures at c.in-Some.ensures in
     rw c.width-width.ensures (
-    raised (branch_mark mark_at width branch) ((branch.first + (place - 1)) * width + width) (c.args.end * width)
+    raised (branch_tag tag_at width branch) ((branch.first + (place - 1)) * width + width) (c.args.end * width)
     (Some ((branch.first + (place - 1)) * width + c.in-Some.line)) (let more = mul-le-mul_right width below in
     omega arith)
     (λ line low high. c.loop-place.invariant.none line (omega arith) high)
-    (last_below mark_at width branch.first branch.kept.items (place - 1) c.index-node.result.now positive kept
+    (last_below tag_at width branch.first branch.kept.items (place - 1) c.index-node.result.now positive kept
     c.index-node.ensures width c.in-Some.line (omega arith) last)
     )
 
@@ -42,7 +42,7 @@ loop-place-preserved-in-None g c =
       kept = (let le = c.loop-place.invariant.kept in omega arith);
       none = λ line low high.
           elim (cases_lt line ((branch.first + place) * width)) [
-            | inl lt ↦ none_below g.S.Node.mark_at width branch.first branch.kept.items (place - 1)
+            | inl lt ↦ none_below g.S.Node.tag_at width branch.first branch.kept.items (place - 1)
                 c.index-node.result.now positive kept c.index-node.ensures width (omega arith) last line low
                 (omega arith)
             | inr ge ↦ c.loop-place.invariant.none line ge high
@@ -64,7 +64,7 @@ loop-place-preserved g c =
       kept = (let le = c.loop-place.invariant.kept in omega arith);
       none = λ line low high.
           elim (cases_lt line ((branch.first + place) * width)) [
-            | inl lt ↦ none_below g.S.Node.mark_at width branch.first branch.kept.items (place - 1)
+            | inl lt ↦ none_below g.S.Node.tag_at width branch.first branch.kept.items (place - 1)
                 c.index-node.result.now positive kept c.index-node.ensures width (omega arith)
                 (λ line lt. c.is_empty.ensures c.if-not-is_empty.false line) line low (omega arith)
             | inr ge ↦ c.loop-place.invariant.none line ge high
@@ -76,7 +76,7 @@ returns g c = λ line lt.
     let width = g.S.Node.width in
     let branch = c.args.self.now in
     elim (cases_lt (line / width) branch.first) [
-      | inl below ↦ below_mark g.S.Node.mark_at width branch.first branch.kept.items line below
+      | inl below ↦ below_tag g.S.Node.tag_at width branch.first branch.kept.items line below
       | inr above ↦
           let done = c.loop-place-test.false in
           let zero : branch.first + c.loop-place.place ≡ branch.first = omega arith in

@@ -1,5 +1,5 @@
 use Rattle.std.proofs.Common.{◌<◌, length, sym, ◌∙◌, arith}
-use Rattle.line_map.proofs.Branches.{kept_mark}
+use Rattle.line_map.proofs.Branches.{kept_tag}
 use Rattle.line_map.proofs.branch.BranchNode.get.Goals as goal
 
 pub returns-in-Some : goal.returns-in-Some
@@ -10,5 +10,5 @@ returns-in-Some g c =
     let lt : c.in-Some.place < length branch.kept.items =
     (let is = branch.kept.ok.0 in let less = found.1 in omega arith) in
     let got = rw c.width-width.ensures at c.get.ensures in
-    got ∙ sym (kept_mark g.S.Node.mark_at width branch.first branch.kept.items c.in-Some.place c.args.line
+    got ∙ sym (kept_tag g.S.Node.tag_at width branch.first branch.kept.items c.in-Some.place c.args.line
     c.index.result.now lt c.index.ensures found.0)

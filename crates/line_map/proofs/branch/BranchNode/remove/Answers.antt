@@ -12,7 +12,7 @@ returns-then-is_empty g c =
     let positive = (g.met.S.Node.is_width c.requires.fits.1).0 in
     let taken = rw c.width-width.ensures at c.remove.ensures in
     λ index below.
-    c.give_back.ensures index ∙ node_put g.S.Node.mark_at width branch.first branch.kept.items c.in-Some.place
+    c.give_back.ensures index ∙ node_put g.S.Node.tag_at width branch.first branch.kept.items c.in-Some.place
     c.remove.new.self lt c.args.line None c.index_mut.result.now
     positive found.0 c.index_mut.ensures.value taken index
 
@@ -26,6 +26,6 @@ returns-else-is_empty g c =
     let positive = (g.met.S.Node.is_width c.requires.fits.1).0 in
     let taken = rw c.width-width.ensures at c.remove.ensures in
     λ index below.
-    node_put g.S.Node.mark_at width branch.first branch.kept.items c.in-Some.place c.remove.new.self lt c.args.line None
+    node_put g.S.Node.tag_at width branch.first branch.kept.items c.in-Some.place c.remove.new.self lt c.args.line None
     c.index_mut.result.now
     positive found.0 c.index_mut.ensures.value taken index

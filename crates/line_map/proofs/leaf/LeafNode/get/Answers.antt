@@ -1,7 +1,7 @@
 use Rattle.std.proofs.Common.{◌≡◌, true, Some, ap, sym, ◌∙◌, arith}
-use Rattle.line_map.specs.Marks.{mark_of}
+use Rattle.line_map.specs.Tags.{tag_of}
 use Rattle.line_map.specs.Leaves.{has_entry}
-use Rattle.line_map.proofs.Leaves.{has_one, place_lt, marked}
+use Rattle.line_map.proofs.Leaves.{has_one, place_lt, tagged}
 use Rattle.line_map.proofs.leaf.LeafNode.get.Goals as goal
 
 pub index-requires : goal.index-requires
@@ -19,6 +19,6 @@ returns-then-has g c =
     let leaf = c.args.self.now in
     let has : has_entry leaf.lines c.args.line ≡ true = sym c.has.ensures ∙ c.if-has.true in
     let read = rw c.place_of.ensures at c.index.ensures in
-    ap Some (ap mark_of read)
-    ∙ sym (marked leaf.lines leaf.entries.items c.args.line c.index.result.now leaf.counted
+    ap Some (ap tag_of read)
+    ∙ sym (tagged leaf.lines leaf.entries.items c.args.line c.index.result.now leaf.counted
     (has_one leaf.lines c.args.line has))

@@ -1,4 +1,4 @@
-use Rattle.line_map.proofs.Leaves.{last_below, none_below, mark_there, without}
+use Rattle.line_map.proofs.Leaves.{last_below, none_below, tag_there, without}
 use Rattle.line_map.proofs.leaf.LeafNode.last.Goals as goal
 
 pub returns : goal.returns
@@ -9,7 +9,7 @@ returns g c =
     let last = last_below leaf.lines c.args.end c.in_ok-checked_ilog2.field-0 low high in
     rw c.from.ensures (
       last.0,
-      mark_there leaf.lines leaf.entries.items c.in_ok-checked_ilog2.field-0 leaf.counted last.1,
+      tag_there leaf.lines leaf.entries.items c.in_ok-checked_ilog2.field-0 leaf.counted last.1,
       λ line past below. without leaf.lines leaf.entries.items line (last.2 line past below),
     )
 

@@ -43,7 +43,7 @@ returns-then-has-clause-ok g c index below =
     let leaf = c.args.self.now in
     let has : has_entry leaf.lines c.args.line ≡ true = sym c.has.ensures ∙ c.if-has.true in
     rw c.place_of-place.ensures
-    (replaced leaf.lines leaf.entries.items c.args.line c.new.result c.args.mark c.new.ensures leaf.counted
+    (replaced leaf.lines leaf.entries.items c.args.line c.new.result c.args.tag c.new.ensures leaf.counted
     (has_one leaf.lines c.args.line has) index)
 
 pub returns-in_ok-insert-clause-ok : goal.returns-in_ok-insert-clause-ok
@@ -52,4 +52,4 @@ returns-in_ok-insert-clause-ok g c index below =
     let free : has_entry leaf.lines c.args.line ≡ false = sym c.has.ensures ∙ c.if-has.false in
     rw (c.bit.ensures, c.in_ok-insert.ensures.items, c.place_of-place.ensures)
     (added leaf.lines _ c.args.line (one_more leaf.lines c.args.line free) leaf.entries.items c.new-else-has.result
-    c.args.mark c.new-else-has.ensures leaf.counted index)
+    c.args.tag c.new-else-has.ensures leaf.counted index)

@@ -5,5 +5,5 @@ pub returns : goal.returns
 returns g c index below =
     let leaf = c.args.self.now in
     rw c.place_of-place.ensures
-    (replaced leaf.lines leaf.entries.items c.args.line c.new.result c.args.mark c.new.ensures leaf.counted
+    (replaced leaf.lines leaf.entries.items c.args.line c.new.result c.args.tag c.new.ensures leaf.counted
     (one_there leaf.lines leaf.entries.items c.args.line c.requires.there) index)

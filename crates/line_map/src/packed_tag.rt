@@ -1,34 +1,34 @@
-//! An entry of a leaf: what it keeps of a mark.
+//! An entry of a leaf: what it keeps of a tag.
 ghost use Rattle.std.specs.Prelude.{◌≡◌};
 
-use crate::mark::{Mark, Slot};
+use crate::tag::{Slot, Tag};
 
 /// How many values a half of a size has.
 const HALF: u64 = 1 << 32;
 
-/// The mark of a line. The size is in two halves, so that an entry takes 12 bytes.
+/// The tag of a line. The size is in two halves, so that an entry takes 12 bytes.
 #[derive(Clone, Copy)]
-pub struct Entry {
+pub struct PackedTag {
     size_low: u32,
     size_high: u32,
     offset: u8,
     live: bool,
 }
 
-const _: () = prove!(size_of::<Entry>() == 12);
+const _: () = prove!(size_of::<PackedTag>() == 12);
 
-impl Entry {
-    ghost use Rattle.line_map.specs.Marks.{mark_of};
+impl PackedTag {
+    ghost use Rattle.line_map.specs.Tags.{tag_of};
 
     #[inline]
-    pub fn new(mark: Mark) -> Entry
-        ensures { mark_of result ≡ mark }
+    pub fn new(tag: Tag) -> PackedTag
+        ensures { tag_of result ≡ tag }
     {
-        Entry {
-            size_low: (mark.slot.size % HALF) as u32,
-            size_high: (mark.slot.size / HALF) as u32,
-            offset: mark.offset,
-            live: mark.slot.live,
+        PackedTag {
+            size_low: (tag.slot.size % HALF) as u32,
+            size_high: (tag.slot.size / HALF) as u32,
+            offset: tag.offset,
+            live: tag.slot.live,
         }
     }
 
@@ -38,7 +38,7 @@ impl Entry {
         self.size_low
     }
 
-    /// The offset of its mark.
+    /// The offset of its tag.
     #[inline]
     pub fn offset(&self) -> u8
         ensures { result ≡ self.now.offset }
@@ -47,10 +47,10 @@ impl Entry {
     }
 
     #[inline]
-    pub fn mark(&self) -> Mark
-        ensures { result ≡ mark_of self.now }
+    pub fn tag(&self) -> Tag
+        ensures { result ≡ tag_of self.now }
     {
-        Mark {
+        Tag {
             offset: self.offset,
             slot: Slot {
                 size: u64::from(self.size_high) * HALF + u64::from(self.size_low),

@@ -1,5 +1,5 @@
 use Rattle.heap_book.proofs.Following.{found}
-use Rattle.heap_book.proofs.slots.last_before.Goals as goal
+use Rattle.heap_book.proofs.free_span.last_before.Goals as goal
 
 pub from_parts-requires : goal.from_parts-requires
 from_parts-requires g c = (found 0 _ _ _ c.in_ok-at.ensures.1 c.requires).0

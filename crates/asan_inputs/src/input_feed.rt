@@ -4,27 +4,27 @@ use trace_feed::{Feed, FeedFault};
 
 /// The feed of a file, or of standard input.
 #[derive(Drop)]
-pub enum Source<F, I> {
+pub enum InputFeed<F, I> {
     File(F),
     Input(I),
 }
 
-impl<F: Feed, I: Feed> Feed for Source<F, I> {
-    ghost use Rattle.asan_inputs.specs.Sources.{of_either};
+impl<F: Feed, I: Feed> Feed for InputFeed<F, I> {
+    ghost use Rattle.asan_inputs.specs.Inputs.{of_either};
 
     ghost seen = { of_either F.seen I.seen };
 
     fn next(&mut self, buf: &mut [u8]) -> Result<usize, FeedFault> {
         match self {
-            Source::File(feed) => feed.next(buf),
-            Source::Input(feed) => feed.next(buf),
+            InputFeed::File(feed) => feed.next(buf),
+            InputFeed::Input(feed) => feed.next(buf),
         }
     }
 
     fn faults(&self) -> u64 {
         match self {
-            Source::File(feed) => feed.faults(),
-            Source::Input(feed) => feed.faults(),
+            InputFeed::File(feed) => feed.faults(),
+            InputFeed::Input(feed) => feed.faults(),
         }
     }
 }

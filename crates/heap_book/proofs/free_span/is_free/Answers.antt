@@ -2,11 +2,11 @@ use Rattle.std.proofs.Common.{◌≡◌, ◌<◌, ◌+◌, true, false, leb, ref
 use Rattle.std.specs.List.{list_any}
 use Rattle.std.proofs.lemmas.Bool.{cases_lt}
 use Rattle.std.proofs.lemmas.Bool.Decides.{nat_tests}
-use Rattle.line_map.specs.declared.mark.Slot.{Slot}
+use Rattle.line_map.specs.declared.tag.Slot.{Slot}
 use Rattle.heap_book.specs.Spans.{Extent, IsPlaced, span_from, span_to, meets}
 use Rattle.heap_book.specs.Slots.{blocks_of}
 use Rattle.heap_book.proofs.Following.{met, unmet-last, unmet-none}
-use Rattle.heap_book.proofs.slots.is_free.Goals as goal
+use Rattle.heap_book.proofs.free_span.is_free.Goals as goal
 
 -- two spans of which one begins before the other ends, and does not end before the other begins
 meets-past : (b last : Extent) → IsPlaced b → IsPlaced last → last.at < span_to b + 32 → span_from b < span_to last

@@ -7,30 +7,30 @@ use Rattle.std.specs.declared.alloc.Global.{Global}
 use Rattle.trace_feed.specs.declared.door.Arrival.{Arrival}
 use Rattle.trace_feed.specs.declared.door.Arrival.TheVariants as arrival
 use Rattle.trace_feed.specs.Feeds.{FeedState}
-use Rattle.asan_inputs.specs.declared.source.Source.{Source}
-use Rattle.asan_inputs.specs.declared.source.Source.TheVariants as source
+use Rattle.asan_inputs.specs.declared.input_feed.InputFeed.{InputFeed}
+use Rattle.asan_inputs.specs.declared.input_feed.InputFeed.TheVariants as input_feed
 
 -- what a feed of either kind has, by what is asked of each kind
-abbrev pub of_either : {F I : Type 0} {X : Type 0} → (F → X) → (I → X) → Source F I → X
-of_either of_file of_input (source.File feed) = of_file feed
-of_either of_file of_input (source.Input feed) = of_input feed
+abbrev pub of_either : {F I : Type 0} {X : Type 0} → (F → X) → (I → X) → InputFeed F I → X
+of_either of_file of_input (input_feed.File feed) = of_file feed
+of_either of_file of_input (input_feed.Input feed) = of_input feed
 
 -- what is seen of a feed over a file or standard input
-abbrev pub source_seen : Source FeedState FeedState → FeedState
-source_seen (source.File feed) = feed
-source_seen (source.Input feed) = feed
+abbrev pub input_feed_seen : InputFeed FeedState FeedState → FeedState
+input_feed_seen (input_feed.File feed) = feed
+input_feed_seen (input_feed.Input feed) = feed
 
 -- whether it is standard input that came
-abbrev pub is_input : {F I : Type 0} → Arrival (Source F I) → Bool
-is_input (arrival.Came (source.File feed)) = false
-is_input (arrival.Came (source.Input feed)) = true
+abbrev pub is_input : {F I : Type 0} → Arrival (InputFeed F I) → Bool
+is_input (arrival.Came (input_feed.File feed)) = false
+is_input (arrival.Came (input_feed.Input feed)) = true
 is_input arrival.Refused = false
 is_input arrival.Over = false
 
 -- where it is standard input that came, this holds of its feed
-abbrev pub IfInput : {F I : Type 0} → (I → Type 0) → Arrival (Source F I) → Type 0
-IfInput p (arrival.Came (source.File feed)) = Unit {0}
-IfInput p (arrival.Came (source.Input feed)) = p feed
+abbrev pub IfInput : {F I : Type 0} → (I → Type 0) → Arrival (InputFeed F I) → Type 0
+IfInput p (arrival.Came (input_feed.File feed)) = Unit {0}
+IfInput p (arrival.Came (input_feed.Input feed)) = p feed
 IfInput p arrival.Refused = Unit {0}
 IfInput p arrival.Over = Unit {0}
 

@@ -11,7 +11,7 @@ pub struct Slot {
 
 /// A slot, and where it is in its line.
 #[derive(Clone, Copy, Debug, PartialEq, Eq)]
-pub struct Mark {
+pub struct Tag {
     /// How many bytes its address is past the line's first one: below 64.
     pub offset: u8,
     /// The slot at that address.
