@@ -14,6 +14,7 @@ usage: tests/hygiene.py
 - No two tests have one name: of the rows, of the crates, and of `runs.py` and `failures.py`.
 - The worked examples that MODEL.md shows, the stored traces and the lemmas of `Examples` are what
   the rows of their names say (`worked.py`).
+- What a crate is for stands on its own page as in the table of ARCHITECTURE.md.
 - The program says the release that VERSION says: it can't read the file, since it is proved.
 
 Each finding is a line `FILE:LINE: what`. The last line counts them, and the status is 1 if there are
@@ -92,6 +93,17 @@ def other_release() -> Iterator[Finding]:
             yield path, 1, f"VERSION says: {wanted}"
 
 
+def other_summaries() -> Iterator[Finding]:
+    """Goes over the crates' pages whose first sentence is not the crate's row of ARCHITECTURE.md."""
+    with open(f"{TOP}/docs/ARCHITECTURE.md", encoding="utf-8") as file:
+        rows = re.findall(r"^\| \[`\w+`\]\(\.\./(crates/\w+/README\.md)\) \| (.*) \|$", file.read(), re.M)
+    for path, does in rows:
+        with open(f"{TOP}/{path}", encoding="utf-8") as file:
+            first = file.read().split("\n\n")[1].replace("\n", " ")
+        if first != f"{does[0].upper()}{does[1:]}.":
+            yield path, 3, f"docs/ARCHITECTURE.md says: {does}"
+
+
 def all_tests(sources: List[names.Source], rows: List[worked.Row]) -> Iterator[names.Test]:
     """Goes over the worked examples, the tests of the crates and the runs of built programs."""
     yield from (names.Test(row.name, row.path, row.line) for row in rows)
@@ -107,6 +119,7 @@ def findings() -> Iterator[Finding]:
     yield from long_lines(files)
     yield from bad_layouts(files)
     yield from other_release()
+    yield from other_summaries()
     yield from names.uncited_lemmas(sources)
     yield from names.unused_imports(sources)
     rows = worked.rows()
