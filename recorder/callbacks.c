@@ -66,7 +66,7 @@ ACCESS(store, CODE_STORE, 8)
 RANGE(load, CODE_LOAD)
 RANGE(store, CODE_STORE)
 
-/* What an inline check has found bad, by GCC and, with `exp`, by Clang: asancol-cc asks it for names of its own,
+/* What an inline check has found bad, by GCC and, with `exp`, by Clang: asancol-cc asks it for our own names,
    since the two mean different things by `_n`.
 
    An access of an odd size, or one that may be unaligned, is checked by its first and its last byte. GCC then reports

@@ -156,7 +156,7 @@ void descendants_signal(int number, bool gently)
     struct kin *all = read_all(&count);
     for (size_t i = 0; i < count; i++) {
         const struct kin *kin = &all[i];
-        /* What a run starts for itself has a process group of its own. */
+        /* What a run starts for itself has its own process group. */
         bool is_helper = gently && kin->group == kin->number && kin->parent != getpid() && is_run(kin->parent);
         if (is_descendant(all, count, kin) && !is_helper) {
             kill(kin->number, number);

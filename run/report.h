@@ -41,7 +41,7 @@ void report_has_ended(int status);
 /* Starts it if there is no report yet. */
 void report_start(void);
 bool report_is_running(void);
-/* Whether it was ever started. */
+/* Whether it was started. */
 bool report_was_started(void);
 /* The last message. */
 void report_finish(const struct outcome *outcome);

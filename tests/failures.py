@@ -182,7 +182,7 @@ def send_without_reading(peer, data):
 
 
 def send_and_die(peer, data):
-    """A process of its own sends it and is killed."""
+    """Another process sends it and is killed."""
     octal = "".join(f"\\{byte:03o}" for byte in data)
     subprocess.run(["sh", "-c", f"printf '{octal}'; kill -KILL $$"], stdout=peer, check=False)
     peer.close()

@@ -308,7 +308,7 @@ def difference(program: str, batch: Batch) -> Optional[Differs]:
 
 
 def records_of(trace: bytes) -> List[bytes]:
-    """The trace in parts: the header, records as far as they can be told apart, and bytes."""
+    """The trace in parts: the header, records as far as they can be made out, and bytes."""
     parts, at = [trace[:8]], 8
     version = version_of(trace) or 1
     while at < len(trace):

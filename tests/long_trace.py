@@ -55,7 +55,7 @@ class Block:
 class Model:
     """The lines of the events so far.
 
-    It keeps each block that was ever admitted, by its address. No two of them have spans that meet:
+    It keeps each block that was admitted, by its address. No two of them have spans that meet:
     a block that is allocated again has the size that it had."""
 
     def __init__(self) -> None:

@@ -2,7 +2,7 @@
    program that is linked with -static finds all of the C library's interface here, so that the library's own allocator
    does not come in beside the recorder's.
 
-   A member of its own, that comes in where it is asked for. What sets something has no effect. */
+   One member of the library, that comes in only if it is asked for. What sets something has no effect. */
 #define _GNU_SOURCE
 #include <errno.h>
 #include <inttypes.h>

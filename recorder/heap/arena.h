@@ -80,7 +80,7 @@ bool arena_find(void);
 void arena_keep_places(void);
 /* Makes whole pages of the range usable, which are zeros. */
 bool arena_give_memory(void *start, size_t bytes);
-/* Units in a row, all zeros; 0 where there is no memory. */
+/* Units in a row, all zeros; 0 if there is no memory. */
 uint32_t arena_take_run(uint32_t count);
 void arena_give_run(uint32_t first, uint32_t count);
 

@@ -1,4 +1,4 @@
-/* What the process calls. They are weak: a program with an allocator of its own keeps it. */
+/* What the process calls. They are weak: a program with its own allocator keeps it. */
 #define _GNU_SOURCE
 #include <errno.h>
 #include <malloc.h>
@@ -110,7 +110,7 @@ REPLACES size_t malloc_usable_size(void *pointer)
     return size == SIZE_MAX ? 0 : size;
 }
 
-/* The names by which a program calls the C library's own allocator, under one of its own. */
+/* The names by which a program calls the C library's own allocator, under one that it defines. */
 
 REPLACES void *__libc_malloc(size_t size)
 {

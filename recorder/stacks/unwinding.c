@@ -9,7 +9,7 @@
 #include "stacks/cfi.h"
 #include "threads.h"
 
-/* Rules that are known. An instruction has a place of its own, and three more in the same line of the cache. */
+/* Rules that are known. An instruction has its own place, and three more in the same line of the cache. */
 enum { PLACES = 1 << 16, WAYS = 4, PLACE_SHIFT = 2, FAR_SHIFT = 16, GENERATION_SHIFT = 48 };
 
 /* The rule is mixed into the key: so if two threads write at once, or one writes while another one reads, no rule is

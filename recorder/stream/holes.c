@@ -69,7 +69,7 @@ unsigned holes_check(uint64_t end, uint64_t limit, enum patience patience)
     unsigned holes = 0;
     while (keeper.checked < end && keeper.checked_events < limit) {
         unsigned char code = code_at(keeper.checked);
-        /* The common case is a branch of its own: the processor then need not wait for one record to find the next. */
+        /* The common case has its own branch: the processor then need not wait for one record to find the next. */
         unsigned length = LIKELY(code == CODE_LOAD || code == CODE_STORE) ? ACCESS_LENGTH : record_length(code);
         if (UNLIKELY(length == 0)) {
             /* With one thread there is nobody to wait for: a signal handler has left by a jump. */

@@ -5,7 +5,7 @@
    Then the bytes are stored, the code last: a zero where a code should be is a record that is not written yet.
 
    So there is no lock that a signal handler could meet, and a handler that comes between the two steps records what it
-   does in places of its own. */
+   does in its own places. */
 #ifndef ASANCOL_RECORD_H
 #define ASANCOL_RECORD_H
 

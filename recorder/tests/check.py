@@ -556,7 +556,7 @@ def check_own_names(suite, folder, compiler):
 
 
 def check_own_malloc(suite, folder, compiler):
-    """A program with an allocator of its own keeps it: its accesses are recorded, and its blocks are not."""
+    """A program with its own allocator keeps it: its accesses are recorded, and its blocks are not."""
     write(
         folder,
         own_c="""

@@ -1,4 +1,4 @@
-/* A program with functions and variables of its own that have names of the C library's, and its own parameters. With
+/* A program whose own functions and variables have names of the C library's, and its own parameters. With
    OWN it is the file that has them. */
 #ifndef __clang__
 #pragma GCC diagnostic ignored "-Wbuiltin-declaration-mismatch" /* that a variable has a function's name is meant */

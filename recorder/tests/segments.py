@@ -156,7 +156,7 @@ def check_kept(suite: Suite, folder: str, program: str) -> None:
 
 
 def check_children(suite: Suite, folder: str, program: str) -> None:
-    """A forked child begins with a first segment of its own, and what fails to run another program goes on."""
+    """A forked child begins with its own first segment, and what fails to run another program goes on."""
     for limit in (1 << 24, 700, 300):
         for old in glob.glob(f"{folder}/*.trace"):
             os.unlink(old)

@@ -173,7 +173,7 @@ static bool is_linked(const char *word)
            || ends(word, ".obj") || strstr(word, ".so.") != NULL || begins(word, "-l");
 }
 
-/* Whether the compiler only assembles this, or takes it in a language of its own: it puts no checks into it. */
+/* Whether the compiler only assembles this, or takes it in its own language: it puts no checks into it. */
 static bool is_compiled_already(const struct wish *wish, const char *word)
 {
     static const char *const suffixes[] = {".s", ".S", ".sx", ".asm", ".ll"};

@@ -3,7 +3,7 @@
 
 usage: run/tests/mutations.py [--count N] [--seed S]
 
-Each damaged file is read by a process of its own. It has to end with a status of the table in docs/REPORTS.md, within
+Each damaged file is read by its own process. It has to end with a status of the table in docs/REPORTS.md, within
 seconds, and print no traceback. The last line is 'N passed, M failed'.
 """
 
@@ -83,7 +83,7 @@ def damaged_side(random: Random, text: bytes) -> bytes:
 
 
 def status_of(words: List[str]) -> Tuple[int, str]:
-    """Runs asancol-report in a process of its own, and returns its status and what it wrote to standard error. A
+    """Runs asancol-report in its own process, and returns its status and what it wrote to standard error. A
     traceback is a status of 70, and one that takes too long of 128 and more."""
     reader, writer = os.pipe()
     child = os.fork()

@@ -73,7 +73,7 @@ def check_box(suite: Suite, folder: str, box: str) -> None:
 
 
 def check_closed_box(suite: Suite, folder: str) -> None:
-    """With /tmp and a network of its own, nothing gets out: the run is not called clean."""
+    """With its own /tmp and network, nothing gets out: the run is not called clean."""
     box = BOXES["own /tmp"].replace("FOLDER", suite.folder)
     ran = suite.run("--", "bwrap", *box.split(), "--unshare-net", suite.program, "sound", TMPDIR="/tmp")
     expect_ran(ran, 98, "NOTHING WAS RECORDED")

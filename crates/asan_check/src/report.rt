@@ -1,7 +1,7 @@
 //! What is reported of a bad event.
 
 /// What kind of memory a bad access met, by the state of the first byte of its granule, or of the
-/// next granule where some byte of its own is addressable.
+/// next granule if some byte of that granule is addressable.
 #[derive(Clone, Copy, Debug, PartialEq, Eq)]
 pub enum Class {
     HeapBufferOverflow,

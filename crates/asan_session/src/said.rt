@@ -15,7 +15,7 @@ pub fn no_memory<E: Write>(stderr: &mut E) -> u8
     say(stderr, &"no memory", UNCHECKED)
 }
 
-/// Says what is wrong in a line of its own, and gives the status to end with, whether or not the
+/// Says what is wrong, in one line, and gives the status to end with, whether or not the
 /// line could be written.
 pub fn say<E: Write, T: Display>(stderr: &mut E, text: &T, status: u8) -> u8
     ensures { result ≡ status }

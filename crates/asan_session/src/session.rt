@@ -49,7 +49,7 @@ impl<R: Threads + Wait + Clock + Sync + AllocGlobal> Session<'_, R> {
     /// and checked on the calling thread. If the senders have names, what became of each of them is
     /// then said on `stderr`.
     ///
-    /// If the options bound the memory of the checkers, each checker has an allocator of its own
+    /// If the options bound the memory of the checkers, each checker has its own allocator,
     /// with that bound.
     ///
     /// # Errors

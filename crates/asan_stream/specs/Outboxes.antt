@@ -10,12 +10,12 @@ abbrev pub IsFront : List Report → List Report → Type 0
 IsFront first all = take (length first) all ≡ first
 
 module _ {A : Type 0} where
-  -- which report lane it is, where there is one
+  -- which report lane it is, if there is one
   abbrev pub lane_into : Option (LaneIn Report A) → Option (Lane A)
   lane_into None = None
   lane_into (Some lane) = Some (in_lane lane)
 
-  -- what was put into a report lane, where there is one
+  -- what was put into a report lane, if there is one
   abbrev pub put_into : Option (LaneIn Report A) → List Report
   put_into None = []
   put_into (Some lane) = put_list lane

@@ -32,7 +32,7 @@ module _ {F A : Type 0} (seen : F → FeedState) (options : Options) (first : F)
     pub ended : HasEnded seen options.limit first r.source events
     pub stands : StandsOrFailed options.quarantine r.checker (reverse events)
 
-  -- where there is more to check, or else none
+  -- if there is more to check, or else none
   abbrev pub IsThen : Bool → Replay F A → Type 0
   IsThen true r = IsUnderWay r
   IsThen false r = IsThrough r

@@ -8,7 +8,7 @@ use asan_check::Report;
 use std::alloc::Allocator;
 use trace_lane::{LaneEnd, LaneIn};
 
-/// The putting end of a report lane, where there is one, and how many of a checker's reports were
+/// The putting end of a report lane, if there is one, and how many of a checker's reports were
 /// put into it.
 #[derive(Drop)]
 pub(crate) struct Outbox<A: Allocator + Copy> {
@@ -63,7 +63,7 @@ impl<A: Allocator + Copy> Outbox<A> {
         false
     }
 
-    /// The first report that waits: the one after those that were put. None waits where there is
+    /// The first report that waits: the one after those that were put. None waits if there is
     /// no report lane.
     pub fn first_waiting(&self, reports: &[Report]) -> Option<Report>
         ensures first { IfSome self.now.lane
@@ -76,7 +76,7 @@ impl<A: Allocator + Copy> Outbox<A> {
         reports.get(self.put).copied()
     }
 
-    /// Ends the report lane. `None` where there is none, or where nobody takes from it any more.
+    /// Ends the report lane. `None` if there is none, or if nobody takes from it any more.
     pub fn finish(&mut self) -> Option<LaneEnd<Report, A>>
         ensures closed { self.new.lane ≡ None }
         ensures none { Holds self.new [] }

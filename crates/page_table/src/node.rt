@@ -50,7 +50,7 @@ pub trait Node<A: Allocator + Copy>: Drop {
             (byte_at self.new) from to byte) };
 
     /// Sets the bytes at the indices from one up to another, run after run, if these are a part of
-    /// one leaf that has bytes of its own, and says whether it did. Takes no memory.
+    /// one leaf that has its own bytes, and says whether it did. Takes no memory.
     fn write_runs(&mut self, from: u64, to: u64, runs: &[Run]) -> bool
         requires fits { fits }
         requires length { to ≡ from + length_of runs.now }
@@ -63,7 +63,7 @@ pub trait Node<A: Allocator + Copy>: Drop {
     ghost is_width: { fits → IsWidth width };
 }
 
-/// Sets the bytes from an index on, run after run, each by a fill of its own.
+/// Sets the bytes from an index on, run after run, each by one fill.
 #[inline(never)]
 pub fn fill_each_run<S: Node<A>, A: Allocator + Copy>(
     node: &mut S,

@@ -39,9 +39,9 @@ const _: () = prove!(size_of::<Level5<Global>>() == 32);
 
 /// A byte for each granule below 2^44.
 ///
-/// The memory that one fill takes depends on its two ends alone: for each of them the 4,096 bytes
-/// of a leaf, the 2,048 of the leaves beside it and the 4,096 of a branch of each level above,
-/// where these are not there yet.
+/// A fill takes memory only along the ways to its two ends, for what is not there yet: for each end
+/// at most a leaf (4,096 bytes), the leaves beside it (2,048) and a branch of each level above
+/// (4,096 each).
 #[derive(Drop)]
 pub struct PageTable<A: Allocator + Copy = Global> {
     root: Level5<A>,

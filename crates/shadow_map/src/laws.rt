@@ -41,7 +41,7 @@ pub fn all_past_the_end_is_addressable()
 
 /// What a poison makes of a granule. Of a part from its byte `from` up to its byte `to`: a whole
 /// granule gets the poison's code; else, where the part takes in the last addressable byte, the
-/// bytes before `from` stay addressable and no others, and where there are none of those the
+/// bytes before `from` stay addressable and no others, and if none of those is, the
 /// granule gets the code too; else nothing changes.
 pub fn poison_of_a_granule()
     ensures { PoisonOfAGranule }

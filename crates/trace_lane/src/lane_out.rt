@@ -9,7 +9,7 @@ use std::alloc::{Allocator, Global};
 
 /// The end of a lane that takes. None of its calls waits or takes memory.
 ///
-/// It moves items out of the ring into a buffer of its own, and gives them from there one by one.
+/// It moves items out of the ring into its own buffer, and gives them from there one by one.
 /// Where it is dropped, the items that were not taken are lost, and those that are put later too.
 #[derive(Drop)]
 pub struct LaneOut<T: Copy + Send, A: Allocator + Copy = Global> {

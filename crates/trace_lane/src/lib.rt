@@ -1,7 +1,7 @@
 //! A lane between two threads: one end puts items, the other takes them in the order in which they
 //! were put.
 //!
-//! [`lane`] makes both ends. They belong to one lane, and each may move to a thread of its own.
+//! [`lane`] makes both ends. They belong to one lane, and each may move to another thread.
 //!
 //! - **Nothing waits.** A put that finds no room gives the item back, and a take that finds no item
 //!   gives `None`. The caller says how to wait.

@@ -13,7 +13,7 @@ kind_number kind.Global = 2
 abbrev pub largest_kind : ℕ
 largest_kind = 2
 
--- the kind with a number, where there is one; of any other number it has no meaning
+-- the kind with a number, if there is one; of any other number it has no meaning
 abbrev pub kind_of : ℕ → Kind
 kind_of number =
     if number == 0 then kind.User else (if number == 1 then kind.Stack else kind.Global)

@@ -1,4 +1,4 @@
-/* Faults in a handler on a stack of its own, in a thread that a constructor starts, and in coroutines on mapped stacks:
+/* Faults in a handler on another stack, in a thread that a constructor starts, and in coroutines on mapped stacks:
    at -O0 eight of them. */
 #define _GNU_SOURCE
 #include <pthread.h>
