@@ -1,7 +1,7 @@
--- What one more item does to where a checker stands after the items of a lane.
-use Rattle.std.proofs.Common.{◌≡◌, ℕ, ◌+◌, ◌-◌, ◌<◌, ◌≤◌, ◌^◌, List, [], ◌∷◌, ◌++◌, length, take, drop, Option, Result}
-use Rattle.std.proofs.Common.{Ok, Err, refl, sym, ap, subst, ◌∙◌, inl, inr, arith, length-append, true, false}
-use Rattle.std.specs.Prelude.{Bool, ◌||◌, IfOk, OnErr, IsErr, reverse, option_to_list}
+-- What more items do to where a checker stands after the items of a lane.
+use Rattle.std.proofs.Common.{◌≡◌, ℕ, ◌-◌, ◌<◌, ◌≤◌, List, [], ◌∷◌, ◌++◌, length, take, drop, Option, Result}
+use Rattle.std.proofs.Common.{Ok, Err, refl, sym, ap, subst, ◌∙◌, inl, inr, arith, true}
+use Rattle.std.specs.Prelude.{IfOk, OnErr, IsErr, reverse, option_to_list}
 use Rattle.std.specs.Coded.{Coded-set, coded_list, le_prop}
 use Rattle.std.proofs.Math.Logic.{∥∥₁_map, ∥∥₁_elim}
 use Rattle.std.proofs.lemmas.List.{length-reverse, length-drop, take_all, take-append-le, length-take-le, append-nil}
@@ -14,14 +14,14 @@ use Rattle.asan_check.specs.declared.checker.Failed.{Failed}
 use Rattle.asan_check.specs.declared.report.Report.{Report}
 use Rattle.asan_check.specs.contracts.report.Report as report
 use Rattle.asan_check.specs.Verdicts.{verdict, verdicts}
-use Rattle.asan_check.specs.Standing.{Stands, FailedAt, StandsOrFailed, checked_of, reports_of, has_failed, bound_of}
+use Rattle.asan_check.specs.Standing.{Stands, StandsOrFailed, checked_of, reports_of, has_failed, bound_of}
 use Rattle.asan_stream.specs.declared.item.Item.{Item}
 use Rattle.asan_stream.specs.declared.item.Item.TheVariants as item
 use Rattle.asan_stream.specs.Items.{items_of, events_of, has_end}
 use Rattle.asan_stream.specs.Ranges.{most_events}
 use Rattle.asan_stream.specs.Checking.{StandsAfter, HasChecked}
 use Rattle.asan_stream.specs.Outboxes.{IsFront}
-use Rattle.asan_stream.proofs.Stepping.{stepped, reverse-more, checked_within, reports_short, reports_whole}
+use Rattle.asan_stream.proofs.Stepping.{reports_short, reports_whole}
 use Rattle.asan_stream.proofs.Consequences.{few_of}
 
 pub events_of-event : (items : List Item) (e : Event)
@@ -54,26 +54,6 @@ events_of-append [] more = refl
 events_of-append (item.Event first ∷ items) more = ap (λ events. first ∷ events) (events_of-append items more)
 events_of-append (item.End end ∷ items) more = events_of-append items more
 
--- the end is among more items, where it was not among those before them
-pub has_end-append : (items more : List Item) → has_end items ≡ false → has_end (items ++ more) ≡ has_end more
-has_end-append [] more none = refl
-has_end-append (item.Event first ∷ items) more none = has_end-append items more none
-has_end-append (item.End end ∷ items) more none = absurd (false≢true (sym none))
-
-pub not_ended : (ended full : Bool) → (ended || full) ≡ false → ended ≡ false
-not_ended false full e = refl
-not_ended true full e = e
-
--- what a step may answer where it keeps to its contract
-module _ {A : Type 0} where
-  pub steps : (bound : ℕ) (c new : Checker A) (r : Result (Option Report) Failed) (e : Event) (events : List Event)
-      → IfOk r (λ report. (b : ℕ) (p : List Event) → Stands b c p → (report ≡ verdict b p e) × Stands b new (e ∷ p))
-      → OnErr r ((b : ℕ) (p : List Event) → Stands b c p → FailedAt b new (e ∷ p) × (checked_of new ≡ length p))
-      → (has_failed c ≡ true → IsErr r × (new ≡ c))
-      → ∥ StandsOrFailed bound c (reverse events) ∥₁ → ∥ StandsOrFailed bound new (reverse (events ++ e ∷ [])) ∥₁
-  steps bound c new r e events ok err stays stands =
-      ∥∥₁_map stands (λ s. rw (reverse-more events e) (stepped bound c new r e (reverse events) ok err stays s))
-
 -- two lists of reports are equal in at most one way
 reports-prop : (xs ys : List Report) → IsProp (xs ≡ ys)
 reports-prop xs ys = Coded-set (coded_list (report.the_row).coded) xs ys
@@ -83,18 +63,6 @@ few_first : (events : List Event) → length (take most_events events) ≤ most_
 few_first events = elim (cases_lt (length events) most_events) [
   | inl short ↦ omega (arith, ap length (take_all most_events events (omega arith)))
   | inr long ↦ omega (arith, length-take-le most_events events long)
-]
-
-all_first : (events : List Event) → length (take most_events events) < most_events → length events < most_events
-all_first events few = elim (cases_lt (length events) most_events) [
-  | inl short ↦ short
-  | inr long ↦ absurd (omega (arith, length-take-le most_events events long))
-]
-
-none_more : (events : List Event) → most_events ≤ length (take most_events events) → most_events ≤ length events
-none_more events full = elim (cases_lt (length events) most_events) [
-  | inl short ↦ absurd (omega (arith, ap length (take_all most_events events (omega arith))))
-  | inr long ↦ long
 ]
 
 -- what begins a list still begins it where more follows
@@ -109,12 +77,6 @@ begins_more first some rest begins =
     take-append-le (length first) some rest within ∙ begins
 
 module _ {A : Type 0} where
-  -- a checker has checked no more events than it was handed
-  pub checked_few : (bound : ℕ) (c : Checker A) (events : List Event) → ∥ StandsOrFailed bound c (reverse events) ∥₁
-      → checked_of c ≤ length events
-  checked_few bound c events stands = ∥∥₁_elim stands le_prop (λ s. let n = checked_within bound c (reverse events) s in
-      omega (arith, length-reverse events))
-
   -- a step adds to the reports at the end
   pub grown : (bound : ℕ) (c new : Checker A) (r : Result (Option Report) Failed) (e : Event) (past : List Event)
       → IfOk r (λ report. (b : ℕ) (p : List Event) → Stands b c p → (report ≡ verdict b p e) × Stands b new (e ∷ p))
@@ -129,88 +91,13 @@ module _ {A : Type 0} where
   grown bound c new (Ok x) e past ok kept stays (inr f) = absurd (false≢true (stays f.failed).0)
   grown bound c new (Err x) e past ok kept stays s = ([], kept.2 ∙ sym (append-nil (reports_of c)))
 
-  -- a step's reports begin with those before it
-  pub front_event : (c new : Checker A) (r : Result (Option Report) Failed) (e : Event) (items : List Item)
-      → IfOk r (λ report. (b : ℕ) (p : List Event) → Stands b c p → (report ≡ verdict b p e) × Stands b new (e ∷ p))
-      → OnErr r ((has_failed new ≡ true) × (checked_of new ≡ checked_of c) × (reports_of new ≡ reports_of c))
-      → (has_failed c ≡ true → IsErr r × (new ≡ c))
-      → StandsAfter c items → IsFront (reports_of c) (reports_of new)
-  front_event c new r e items ok kept stays stands =
-      ∥∥₁_elim stands (reports-prop (take (length (reports_of c)) (reports_of new)) (reports_of c)) (λ s.
-      let rest = grown (bound_of c) c new r e (reverse (events_of items)) ok kept stays s in
-      let all = take_all (length (reports_of c)) (reports_of c) (omega arith) in
-      ap (take (length (reports_of c))) rest.1 ∙ begins_more (reports_of c) (reports_of c) rest.0 all)
-
-  -- and so do those of a batch
+  -- a batch adds to the reports at the end
   pub front_batch : (c new : Checker A) (items : List Item)
       → ((bound : ℕ) (past : List Event) → StandsOrFailed bound c past → IsFront (reports_of c) (reports_of new))
       → StandsAfter c items → IsFront (reports_of c) (reports_of new)
   front_batch c new items front stands =
       ∥∥₁_elim stands (reports-prop (take (length (reports_of c)) (reports_of new)) (reports_of c))
       (λ s. front (bound_of c) (reverse (events_of items)) s)
-
-  -- what a bench knows of its checker
-  pub seen_so_far : (c : Checker A) (events : ℕ) (items : List Item) → StandsAfter c items
-      → events ≡ length (events_of items) → events ≤ most_events → HasChecked c events c items
-  seen_so_far c events items stands count few =
-      let all : take most_events (events_of items) ≡ events_of items =
-      take_all most_events (events_of items) (omega arith) in
-      record {
-        count = count ∙ ap length (sym all);
-        stands = subst (λ es. ∥ StandsOrFailed (bound_of c) c (reverse es) ∥₁) (sym all) stands;
-        begins = take_all (length (reports_of c)) (reports_of c) (omega arith);
-      }
-
-  -- it was handed the same events by some more items
-  seen_same : (first c : Checker A) (n : ℕ) (items more : List Item)
-      → take most_events (events_of more) ≡ take most_events (events_of items) → HasChecked first n c items
-      → HasChecked first n c more
-  seen_same first c n items more same seen = record {
-    count = seen.count ∙ ap length (sym same);
-    stands = subst (λ es. ∥ StandsOrFailed (bound_of first) c (reverse es) ∥₁) (sym same) seen.stands;
-    begins = seen.begins;
-  }
-
-  pub seen_end : (first c : Checker A) (n : ℕ) (items : List Item) (end : End) → HasChecked first n c items
-      → HasChecked first n c (items ++ item.End end ∷ [])
-  seen_end first c n items end seen = seen_same first c n items (items ++ item.End end ∷ [])
-      (ap (take most_events) (events_of-end items end)) seen
-
-  -- an event past the first 2^24 is not handed on
-  pub seen_past : (first c : Checker A) (n : ℕ) (items : List Item) (e : Event) → most_events ≤ n
-      → HasChecked first n c items → HasChecked first n c (items ++ item.Event e ∷ [])
-  seen_past first c n items e full seen =
-      let long : most_events ≤ length (events_of items) =
-      none_more (events_of items) (let count = seen.count in omega arith) in
-      seen_same first c n items (items ++ item.Event e ∷ []) (ap (take most_events) (events_of-event items e)
-      ∙ take-append-le most_events (events_of items) (e ∷ []) long) seen
-
-  -- an event is handed on
-  pub seen_more : (first c new : Checker A) (n : ℕ) (r : Result (Option Report) Failed) (e : Event) (items : List Item)
-      → IfOk r (λ report. (b : ℕ) (p : List Event) → Stands b c p → (report ≡ verdict b p e) × Stands b new (e ∷ p))
-      → OnErr r ((b : ℕ) (p : List Event) → Stands b c p → FailedAt b new (e ∷ p) × (checked_of new ≡ length p))
-      → OnErr r ((has_failed new ≡ true) × (checked_of new ≡ checked_of c) × (reports_of new ≡ reports_of c))
-      → (has_failed c ≡ true → IsErr r × (new ≡ c))
-      → n < most_events → HasChecked first n c items → HasChecked first (n + 1) new (items ++ item.Event e ∷ [])
-  seen_more first c new n r e items ok err kept stays room seen =
-      let es = events_of items in
-      let short : length es < most_events = all_first es (let count = seen.count in omega arith) in
-      let whole : take most_events es ≡ es = take_all most_events es (omega arith) in
-      let more : take most_events (events_of (items ++ item.Event e ∷ [])) ≡ es ++ e ∷ [] =
-      ap (take most_events) (events_of-event items e)
-      ∙ take_all most_events (es ++ e ∷ []) (omega (arith, length-append es (e ∷ []))) in
-      let stood : ∥ StandsOrFailed (bound_of first) c (reverse es) ∥₁ =
-      subst (λ es. ∥ StandsOrFailed (bound_of first) c (reverse es) ∥₁) whole seen.stands in
-      record {
-        count = let count = seen.count in omega (arith, ap length whole, ap length more, length-append es (e ∷ []));
-        stands = subst (λ es. ∥ StandsOrFailed (bound_of first) new (reverse es) ∥₁) (sym more)
-            (steps (bound_of first) c new r e es ok err stays stood);
-        begins = ∥∥₁_elim stood (reports-prop (take (length (reports_of first)) (reports_of new)) (reports_of first))
-            (λ s.
-            let rest = grown (bound_of first) c new r e (reverse es) ok kept stays s in
-            ap (take (length (reports_of first))) rest.1
-            ∙ begins_more (reports_of first) (reports_of c) rest.0 seen.begins);
-      }
 
   -- what a checker has that was handed a whole stream
   pub stream_seen : (first c : Checker A) (n : ℕ) (items : List Item) (events : List Event) (end : End)
@@ -245,26 +132,6 @@ module _ {A : Type 0} where
       let most = few_first (events_of items) in
       omega (arith, length-reverse (take most_events (events_of items))))
 
-  -- a bench whose lane gave an event, which its checker was handed
-  pub stands_event : (old new : Checker A) (r : Result (Option Report) Failed) (e : Event) (items more : List Item)
-      → more ≡ items ++ item.Event e ∷ []
-      → IfOk r (λ report. (b : ℕ) (p : List Event) → Stands b old p → (report ≡ verdict b p e) × Stands b new (e ∷ p))
-      → OnErr r ((b : ℕ) (p : List Event) → Stands b old p → FailedAt b new (e ∷ p) × (checked_of new ≡ length p))
-      → (has_failed old ≡ true → IsErr r × (new ≡ old))
-      → bound_of new ≡ bound_of old → StandsAfter old items → StandsAfter new more
-  stands_event old new r e items more taken ok err stays same stands =
-      subst (λ b. ∥ StandsOrFailed b new (reverse (events_of more)) ∥₁) (sym same)
-      (subst (λ es. ∥ StandsOrFailed (bound_of old) new (reverse es) ∥₁)
-      (sym (ap events_of taken ∙ events_of-event items e))
-      (steps (bound_of old) old new r e (events_of items) ok err stays stands))
-
-  -- a bench whose lane gave the end
-  pub stands_end : (c : Checker A) (items more : List Item) (end : End) → more ≡ items ++ item.End end ∷ []
-      → StandsAfter c items → StandsAfter c more
-  stands_end c items more end taken stands =
-      subst (λ es. ∥ StandsOrFailed (bound_of c) c (reverse es) ∥₁) (sym (ap events_of taken ∙ events_of-end items end))
-      stands
-
   -- a bench whose lane gave more items, whose events its checker was handed
   pub stands_batch : (old new : Checker A) (items more : List Item) (events : List Event) → events ≡ events_of more
       → ((bound : ℕ) (past : List Event) → StandsOrFailed bound old past
@@ -277,8 +144,3 @@ module _ {A : Type 0} where
       subst (λ b. ∥ StandsOrFailed b new (reverse (events_of (items ++ more))) ∥₁) (sym same)
       (subst (λ es. ∥ StandsOrFailed (bound_of old) new es ∥₁) (sym all)
       (∥∥₁_map stands (λ s. handed (bound_of old) (reverse (events_of items)) s)))
-
-  -- a checker that was handed few events has room for one more
-  pub room_for_one : (bound : ℕ) (c : Checker A) (events : List Event) (n : ℕ)
-      → ∥ StandsOrFailed bound c (reverse events) ∥₁ → n ≡ length events → n < most_events → checked_of c + 1 < 2 ^ 64
-  room_for_one bound c events n stands count few = let most = checked_few bound c events stands in omega arith

@@ -9,17 +9,17 @@ ghost use Rattle.asan_stream.specs.Ranges.{most_events};
 ghost use Rattle.asan_stream.specs.Checking.{StandsAfter};
 ghost use Rattle.asan_stream.specs.Outboxes.{Holds};
 
-use crate::drain::{Drained, drain};
 use crate::gate::Gate;
 use crate::item::Item;
 use crate::options::MAX_EVENTS;
 use crate::outbox::Outbox;
 use crate::replay::check_each;
 use crate::room::{Room, pick_events};
-use crate::source::BATCH_SIZE;
+use crate::source::batch_room;
 use asan_check::{Checker, Report};
 use std::alloc::{Allocator, Global};
 use trace_lane::{LaneEnd, LaneIn, LaneOut};
+use trace_record::Event;
 
 /// A checker, and the taking end of the lane that its events come from. It may have a report lane
 /// too, into which it puts the checker's reports as they are found.
@@ -72,8 +72,10 @@ pub(crate) enum Found {
 }
 
 impl<A: Allocator + Copy> Bench<A> {
-    ghost use Rattle.std.specs.Prelude.{◌≢◌, ◌↔◌, List, [], IsTrue, IfSome, None, Some};
-    ghost use Rattle.trace_lane.specs.Lanes.{in_lane, out_lane, put_list, end_lane, end_list};
+    ghost use Rattle.std.specs.Prelude.{◌≢◌, ◌↔◌, ◌<◌, ◌++◌, List, [], take, IsTrue, IfSome, None};
+    ghost use Rattle.std.specs.Prelude.{Some};
+    ghost use Rattle.trace_lane.specs.Lanes.{in_lane, out_lane, put_list, waiting, end_lane};
+    ghost use Rattle.trace_lane.specs.Lanes.{end_list};
     ghost use Rattle.asan_check.specs.Standing.{Stands, bound_of};
     ghost use Rattle.asan_stream.specs.Outboxes.{IsFront, KeepsLane};
     ghost use Rattle.asan_stream.specs.Checking.{HasChecked};
@@ -187,6 +189,39 @@ impl<A: Allocator + Copy> Bench<A> {
         sent
     }
 
+    /// Takes the items at hand, as many as there is room for, and hands the events among them to
+    /// the checker, in all at most 2^24. The answer is how many items it took.
+    #[inline]
+    fn take_items(&mut self, items: &mut [Item], events: &mut [Event]) -> usize
+        requires some_room { 0 < length items.old }
+        requires enough_room { length items.old ≤ length events.old }
+        ensures most { result ≤ length items.new }
+        ensures takes { taken_of self.new ≡ taken_of self.old ++ take result items.new }
+        ensures waits { 0 < length (waiting self.old.lane) →
+            waiting self.old.lane ≡ take result items.new ++ waiting self.new.lane }
+        ensures some { 0 < length (waiting self.old.lane) → self.old.events < most_events →
+            0 < result }
+        ensures full { self.old.events ≡ most_events → result ≡ 0 }
+        ensures none { result ≡ 0 → self.new.checker ≡ self.old.checker }
+        ensures found { IsFront (found_of self.old) (found_of self.new) }
+        ensures bound { bench_bound self.new ≡ bench_bound self.old }
+        ensures process { self.new.process ≡ self.old.process }
+        ensures lane { lane_of self.new ≡ lane_of self.old }
+        ensures left { self.new.left ≡ self.old.left }
+        ensures outbox { self.new.outbox ≡ self.old.outbox }
+    {
+        let most = items.len().min((MAX_EVENTS - self.events) as usize);
+        let count = self.lane.take_some(&mut items[..most]);
+        if count == 0 {
+            return 0;
+        }
+        let among = pick_events(&items[..count], events);
+        self.ended |= among.has_end;
+        self.events += among.events as u32;
+        check_each(&mut self.checker, &events[..among.events]);
+        count
+    }
+
     /// Takes one item, if there is one, and checks it if it is an event. Then it puts the report on
     /// it, if there is one and the bench has a report lane, and calls the gate, unless the checker
     /// has failed: a checker that has failed stays so, and its events are taken and dropped.
@@ -209,16 +244,12 @@ impl<A: Allocator + Copy> Bench<A> {
         if self.is_done() {
             return Turn::Over;
         }
-        let Some(item) = self.lane.take() else {
+        // Room for one item.
+        let event = batch_room()[0];
+        let (mut items, mut events) = ([Item::Event(event)], [event]);
+        if self.take_items(&mut items, &mut events) == 0 {
             return Turn::Empty;
-        };
-        let Item::Event(event) = item else {
-            self.ended = true;
-            return Turn::Took;
-        };
-        self.events += 1;
-        // A failed checker stays failed: the outcome says so.
-        let _ = self.checker.step(&event);
+        }
         self.report(gate);
         Turn::Took
     }
@@ -240,16 +271,10 @@ impl<A: Allocator + Copy> Bench<A> {
         if self.is_done() {
             return Found::End;
         }
-        let most = BATCH_SIZE.min((MAX_EVENTS - self.events) as usize);
-        let count = self.lane.take_some(&mut room.items[..most]);
-        if count == 0 {
+        if self.take_items(&mut room.items, &mut room.events) == 0 {
             self.dry = self.left;
             return Found::None;
         }
-        let among = pick_events(&room.items[..count], &mut room.events);
-        self.ended = among.has_end;
-        self.events += among.events as u32;
-        check_each(&mut self.checker, &room.events[..among.events]);
         self.report(gate);
         Found::Items
     }
@@ -312,22 +337,31 @@ impl<A: Allocator + Copy> Bench<A> {
     }
 
     /// Takes all that is left of its lane, which was finished with this end, and checks the events
-    /// of it, in all at most 2^24.
-    pub(crate) fn drain(self, end: LaneEnd<Item, A>) -> Drained<A>
+    /// of it, in all at most 2^24. Its checker, and how many events it was handed.
+    pub(crate) fn drain(self, end: LaneEnd<Item, A>) -> (Checker<A>, u32)
         requires { end_lane end ≡ lane_of self }
-        ensures { HasChecked (checker_of self) result.events result.checker (end_list end) }
+        ensures { HasChecked (checker_of self) result.1 result.0 (end_list end) }
     {
+        let mut bench = self;
+        bench.take_rest(end);
         let Bench {
-            process: _,
-            lane,
             checker,
             events,
-            ended: _,
-            left: _,
-            dry: _,
-            outbox: _,
-            announced: _,
-        } = self;
-        drain(lane, checker, events, end)
+            ..
+        } = bench;
+        (checker, events)
+    }
+
+    /// Does what [`Bench::drain`] does, in place.
+    fn take_rest(&mut self, end: LaneEnd<Item, A>)
+        requires { end_lane end ≡ lane_of self.old }
+        ensures { HasChecked (checker_of self.old) self.new.events (checker_of self.new)
+            (end_list end) }
+    {
+        let mut room = Room::new();
+        let mut left = self.lane.settle(end);
+        while left > 0 && self.events < MAX_EVENTS {
+            left -= self.take_items(&mut room.items, &mut room.events);
+        }
     }
 }

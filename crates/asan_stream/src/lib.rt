@@ -8,7 +8,6 @@
 
 mod bench;
 mod decode;
-mod drain;
 mod gate;
 mod item;
 mod laws;

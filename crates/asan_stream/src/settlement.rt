@@ -11,7 +11,6 @@ ghost use Rattle.asan_stream.specs.Ranges.{most_events, most_reports};
 ghost use Rattle.asan_stream.specs.Outcomes.{reports_of};
 
 use crate::bench::Bench;
-use crate::drain::Drained;
 use crate::outcome::Outcome;
 use crate::reader::ReaderDone;
 use crate::replay::outcome_of;
@@ -47,6 +46,6 @@ pub fn settle<F: Drop, A: Allocator + Copy>(
     let Some(lane_end) = lane_end else {
         return Outcome::Unsettled;
     };
-    let Drained { checker, events } = bench.drain(lane_end);
+    let (checker, events) = bench.drain(lane_end);
     outcome_of(feed, end, checker, u64::from(events))
 }
