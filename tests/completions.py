@@ -7,6 +7,8 @@ import subprocess
 import tempfile
 from typing import Callable, Dict, List, Set, Tuple
 
+from side_by_side import Failure, expect
+
 TOP = os.path.dirname(os.path.dirname(os.path.abspath(__file__)))
 
 OPTION = re.compile(r"--[a-z][a-z-]+")
@@ -37,15 +39,6 @@ PAGES = (
     "man/asancol.1", "man/asancol-trace.5",
     "recorder/man/asancol-cc.1", "run/man/asancol-run.1", "run/man/asancol-report.1",
 )
-
-
-class Failure(Exception):
-    """What a test saw and did not expect."""
-
-
-def expect(seen: object, wanted: object, what: str) -> None:
-    if seen != wanted:
-        raise Failure(f"{what}: saw {seen!r}, wanted {wanted!r}")
 
 
 def output_of(words: List[str], folder: str = TOP) -> str:

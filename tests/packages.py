@@ -19,7 +19,8 @@ import tempfile
 from typing import Callable, Dict, List, NamedTuple, Tuple
 
 import completions
-from completions import TOP, Failure, expect, text_of
+from completions import TOP, text_of
+from side_by_side import Failure, expect
 from files import files_of_tree, is_repository
 
 # No command may take longer, in seconds.

@@ -55,8 +55,7 @@ from support import (
     write,
 )
 
-sys.path.append(f"{os.path.dirname(RECORDER)}/tests")
-import fuzzers  # noqa: E402
+import fuzzers  # beside the tests of the top, which support finds
 
 
 def has_sanitizer(compiler, folder):

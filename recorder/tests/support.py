@@ -1,4 +1,4 @@
-"""What the recorder's tests share: runs, builds, traces, and a suite that runs tests side by side."""
+"""What the recorder's tests share: runs, builds, traces, and the suite."""
 
 import mmap
 import os
@@ -7,9 +7,6 @@ import shutil
 import struct
 import subprocess
 import sys
-import tempfile
-import threading
-from concurrent.futures import ThreadPoolExecutor
 from typing import NamedTuple
 
 TESTS = os.path.dirname(os.path.abspath(__file__))
@@ -17,6 +14,8 @@ RECORDER = os.path.dirname(TESTS)
 sys.path.append(f"{os.path.dirname(RECORDER)}/tests")
 
 import traces  # noqa: E402
+from side_by_side import Failure, SideBySide, expect  # noqa: E402,F401
+
 CC = f"{RECORDER}/asancol-cc"
 CXX = f"{RECORDER}/asancol-c++"
 
@@ -24,15 +23,6 @@ CXX = f"{RECORDER}/asancol-c++"
 PATIENCE = 300
 
 REDZONE = 32
-
-
-class Failure(Exception):
-    """What a test saw and did not expect."""
-
-
-def expect(seen, wanted, what=""):
-    if seen != wanted:
-        raise Failure(f"{what}: saw {seen!r}, wanted {wanted!r}")
 
 
 def environment(**settings):
@@ -279,46 +269,12 @@ def same_as_sanitizer(text, said):
     return offset is None or not places or offset in places
 
 
-class Suite:
-    """Tests that run side by side, one on each processor."""
+class Suite(SideBySide):
+    """The tests of the recorder, and the program that checks what is recorded."""
 
     def __init__(self, asancol, words):
+        super().__init__(words)
         self.asancol = asancol
-        self.words = words
-        self.passed = 0
-        self.failed = 0
-        self.counting = threading.Lock()
-        self.pool = ThreadPoolExecutor(max_workers=len(os.sched_getaffinity(0)))
-
-    def test(self, name, run_it, *arguments):
-        if not self.words or any(word in name for word in self.words):
-            self.pool.submit(self.run_test, name, run_it, *arguments)
-
-    def run_test(self, name, run_it, *arguments):
-        folder = tempfile.mkdtemp(prefix="asancol.")
-        wrong = None
-        try:
-            run_it(self, folder, *arguments)
-        except Exception as error:  # whatever it is, the test has failed
-            wrong = error
-        shutil.rmtree(folder, ignore_errors=True)
-        with self.counting:
-            if wrong is None:
-                self.passed += 1
-            else:
-                self.failed += 1
-                print(f"FAILED {name}: {type(wrong).__name__}: {wrong}", flush=True)
-
-    def add(self, passed, failed):
-        """Counts tests that were run otherwise."""
-        with self.counting:
-            self.passed += passed
-            self.failed += failed
-
-    def finish(self):
-        self.pool.shutdown()
-        print(f"{self.passed} passed, {self.failed} failed")
-        return 0 if self.passed > 0 and self.failed == 0 else 1
 
 
 class Compiler:

@@ -26,10 +26,9 @@ import segments
 import service
 import statuses
 import whole
-from support import TOP, Suite
+from support import Suite
 
-sys.path.append(f"{TOP}/tests")
-import fuzzers  # noqa: E402
+import fuzzers  # beside the tests of the top, which support finds
 
 
 def main() -> int:

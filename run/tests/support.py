@@ -1,18 +1,21 @@
-"""What the tests of asancol-run share: builds, runs, and a suite that runs tests side by side."""
+"""What the tests of asancol-run share: builds, runs, and the suite."""
 
 import glob
 import json
 import os
 import shutil
 import subprocess
+import sys
 import tempfile
-import threading
 import time
-from concurrent.futures import ThreadPoolExecutor
 from typing import Any, Callable, Dict, List, NamedTuple, Optional, Sequence
 
 TESTS = os.path.dirname(os.path.abspath(__file__))
 TOP = os.path.dirname(os.path.dirname(TESTS))
+sys.path.append(f"{TOP}/tests")
+
+from side_by_side import Failure, SideBySide, expect  # noqa: E402,F401
+
 # If SANITIZE is set, the one that is built with the compiler's sanitizers.
 SANITIZE = os.environ.get("SANITIZE", "")
 RUN = f"{TOP}/run/sanitized/asancol-run" if SANITIZE else f"{TOP}/run/asancol-run"
@@ -23,15 +26,6 @@ SEGMENTED = f"{TESTS}/segmented.py"
 
 # No run may take longer, in seconds. Nothing is measured by it.
 PATIENCE = 120
-
-
-class Failure(Exception):
-    """What a test saw and did not expect."""
-
-
-def expect(seen: Any, wanted: Any, what: str = "") -> None:
-    if seen != wanted:
-        raise Failure(f"{what}: saw {seen!r}, wanted {wanted!r}")
 
 
 def expect_in(text: str, *parts: str) -> None:
@@ -62,20 +56,16 @@ def expect_ran(ran: Ran, status: int, *texts: str, absent: Sequence[str] = ()) -
         raise Failure(f"status {ran.status}, wanted {status}; missing {missing}; unwanted {unwanted}; {ran.err[:2000]}")
 
 
-class Suite:
-    """Tests that run side by side, and what they run: each gets a folder for itself."""
+class Suite(SideBySide):
+    """The tests of asancol-run, and what they run."""
 
     def __init__(self, asancol: str, words: Sequence[str]) -> None:
+        super().__init__(words, most=3)
         self.asancol = asancol
-        self.words = words
-        self.passed = 0
-        self.failed = 0
         self.folder = tempfile.mkdtemp(prefix="asancol-tests-")
         self.program = f"{self.folder}/programs"
         self.unchecked = f"{self.folder}/unchecked"
         self.findings = f"{self.folder}/findings"  # of the sanitizers, one file a process
-        self.counting = threading.Lock()
-        self.pool = ThreadPoolExecutor(max_workers=min(3, len(os.sched_getaffinity(0))))
 
     def build(self) -> None:
         """Builds the programs, recorded; and once more so that no code of them is checked."""
@@ -122,31 +112,6 @@ class Suite:
         self.run(*words, FAKE_PACKETS=path, **settings)
         return read_packets(path)
 
-    def test(self, name: str, run_it: Callable[..., None], *arguments: Any) -> None:
-        if not self.words or any(word in name for word in self.words):
-            self.pool.submit(self.run_test, name, run_it, *arguments)
-
-    def run_test(self, name: str, run_it: Callable[..., None], *arguments: Any) -> None:
-        folder = tempfile.mkdtemp(prefix="asancol-test-")
-        wrong: Optional[BaseException] = None
-        try:
-            run_it(self, folder, *arguments)
-        except Exception as error:  # whatever it is, the test has failed
-            wrong = error
-        shutil.rmtree(folder, ignore_errors=True)
-        with self.counting:
-            if wrong is None:
-                self.passed += 1
-            else:
-                self.failed += 1
-                print(f"FAILED {name}: {type(wrong).__name__}: {wrong}", flush=True)
-
-    def add(self, passed: int, failed: int) -> None:
-        """Counts tests that were run otherwise."""
-        with self.counting:
-            self.passed += passed
-            self.failed += failed
-
     def show_findings(self) -> None:
         """Counts what sanitizers have found as failures."""
         for path in sorted(glob.glob(f"{self.findings}.*")):
@@ -154,12 +119,9 @@ class Suite:
                 print(f"FAILED sanitizers:\n{file.read()}", flush=True)
             self.failed += 1
 
-    def finish(self) -> int:
-        self.pool.shutdown()
+    def clean_up(self) -> None:
         self.show_findings()
         shutil.rmtree(self.folder, ignore_errors=True)
-        print(f"{self.passed} passed, {self.failed} failed")
-        return 0 if self.passed > 0 and self.failed == 0 else 1
 
 
 def read_packets(path: str) -> List[Any]:
