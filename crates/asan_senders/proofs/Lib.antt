@@ -1,3 +1,4 @@
+pub mod Back
 mod Only
 pub mod Senders
 pub mod Dealing

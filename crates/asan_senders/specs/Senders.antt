@@ -105,6 +105,19 @@ module _ {F A : Type 0} where
     pub bound_is : bench_bound b ≡ bound
     pub lane : (d : Sender F A) → HasLane (slice_index_or senders (process_of b) d) (lane_of b)
 
+  -- a sender that was read has its bench back
+  abbrev pub HasBench : Sender F A → Type 0
+  HasBench sender.NotOpened = Unit {0}
+  HasBench sender.NotStarted = Unit {0}
+  HasBench (sender.Ready feed lane) = Unit {0}
+  HasBench (sender.Running h) = Unit {0}
+  HasBench (sender.Read d) = ⊥
+  HasBench (sender.Joined d b reports) = Unit {0}
+
+  -- the bench is back: its sender has it, if that was read
+  abbrev pub IsBack : List (Sender F A) → Bench A → Type 0
+  IsBack senders b = (d : Sender F A) → HasBench (slice_index_or senders (process_of b) d)
+
   pub record AreAt
       (bound : ℕ) (senders : List (Sender F A)) (benches : List (Bench A)) : Type 0 where
     pub each :

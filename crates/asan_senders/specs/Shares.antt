@@ -1,6 +1,6 @@
 -- The benches of each worker.
 use Rattle.std.specs.Prelude.{◌≡◌, ℕ, ◌<◌, ◌≤◌, ◌+◌, ◌*◌, ◌%◌, ◌⊎◌, ◌++◌, ◌∷◌, List, [], Vec, length}
-use Rattle.std.specs.Prelude.{slice_index_or, slice_set, vec_capacity}
+use Rattle.std.specs.Prelude.{All, slice_index_or, slice_set, vec_capacity}
 use Rattle.asan_stream.specs.declared.bench.Bench.{Bench}
 use Rattle.asan_senders.specs.declared.worker_thread.WorkerThread.{WorkerThread}
 use Rattle.asan_senders.specs.declared.worker_thread.WorkerThread.TheVariants as running
@@ -8,7 +8,7 @@ use Rattle.asan_senders.specs.declared.sender.Sender.{Sender}
 use Rattle.asan_senders.specs.declared.sender.Sender.TheVariants as sender
 use Rattle.asan_senders.specs.Ranges.{most_senders}
 use Rattle.asan_stream.specs.Benches.{EachLater, EachTakesNoMore}
-use Rattle.asan_senders.specs.Senders.{AreAt}
+use Rattle.asan_senders.specs.Senders.{AreAt, IsBack}
 
 -- the benches of one worker
 abbrev pub Share : Type 0 → Type 0
@@ -92,3 +92,7 @@ module _ {F A : Type 0} where
     pub each :
         (k : ℕ) (d : Share A) → k < length shares →
         AreAt bound senders (slice_index_or shares k d).items
+
+  -- each bench of each worker is back
+  abbrev pub AreBack : List (Sender F A) → List (Share A) → Type 0
+  AreBack senders shares = All (λ share. All (IsBack senders) share.items) shares

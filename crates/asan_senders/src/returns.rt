@@ -1,17 +1,18 @@
 //! The benches come back to their senders, and each sender is settled.
 
-ghost use Rattle.std.specs.Prelude.{◌≡◌, ◌≤◌, [], ℕ, IfSome, None, Option, Some};
+ghost use Rattle.std.specs.Prelude.{◌≡◌, ◌≤◌, [], ℕ, All, IfSome, None, Option, Some};
 ghost use Rattle.std.specs.Prelude.{vec_len, vec_capacity};
 ghost use Rattle.trace_lane.specs.Lanes.{Lane};
 ghost use Rattle.asan_print.specs.Ports.{port_lane, taken_at};
 ghost use Rattle.asan_senders.specs.Arrivals.{Pairwise};
+ghost use Rattle.asan_stream.specs.declared.bench.Bench.{Bench as ABench};
 ghost use Rattle.asan_stream.specs.Benches.{lane_of, bench_bound, report_lane_of};
 ghost use Rattle.asan_senders.specs.Closings.{WerePrinted};
 ghost use Rattle.asan_stream.specs.Outboxes.{KeepsLane};
 ghost use Rattle.asan_senders.specs.ReportLanes.{AllFit, AllHave, Fits, SharesHave};
-ghost use Rattle.asan_senders.specs.Senders.{AllJoined, AreAt, Each, Gets, HasLane, IsJoined};
-ghost use Rattle.asan_senders.specs.Senders.{Rejoins, SaysHowFar};
-ghost use Rattle.asan_senders.specs.Shares.{SharesAt};
+ghost use Rattle.asan_senders.specs.Senders.{AllJoined, AreAt, Each, Gets, HasBench, HasLane};
+ghost use Rattle.asan_senders.specs.Senders.{IsBack, IsJoined, Rejoins, SaysHowFar};
+ghost use Rattle.asan_senders.specs.Shares.{AreBack, SharesAt};
 
 use crate::sender::Sender;
 use asan_check::Report;
@@ -30,6 +31,7 @@ fn rejoin<F: Feed + Drop, A: Allocator + Copy>(
 ) -> Sender<F, A>
     requires { HasLane sender (lane_of bench) }
     ensures rejoins { Rejoins F.seen (bench_bound bench) sender result }
+    ensures back { HasBench result }
     ensures fits { (lane : Option (Lane A)) → Fits lane sender →
         KeepsLane lane (report_lane_of bench) → Fits lane result }
 {
@@ -47,6 +49,7 @@ fn rejoin<F: Feed + Drop, A: Allocator + Copy>(
 fn rejoin_at<F: Feed + Drop, A: Allocator + Copy>(sender: &mut Sender<F, A>, bench: Bench<A>)
     requires { HasLane sender.old (lane_of bench) }
     ensures rejoins { Rejoins F.seen (bench_bound bench) sender.old sender.new }
+    ensures back { HasBench sender.new }
     ensures fits { (lane : Option (Lane A)) → Fits lane sender.old →
         KeepsLane lane (report_lane_of bench) → Fits lane sender.new }
 {
@@ -64,6 +67,9 @@ pub(crate) fn place<F: Feed + Drop, A: Allocator + Copy>(
     ensures rejoins { Each (Rejoins F.seen bound) senders.old.items senders.new.items }
     ensures fit { (lanes : ℕ → Option (Lane A)) → AllFit lanes senders.old.items →
         AllHave lanes benches.items → AllFit lanes senders.new.items }
+    ensures back { All (IsBack senders.new.items) benches.items }
+    ensures stays { (bench : ABench A) →
+        IsBack senders.old.items bench → IsBack senders.new.items bench }
 {
     let mut benches = benches;
     while let Some(bench) = benches.pop() {
@@ -82,6 +88,7 @@ pub fn place_all<F: Feed + Drop, A: Allocator + Copy>(
     ensures rejoins { Each (Rejoins F.seen bound) senders.old.items senders.new.items }
     ensures fit { (lanes : ℕ → Option (Lane A)) → AllFit lanes senders.old.items →
         SharesHave lanes shares.items → AllFit lanes senders.new.items }
+    ensures back { AreBack senders.new.items shares.items }
 {
     let mut shares = shares;
     while let Some(share) = shares.pop() {

@@ -1,10 +1,12 @@
-use Rattle.std.proofs.Common.{◌≡◌, ◌<◌, ◌∙◌, sym, subst, length, arith, slice_index_or}
-use Rattle.std.proofs.lemmas.List.{get_or_default}
+use Rattle.std.proofs.Common.{◌≡◌, ◌<◌, ◌∙◌, ◌∷◌, [], sym, subst, length, append-nil, arith}
+use Rattle.std.proofs.Common.{slice_index_or, slice_set}
+use Rattle.std.proofs.lemmas.List.{get_or_default, nil_from_length}
 use Rattle.asan_stream.specs.Benches.{lane_of}
 use Rattle.asan_stream.specs.Benches.{report_lane_of}
 use Rattle.asan_stream.specs.Outboxes.{KeepsLane}
 use Rattle.asan_senders.specs.ReportLanes.{Fits}
-use Rattle.asan_senders.specs.Senders.{Rejoins, HasLane, IsAt}
+use Rattle.asan_senders.specs.Senders.{HasLane, IsAt, IsBack, Rejoins}
+use Rattle.asan_senders.proofs.Back.{all_cons, back_at, back_on, moved}
 use Rattle.asan_senders.proofs.ReportLanes.{fit_set, have_front, have_last}
 use Rattle.asan_senders.proofs.Senders.{each_refl, each_set, rejoins_on, rejoins_same, at_front, at_last}
 use Rattle.asan_senders.proofs.returns.place.Goals as goal
@@ -58,6 +60,16 @@ loop-bench-preserved g c =
             fit_set lanes at ys c.rejoin_at.new.sender was.0 (c.rejoin_at.ensures.fits (lanes at) old keeps),
             have_front lanes c.pop.new.self.items bench held,
           ),
+      (
+        bench ∷ c.loop-bench.invariant.3.0,
+        moved c.args.benches.items c.loop-bench.benches.items c.pop.new.self.items c.loop-bench.invariant.3.0
+            bench c.loop-bench.invariant.3.1 c.in-Some.ensures.items,
+        all_cons (IsBack (slice_set ys at c.rejoin_at.new.sender)) bench c.loop-bench.invariant.3.0
+            (back_at ys at c.rejoin_at.new.sender bench low (sym c.process-at.ensures) c.rejoin_at.ensures.back)
+            (λ k b below. back_on ys at c.rejoin_at.new.sender (slice_index_or c.loop-bench.invariant.3.0 k b) low
+            c.rejoin_at.ensures.back (c.loop-bench.invariant.3.2 k b below)),
+      ),
+      λ b back. back_on ys at c.rejoin_at.new.sender b low c.rejoin_at.ensures.back (c.loop-bench.invariant.4 b back),
     )
 
 pub index_mut-requires : goal.index_mut-requires
@@ -79,7 +91,16 @@ loop-bench-init g c = (
       c.args.senders.now.items,
   c.requires,
   λ lanes fit have. (fit, have),
+  ([], sym (append-nil c.args.benches.items), λ k d below. absurd (omega arith)),
+  λ b back. back,
 )
 
 pub returns-clause-fit : goal.returns-clause-fit
 returns-clause-fit g c = λ lanes fit have. (c.loop-bench.invariant.2 lanes fit have).0
+
+pub returns-clause-back : goal.returns-clause-back
+returns-clause-back g c =
+    let benches = c.loop-bench.benches in
+    let zero : length benches.items ≡ 0 =
+    (let whole = benches.ok.0 in let none = c.in_default.ensures.cases.0 in omega arith) in
+    rw (rw (nil_from_length benches.items zero) at c.loop-bench.invariant.3.1) c.loop-bench.invariant.3.2

@@ -1,7 +1,9 @@
-use Rattle.std.proofs.Common.{vec_len, ℕ, Option}
+use Rattle.std.proofs.Common.{◌≡◌, ◌++◌, List, vec_len, ℕ, Option}
+use Rattle.std.specs.Prelude.{All}
+use Rattle.asan_stream.specs.declared.bench.Bench.{Bench}
 use Rattle.trace_lane.specs.Lanes.{Lane}
 use Rattle.asan_senders.specs.ReportLanes.{AllFit, AllHave}
-use Rattle.asan_senders.specs.Senders.{Each, Rejoins, AreAt}
+use Rattle.asan_senders.specs.Senders.{AreAt, Each, IsBack, Rejoins}
 use Rattle.asan_senders.proofs.returns.place.Given as goal
 
 abbrev pub invariant-loop-bench : goal.invariant-loop-bench
@@ -11,6 +13,9 @@ invariant-loop-bench g l =
     × ((lanes : ℕ → Option (Lane g.row.A.Denot)) → AllFit lanes l.initial.senders.items
     → AllHave lanes l.initial.benches.items →
     AllFit lanes l.senders.items × AllHave lanes l.benches.items)
+    × ((placed : List (Bench g.row.A.Denot)) × (l.initial.benches.items ≡ l.benches.items ++ placed)
+    × All (IsBack l.senders.items) placed)
+    × ((bench : Bench g.row.A.Denot) → IsBack l.initial.senders.items bench → IsBack l.senders.items bench)
 
 abbrev pub decreases-loop-bench : goal.decreases-loop-bench
 decreases-loop-bench g l = vec_len l.benches

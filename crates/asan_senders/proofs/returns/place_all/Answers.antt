@@ -1,4 +1,8 @@
-use Rattle.asan_senders.specs.Senders.{Rejoins}
+use Rattle.std.proofs.Common.{◌≡◌, ◌∷◌, [], sym, append-nil, arith, length}
+use Rattle.std.proofs.lemmas.List.{nil_from_length}
+use Rattle.std.specs.Prelude.{All}
+use Rattle.asan_senders.specs.Senders.{IsBack, Rejoins}
+use Rattle.asan_senders.proofs.Back.{all_cons, moved, shares_stay}
 use Rattle.asan_senders.proofs.Dealing.{shares_front, shares_last}
 use Rattle.asan_senders.proofs.ReportLanes.{shares_have_front, shares_have_last}
 use Rattle.asan_senders.proofs.Senders.{at_kept, each_after, each_refl, rejoins_on, rejoins_same}
@@ -10,6 +14,7 @@ loop-share-init g c = (
       c.args.senders.now.items,
   c.requires,
   λ lanes fit have. (fit, have),
+  ([], sym (append-nil c.args.shares.items), λ k d below. absurd (omega arith)),
 )
 
 pub place-requires : goal.place-requires
@@ -35,7 +40,23 @@ loop-share-preserved g c =
             c.place.ensures.fit lanes was.0 (shares_have_last lanes c.pop.new.self.items c.in-Some.share held),
             shares_have_front lanes c.pop.new.self.items c.in-Some.share held,
           ),
+      (
+        c.in-Some.share ∷ c.loop-share.invariant.3.0,
+        moved c.args.shares.items c.loop-share.shares.items c.pop.new.self.items c.loop-share.invariant.3.0
+            c.in-Some.share c.loop-share.invariant.3.1 c.in-Some.ensures.items,
+        all_cons (λ share. All (IsBack c.place.new.senders.items) share.items) c.in-Some.share
+            c.loop-share.invariant.3.0 c.place.ensures.back
+            (shares_stay c.loop-share.senders.items c.place.new.senders.items c.place.ensures.stays
+            c.loop-share.invariant.3.0 c.loop-share.invariant.3.2),
+      ),
     )
 
 pub returns-clause-fit : goal.returns-clause-fit
 returns-clause-fit g c = λ lanes fit have. (c.loop-share.invariant.2 lanes fit have).0
+
+pub returns-clause-back : goal.returns-clause-back
+returns-clause-back g c =
+    let shares = c.loop-share.shares in
+    let zero : length shares.items ≡ 0 =
+    (let whole = shares.ok.0 in let none = c.in_default.ensures.cases.0 in omega arith) in
+    rw (rw (nil_from_length shares.items zero) at c.loop-share.invariant.3.1) c.loop-share.invariant.3.2

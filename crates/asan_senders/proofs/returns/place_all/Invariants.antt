@@ -1,7 +1,7 @@
-use Rattle.std.proofs.Common.{vec_len, ℕ, Option}
+use Rattle.std.proofs.Common.{◌≡◌, ◌++◌, List, vec_len, ℕ, Option}
 use Rattle.trace_lane.specs.Lanes.{Lane}
 use Rattle.asan_senders.specs.ReportLanes.{AllFit, SharesHave}
-use Rattle.asan_senders.specs.Shares.{SharesAt}
+use Rattle.asan_senders.specs.Shares.{AreBack, Share, SharesAt}
 use Rattle.asan_senders.specs.Senders.{Each, Rejoins}
 use Rattle.asan_senders.proofs.returns.place_all.Given as goal
 
@@ -12,6 +12,8 @@ invariant-loop-share g l =
     × ((lanes : ℕ → Option (Lane g.row.A.Denot)) → AllFit lanes l.initial.senders.items
     → SharesHave lanes l.initial.shares.items →
     AllFit lanes l.senders.items × SharesHave lanes l.shares.items)
+    × ((placed : List (Share g.row.A.Denot)) × (l.initial.shares.items ≡ l.shares.items ++ placed)
+    × AreBack l.senders.items placed)
 
 abbrev pub decreases-loop-share : goal.decreases-loop-share
 decreases-loop-share g l = vec_len l.shares
