@@ -13,6 +13,7 @@ use Rattle.asan_senders.specs.declared.sender.Sender.{Sender}
 use Rattle.asan_senders.specs.declared.sender.Sender.TheVariants as sender
 use Rattle.asan_stream.specs.Benches.{process_of, report_lane_of, EachLater}
 use Rattle.asan_stream.specs.Outboxes.{KeepsLane}
+use Rattle.asan_senders.specs.Arrivals.{Pairwise}
 use Rattle.asan_senders.specs.ReportLanes.{lanes_of, NoneTaken, HasLaneOf, AllHave, SharesHave, Fits, AllFit}
 use Rattle.asan_senders.specs.Senders.{Each, Becomes}
 use Rattle.asan_senders.specs.Shares.{Share, ComesBack, SharesAt, AreEmpty, Deals}
@@ -23,6 +24,19 @@ pub written_back : {X : Type 0} (n : ℕ) (xs ys : List X) → length ys ≡ len
     → take n (ys ++ drop (length ys) xs) ≡ ys
 written_back n xs ys same all = ap (λ k. take k (ys ++ drop (length ys) xs)) (all ∙ sym same)
     ∙ take-append_seam ys (drop (length ys) xs)
+
+-- each of the lists has one more element
+pub pairs_push : {X Y : Type 0} {R : X → Y → Type 0} (xs : List X) (ys : List Y) (x : X) (y : Y) → Pairwise R xs ys
+    → R x y → Pairwise R (xs ++ x ∷ []) (ys ++ y ∷ [])
+pairs_push xs ys x y h here = record {
+  same_length = let e = h.same_length in omega (arith, length-append xs (x ∷ []), length-append ys (y ∷ []));
+  each = λ i d e below. elim (cases_eq i (length xs)) [
+    | inl is ↦ rw (get_or_at xs x [] d i (sym is), get_or_at ys y [] e i (h.same_length ∙ sym is)) here
+    | inr n ↦ let low : i < length xs = omega (arith, length-append xs (x ∷ [])) in
+        let few : i < length ys = let e = h.same_length in omega arith in
+        rw (get_or_append_left xs (x ∷ []) d i low, get_or_append_left ys (y ∷ []) e i few) (h.each i d e low)
+  ];
+}
 
 module _ {A : Type 0} where
   lanes_before : (ports : List (Option (Port A))) (p : Option (Port A)) (k : ℕ) → k < length ports

@@ -1,6 +1,6 @@
 -- Whose report lane is whose: each process has one, or none.
-use Rattle.std.specs.Prelude.{◌≡◌, ℕ, ◌<◌, ◌≤◌, List, [], length, Option, None, Some, IfSome}
-use Rattle.std.specs.Prelude.{slice_index_or, vec_len, vec_capacity}
+use Rattle.std.specs.Prelude.{◌≡◌, ℕ, ◌<◌, ◌≤◌, Bool, List, [], length, Option, None, Some, IfSome}
+use Rattle.std.specs.Prelude.{is_some, slice_index_or, vec_len, vec_capacity}
 use Rattle.trace_lane.specs.Lanes.{Lane, end_lane, end_list}
 use Rattle.asan_print.specs.declared.port.Port.{Port}
 use Rattle.asan_print.specs.Ports.{lane_at, taken_at}
@@ -52,6 +52,16 @@ module _ {F A : Type 0} where
   pub record AllFit (lanes : ℕ → Option (Lane A)) (senders : List (Sender F A)) : Type 0 where
     pub each :
         (i : ℕ) (d : Sender F A) → i < length senders → Fits (lanes i) (slice_index_or senders i d)
+
+  -- at the start, before any reader runs, a sender that is to be read has a port exactly if the
+  -- reports are printed as they come, and one that is not has none
+  abbrev pub HasPort : Bool → Sender F A → Option (Port A) → Type 0
+  HasPort is_live sender.NotOpened port = port ≡ None
+  HasPort is_live sender.NotStarted port = port ≡ None
+  HasPort is_live (sender.Ready feed into) port = is_some port ≡ is_live
+  HasPort is_live (sender.Running h) port = ⊥
+  HasPort is_live (sender.Read d) port = ⊥
+  HasPort is_live (sender.Joined d b reports) port = ⊥
 
   -- there is no sender yet, and room for all
   pub record AreEmptySeats (seats : Seats F A) : Type 0 where

@@ -8,8 +8,8 @@ ghost use Rattle.asan_stream.specs.Benches.{lane_of, process_of, bench_bound, re
 ghost use Rattle.asan_stream.specs.Outboxes.{KeepsLane};
 ghost use Rattle.asan_stream.specs.Ranges.{most_workers};
 ghost use Rattle.asan_senders.specs.Ranges.{most_senders};
-ghost use Rattle.asan_senders.specs.ReportLanes.{AllFit, AreEmptySeats, Fits, NoneTaken, SharesHave};
-ghost use Rattle.asan_senders.specs.ReportLanes.{lanes_of};
+ghost use Rattle.asan_senders.specs.ReportLanes.{AllFit, AreEmptySeats, Fits, HasPort, NoneTaken};
+ghost use Rattle.asan_senders.specs.ReportLanes.{SharesHave, lanes_of};
 ghost use Rattle.asan_senders.specs.Senders.{AllFresh, Came, HasLane, IsFresh};
 ghost use Rattle.asan_senders.specs.Shares.{AreEmpty, Deals, HasRoom, SharesAt};
 
@@ -84,6 +84,7 @@ fn open<F: Feed + Drop, A: Allocator + Copy>(
         × HasLane result.sender (lane_of b)) }
     ensures report_lane { IfSome result.bench (λ b.
         KeepsLane (lane_at result.port) (report_lane_of b)) }
+    ensures port { HasPort is_live result.sender result.port }
     ensures fits { Fits (lane_at result.port) result.sender }
     ensures untaken { taken_at result.port ≡ [] }
 {
@@ -168,6 +169,7 @@ pub fn open_all<F: Feed + Drop, A: Allocator + Copy>(
     ensures shares { SharesAt options.quarantine result.senders.items result.shares.items }
     ensures same { vec_len result.shares ≡ vec_len seats.shares }
     ensures ports { length result.ports.items ≡ length result.senders.items }
+    ensures live { Pairwise (HasPort is_live) result.senders.items result.ports.items }
     ensures untaken { NoneTaken result.ports.items }
     ensures fits { AllFit (lanes_of result.ports.items) result.senders.items }
     ensures have { SharesHave (lanes_of result.ports.items) result.shares.items }

@@ -10,6 +10,7 @@ use Rattle.std.proofs.Math.Nat.{mod-lt}
 use Rattle.asan_senders.proofs.Dealing.{shares_more, shares_none, shares_dealt, room_first, room_on, room_dealt}
 use Rattle.asan_senders.proofs.Dealing.{dealt_length}
 use Rattle.asan_senders.proofs.ReportLanes.{untaken_push, have_none, have_more, have_new, have_dealt, fit_push}
+use Rattle.asan_senders.proofs.ReportLanes.{pairs_push}
 use Rattle.asan_senders.proofs.Senders.{at_new, fresh_push}
 use Rattle.asan_senders.proofs.lanes.open_all.Goals.{in-Some, in_default}
 use Rattle.asan_senders.proofs.lanes.open_all.Goals as goal
@@ -35,6 +36,10 @@ loop-i-init g c =
           seats.no_benches;
       long = search rules;
       port_room = seats.for_ports;
+      live = record {
+        same_length = search rules;
+        each = λ i d e below. absurd (let no = rw none at below in omega arith);
+      };
       untaken = record { each = λ i d below. absurd (let no = rw empty at below in omega arith) };
       fits = record { each = λ i d below. absurd (let no = rw none at below in omega arith) };
       have = have_none (lanes_of c.args.seats.ports.items) (vec_len c.args.seats.shares) c.args.seats.shares.items
@@ -123,6 +128,7 @@ loop-i-preserved g c =
       ];
       long = search rules;
       port_room = search rules;
+      live = rw (pushed, opened) (pairs_push senders ports s p inv.live c.open-seat.ensures.port);
       untaken = rw opened (untaken_push ports p inv.untaken c.open-seat.ensures.untaken);
       fits = rw (opened, pushed) (fit_push senders s ports p same inv.fits c.open-seat.ensures.fits);
       have = elim c.match-bench.branch [
@@ -149,6 +155,9 @@ returns-clause-same g c = c.loop-i.invariant.kept
 pub returns-clause-ports : goal.returns-clause-ports
 returns-clause-ports g c = let long = c.loop-i.invariant.long in let done = c.loop-i.invariant.going.done in
     search rules
+
+pub returns-clause-live : goal.returns-clause-live
+returns-clause-live g c = c.loop-i.invariant.live
 
 pub returns-clause-untaken : goal.returns-clause-untaken
 returns-clause-untaken g c = c.loop-i.invariant.untaken

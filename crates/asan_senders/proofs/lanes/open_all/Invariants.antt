@@ -1,6 +1,7 @@
 use Rattle.std.proofs.Common.{◌≡◌, ◌≤◌, ◌<◌, ℕ, vec_len, slice_index_or}
 use Rattle.std.specs.Vec.{vec_capacity}
-use Rattle.asan_senders.specs.ReportLanes.{AllFit, NoneTaken, SharesHave, lanes_of}
+use Rattle.asan_senders.specs.Arrivals.{Pairwise}
+use Rattle.asan_senders.specs.ReportLanes.{AllFit, HasPort, NoneTaken, SharesHave, lanes_of}
 use Rattle.asan_senders.specs.Shares.{SharesAt, HasRoom}
 use Rattle.asan_senders.specs.Senders.{Came, AllFresh}
 use Rattle.asan_senders.proofs.lanes.open_all.Given as goal
@@ -22,6 +23,7 @@ invariant-loop-i g l = record {
   room : HasRoom (vec_len l.shares) l.i l.shares.items;
   long : vec_len l.ports ≡ l.i;
   port_room : 256 ≤ vec_capacity l.ports;
+  live : Pairwise (HasPort l.is_live) l.senders.items l.ports.items;
   untaken : NoneTaken l.ports.items;
   fits : AllFit (lanes_of l.ports.items) l.senders.items;
   have : SharesHave (lanes_of l.ports.items) l.shares.items;
