@@ -1,5 +1,5 @@
 -- How far a sender may come.
-use Rattle.std.specs.Prelude.{◌≡◌, ℕ, ◌<◌, List, [], length, slice_index_or, IfSome, IsTrue}
+use Rattle.std.specs.Prelude.{◌≡◌, ℕ, ◌<◌, List, [], length, slice_index_or, IfSome, IsSome, IsTrue}
 use Rattle.std.specs.Prelude.{Option, None, Some}
 use Rattle.trace_feed.specs.declared.door.Arrival.{Arrival}
 use Rattle.trace_feed.specs.declared.door.Arrival.TheVariants as arrival
@@ -104,6 +104,16 @@ module _ {F A : Type 0} where
     pub low : process_of b < length senders
     pub bound_is : bench_bound b ≡ bound
     pub lane : (d : Sender F A) → HasLane (slice_index_or senders (process_of b) d) (lane_of b)
+
+  -- at the start, before any reader runs, a sender that is to be read has a bench, and one that is
+  -- not has none
+  abbrev pub IsSeated : Sender F A → Option (Bench A) → Type 0
+  IsSeated sender.NotOpened bench = bench ≡ None
+  IsSeated sender.NotStarted bench = bench ≡ None
+  IsSeated (sender.Ready feed lane) bench = IsSome bench
+  IsSeated (sender.Running h) bench = ⊥
+  IsSeated (sender.Read d) bench = ⊥
+  IsSeated (sender.Joined d b reports) bench = ⊥
 
   -- a sender that was read has its bench back
   abbrev pub HasBench : Sender F A → Type 0

@@ -10,7 +10,7 @@ ghost use Rattle.asan_stream.specs.Ranges.{most_workers};
 ghost use Rattle.asan_senders.specs.Ranges.{most_senders};
 ghost use Rattle.asan_senders.specs.ReportLanes.{AllFit, AreEmptySeats, Fits, HasPort, NoneTaken};
 ghost use Rattle.asan_senders.specs.ReportLanes.{SharesHave, lanes_of};
-ghost use Rattle.asan_senders.specs.Senders.{AllFresh, Came, HasLane, IsFresh};
+ghost use Rattle.asan_senders.specs.Senders.{AllFresh, Came, HasLane, IsFresh, IsSeated};
 ghost use Rattle.asan_senders.specs.Shares.{AreEmpty, Deals, HasRoom, SharesAt};
 
 use crate::NoMemory;
@@ -84,6 +84,8 @@ fn open<F: Feed + Drop, A: Allocator + Copy>(
         × HasLane result.sender (lane_of b)) }
     ensures report_lane { IfSome result.bench (λ b.
         KeepsLane (lane_at result.port) (report_lane_of b)) }
+    ensures same_lane { IfSome result.bench (λ b. report_lane_of b ≡ lane_at result.port) }
+    ensures seated { IsSeated result.sender result.bench }
     ensures port { HasPort is_live result.sender result.port }
     ensures fits { Fits (lane_at result.port) result.sender }
     ensures untaken { taken_at result.port ≡ [] }
