@@ -12,8 +12,8 @@ EXAMPLE := examples/one_byte_past_the_end.trace
 REDZONES := examples/stack_and_global_poison.trace
 
 .PHONY: all demo check stress fuzz fuzz-parsers failures bench soak install uninstall clean recorder check-recorder \
-        check-real bench-record stress-record stress-segments install-recorder run check-run check-farm bench-run \
-        bench-scale install-run install-units dist deb check-packages
+        check-real check-suites bench-record stress-record stress-segments install-recorder run check-run check-farm \
+        bench-run bench-scale install-run install-units options dist deb check-packages
 
 # The program, proved.
 all: asancol
@@ -97,13 +97,13 @@ run:
 # Programs under it, as a user would run them, within two minutes. Tests of tools that are not there are left out, and
 # it says which. With SANITIZE=1 asancol-run is one that the compiler's own sanitizers watch.
 check-run: asancol recorder run
-	$(if $(SANITIZE),$(MAKE) -C run sanitized)
+	$(if $(SANITIZE),$(MAKE) -C run asancol-run-sanitized)
 	$(if $(SANITIZE),SANITIZE=1) run/tests/check.py ./asancol
 
 # Small projects under ctest, meson, automake, GNU parallel, ssh, pytest, Slurm and in sandboxes, within two minutes.
 # Recipes whose tool is not there are left out, and it says which.
 check-farm: asancol recorder run
-	examples/farms/check.py ./asancol
+	tests/farms.py ./asancol
 
 # What one process, one connection and one result cost: the figures of docs/SCALE.md, in some minutes.
 bench-scale: asancol recorder run
@@ -121,10 +121,15 @@ bench-run: asancol recorder run
 	run/tests/bench.py ./asancol
 	run/tests/bench_report.py
 
-# The test suites of real programs, recorded: each passes as without a recorder, and no trace has a report. The sources
+# The test suites of real programs under asancol-run: each passes as without it, and has no report. The sources
 # come from Debian by `apt-get source` the first time; it takes some minutes.
-check-real: asancol recorder
+check-real: asancol recorder run
 	recorder/tests/real.py ./asancol
+
+# AddressSanitizer's own tests, of compiler-rt and of GCC, recorded: each has the report that it has with the real
+# runtime. The sources come as for check-real. Allow it an hour, and more beside other work.
+check-suites: asancol recorder run
+	recorder/tests/suites.py ./asancol
 
 # Threads under load, recorded so many times: each run ends, and reports what was planted.
 TIMES := 1000
@@ -141,6 +146,8 @@ install-recorder:
 
 install-run:
 	$(MAKE) -C run install PREFIX=$(PREFIX) DESTDIR=$(DESTDIR)
+	$(MAKE) -C report install PREFIX=$(PREFIX) DESTDIR=$(DESTDIR)
+	$(MAKE) -C listen install PREFIX=$(PREFIX) DESTDIR=$(DESTDIR)
 
 # The units of systemd for an endless service. None of them is enabled.
 UNITS := asancol.socket asancol@.service asancol.slice
@@ -158,13 +165,18 @@ install: asancol install-units $(if $(HAS_CC),install-recorder install-run)
 	$(call install-completions,completions,asancol)
 
 # Takes away what `make install` has put there, with the same PREFIX and DESTDIR.
-PROGRAMS := asancol asancol-cc asancol-c++ asancol-run asancol-report
+PROGRAMS := asancol asancol-run asancol-report asancol-listen
 
 uninstall:
+	$(MAKE) -C recorder uninstall PREFIX=$(PREFIX) DESTDIR=$(DESTDIR)
 	rm -rf $(ROOT)/lib/asancol
 	rm -f $(foreach it,$(PROGRAMS),$(ROOT)/bin/$(it) $(ROOT)/share/man/man1/$(it).1)
 	rm -f $(ROOT)/share/man/man5/asancol-trace.5 $(UNITS:%=$(ROOT)/lib/systemd/system/%)
 	rm -f $(foreach it,$(PROGRAMS),$(call completions-of,$(it)))
+
+# Completions, lists of manual pages and code, from the tables of options.
+options:
+	options/make.py
 
 # The sources as they are committed, in an archive that is the same whoever makes it.
 dist:

@@ -1,4 +1,4 @@
-# How manual pages and completions are installed, by each of the three Makefiles. They set TOP to this folder.
+# How manual pages and completions are installed, by each of the Makefiles. They set TOP to this folder.
 
 VERSION := $(file < $(TOP)/VERSION)
 ROOT := $(DESTDIR)$(PREFIX)
@@ -11,6 +11,12 @@ define install-page
 install -d $(ROOT)/share/man/man$(subst .,,$(suffix $1))
 sed -e '/^\.TH/s/"asancol"/"asancol $(VERSION)"/' -e 's/^\.Os asancol$$/& $(VERSION)/' $1 > $(ROOT)/share/man/man$(subst .,,$(suffix $1))/$(notdir $1)
 chmod 644 $(ROOT)/share/man/man$(subst .,,$(suffix $1))/$(notdir $1)
+endef
+
+# Between the recipes that a loop makes.
+define newline
+
+
 endef
 
 # $(call completions-of,PROGRAM): where its completions are installed.

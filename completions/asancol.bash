@@ -1,12 +1,12 @@
 # Completion of asancol for bash.
+# Made by `make options` from options/asancol.options.
 
 _asancol() {
     local word=$2 before=$3 command='' at
-    local options='--quarantine --limit --memory --workers --ring --live --help'
     COMPREPLY=()
     for ((at = 1; at < COMP_CWORD; at++)); do
         case ${COMP_WORDS[at]} in
-        check | serve | help)
+        help | check | serve)
             command=${COMP_WORDS[at]}
             break
             ;;
@@ -17,26 +17,38 @@ _asancol() {
     elif [[ $word == = ]]; then
         word=
     fi
-    case $command:$before in
-    *:--quarantine | *:--limit | *:--memory | *:--workers | *:--ring | *:--count) return ;;
-    *:--ready) ;;
-    :*)
-        mapfile -t COMPREPLY < <(compgen -W 'check serve help --help --version' -- "$word")
+    case $before in
+    --quarantine | --limit | --memory | --workers | --ring | --count)
         return
         ;;
-    help:*)
-        mapfile -t COMPREPLY < <(compgen -W 'check serve' -- "$word")
-        return
-        ;;
-    check:*) options+=' --verbose' ;;
-    serve:*) options+=' --count --ready' ;;
-    esac
-    if [[ $word == -* ]]; then
-        mapfile -t COMPREPLY < <(compgen -W "$options" -- "$word")
-    else
+    --ready)
         mapfile -t COMPREPLY < <(compgen -f -- "$word")
         compopt -o filenames 2> /dev/null
-    fi
+        return
+        ;;
+    esac
+    case $command in
+    help)
+        mapfile -t COMPREPLY < <(compgen -W 'check serve' -- "$word")
+        ;;
+    check)
+        if [[ $word == -* ]]; then
+            mapfile -t COMPREPLY < <(compgen -W '--quarantine --limit --memory --workers --ring --live --verbose --help' -- "$word")
+        else
+            mapfile -t COMPREPLY < <(compgen -f -- "$word")
+            compopt -o filenames 2> /dev/null
+        fi
+        ;;
+    serve)
+        if [[ $word == -* ]]; then
+            mapfile -t COMPREPLY < <(compgen -W '--quarantine --limit --memory --workers --ring --live --count --ready --help' -- "$word")
+        else
+            mapfile -t COMPREPLY < <(compgen -f -- "$word")
+            compopt -o filenames 2> /dev/null
+        fi
+        ;;
+    *) mapfile -t COMPREPLY < <(compgen -W 'help check serve --help --version' -- "$word") ;;
+    esac
 }
 
 complete -F _asancol asancol

@@ -5,7 +5,8 @@ usage: packaging/deb.py [FOLDER]
 
 It has what `make install` installs, stripped, and the documents. No root is needed. The package of the same programs
 and commit is always the same, byte for byte: its files belong to root and have the time that SOURCE_DATE_EPOCH says, or
-else that of the commit, or, in an archive of the sources, that of VERSION. It is made at the top of the tree, or in FOLDER.
+else that of the commit, or, in an archive of the sources, that of VERSION. It is made at the top of the tree, or in
+FOLDER.
 """
 
 import email.utils
@@ -22,7 +23,7 @@ from typing import Dict, List
 TOP = os.path.dirname(os.path.dirname(os.path.abspath(__file__)))
 DEBIAN = f"{TOP}/packaging/debian"
 REVISION = "1"
-PROGRAMS = ("asancol", "asancol-cc", "asancol-c++", "asancol-run")
+PROGRAMS = ("asancol", "asancol-cc", "asancol-run")
 
 
 def output_of(words: List[str], folder: str = TOP) -> str:
@@ -63,7 +64,7 @@ def install(root: str) -> None:
 
 
 def strip(root: str) -> None:
-    """Takes out what is for debuggers alone. The archives keep the names that linkers need."""
+    """Takes out what is for debuggers alone, and what differs from build to build. Linkers need the archives' names."""
     for name in PROGRAMS:
         subprocess.run(["strip", "--remove-section=.comment", f"{root}/usr/bin/{name}"], check=True)
     for archive in glob.glob(f"{root}/usr/lib/asancol/*.a"):
@@ -88,7 +89,7 @@ def add_documents(root: str, version: str, maintainer: str, time: int) -> None:
     """Adds the documents as they lie in the tree, so that their links hold, and the two changelogs."""
     folder = f"{root}/usr/share/doc/asancol"
     os.makedirs(f"{folder}/docs")
-    shutil.copy(f"{TOP}/README.md", folder)
+    write(f"{folder}/README.md", text_of(f"{TOP}/README.md").replace("](CHANGELOG.md)", "](changelog.gz)"))
     shutil.copytree(f"{TOP}/examples", f"{folder}/examples")
     for page in glob.glob(f"{TOP}/docs/*.md"):
         shutil.copy(page, f"{folder}/docs")

@@ -4,7 +4,8 @@
 usage: packaging/dist.py [FOLDER]
 
 The archive of a commit is always the same, byte for byte: its files have the time of the commit, belong to root, and
-are in the order of git. It is made at the top of the tree, or in FOLDER. The line that is printed says which commit it has.
+are in the order of git. It is made at the top of the tree, or in FOLDER. The line that is printed says which commit it
+has.
 """
 
 import gzip

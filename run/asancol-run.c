@@ -3,19 +3,25 @@
    Each process connects to a socket of this program, the hub. Its connection becomes the standard input of an asancol,
    its checker: no byte of a trace is read here. docs/FORMAT.md says what a process sends, and the manual page says
    what a user sees. */
+#define _GNU_SOURCE
 #include <errno.h>
 #include <inttypes.h>
 #include <stdio.h>
+#include <stdlib.h>
 #include <string.h>
 #include <sys/wait.h>
 
 #include "checkers.h"
+#include "common/standard.h"
 #include "children.h"
 #include "collect.h"
 #include "command.h"
 #include "descendants.h"
 #include "hub.h"
+#include "lines.h"
 #include "keep.h"
+#include "kin.h"
+#include "lowered.h"
 #include "nested.h"
 #include "options.h"
 #include "processes.h"
@@ -23,26 +29,25 @@
 #include "say.h"
 #include "segments.h"
 #include "signals.h"
+#include "unchecked.h"
+#include "verdict.h"
 
 /* What all processes come to. */
 struct sum {
-    uint64_t events, reports;
-    size_t not_whole, abrupt, with_reports, recorded, marks, unchecked;
+    uint64_t events, reports; /* findings of recorders are reports */
+    uint64_t findings;
+    size_t not_whole, abrupt, crashed, with_reports, recorded, marks, unchecked;
 };
-
-/* Whether it stands for its process: each process has one that does. */
-static bool is_lead(const struct process *process)
-{
-    return process->lead == process;
-}
 
 static void add_to(struct sum *sum, const struct process *joined)
 {
     sum->events += joined->events;
-    sum->reports += joined->reports;
-    sum->with_reports += joined->reports > 0;
+    sum->reports += joined->reports + joined->findings;
+    sum->findings += joined->findings;
+    sum->with_reports += joined->reports + joined->findings > 0;
     sum->not_whole += !joined->is_whole;
     sum->abrupt += joined->is_abrupt;
+    sum->crashed += joined->is_crash;
     sum->recorded += joined->has_checks;
     sum->marks += joined->is_mark;
     sum->unchecked += joined->is_unchecked;
@@ -51,79 +56,78 @@ static void add_to(struct sum *sum, const struct process *joined)
 static struct sum sum_up(void)
 {
     struct sum sum = {0};
+    for (size_t i = 0; i < process_count(); i++)
+        if (process_is_lead(process_at(i)))
+            checker_sum_up(process_at(i));
+    kin_look();
     for (size_t i = 0; i < process_count(); i++) {
-        if (!is_lead(process_at(i)))
+        if (!process_is_lead(process_at(i)))
             continue;
-        checker_sum_up(process_at(i));
         struct process joined = segments_joined(process_at(i));
         add_to(&sum, &joined);
     }
     return sum;
 }
 
-static const char *plural(uint64_t count, const char *end)
+/* What the summary says after the numbers. `totals_line` of asancol-report says the same of several runs: a test holds
+   one against the other (tests/judge.py). */
+static void put_whole(FILE *to, const struct sum *sum, bool is_incomplete, bool lists_unchecked)
 {
-    return count == 1 ? "" : end;
+    bool is_first = sum->not_whole == 0 && !is_incomplete && unchecked_count() > 0;
+    if (sum->not_whole > 0)
+        fprintf(to, "; %zu NOT SEEN WHOLE", sum->not_whole);
+    else if (!is_first)
+        fputs(is_incomplete ? "; NOT SEEN WHOLE" : "; all seen whole", to);
+    if (sum->abrupt > 0)
+        fprintf(to, "%s %zu ended abruptly", is_first ? ";" : ",", sum->abrupt);
+    is_first &= sum->abrupt == 0;
+    if (sum->crashed > 0)
+        fprintf(to, "%s %zu crashed", is_first ? ";" : ",", sum->crashed);
+    if (unchecked_count() == 0 || !lists_unchecked)
+        return;
+    fputs("; not checked: ", to);
+    unchecked_say(to);
 }
 
-static void say_whole(const struct process *process)
+static void say_summary(const struct sum *sum, bool is_incomplete, bool lists_unchecked)
 {
-    char segments[48] = "";
-    if (process->segments > 1)
-        snprintf(segments, sizeof segments, " in %zu segments", process->segments);
-    say("asancol: process %d %s: seen whole%s%s, %" PRIu64 " event%s%s, %" PRIu64 " report%s", process->own_number,
-        process->name, process->why[0] != 0 ? ": " : "", process->why, process->events, plural(process->events, "s"),
-        segments, process->reports, plural(process->reports, "s"));
-}
-
-/* The lines of processes: of those that were not seen whole or ended abruptly, if asancol-report does not print them,
-   and of the others if all are wanted. */
-static void say_processes(bool is_reported, bool is_verbose, bool is_quiet)
-{
-    for (size_t i = 0; i < process_count(); i++) {
-        struct process process = segments_joined(process_at(i));
-        if (!is_lead(process_at(i)))
-            continue;
-        if (!process.is_whole && !is_reported)
-            say("asancol: process %d %s: NOT SEEN WHOLE: %s", process.own_number, process.name, process.why);
-        else if (process.is_abrupt && !is_reported && !is_quiet)
-            say("asancol: process %d %s: %s: seen up to there", process.own_number, process.name, process.why);
-        else if (process.is_whole && is_verbose)
-            say_whole(&process);
-    }
-}
-
-static void say_summary(const struct sum *sum, bool is_incomplete)
-{
-    char reports[96] = "no reports", whole[48] = "all seen whole", abrupt[48] = "";
+    char reports[128] = "no reports", *whole = NULL;
+    size_t length = 0, count = segments_process_count();
     if (sum->reports > 0)
         snprintf(reports, sizeof reports, "%" PRIu64 " report%s in %zu process%s", sum->reports,
                  plural(sum->reports, "s"), sum->with_reports, plural(sum->with_reports, "es"));
-    if (sum->not_whole > 0)
-        snprintf(whole, sizeof whole, "%zu NOT SEEN WHOLE", sum->not_whole);
-    else if (is_incomplete)
-        snprintf(whole, sizeof whole, "NOT SEEN WHOLE");
-    if (sum->abrupt > 0)
-        snprintf(abrupt, sizeof abrupt, ", %zu ended abruptly", sum->abrupt);
-    size_t count = segments_process_count();
-    say("asancol: %s; %zu process%s, %" PRIu64 " event%s; %s%s", reports, count, plural(count, "es"), sum->events,
-        plural(sum->events, "s"), whole, abrupt);
+    if (sum->findings > 0)
+        snprintf(reports + strlen(reports), sizeof reports - strlen(reports), " (%" PRIu64 " by the recorder)",
+                 sum->findings);
+    FILE *to = must(open_memstream(&whole, &length));
+    put_whole(to, sum, is_incomplete, lists_unchecked);
+    if (fclose(to) != 0)
+        must(NULL);
+    say("asancol: %s; %zu process%s, %" PRIu64 " event%s%s", reports, count, plural(count, "es"), sum->events,
+        plural(sum->events, "s"), whole);
+    free(whole);
 }
 
 /* What holds of the run, and not of one process. */
-static void say_outcome(const struct outcome *outcome)
+static struct words troubles_of(const struct outcome *outcome)
 {
+    static char missing[96], lost[96]; /* there is one run */
+    struct words lines = {0};
+    snprintf(missing, sizeof missing, "NOT ALL SEEN: %" PRIu64 " fewer than --at-least asks for were recorded",
+             outcome->missing);
+    snprintf(lost, sizeof lost, "NOT ALL SEEN: %" PRIu64 " run%s inside this one left no result", outcome->lost,
+             plural(outcome->lost, "s"));
     if (outcome->nothing)
-        say("asancol: NOTHING WAS RECORDED: was a program built with asancol-cc?");
+        words_add(&lines, "NOTHING WAS RECORDED: was a program built with asancol-cc?");
     else if (outcome->missing > 0)
-        say("asancol: NOT ALL SEEN: %" PRIu64 " fewer than --at-least asks for were recorded", outcome->missing);
+        words_add(&lines, missing);
     if (outcome->is_running)
-        say("asancol: NOT ALL SEEN: processes of the command still run");
+        words_add(&lines, "NOT ALL SEEN: processes of the command still run");
     if (outcome->has_timed_out)
-        say("asancol: NOT ALL SEEN: the command was ended by --timeout");
+        words_add(&lines, "NOT ALL SEEN: the command was ended by --timeout");
     if (outcome->lost > 0)
-        say("asancol: NOT ALL SEEN: %" PRIu64 " run%s inside this one left no result", outcome->lost,
-            plural(outcome->lost, "s"));
+        words_add(&lines, lost);
+    return lines;
 }
 
 /* Whether something was not seen, apart from that nothing was recorded. */
@@ -143,7 +147,10 @@ static enum answer conclude(const struct options *options, const struct sum *sum
     bool is_incomplete = is_cut_short(sum, outcome) || outcome->nothing;
     enum answer answer = is_incomplete ? ANSWER_NOT_WHOLE : ANSWER_CLEAN;
     progress_erase();
-    say_processes(true, options->verbose, options->quiet);
+    if (options->verbose) {
+        lines_say_whole();
+        unchecked_say_all();
+    }
     report_finish(outcome);
     if (report_was_started()) {
         collect_report();
@@ -155,10 +162,14 @@ static enum answer conclude(const struct options *options, const struct sum *sum
     } else if (nested_result() != NULL) {
         report_leave(nested_result());
     }
-    say_processes(false, false, options->quiet);
-    say_outcome(outcome);
-    if (!options->quiet || is_incomplete || answer == ANSWER_NONE || answer == ANSWER_ARGUMENTS)
-        say_summary(sum, is_incomplete);
+    lines_say(options->quiet);
+    for (size_t i = 0; i < outcome->troubles.count; i++)
+        say("asancol: %s", outcome->troubles.words[i]);
+    bool is_listed = options->unchecked != UNCHECKED_NO && unchecked_count() > 0;
+    if (!options->quiet || is_incomplete || is_listed || answer == ANSWER_NONE || answer == ANSWER_ARGUMENTS)
+        say_summary(sum, is_incomplete, options->unchecked != UNCHECKED_NO);
+    for (size_t i = 0; i < outcome->notes.count && (!options->quiet || is_incomplete); i++)
+        say("asancol: %s", outcome->notes.words[i]);
     return answer;
 }
 
@@ -194,6 +205,7 @@ static pid_t start(const struct options *options, int *signals)
     hub_open();
     children_begin();
     *signals = signals_open();
+    descendants_note_inherited();
     descendants_adopt();
     report_begin(options);
     nested_note_begun();
@@ -210,12 +222,34 @@ static pid_t start(const struct options *options, int *signals)
     return command;
 }
 
+/* asancol-run --files [OPTION..] -- NUMBER:TRACE..: asancol-report --trace starts this for each process, with a socket
+   as standard output. It checks the segments of the process in files, and sends what it sends of a run. */
+static int check_files(const struct options *options)
+{
+    if (!report_is_at(STDOUT_FILENO))
+        fail(OWN_FAILURE, "--files", "standard output is no socket: asancol-report --trace gives one");
+    children_begin();
+    int signals = signals_open();
+    signals_ignore_pipe();
+    report_begin(options);
+    collect_files(options, signals);
+    struct outcome outcome = {.notes = lowered_lines(options, false)};
+    report_finish(&outcome);
+    collect_report();
+    return 0;
+}
+
 int main(int count, char **words)
 {
     int signals;
     (void)count;
-    say_fill_standard();
+    fill_standard();
     struct options options = options_read(words);
+    verdict_counts_leaks(options.leaks == LEAKS_YES);
+    if (options.are_files) {
+        checkers_begin(&options);
+        return check_files(&options);
+    }
     checkers_begin(&options);
     nested_begin();
     double started = now();
@@ -231,12 +265,15 @@ int main(int count, char **words)
         .is_running = collected.is_running,
         .has_timed_out = collected.has_timed_out,
         .lost = nested.lost,
+        .notes = lowered_lines(&options, sum.recorded > 0),
     };
+    outcome.troubles = troubles_of(&outcome);
     bool is_incomplete = is_cut_short(&sum, &outcome);
+    bool is_error = options.unchecked == UNCHECKED_ERROR && unchecked_count() > 0;
     if (!outcome.nothing || is_incomplete)
         nested_note_recorded();
     enum answer answer = conclude(&options, &sum, &outcome, nested.is_there);
     hub_remove();
-    is_incomplete |= !say_close();
+    is_incomplete |= is_error || !say_close();
     return status_of(&options, answer, &sum, &outcome, is_incomplete);
 }

@@ -18,12 +18,14 @@
 #include "report.h"
 #include "say.h"
 #include "segments.h"
+#include "unchecked.h"
 #include "verdict.h"
 
 static struct {
     char *program;
     struct words options; /* of asancol check */
     uint64_t quarantine;  /* that they say */
+    bool is_fixed;        /* whatever the process has held */
     bool keeps;
 } checkers;
 
@@ -33,7 +35,7 @@ static struct words words_for(const struct process *process)
     static const char option[] = "--quarantine";
     static char bytes[24];
     struct words words = {0};
-    bool is_other = process->side != NULL && process->side->quarantine != checkers.quarantine;
+    bool is_other = process->side != NULL && process->side->quarantine != checkers.quarantine && !checkers.is_fixed;
     words_add(&words, "asancol");
     if (checkers.options.count == 0 && !is_other)
         return words;
@@ -61,10 +63,8 @@ void checkers_begin(const struct options *options)
              "the program that checks is not there, or cannot be executed; the variable ASANCOL may name it");
     }
     checkers.options = options->check;
-    checkers.quarantine = QUARANTINE_BOUND;
-    for (size_t i = 0; i < options->check.count; i += 2)
-        if (strcmp(options->check.words[i], "--quarantine") == 0)
-            checkers.quarantine = strtoull(options->check.words[i + 1], NULL, 10);
+    checkers.quarantine = options->held;
+    checkers.is_fixed = options->are_files && options->quarantine != NULL;
     checkers.keeps = options->keep != NULL;
     if (checkers.keeps)
         keep_begin(options->keep);
@@ -111,7 +111,7 @@ static void meet(struct process *process)
 {
     if (process->name != NULL)
         return;
-    process->side_memory = side_receive(process->connection);
+    process->side_memory = side_receive(process->connection, &process->modules);
     if (process->side_memory >= 0)
         process->side = side_map(process->side_memory);
     if (process->side == NULL)
@@ -197,7 +197,7 @@ static void let_side_go(struct process *process)
 /* Whether somebody may want to see the traces of a process. */
 static bool is_kept(const struct process *joined)
 {
-    return joined->reports > 0 || !joined->is_whole;
+    return joined->reports + joined->findings > 0 || !joined->is_whole;
 }
 
 void checker_sum_up(struct process *process)
@@ -228,9 +228,11 @@ static void finish(struct process *process)
     process_is_done(process);
     close_one(&process->connection);
     verdict_read(process);
+    unchecked_take(process);
     bool is_several = segments_are_several(process);
     keep_end(process, is_several || !process->is_settled || is_kept(process));
     report_process(process);
+    modules_let_go(&process->modules);
     close_one(&process->verdicts);
     close_one(&process->side_memory);
     if (!is_several)

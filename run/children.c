@@ -24,6 +24,7 @@ enum { BUCKETS = 4096 };
 static struct child *buckets[BUCKETS];
 static sigset_t mask_before, usual;
 static char **checkers_environment;
+static int for_report[16], for_report_count; /* descriptors: each output is at most one */
 
 /* Makes the environment of the checkers: this one, and huge pages for the shadow, unless it says something of them. */
 static void make_environment(void)
@@ -69,6 +70,12 @@ static void add(pid_t number, enum role role, struct process *process)
     *bucket(number) = made;
 }
 
+void child_keep_for_report(int descriptor)
+{
+    if (for_report_count < (int)(sizeof for_report / sizeof *for_report))
+        for_report[for_report_count++] = descriptor;
+}
+
 pid_t child_start(enum role role, struct process *process, const char *program, const char *const *words, int input,
                   int output)
 {
@@ -82,6 +89,8 @@ pid_t child_start(enum role role, struct process *process, const char *program, 
     posix_spawn_file_actions_adddup2(&actions, input, STDIN_FILENO);
     posix_spawn_file_actions_adddup2(&actions, output, STDOUT_FILENO);
     posix_spawn_file_actions_adddup2(&actions, STDERR_FILENO, STDERR_FILENO);
+    for (int i = 0; role == ROLE_REPORT && i < for_report_count; i++)
+        posix_spawn_file_actions_adddup2(&actions, for_report[i], for_report[i]); /* on itself: it stays open */
     posix_spawnattr_init(&attributes);
     /* What is typed at the terminal ends the command, and not its check. */
     posix_spawnattr_setflags(&attributes, POSIX_SPAWN_SETPGROUP | POSIX_SPAWN_SETSIGMASK | POSIX_SPAWN_SETSIGDEF);

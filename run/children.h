@@ -13,6 +13,9 @@ enum role { ROLE_CHECKER, ROLE_TEE, ROLE_REPORT };
 /* Notes how signals stand, before the first signal is blocked. */
 void children_begin(void);
 
+/* asancol-report gets this descriptor too, under its number. */
+void child_keep_for_report(int descriptor);
+
 /* Starts a program in a process group apart from the command's, with these descriptors as its standard input and
    output. Answers its number, or 0 and errno. */
 pid_t child_start(enum role role, struct process *process, const char *program, const char *const *words, int input,

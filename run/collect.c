@@ -13,12 +13,14 @@
 #include <sys/wait.h>
 #include <unistd.h>
 
+#include "common/text.h"
 #include "checkers.h"
 #include "children.h"
 #include "deaths.h"
 #include "descendants.h"
 #include "hub.h"
-#include "names.h"
+#include "marks.h"
+#include "modules.h"
 #include "peers.h"
 #include "processes.h"
 #include "report.h"
@@ -75,7 +77,7 @@ static void count_descriptors(void)
 
 static bool has_room(void)
 {
-    size_t held = run.base + HELD_BY_PROCESS * process_live_count() + report_held();
+    size_t held = run.base + HELD_BY_PROCESS * process_live_count() + report_held() + modules_held();
     return now() >= run.short_until && (process_live_count() == 0 || held + HELD_BY_PROCESS <= run.descriptors);
 }
 
@@ -189,6 +191,11 @@ static void reap(void)
 /* The user wants an end: of waiting first, and then of the report. */
 static void hurry(void)
 {
+    for (size_t i = 0; run.options->are_files && i < process_count(); i++)
+        if (process_at(i)->checker != 0)
+            kill(process_at(i)->checker, SIGKILL);
+    if (run.options->are_files)
+        signals_end_by(SIGTERM);
     if (run.cut == 0)
         run.wait_from = now() - run.options->wait;
     else
@@ -268,7 +275,8 @@ static bool has_queue(void)
 static void stop_command(double time)
 {
     if (run.kill_at == 0) {
-        say("asancol: the command is ended by --timeout, after %g seconds", run.options->timeout);
+        say("asancol: the command is ended by --timeout, after %g second%s", run.options->timeout,
+            run.options->timeout == 1 ? "" : "s");
         run.has_timed_out = true;
         for (size_t i = 0; i < process_count(); i++)
             if (process_at(i)->stage != STAGE_DONE)
@@ -346,56 +354,53 @@ static bool is_over(void)
     return process_live_count() == 0 && !has_queue();
 }
 
+static void wait_for_room(void)
+{
+    while (process_live_count() >= FILES_AT_ONCE)
+        turn(LOOK);
+}
+
+static void start_file(struct process *process)
+{
+    while (!checker_start_file(process))
+        turn(SHORTAGE);
+}
+
 /* Checks a trace of a process that did not reach the hub. */
 static void check_file(const char *name)
 {
     char *path;
-    while (process_live_count() >= FILES_AT_ONCE)
-        turn(LOOK);
+    wait_for_room();
     if (asprintf(&path, "%s/%s", hub_folder(), name) < 0)
         must(NULL);
     struct process *process = process_add();
     process->trace = path;
     process->peer = atoi(name);
     process->cut = run.has_timed_out ? CUT_BY_TIMEOUT : CUT_NONE;
-    while (!checker_start_file(process))
-        turn(SHORTAGE);
+    start_file(process);
 }
 
-/* The process of this number that has connected and sent nothing, or null. */
-static struct process *mark_of(pid_t number)
+void collect_files(const struct options *options, int signals)
 {
-    for (size_t i = 0; i < process_count(); i++)
-        if (process_at(i)->is_mark && process_at(i)->peer == number)
-            return process_at(i);
-    return NULL;
-}
-
-/* A process that was not recorded has left a link, whose text is its program and why. */
-static void take_mark(DIR *folder, const char *name)
-{
-    char text[512];
-    ssize_t length = readlinkat(dirfd(folder), name, text, sizeof text - 1);
-    if (length < 0)
-        return;
-    text[length] = 0;
-    char *why = strrchr(text, '\n');
-    if (why != NULL)
-        *why++ = 0;
-    struct process *process = mark_of(atoi(name));
-    bool is_known = process != NULL;
-    if (!is_known)
-        process = process_add();
-    process->peer = process->own_number = atoi(name);
-    process->is_mark = true;
-    process_set_name(process, why != NULL && text[0] != 0 ? text : "(unknown)");
-    why = why != NULL && *why != 0 ? why : "it was not recorded";
-    if (!is_known) {
-        checker_give_up(process, why);
-        return;
+    struct process *lead = NULL;
+    run.options = options;
+    run.signals = signals;
+    for (char **word = options->command; *word != NULL; word++) {
+        char *path;
+        uint64_t number = strtoull(*word, &path, 10);
+        if (number == 0 || *path++ != ':')
+            fail(OWN_FAILURE, *word, "it is no NUMBER:TRACE");
+        wait_for_room();
+        struct process *process = process_add();
+        process->trace = path;
+        process->segment = number - 1;
+        lead = lead == NULL ? process : lead;
+        segments_join_file(lead, process);
+        start_file(process);
     }
-    snprintf(process->why, sizeof process->why, "%s", why);
-    report_again(process);
+    while (process_live_count() > 0)
+        turn(LOOK);
+    checker_sum_up(lead);
 }
 
 /* Traces, marks and results may have been in the folder. */
@@ -415,13 +420,12 @@ static void check_files(void)
     while (entries != NULL && (entry = readdir(entries)) != NULL) {
         if (ends_with(entry->d_name, ".trace"))
             check_file(entry->d_name);
-        else if (ends_with(entry->d_name, ".unseen"))
-            take_mark(entries, entry->d_name);
     }
     if (entries != NULL)
         closedir(entries);
     while (process_live_count() > 0)
         turn(LOOK);
+    marks_take(hub_folder());
 }
 
 struct collected collect(const struct options *options, pid_t command, int signals)
@@ -432,6 +436,7 @@ struct collected collect(const struct options *options, pid_t command, int signa
     run.started = now();
     run.timeout_at = options->timeout > 0 ? run.started + options->timeout : 0;
     count_descriptors();
+    modules_allow(run.descriptors / 4);
     while (!is_over())
         turn(act());
     hub_stop();
@@ -443,6 +448,6 @@ struct collected collect(const struct options *options, pid_t command, int signa
 
 void collect_report(void)
 {
-    while (report_is_running())
+    while (report_is_running() || report_poll().fd >= 0)
         turn(LOOK);
 }

@@ -16,7 +16,9 @@ struct collected {
 
 /* Accepts and checks what comes, until the command has ended and nothing is left of it, or --wait is over. */
 struct collected collect(const struct options *options, pid_t command, int signals);
-/* Waits until asancol-report has ended. */
+/* Checks traces in files, which are segments of one process: of each NUMBER:PATH. */
+void collect_files(const struct options *options, int signals);
+/* Waits until asancol-report has ended, or has all, if it was there before. */
 void collect_report(void);
 
 #endif

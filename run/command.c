@@ -5,9 +5,12 @@
 #include <fcntl.h>
 #include <stdlib.h>
 #include <string.h>
+#include <sys/prctl.h>
 #include <sys/wait.h>
 #include <unistd.h>
 
+#include "common/inherited.h"
+#include "hub.h"
 #include "say.h"
 #include "signals.h"
 
@@ -18,13 +21,26 @@ static void set_environment(const struct options *options, const char *hub)
     unsetenv("ASANCOL_TRACE");
     unsetenv("ASANCOL_SOCKET");
     unsetenv("ASANCOL_STOP"); /* a debugger is run by itself */
+    setenv("ASANCOL_LEAKS", options->leaks != LEAKS_NO ? "1" : "0", 1);
     if (options->quarantine != NULL)
         setenv("ASANCOL_QUARANTINE", options->quarantine, 1);
+    if (options->no_mismatches)
+        setenv("ASANCOL_MISMATCHES", "0", 1);
+}
+
+/* What it inherits also without its environment. */
+static void mark_slack(const char *hub)
+{
+    size_t length = hub_public_length();
+    int slack = prctl(PR_GET_TIMERSLACK, 0, 0, 0, 0);
+    if (length > 0 && slack >= SLACK_STEP)
+        prctl(PR_SET_TIMERSLACK, slack_for(hub, length, (unsigned long)slack), 0, 0, 0);
 }
 
 static _Noreturn void become(const struct options *options, const char *hub, int failure)
 {
     set_environment(options, hub);
+    mark_slack(hub);
     signals_restore();
     execvp(options->command[0], options->command);
     int error = errno;

@@ -7,6 +7,7 @@
 #include <stdlib.h>
 #include <string.h>
 
+#include "common/format.h"
 #include "say.h"
 
 struct noted {
@@ -86,4 +87,19 @@ enum death death_of(pid_t number, int *status)
     if (find_noted(number, status))
         return DEATH_SEEN;
     return has_status ? DEATH_SEEN : DEATH_UNSEEN;
+}
+
+bool has_other_image(pid_t number)
+{
+    char path[64], line[512];
+    bool is_read = false, is_same = false;
+    snprintf(path, sizeof path, "/proc/%d/maps", number);
+    FILE *file = number > 0 ? fopen(path, "re") : NULL;
+    while (file != NULL && !is_same && fgets(line, sizeof line, file) != NULL) {
+        is_read = true;
+        is_same = strstr(line, "/memfd:" SIDE_MEMORY " ") != NULL;
+    }
+    if (file != NULL)
+        fclose(file);
+    return is_read && !is_same;
 }

@@ -17,5 +17,7 @@ void death_note(pid_t number, int status);
 /* What is known of a process, by its number here, and how it ended, as of waitpid. A number that another process has by
    now reads as one that still runs. */
 enum death death_of(pid_t number, int *status);
+/* Whether it runs, and has no memory of a recorder mapped that a hub has had. */
+bool has_other_image(pid_t number);
 
 #endif

@@ -21,10 +21,51 @@ void descendants_adopt(void)
     prctl(PR_SET_CHILD_SUBREAPER, 1);
 }
 
+/* The number that /proc has for us; and where our own number stands after NSpid in a status there. Under `unshare -pf`
+   /proc is still that of the namespace outside, and has other numbers than the system gives us. */
+static pid_t self;
+static int column;
+
 struct kin {
-    pid_t number, parent, group;
+    pid_t number, parent, group; /* as /proc has them */
+    unsigned long long started; /* since the system's start: with the number it names one process */
     bool is_zombie;
 };
+
+/* Those that had begun before the command, in the order of their numbers: a shell that became asancol-run by exec had
+   children. They, and what they start, are not the command's. */
+static struct kin *inherited;
+static size_t inherited_count;
+
+/* The number in our namespace of one that /proc has under this one; 0: it is gone, or not in it. */
+static pid_t number_here(pid_t number)
+{
+    char path[64], line[256], *at = NULL, *rest = NULL;
+    if (column == 0)
+        return number;
+    snprintf(path, sizeof path, "/proc/%d/status", number);
+    FILE *status = fopen(path, "re");
+    while (status != NULL && at == NULL && fgets(line, sizeof line, status) != NULL)
+        at = strncmp(line, "NSpid:", strlen("NSpid:")) == 0 ? strtok_r(line + strlen("NSpid:"), "\t\n", &rest) : NULL;
+    if (status != NULL)
+        fclose(status);
+    for (int i = 0; i < column && at != NULL; i++)
+        at = strtok_r(NULL, "\t\n", &rest);
+    return at != NULL ? atoi(at) : 0;
+}
+
+/* Without /proc nothing of it is asked. */
+static void find_self(void)
+{
+    char text[32] = "";
+    self = readlink("/proc/self", text, sizeof text - 1) > 0 ? atoi(text) : getpid();
+    if (self == getpid())
+        return;
+    for (column = 1; column < 32; column++)
+        if (number_here(self) == getpid())
+            return;
+    column = 0;
+}
 
 static int by_number(const void *left, const void *right)
 {
@@ -35,7 +76,7 @@ static int by_number(const void *left, const void *right)
 /* False: it is gone. */
 static bool read_kin(const char *name, struct kin *kin)
 {
-    char path[300], text[512], state;
+    char path[300], text[1024], state;
     snprintf(path, sizeof path, "/proc/%s/stat", name);
     FILE *file = fopen(path, "re");
     size_t length = file != NULL ? fread(text, 1, sizeof text - 1, file) : 0;
@@ -45,7 +86,10 @@ static bool read_kin(const char *name, struct kin *kin)
     /* The name, in brackets, may have brackets itself. */
     const char *end = strrchr(text, ')');
     kin->number = atoi(name);
-    bool is_read = end != NULL && sscanf(end + 1, " %c %d %d", &state, &kin->parent, &kin->group) == 3;
+    /* After the group: the session, the terminal and its group, flags, faults, times, priorities and threads. */
+    bool is_read = end != NULL
+                   && sscanf(end + 1, " %c %d %d %*d %*d %*d %*u %*u %*u %*u %*u %*u %*u %*d %*d %*d %*d %*d %*d %llu",
+                             &state, &kin->parent, &kin->group, &kin->started) == 4;
     kin->is_zombie = is_read && (state == 'Z' || state == 'X');
     /* One that is just being taken away has no parent any more. */
     return is_read && !(kin->is_zombie && kin->parent == 0);
@@ -79,15 +123,71 @@ static struct kin *find(struct kin *all, size_t count, pid_t number)
     return count > 0 ? bsearch(&key, all, count, sizeof *all, by_number) : NULL;
 }
 
+/* The last of its line of parents, itself included, before us; null if the line does not lead to us. */
+static const struct kin *child_above(struct kin *all, size_t count, const struct kin *kin)
+{
+    for (int steps = 0; kin != NULL && steps < 10000; steps++) {
+        if (kin->parent == self)
+            return kin;
+        kin = kin->parent > 1 ? find(all, count, kin->parent) : NULL;
+    }
+    return NULL;
+}
+
+void descendants_note_inherited(void)
+{
+    size_t count;
+    find_self();
+    struct kin *all = read_all(&count);
+    inherited = must(calloc(count + 1, sizeof *inherited));
+    for (size_t i = 0; i < count; i++)
+        if (child_above(all, count, &all[i]) != NULL)
+            inherited[inherited_count++] = all[i];
+    free(all);
+}
+
+/* Whether a process was begun with the hub that was there for us, or like us without one. Those of the command have
+   ours, unless it takes it away from them. False too, if nobody may know. */
+static bool has_hub_of_ours(pid_t number)
+{
+    static const char name[] = "ASANCOL_HUB=";
+    const char *hub = getenv("ASANCOL_HUB");
+    char path[64], *entry = NULL;
+    size_t room = 0;
+    bool is_read = false, is_same = hub == NULL;
+    snprintf(path, sizeof path, "/proc/%d/environ", number);
+    FILE *environment = fopen(path, "re");
+    while (environment != NULL && getdelim(&entry, &room, 0, environment) > 0) {
+        is_read = true; /* in the middle of an exec there is none */
+        if (strncmp(entry, name, sizeof name - 1) == 0)
+            is_same = hub != NULL && strcmp(entry + sizeof name - 1, hub) == 0;
+    }
+    free(entry);
+    if (environment != NULL)
+        fclose(environment);
+    return is_read && is_same;
+}
+
+/* Whether a child of ours is none of the command's: it was there before, or was started by one that was, and has been
+   left to us. */
+static bool is_inherited(const struct kin *child)
+{
+    const struct kin *before = find(inherited, inherited_count, child->number);
+    if (before != NULL && before->started == child->started)
+        return true;
+    return inherited_count > 0 && has_hub_of_ours(child->number);
+}
+
+static bool is_of_command(const struct kin *child)
+{
+    return !child_is_ours(number_here(child->number)) && !is_inherited(child);
+}
+
 /* Whether its line of parents leads to us, by one that is the command's. */
 static bool is_descendant(struct kin *all, size_t count, const struct kin *kin)
 {
-    for (int steps = 0; kin != NULL && steps < 10000; steps++) {
-        if (kin->parent == getpid())
-            return !child_is_ours(kin->number);
-        kin = kin->parent > 1 ? find(all, count, kin->parent) : NULL;
-    }
-    return false;
+    const struct kin *child = child_above(all, count, kin);
+    return child != NULL && is_of_command(child);
 }
 
 /* Follows its line of parents. Unknown: one of the line was gone before it could be looked at. */
@@ -99,19 +199,36 @@ static enum kinship follow(pid_t number)
         snprintf(name, sizeof name, "%d", number);
         if (!read_kin(name, &kin))
             return KINSHIP_UNKNOWN;
-        if (kin.parent == getpid())
-            return child_is_ours(number) ? KINSHIP_NONE : KINSHIP_OURS;
+        if (kin.parent == self)
+            return is_of_command(&kin) ? KINSHIP_OURS : KINSHIP_NONE;
         number = kin.parent;
     }
     return KINSHIP_NONE;
 }
 
+/* The number that /proc has for one of our namespace; 0: it has none. */
+static pid_t number_there(pid_t number)
+{
+    size_t count;
+    pid_t found = 0;
+    if (column == 0)
+        return number;
+    struct kin *all = read_all(&count);
+    for (size_t i = 0; i < count && found == 0; i++)
+        found = number_here(all[i].number) == number ? all[i].number : 0;
+    free(all);
+    return found;
+}
+
 enum kinship descendants_kinship(pid_t number)
 {
+    pid_t there = number_there(number);
+    if (there == 0)
+        return KINSHIP_UNKNOWN;
     /* If a parent has ended meanwhile, the child has another one. */
     enum kinship found = KINSHIP_UNKNOWN;
     for (int tries = 0; tries < 3 && found == KINSHIP_UNKNOWN; tries++)
-        found = follow(number);
+        found = follow(there);
     return found;
 }
 
@@ -157,11 +274,12 @@ void descendants_signal(int number, bool gently)
     for (size_t i = 0; i < count; i++) {
         const struct kin *kin = &all[i];
         /* What a run starts for itself has its own process group. */
-        bool is_helper = gently && kin->group == kin->number && kin->parent != getpid() && is_run(kin->parent);
-        if (is_descendant(all, count, kin) && !is_helper) {
-            kill(kin->number, number);
+        bool is_helper = gently && kin->group == kin->number && kin->parent != self && is_run(kin->parent);
+        pid_t here = is_descendant(all, count, kin) && !is_helper ? number_here(kin->number) : 0;
+        if (here > 0) {
+            kill(here, number);
             if (gently)
-                kill(kin->number, SIGCONT); /* one that is stopped would not see it */
+                kill(here, SIGCONT); /* one that is stopped would not see it */
         }
     }
     free(all);
@@ -174,25 +292,35 @@ static bool is_parent_of_one(void)
     struct kin *all = read_all(&count);
     bool is_found = false;
     for (size_t i = 0; i < count && !is_found; i++)
-        is_found = all[i].parent == getpid() && !child_is_ours(all[i].number);
+        is_found = all[i].parent == self && is_of_command(&all[i]);
     free(all);
     return is_found;
 }
 
+/* Whether a child of this number, that has not ended, is the command's. */
+static bool is_left(const char *number)
+{
+    struct kin kin;
+    if (read_kin(number, &kin))
+        return !kin.is_zombie && is_of_command(&kin);
+    /* It is gone, or hidden from us, as one of another user may be (hidepid). */
+    pid_t here = number_here(atoi(number));
+    return here > 0 && !child_is_ours(here) && (kill(here, 0) == 0 || errno == EPERM);
+}
+
 bool descendants_left(void)
 {
-    char path[64];
+    char path[64], number[16];
     siginfo_t ended;
-    int number;
     bool is_found = false;
     if (waitid(P_ALL, 0, &ended, WEXITED | WNOHANG | WNOWAIT) != 0 && errno == ECHILD)
         return false;
-    snprintf(path, sizeof path, "/proc/self/task/%d/children", getpid());
+    snprintf(path, sizeof path, "/proc/self/task/%d/children", self);
     FILE *children = fopen(path, "re");
     if (children == NULL)
         return is_parent_of_one();
-    while (!is_found && fscanf(children, "%d", &number) == 1)
-        is_found = !child_is_ours(number);
+    while (!is_found && fscanf(children, "%15s", number) == 1)
+        is_found = is_left(number);
     fclose(children);
     return is_found;
 }

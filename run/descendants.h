@@ -5,6 +5,8 @@
 #include <stdbool.h>
 #include <sys/types.h>
 
+/* Notes those that are there before the command is started: they and what they start are left out. */
+void descendants_note_inherited(void);
 /* Becomes the parent of those whose parent ends. */
 void descendants_adopt(void);
 /* Whether one is left. */

@@ -4,16 +4,15 @@
 #include <dirent.h>
 #include <errno.h>
 #include <stdbool.h>
-#include <stddef.h>
 #include <stdio.h>
 #include <stdlib.h>
 #include <string.h>
 #include <sys/random.h>
 #include <sys/socket.h>
 #include <sys/stat.h>
-#include <sys/un.h>
 #include <unistd.h>
 
+#include "common/hub_name.h"
 #include "say.h"
 
 /* A folder's name ends so, and the socket's name follows: the one to which it is bound, and the one that it gets. */
@@ -21,31 +20,16 @@
 #define SOCKET_END "/hub"
 #define SECRET_END "-0123456789abcdef"
 enum { SECRET_BYTES = 8 };
-/* An address has room for 108 bytes, with the zero at one of the ends. */
-enum { ADDRESS_ROOM = 108 };
+/* With the zero at one of the ends. */
+enum { ADDRESS_ROOM = sizeof((struct sockaddr_un *)0)->sun_path };
 
 static char folder[ADDRESS_ROOM], address[ADDRESS_ROOM + sizeof SOCKET_END];
 static int listeners[HUB_LISTENERS] = {-1, -1};
 
-/* Makes the name of a socket, and answers how long it is; 0: it has no room. An abstract one has nothing of the secret,
-   which follows a last dash. */
-static socklen_t name_socket(struct sockaddr_un *name, const char *text, bool is_abstract)
-{
-    const char *slash = strrchr(text, '/'), *dash = strrchr(text, '-');
-    bool has_secret = is_abstract && slash != NULL && slash != text && dash > slash;
-    size_t length = has_secret ? (size_t)(dash - text) : strlen(text);
-    _Static_assert(sizeof name->sun_path == ADDRESS_ROOM, "an address has this room");
-    *name = (struct sockaddr_un){.sun_family = AF_UNIX};
-    if (length + 1 > ADDRESS_ROOM)
-        return 0;
-    memcpy(name->sun_path + is_abstract, text, length);
-    return (socklen_t)(offsetof(struct sockaddr_un, sun_path) + length + 1);
-}
-
 static bool listen_at(int *listener, const char *text, bool is_abstract)
 {
     struct sockaddr_un name;
-    socklen_t size = name_socket(&name, text, is_abstract);
+    socklen_t size = hub_socket(&name, text, is_abstract);
     if (size == 0)
         return false;
     int made = socket(AF_UNIX, SOCK_STREAM | SOCK_CLOEXEC | SOCK_NONBLOCK, 0);
@@ -122,6 +106,11 @@ const char *hub_address(void)
     return address;
 }
 
+size_t hub_public_length(void)
+{
+    return listeners[1] >= 0 ? hub_public_bytes(address) : 0;
+}
+
 const char *hub_folder(void)
 {
     return folder[0] != 0 ? folder : NULL;
@@ -155,7 +144,7 @@ bool hub_knock(const char *of_hub)
     bool is_there = false;
     for (int is_abstract = 0; is_abstract < HUB_LISTENERS && !is_there; is_abstract++) {
         struct sockaddr_un name;
-        socklen_t size = name_socket(&name, of_hub, is_abstract != 0);
+        socklen_t size = hub_socket(&name, of_hub, is_abstract != 0);
         int made = socket(AF_UNIX, SOCK_STREAM | SOCK_CLOEXEC, 0);
         is_there = size > 0 && made >= 0 && connect(made, (const struct sockaddr *)&name, size) == 0;
         if (made >= 0)

@@ -13,6 +13,8 @@ enum { HUB_LISTENERS = 2 };
 void hub_open(void);
 /* What ASANCOL_HUB is for the command. */
 const char *hub_address(void);
+/* How many of its first bytes are the abstract name, which everybody may know; 0: there is none. */
+size_t hub_public_length(void);
 /* The private folder, or null. */
 const char *hub_folder(void);
 /* Their descriptors; -1 is one that is not there. */

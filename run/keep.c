@@ -12,8 +12,8 @@
 #include <sys/stat.h>
 #include <unistd.h>
 
+#include "common/path.h"
 #include "children.h"
-#include "names.h"
 #include "say.h"
 
 /* So many names are tried for a file. */
@@ -32,7 +32,7 @@ void keep_begin(const char *path)
         fail(OWN_FAILURE, folder, strerror(ENOTDIR));
     if (access(folder, W_OK | X_OK) != 0)
         fail(OWN_FAILURE, folder, strerror(errno));
-    tee_program = find_on_path("tee");
+    tee_program = path_of_program("tee", NULL);
     if (tee_program == NULL)
         fail(OWN_FAILURE, "--keep", "there is no tee on the path");
 }

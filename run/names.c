@@ -6,15 +6,25 @@
 #include <stdio.h>
 #include <stdlib.h>
 #include <string.h>
-#include <sys/stat.h>
 #include <unistd.h>
 
+#include "common/path.h"
 #include "say.h"
 
-bool ends_with(const char *name, const char *end)
+int name_descriptor(const char *name)
 {
-    size_t length = strlen(name), of_end = strlen(end);
-    return length > of_end && strcmp(name + length - of_end, end) == 0;
+    static const char *const standard[] = {"/dev/stdin", "/dev/stdout", "/dev/stderr"};
+    static const char *const folders[] = {"/dev/fd/", "/proc/self/fd/"};
+    for (int i = 0; i <= STDERR_FILENO; i++)
+        if (strcmp(name, standard[i]) == 0)
+            return i;
+    for (size_t i = 0; i < sizeof folders / sizeof *folders; i++) {
+        const char *digits = name + strlen(folders[i]);
+        if (strncmp(name, folders[i], strlen(folders[i])) == 0 && *digits != 0 && strlen(digits) < 8
+            && digits[strspn(digits, "0123456789")] == 0)
+            return atoi(digits);
+    }
+    return -1;
 }
 
 /* Writes the value of the mark %q{NAME}, and answers where the mark ends. */
@@ -71,56 +81,26 @@ char *name_expanded(const char *option, const char *text)
     return name;
 }
 
-static bool is_program(const char *path)
-{
-    struct stat seen;
-    return stat(path, &seen) == 0 && S_ISREG(seen.st_mode) && access(path, X_OK) == 0;
-}
-
-static char *in_folder(const char *folder, size_t length, const char *name)
-{
-    char *path;
-    if (asprintf(&path, "%.*s%s%s", (int)length, folder, length > 0 ? "/" : "", name) < 0)
-        return NULL;
-    if (is_program(path))
-        return path;
-    free(path);
-    return NULL;
-}
-
-char *find_on_path(const char *name)
-{
-    const char *paths = getenv("PATH");
-    if (strchr(name, '/') != NULL)
-        return is_program(name) ? strdup(name) : NULL;
-    if (paths == NULL)
-        paths = "/usr/local/bin:/usr/bin:/bin";
-    for (;;) {
-        size_t length = strcspn(paths, ":");
-        char *path = in_folder(paths, length, name);
-        if (path != NULL || paths[length] == 0)
-            return path;
-        paths += length + 1;
-    }
-}
-
 char *find_own_program(const char *name, const char *variable)
 {
-    char self[PATH_MAX], above[PATH_MAX + 4];
+    /* Where all is installed; and in the tree that all is built in. */
+    static const char *const folders[] = {"", "/..", "/../report"};
+    char self[PATH_MAX], folder[PATH_MAX + 16];
     const char *named = getenv(variable);
     if (named != NULL && *named != 0)
-        return find_on_path(named);
+        return path_of_program(named, NULL);
     ssize_t length = readlink("/proc/self/exe", self, sizeof self - 1);
     self[length > 0 ? length : 0] = 0;
     char *slash = strrchr(self, '/');
     if (slash != NULL) {
         *slash = 0;
-        snprintf(above, sizeof above, "%s/..", self);
-        char *path = in_folder(self, strlen(self), name);
-        if (path == NULL)
-            path = in_folder(above, strlen(above), name);
-        if (path != NULL)
-            return path;
+        for (size_t i = 0; i < sizeof folders / sizeof *folders; i++) {
+            snprintf(folder, sizeof folder, "%s%s", self, folders[i]);
+            char *path = path_in(folder, strlen(folder), name);
+            if (path_is_program(path))
+                return path;
+            free(path);
+        }
     }
-    return find_on_path(name);
+    return path_of_program(name, NULL);
 }

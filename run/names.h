@@ -8,13 +8,12 @@
    is not set. Of no name, only the option says where it came from. */
 char *name_expanded(const char *option, const char *text);
 
-/* Whether the name is longer than this end, and has it. */
-bool ends_with(const char *name, const char *end);
+/* The descriptor for which a name stands, as /dev/stdout and /dev/fd/5 do; -1: for none. To open it would begin at the
+   start of a file that somebody writes to the end of. */
+int name_descriptor(const char *name);
 
 /* A program of ours: the value of the variable, or beside this one, or in the folder above, or on the path. Null if it
    is not there or cannot be executed. */
 char *find_own_program(const char *name, const char *variable);
-/* A program on the path, or null. */
-char *find_on_path(const char *name);
 
 #endif

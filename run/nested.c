@@ -9,8 +9,8 @@
 #include <string.h>
 #include <unistd.h>
 
+#include "common/text.h"
 #include "hub.h"
-#include "names.h"
 #include "say.h"
 
 #define FRONT "nested."

@@ -2,6 +2,7 @@
 #include "options.h"
 
 #include <errno.h>
+#include <fcntl.h>
 #include <inttypes.h>
 #include <limits.h>
 #include <stdio.h>
@@ -10,52 +11,33 @@
 #include <sys/stat.h>
 #include <unistd.h>
 
-#include "../recorder/format.h"
+#include "common/array.h"
+#include "common/distance.h"
+#include "common/format.h"
+#include "children.h"
 #include "names.h"
+#include "option_table.h"
 #include "say.h"
 
-#define COUNT(array) (sizeof(array) / sizeof *(array))
-/* The bounds on the memory of a checker, which asancol has in crates/asan_stream/src/options.rt. */
-#define MIN_MEMORY ((uint64_t)1 << 20)
-#define MAX_MEMORY ((uint64_t)1 << 40)
+_Static_assert(MAX_OF_QUARANTINE == MAX_QUARANTINE && DEFAULT_OF_QUARANTINE == QUARANTINE_BOUND
+                   && MAX_OF_LIMIT == EVENT_LIMIT,
+               "asancol and the recorder have the same bounds");
 
-static const char help[] =
-    "usage: asancol-run [options] [--] COMMAND [ARGUMENT...]\n"
-    "Runs COMMAND, and checks each process under it that was built with asancol-cc.\n"
-    "  --exitcode N             status if a report counts (99); 0: the command's\n"
-    "  --incomplete-exitcode N  status if not everything was seen (98)\n"
-    "  --nothing-exitcode N     status if nothing was recorded (98); 77: test skipped\n"
-    "  --at-least N             how many processes have to be recorded (0)\n"
-    "  --wait S                 seconds for processes that outlive COMMAND (5)\n"
-    "  --timeout S              ends COMMAND after so many seconds\n"
-    "  --log-file FILE          where all lines go (standard error)\n"
-    "  --live                   reports of a process when it ends, not all at the end\n"
-    "  --keep DIR               keeps the traces of processes with reports\n"
-    "  --json, --sarif, --codequality, --junit, --html FILE   more outputs\n"
-    "  --suppressions FILE      reports that do not count; may be repeated\n"
-    "  --gen-suppressions       prints a suppression with each report\n"
-    "  --baseline FILE          reports of this result of --json do not count\n"
-    "  --source-root DIR        names of source files are relative to DIR\n"
-    "  --quarantine B, --memory B, --limit N   passed to asancol check\n"
-    "  --color WHEN             auto, always or never (auto)\n"
-    "  -q, --quiet              no line if all is clean; -v, --verbose: one a process\n"
-    "  -h, --help; --version\n"
-    "%p in a FILE is the process number, %q{VAR} a variable, %% a percent sign.\n"
-    "Status: 99 a report; 98 not all was seen; 125 to 127 no start; else COMMAND's.\n";
+static const char help[] = OPTION_HELP;
 
 /* What becomes of an option. */
 enum action {
-    SET_FLAG,      /* a bool at the offset */
-    SET_NUMBER,    /* a uint64_t, in the range */
-    SET_SECONDS,   /* a double, in the range of thousandths */
-    SET_FILE,      /* a name, with its marks expanded */
-    SET_FOLDER,    /* likewise */
-    PASS_CHECK,    /* a number in the range, for the checker */
-    PASS_FLAG,     /* a word for the report */
-    PASS_WHEN,     /* auto, always or never, for the report */
-    PASS_INPUT,    /* a file that the report reads */
-    PASS_OUTPUT,   /* a file that the report writes */
-    PASS_FOLDER,   /* a folder that the report is given */
+    SET_FLAG,    /* a bool at the offset */
+    SET_NUMBER,  /* a uint64_t, in the range */
+    SET_SECONDS, /* a double, in the range of thousandths */
+    SET_OUTPUT,  /* the name of a file, with its marks expanded */
+    SET_FOLDER,  /* likewise */
+    PASS_CHECK,  /* a number in the range, for the checker */
+    PASS_FLAG,   /* a word for the report, and a bool if there is an offset */
+    PASS_WORDS,  /* one of some words, for the report, and its place among them if there is an offset */
+    PASS_INPUT,  /* a file that the report reads */
+    PASS_OUTPUT, /* a file that the report writes */
+    PASS_FOLDER, /* a folder that the report is given */
     SHOW_HELP,
     SHOW_VERSION
 };
@@ -66,70 +48,12 @@ struct option {
     enum action action;
     size_t offset;
     uint64_t least, most;
+    const char *const *words; /* up to a null, or null */
 };
 
 #define AT(field) offsetof(struct options, field)
 
-static const struct option table[] = {
-    {"exitcode", 0, SET_NUMBER, AT(exitcode), 0, 255},
-    {"error-exitcode", 0, SET_NUMBER, AT(exitcode), 0, 255},
-    {"incomplete-exitcode", 0, SET_NUMBER, AT(incomplete), 0, 255},
-    {"nothing-exitcode", 0, SET_NUMBER, AT(nothing), 0, 255},
-    {"at-least", 0, SET_NUMBER, AT(at_least), 0, 1000000000},
-    {"wait", 0, SET_SECONDS, AT(wait), 0, 86400},
-    {"timeout", 0, SET_SECONDS, AT(timeout), 1, 31536000},
-    {"log-file", 0, SET_FILE, AT(log), 0, 0},
-    {"keep", 0, SET_FOLDER, AT(keep), 0, 0},
-    {"live", 0, PASS_FLAG, AT(live), 0, 0},
-    {"json", 0, PASS_OUTPUT, 0, 0, 0},
-    {"sarif", 0, PASS_OUTPUT, 0, 0, 0},
-    {"codequality", 0, PASS_OUTPUT, 0, 0, 0},
-    {"junit", 0, PASS_OUTPUT, 0, 0, 0},
-    {"html", 0, PASS_OUTPUT, 0, 0, 0},
-    {"suppressions", 0, PASS_INPUT, 0, 0, 0},
-    {"baseline", 0, PASS_INPUT, 0, 0, 0},
-    {"gen-suppressions", 0, PASS_FLAG, 0, 0, 0},
-    {"source-root", 0, PASS_FOLDER, 0, 0, 0},
-    {"color", 0, PASS_WHEN, 0, 0, 0},
-    {"quarantine", 0, PASS_CHECK, AT(quarantine), 0, MAX_QUARANTINE},
-    {"memory", 0, PASS_CHECK, 0, MIN_MEMORY, MAX_MEMORY},
-    {"limit", 0, PASS_CHECK, 0, 1, EVENT_LIMIT},
-    {"quiet", 'q', SET_FLAG, AT(quiet), 0, 0},
-    {"verbose", 'v', SET_FLAG, AT(verbose), 0, 0},
-    {"help", 'h', SHOW_HELP, 0, 0, 0},
-    {"version", 0, SHOW_VERSION, 0, 0, 0},
-};
-
-void words_add(struct words *list, const char *word)
-{
-    list->words = must(realloc(list->words, (list->count + 2) * sizeof *list->words));
-    list->words[list->count++] = word;
-    list->words[list->count] = NULL;
-}
-
-/* How many letters have to be put in, taken out or replaced. */
-static size_t distance(const char *left, size_t left_length, const char *right)
-{
-    size_t row[64], right_length = strlen(right);
-    if (right_length >= COUNT(row))
-        return SIZE_MAX;
-    for (size_t j = 0; j <= right_length; j++)
-        row[j] = j;
-    for (size_t i = 0; i < left_length; i++) {
-        size_t diagonal = row[0];
-        row[0] = i + 1;
-        for (size_t j = 0; j < right_length; j++) {
-            size_t best = diagonal + (left[i] != right[j]);
-            diagonal = row[j + 1];
-            if (diagonal + 1 < best)
-                best = diagonal + 1;
-            if (row[j] + 1 < best)
-                best = row[j] + 1;
-            row[j + 1] = best;
-        }
-    }
-    return row[right_length];
-}
+static const struct option table[] = {OPTION_ROWS};
 
 /* The option whose name is nearest, or null if none is near. */
 static const char *nearest(const char *name, size_t length)
@@ -139,7 +63,9 @@ static const char *nearest(const char *name, size_t length)
     if (length > 40)
         return NULL;
     for (size_t i = 0; i < COUNT(table); i++) {
-        size_t away = distance(name, length, table[i].name);
+        if (table[i].offset == offsetof(struct options, are_files))
+            continue; /* asancol-report's alone */
+        size_t away = edit_distance(name, length, table[i].name);
         if (length >= 3 && strncmp(name, table[i].name, length) == 0)
             away = 0; /* the beginning of a name is meant, and does not serve */
         if (away < least || (away == least && found == NULL)) {
@@ -243,11 +169,11 @@ static void demand_output(const char *dashed, const char *path)
 }
 
 /* Files that are written. */
-static struct {
+static struct output {
     const char *option;
     struct stat seen; /* of its folder */
     char *name;       /* in it */
-} outputs[8];
+} *outputs;
 static size_t output_count;
 
 /* Fails if another option has this file too: one of them would be lost. */
@@ -264,8 +190,9 @@ static void demand_alone(const char *dashed, const char *path)
             fprintf(stderr, "asancol-run: %s: %s is the file of %s too\n", dashed, path, outputs[i].option);
             exit(OWN_FAILURE);
         }
-    if (is_other || output_count == COUNT(outputs))
+    if (is_other)
         return;
+    outputs = must(realloc(outputs, (output_count + 1) * sizeof *outputs));
     outputs[output_count].option = dashed;
     outputs[output_count].seen = folder;
     outputs[output_count++].name = must(strdup(slash + 1));
@@ -291,12 +218,32 @@ static void pass(struct options *options, const char *dashed, const char *value)
         words_add(&options->report, value);
 }
 
+/* An output that is a descriptor of ours. The report has others under these numbers: it is given a copy. */
+static void pass_descriptor(struct options *options, const char *dashed, const char *name)
+{
+    int copy = fcntl(name_descriptor(name), F_DUPFD_CLOEXEC, STDERR_FILENO + 1);
+    char *path;
+    if (copy < 0 || (fcntl(copy, F_GETFL) & O_ACCMODE) == O_RDONLY) {
+        fprintf(stderr, "asancol-run: %s: %s: %s\n", dashed, name, strerror(EBADF));
+        exit(OWN_FAILURE);
+    }
+    if (asprintf(&path, "/dev/fd/%d", copy) < 0)
+        must(NULL);
+    child_keep_for_report(copy);
+    pass(options, dashed, path);
+    options->has_output = true;
+}
+
 /* A file or a folder that the report is given. */
 static void pass_name(struct options *options, enum action action, const char *dashed, const char *value)
 {
     if (strcmp(value, "-") == 0)
         fail(OWN_FAILURE, dashed, "- is no file: standard input and output are the command's");
     const char *name = name_expanded(dashed, value);
+    if (action == PASS_OUTPUT && name_descriptor(name) >= 0) {
+        pass_descriptor(options, dashed, name);
+        return;
+    }
     if (action == PASS_OUTPUT) {
         demand_output(dashed, name);
         demand_alone(dashed, name);
@@ -308,12 +255,22 @@ static void pass_name(struct options *options, enum action action, const char *d
     options->has_rules |= action == PASS_INPUT;
 }
 
-static void pass_when(struct options *options, const char *dashed, const char *value)
+/* One of the words of an option. */
+static void pass_word(struct options *options, const struct option *option, const char *dashed, const char *value)
 {
-    if (strcmp(value, "auto") != 0 && strcmp(value, "always") != 0 && strcmp(value, "never") != 0) {
-        fprintf(stderr, "asancol-run: %s: %s is none of auto, always and never\n", dashed, value);
+    size_t place = 0;
+    while (option->words[place] != NULL && strcmp(option->words[place], value) != 0)
+        place++;
+    if (option->words[place] == NULL) {
+        fprintf(stderr, "asancol-run: %s: %s is none of ", dashed, value);
+        for (size_t i = 0; i < place; i++)
+            fprintf(stderr, "%s%s", option->words[i], i + 2 < place ? ", " : i + 1 < place ? " and " : "\n");
         exit(OWN_FAILURE);
     }
+    if (option->offset == AT(unchecked))
+        options->unchecked = (enum unchecked)place;
+    if (option->offset == AT(leaks))
+        options->leaks = (enum leaks)place;
     pass(options, dashed, value);
 }
 
@@ -321,7 +278,7 @@ static void pass_when(struct options *options, const char *dashed, const char *v
 static void pass_check(struct options *options, const struct option *option, const char *dashed, const char *value)
 {
     number_of(option, value);
-    if (option->offset != 0)
+    if (option->offset != 0) /* --quarantine alone has a field of this kind */
         options->quarantine = value;
     for (size_t i = 0; i < options->check.count; i += 2)
         if (strcmp(options->check.words[i], dashed) == 0) {
@@ -362,17 +319,17 @@ static void take_value(struct options *options, const struct option *option, con
     case SET_SECONDS:
         *(double *)field = seconds_of(option, value);
         break;
-    case SET_FILE:
+    case SET_OUTPUT:
     case SET_FOLDER:
         *(const char **)field = name_expanded(dashed, value);
-        if (option->action == SET_FILE)
+        if (option->action == SET_OUTPUT && name_descriptor(*(const char **)field) < 0)
             demand_alone(dashed, *(const char **)field);
         break;
     case PASS_CHECK:
         pass_check(options, option, dashed, value);
         break;
-    case PASS_WHEN:
-        pass_when(options, dashed, value);
+    case PASS_WORDS:
+        pass_word(options, option, dashed, value);
         break;
     default:
         pass_name(options, option->action, dashed, value);
@@ -395,7 +352,7 @@ static char **take(struct options *options, char **words)
         return words;
     }
     const char *value = equals != NULL ? equals + 1 : *words++;
-    if (value == NULL)
+    if (value == NULL || (equals == NULL && strcmp(value, "--") == 0))
         fail(OWN_FAILURE, dashed, "it needs a value");
     take_value(options, option, dashed, value);
     return words;
@@ -404,17 +361,18 @@ static char **take(struct options *options, char **words)
 /* What the recorder holds back, the checker has to hold too. A value that the recorder refuses is left to it. */
 static void follow_recorder(struct options *options)
 {
-    uint64_t number;
-    const char *value = getenv("ASANCOL_QUARANTINE");
-    if (options->quarantine != NULL || value == NULL || !read_number(value, false, &number) || number > MAX_QUARANTINE)
-        return;
-    words_add(&options->check, "--quarantine");
-    words_add(&options->check, value);
+    const char *value = options->quarantine != NULL ? options->quarantine : getenv("ASANCOL_QUARANTINE");
+    if (value == NULL || !read_number(value, false, &options->held) || options->held > MAX_QUARANTINE) {
+        options->held = QUARANTINE_BOUND;
+    } else if (options->quarantine == NULL) {
+        words_add(&options->check, "--quarantine");
+        words_add(&options->check, value);
+    }
 }
 
 struct options options_read(char **words)
 {
-    struct options options = {.exitcode = 99, .incomplete = 98, .nothing = 98, .wait = 5};
+    struct options options = {OPTION_DEFAULTS};
     for (words++; *words != NULL && (*words)[0] == '-' && (*words)[1] != 0;) {
         if (strcmp(*words, "--") == 0) {
             words++;
@@ -425,6 +383,8 @@ struct options options_read(char **words)
     if (*words == NULL)
         fail(OWN_FAILURE, "there is no command", "asancol-run --help says how to use it");
     options.command = words;
+    if (options.are_files)
+        unsetenv("ASANCOL_QUARANTINE"); /* it says nothing of what was recorded before */
     follow_recorder(&options);
     return options;
 }

@@ -6,10 +6,11 @@
 #include <stddef.h>
 #include <stdint.h>
 
-struct words {
-    const char **words;
-    size_t count;
-};
+#include "common/words.h"
+#include "unchecked.h"
+
+/* What becomes of leaks: they are summed up, nobody looks for them, or each place is a report. */
+enum leaks { LEAKS_SUMMARY, LEAKS_NO, LEAKS_YES };
 
 struct options {
     /* Statuses; 0 leaves that of the command. */
@@ -18,11 +19,16 @@ struct options {
     double wait;
     double timeout; /* 0: none */
     bool quiet, verbose, live;
+    bool no_mismatches;     /* of families of functions that allocate: they are not noted */
+    enum unchecked unchecked;
+    enum leaks leaks;
     const char *log;        /* or null */
     const char *keep;       /* a folder, or null */
     const char *quarantine; /* as text, or null */
+    uint64_t held;          /* how many bytes of freed blocks, if a process does not say otherwise */
     bool has_output;        /* a file is wanted that asancol-report writes */
     bool has_rules;         /* it has to read a file of what counts */
+    bool are_files;         /* the words of the command are traces */
     struct words check;     /* for asancol check */
     struct words report;    /* for asancol-report */
     char **command;
@@ -31,7 +37,5 @@ struct options {
 /* Prints the help or the version and ends with status 0, if this is what the options ask for. Fails if one of them is
    wrong: nothing has been started then. */
 struct options options_read(char **words);
-
-void words_add(struct words *list, const char *word);
 
 #endif

@@ -1,6 +1,7 @@
 #define _GNU_SOURCE
 #include "processes.h"
 
+#include <stdio.h>
 #include <stdlib.h>
 #include <string.h>
 
@@ -21,6 +22,7 @@ struct process *process_add(void)
     struct process *made = must(calloc(1, sizeof *made));
     made->connection = made->side_memory = made->verdicts = -1;
     made->lead = made->front = made;
+    made->place = count;
     processes[count++] = made;
     live++;
     return made;
@@ -56,12 +58,29 @@ void process_is_done(struct process *process)
     process->stage = STAGE_DONE;
 }
 
+/* The first word of its command line, if it still runs. */
+static const char *name_by_number(pid_t number)
+{
+    static char name[MAX_NAME_LENGTH + 1];
+    char path[64];
+    snprintf(path, sizeof path, "/proc/%d/cmdline", number);
+    FILE *file = number > 0 ? fopen(path, "re") : NULL;
+    size_t length = file != NULL ? fread(name, 1, sizeof name - 1, file) : 0;
+    if (file != NULL)
+        fclose(file);
+    name[length] = 0;
+    return name[0] != 0 ? name : UNKNOWN_NAME;
+}
+
 void process_name(struct process *process)
 {
     const struct side *side = process->side;
     process->own_number = side != NULL ? (int)side->process : (int)process->peer;
     process->parent = side != NULL ? (int)side->parent : 0;
-    process_set_name(process, side != NULL ? side->words : "(unknown)");
+    process->quarantine = side != NULL ? side->quarantine : UINT64_MAX;
+    if (side != NULL)
+        process->settings = side_settings(side);
+    process_set_name(process, side != NULL ? side->words : name_by_number(process->peer));
 }
 
 void process_set_name(struct process *process, const char *name)

@@ -21,19 +21,26 @@ enum cut { CUT_NONE, CUT_BY_WAIT, CUT_BY_TIMEOUT };
 
 struct process {
     size_t number; /* of a lead: process_number has it */
+    size_t place;  /* in the order of connections, from 0 */
     enum stage stage;
     pid_t peer;                         /* as the system numbers it for us; 0: not known */
     int own_number, parent;             /* as it knows them itself */
     int connection, side_memory, verdicts; /* descriptors; -1: there is none */
     const struct side *side;            /* or null */
+    struct modules modules;             /* until it is done */
+    uint64_t quarantine;                /* how many bytes of freed blocks it holds */
+    struct side_settings settings;      /* zeros, if they are not known */
     pid_t checker, tee;                 /* 0: it does not run */
     int checker_status;                 /* as of waitpid */
     const char *trace;                  /* the file in which its trace is, if it did not reach the hub; or null */
+    bool is_file;                       /* nothing else is known of it than files: asancol-run has not run it */
+    bool is_unwritten;                  /* that file goes on with a zero after the last record */
     bool is_mark;                       /* all that is known is that it was not recorded, and why */
+    bool has_left_word;                 /* and it has said so by a mark in the folder */
     char *kept;                         /* the file in which its trace is kept, or null */
     enum cut cut;
     char *name;                         /* the first word of its command line */
-    /* Of a process in segments; what is one alone is its own lead and front: */
+    /* The segments of one process. A connection that is the only one is its own lead and front: */
     uint64_t segment;            /* how many segments came before this one */
     uint64_t started;            /* when the process was begun */
     struct process *lead;        /* the segment that connected first: it stands for the process */
@@ -46,10 +53,17 @@ struct process {
     /* What is known once it is done: */
     char fate[32];
     uint64_t events, reports, left_out, restated;
+    uint64_t findings;          /* places of which its recorder says that something is wrong there, */
+    uint64_t leaks;             /* and those that leak, if leaks are summed up: then they are no findings */
+    uint64_t forks;             /* how many children it has made by fork, which are to be here */
+    int of_parent;              /* the number of whoever has forked it, as it knows that itself; */
+    uint64_t of_parent_started; /* and when that was begun; 0: nobody that was recorded */
+    bool becomes;    /* it became a program that is to be here, and no mark says so */
     uint32_t ending; /* enum ending */
     bool is_cut_at_limit; /* it is not whole since it went on after the limit of events */
     unsigned signal; /* that has ended it, as the recorder saw; or 0 */
     bool is_crash;   /* and it is one of a mistake */
+    bool was_replaced; /* it did not end: another program runs in its place */
     bool is_abrupt;  /* the recorder did not see its end, and what it did up to there was seen all the same */
     bool is_whole, has_checks;
     bool is_unchecked; /* it is not whole since it has no checks, and for no other reason */
@@ -64,12 +78,20 @@ struct process *process_at(size_t number);
 size_t process_count(void);
 /* The number of a process in the run, from 0, which its first segment to come gets if it has none yet. */
 size_t process_number(struct process *lead);
+/* Whether it stands for its process: each process has one that does. */
+static inline bool process_is_lead(const struct process *process)
+{
+    return process->lead == process;
+}
+
 /* How many are not done. */
 size_t process_live_count(void);
 /* Notes that it is done. */
 void process_is_done(struct process *process);
 /* Takes its name and numbers from its side memory, if it has one. */
 void process_name(struct process *process);
+/* Of one that nobody knows. */
+#define UNKNOWN_NAME "(unknown)"
 /* Its name, as it is printed. */
 void process_set_name(struct process *process, const char *name);
 

@@ -21,10 +21,11 @@
 #include "nested.h"
 #include "say.h"
 #include "segments.h"
+#include "unchecked.h"
 #include "verdict.h"
 
 /* A packet has at most 65,536 bytes. So much of it may be the words of the command. */
-enum { MAX_RUN_WORDS = 40000, MAX_PROCESS_WORDS = 24000, MAX_WORDS = 1000 };
+enum { MAX_RUN_WORDS = 40000, MAX_PROCESS_WORDS = 24000, MAX_WORDS = 1000, MAX_LINES = 6000 };
 /* What is printed if asancol-report cannot run. */
 enum { RAW_PROCESSES = 20, RAW_LINES = 20, RAW_BYTES = 8192 };
 
@@ -32,7 +33,7 @@ struct message {
     struct message *next;
     char *text;
     size_t length;
-    int descriptors[2], count;
+    int descriptors[2 + SIDE_FILES], count;
 };
 
 static struct {
@@ -42,13 +43,13 @@ static struct {
     int socket; /* -1: not started, or gone */
     pid_t child;
     bool was_started, had_child, is_broken, has_ended, is_over;
-    bool shows_crashes; /* what shows nothing if all is clean needs no report for them */
     int status;
 } report = {.socket = -1};
 
 static struct {
     char *texts[RAW_PROCESSES];
     uint64_t left_out[RAW_PROCESSES]; /* lines */
+    uint64_t findings[RAW_PROCESSES]; /* which have no line */
     int numbers[RAW_PROCESSES];
     char segments[RAW_PROCESSES][32]; /* which one it is of, in words, if there are several */
     char *names[RAW_PROCESSES];
@@ -105,7 +106,6 @@ void report_begin(const struct options *options)
     report.words = options->report;
     if (options->quiet)
         words_add(&report.words, "--quiet");
-    report.shows_crashes = !options->quiet || options->has_output;
     gethostname(host, sizeof host - 1);
     clock_gettime(CLOCK_REALTIME, &time);
     FILE *to = new_message(&message);
@@ -142,8 +142,9 @@ static void put_words(FILE *to, const struct process *process)
     json_list(to, list, MAX_PROCESS_WORDS);
 }
 
-/* What is known of a process; and of its segments the one whose descriptors come with it, if that is not null. */
-static void put_process(FILE *to, struct process *process, const struct process *segment)
+/* What is known of a process; and of its segments the one whose descriptors come with it, if that is not null. So many
+   of these are files of modules. */
+static void put_process(FILE *to, struct process *process, const struct process *segment, size_t files)
 {
     const char *trace = segment != NULL ? segment->trace : process->trace;
     fprintf(to,
@@ -152,6 +153,8 @@ static void put_process(FILE *to, struct process *process, const struct process 
             process_number(process), process->own_number, process->parent, process->fate, process->events,
             process->reports, process->is_whole ? "true" : "false", process->left_out, process->signal);
     json_text(to, process->why);
+    if (process->findings > 0)
+        fprintf(to, ",\"findings\":%" PRIu64, process->findings);
     if (process->is_abrupt)
         fputs(",\"abrupt\":true", to);
     fputs(",\"command\":", to);
@@ -168,6 +171,8 @@ static void put_process(FILE *to, struct process *process, const struct process 
         fputs(",\"kept\":", to);
         json_text(to, process->kept);
     }
+    if (files > 0)
+        fprintf(to, ",\"files\":%zu", files);
     fputc('}', to);
 }
 
@@ -177,6 +182,7 @@ static void count_more(struct process *process)
     for (size_t i = raw.count; i > 0; i--)
         if (raw.leads[i - 1] == process->lead) {
             raw.left_out[i - 1] += process->reports;
+            raw.findings[i - 1] += process->findings;
             return;
         }
     raw.more += !process->lead->is_among_more;
@@ -200,6 +206,7 @@ static void keep_raw(struct process *process)
     *end = 0;
     raw.texts[raw.count] = must(strdup(text));
     raw.left_out[raw.count] = process->reports - lines;
+    raw.findings[raw.count] = process->findings;
     raw.names[raw.count] = process->name;
     raw.leads[raw.count] = process->lead;
     if (segments_are_several(process))
@@ -207,7 +214,7 @@ static void keep_raw(struct process *process)
     raw.numbers[raw.count++] = process->own_number;
 }
 
-static void take_descriptors(struct message *message, struct process *process)
+static void take_descriptors(struct message *message, struct process *process, const int *files, size_t count)
 {
     lseek(process->verdicts, 0, SEEK_SET);
     message->descriptors[message->count++] = process->verdicts;
@@ -215,22 +222,38 @@ static void take_descriptors(struct message *message, struct process *process)
     if (process->side_memory >= 0)
         message->descriptors[message->count++] = process->side_memory;
     process->side_memory = -1;
+    for (size_t i = 0; i < count; i++)
+        message->descriptors[message->count++] = files[i];
+}
+
+/* Files that the process has loaded since it began: before something removes them. */
+static void find_modules(struct process *process)
+{
+    static char map[SIDE_UNCHECKED - SIDE_MAPS + 1];
+    ssize_t length = process->side_memory >= 0 ? pread(process->side_memory, map, sizeof map - 1, SIDE_MAPS) : 0;
+    map[length > 0 ? length : 0] = 0;
+    modules_find(&process->modules, map);
 }
 
 void report_process(struct process *process)
 {
     struct message *message;
-    bool has_crash = process->is_crash && report.shows_crashes && process->verdicts >= 0;
-    bool is_shown = process->reports > 0 || has_crash;
+    bool has_crash = process->is_crash && process->verdicts >= 0;
+    bool has_findings = process->findings + process->leaks > 0 && process->verdicts >= 0;
+    bool is_shown = process->reports > 0 || has_crash || has_findings;
     if (!is_shown && segments_are_several(process))
         return; /* what all of them come to is said once they are there */
     struct process joined = segments_joined(process);
     FILE *to = new_message(&message);
-    put_process(to, &joined, is_shown ? process : NULL);
-    if (process->reports > 0)
+    int files[SIDE_FILES];
+    if (is_shown)
+        find_modules(process);
+    size_t count = is_shown ? modules_copy(&process->modules, files) : 0;
+    put_process(to, &joined, is_shown ? process : NULL, count);
+    if (process->reports + process->findings > 0)
         keep_raw(process);
     if (is_shown) {
-        take_descriptors(message, process);
+        take_descriptors(message, process, files, count);
         report_start();
     }
     enqueue(message, to);
@@ -241,7 +264,7 @@ void report_again(const struct process *process)
     struct message *message;
     struct process joined = segments_joined(process);
     FILE *to = new_message(&message);
-    put_process(to, &joined, NULL);
+    put_process(to, &joined, NULL, 0);
     enqueue(message, to);
 }
 
@@ -269,7 +292,7 @@ static void give_up(void)
 static ssize_t send_one(const struct message *message)
 {
     union {
-        char room[CMSG_SPACE(2 * sizeof(int))];
+        char room[CMSG_SPACE((2 + SIDE_FILES) * sizeof(int))];
         struct cmsghdr align;
     } control = {0};
     struct iovec piece = {message->text, message->length};
@@ -346,6 +369,17 @@ static const char *const *words_of_report(const char *program)
     return words.words;
 }
 
+bool report_is_at(int descriptor)
+{
+    int type = 0;
+    socklen_t size = sizeof type;
+    if (getsockopt(descriptor, SOL_SOCKET, SO_TYPE, &type, &size) != 0 || type != SOCK_SEQPACKET)
+        return false;
+    report.was_started = true;
+    report.socket = fcntl(descriptor, F_DUPFD_CLOEXEC, STDERR_FILENO + 1);
+    return report.socket >= 0;
+}
+
 void report_start(void)
 {
     int ends[2];
@@ -383,17 +417,29 @@ bool report_was_started(void)
     return report.was_started;
 }
 
+static void put_lines(FILE *to, const char *name, const struct words *lines)
+{
+    if (lines->count == 0)
+        return;
+    fprintf(to, ",\"%s\":", name);
+    json_list(to, (char *const *)(uintptr_t)lines->words, MAX_LINES);
+}
+
 void report_finish(const struct outcome *outcome)
 {
     struct message *message;
     FILE *to = new_message(&message);
     fprintf(to,
             "{\"type\":\"end\",\"seconds\":%.3f,\"status\":%d,\"signal\":%d,\"nothing\":%s,\"missing\":%" PRIu64
-            ",\"running\":%s,\"timed_out\":%s,\"lost\":%" PRIu64 "}",
+            ",\"running\":%s,\"timed_out\":%s,\"lost\":%" PRIu64,
             outcome->seconds, WIFEXITED(outcome->status) ? WEXITSTATUS(outcome->status) : 0,
             WIFSIGNALED(outcome->status) ? WTERMSIG(outcome->status) : 0, outcome->nothing ? "true" : "false",
             outcome->missing, outcome->is_running ? "true" : "false", outcome->has_timed_out ? "true" : "false",
             outcome->lost);
+    unchecked_put(to);
+    put_lines(to, "troubles", &outcome->troubles);
+    put_lines(to, "notes", &outcome->notes);
+    fputc('}', to);
     report.is_over = true;
     enqueue(message, to);
     if (report.socket >= 0)
@@ -437,6 +483,8 @@ void report_print_raw(const char *kept)
         say_text(raw.texts[i], strlen(raw.texts[i]));
         if (raw.left_out[i] > 0)
             say("and %" PRIu64 " more lines", raw.left_out[i]);
+        if (raw.findings[i] > 0)
+            say("and %" PRIu64 " by the recorder, which asancol-report --trace shows", raw.findings[i]);
     }
     if (raw.more > 0)
         say("asancol: and %zu more processes with reports", raw.more);

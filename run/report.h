@@ -18,6 +18,8 @@ struct outcome {
     bool is_running; /* something of the command */
     bool has_timed_out;
     uint64_t lost;   /* runs inside this one that left no result */
+    struct words troubles; /* lines: why not all was seen, apart from processes. Nobody else says them */
+    struct words notes;    /* lines for the reader, which cost no status */
 };
 
 enum answer { ANSWER_CLEAN, ANSWER_REPORTS, ANSWER_ARGUMENTS, ANSWER_NOT_WHOLE, ANSWER_NOT_WRITTEN, ANSWER_NONE };
@@ -38,6 +40,8 @@ void report_send(void);
 /* Takes the status with which asancol-report has ended. */
 void report_has_ended(int status);
 
+/* It is there already, and has given its socket as this descriptor. False: that is none. */
+bool report_is_at(int descriptor);
 /* Starts it if there is no report yet. */
 void report_start(void);
 bool report_is_running(void);

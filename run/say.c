@@ -10,22 +10,18 @@
 #include <time.h>
 #include <unistd.h>
 
+#include "names.h"
+
 static int log_descriptor = STDERR_FILENO;
 static bool has_failed, is_progress_allowed, is_progress_shown;
-
-void say_fill_standard(void)
-{
-    for (int descriptor = 0; descriptor <= STDERR_FILENO; descriptor++)
-        if (fcntl(descriptor, F_GETFD) < 0 && errno == EBADF)
-            if (open("/dev/null", O_RDWR | O_CLOEXEC) < 0)
-                return; /* it would be the least free number, which is this one */
-}
 
 void say_open(const char *path)
 {
     if (path == NULL)
         return;
-    int descriptor = open(path, O_WRONLY | O_CREAT | O_TRUNC | O_CLOEXEC | O_NOCTTY, 0666);
+    int of = name_descriptor(path);
+    int descriptor = of >= 0 ? fcntl(of, F_DUPFD_CLOEXEC, STDERR_FILENO + 1)
+                             : open(path, O_WRONLY | O_CREAT | O_TRUNC | O_CLOEXEC | O_NOCTTY, 0666);
     if (descriptor < 0)
         fail(OWN_FAILURE, path, strerror(errno));
     log_descriptor = descriptor;
@@ -88,11 +84,9 @@ void fail(int status, const char *of, const char *what)
     exit(status);
 }
 
-void *must(void *memory)
+void no_memory(void)
 {
-    if (memory == NULL)
-        fail(OWN_FAILURE, "cannot go on", "no memory");
-    return memory;
+    fail(OWN_FAILURE, "cannot go on", "no memory");
 }
 
 double now(void)
@@ -129,4 +123,9 @@ void progress_erase(void)
     if (is_progress_shown)
         write_all(STDERR_FILENO, erase, sizeof erase - 1);
     is_progress_shown = false;
+}
+
+const char *plural(uint64_t count, const char *end)
+{
+    return count == 1 ? "" : end;
 }

@@ -3,14 +3,14 @@
 #define ASANCOL_RUN_SAY_H
 
 #include <stdbool.h>
+#include <stdint.h>
 #include <stddef.h>
+
+#include "common/must.h"
 
 /* As env: what asancol-run ends with if it cannot run the command. */
 enum { OWN_FAILURE = 125, NOT_EXECUTABLE = 126, NOT_FOUND = 127 };
 
-/* Opens descriptors 0, 1 and 2 if they are closed, so that nothing else gets these numbers. The command does not get
-   them. */
-void say_fill_standard(void);
 /* The log is this file, or standard error if it is null. Fails if it cannot be opened. */
 void say_open(const char *path);
 int say_descriptor(void);
@@ -23,7 +23,9 @@ bool say_close(void);
 
 /* Prints "asancol-run: OF: WHAT" on standard error, and ends. */
 _Noreturn void fail(int status, const char *of, const char *what);
-void *must(void *memory);
+
+/* The end of a word of which there are so many, or none if there is one. */
+const char *plural(uint64_t count, const char *end);
 
 /* Seconds since some moment. */
 double now(void);

@@ -45,10 +45,17 @@ static void take_segment(struct process *process)
     process->started = process->side->started;
 }
 
+void segments_join_file(struct process *lead, struct process *process)
+{
+    process->is_file = true;
+    if (process != lead && put(lead, process))
+        joined_count++;
+}
+
 void segments_join(struct process *process)
 {
     struct process **bucket = &buckets[(unsigned)process->own_number % BUCKETS];
-    bool is_known = process->side != NULL && process->side->started != 0;
+    bool is_known = process->side != NULL && process->side->started != 0 && !process->is_file;
     if (is_known)
         take_segment(process);
     for (struct process *lead = *bucket; is_known && lead != NULL; lead = lead->beside)
@@ -56,7 +63,7 @@ void segments_join(struct process *process)
             joined_count++;
             return;
         }
-    process_number(process);
+    process_number(process->lead);
     if (is_known) {
         process->beside = *bucket;
         *bucket = process;
@@ -165,12 +172,15 @@ static const struct process *add_up(struct process *joined, const struct process
 {
     const struct process *last = front;
     joined->events = joined->reports = joined->left_out = joined->restated = joined->segments = 0;
+    joined->findings = joined->leaks = 0;
     joined->has_checks = false;
     joined->kept = NULL;
     joined->side = NULL;
     for (const struct process *at = front; at != NULL; last = at, at = at->next) {
         joined->events += at->events - at->restated;
         joined->reports += at->reports;
+        joined->findings += at->findings;
+        joined->leaks += at->leaks;
         joined->left_out += at->left_out;
         joined->has_checks |= at->has_checks;
         joined->segments++;

@@ -10,12 +10,12 @@
 #include <sys/stat.h>
 #include <unistd.h>
 
-/* How many descriptors one message may bring: more than one is a mistake, and they are closed. */
-enum { MAX_RECEIVED = 4 };
+/* How many descriptors one message may bring: the memory, and files of modules. */
+enum { MAX_RECEIVED = 1 + SIDE_FILES };
 /* So much of it is mapped: all before the modules. */
 enum { SIDE_MAPPED = SIDE_MAPS };
 
-int side_receive(int connection)
+int side_receive(int connection, struct modules *modules)
 {
     char bytes[HEADER_LENGTH];
     union {
@@ -35,14 +35,8 @@ int side_receive(int connection)
     if (count == 0 || count > MAX_RECEIVED)
         return -1;
     memcpy(received, CMSG_DATA(header), count * sizeof(int));
-    for (size_t i = 1; i < count; i++)
-        close(received[i]);
+    modules_take(modules, received + 1, count - 1);
     return received[0];
-}
-
-static bool is_side(const struct side *side)
-{
-    return memcmp(side->header, SIDE_HEADER, sizeof side->header) == 0;
 }
 
 const struct side *side_map(int descriptor)
@@ -55,7 +49,7 @@ const struct side *side_map(int descriptor)
     void *memory = mmap(NULL, SIDE_MAPPED, PROT_READ, MAP_SHARED, descriptor, 0);
     if (memory == MAP_FAILED)
         return NULL;
-    if (is_side(memory))
+    if (is_side_header(((const struct side *)memory)->header))
         return memory;
     munmap(memory, SIDE_MAPPED);
     return NULL;
@@ -67,7 +61,7 @@ const struct side *side_read(const char *path)
     int descriptor = open(path, O_RDONLY | O_CLOEXEC | O_NONBLOCK);
     bool is_read = memory != MAP_FAILED && descriptor >= 0
                    && pread(descriptor, memory, SIDE_MAPPED, 0) == SIDE_MAPPED
-                   && is_side(memory);
+                   && is_side_header(((const struct side *)memory)->header);
     if (descriptor >= 0)
         close(descriptor);
     if (is_read)
@@ -83,9 +77,20 @@ void side_unmap(const struct side *side)
         munmap((void *)(uintptr_t)side, SIDE_MAPPED);
 }
 
+struct side_settings side_settings(const struct side *side)
+{
+    struct side_settings settings; /* once: the process may write there */
+    memcpy(&settings, (const unsigned char *)side + SIDE_SETTINGS, sizeof settings);
+    return settings;
+}
+
 struct side_progress side_progress(const struct side *side)
 {
     const unsigned char *bytes = (const unsigned char *)side;
     const volatile struct side_progress *progress = (const volatile void *)(bytes + SIDE_PROGRESS);
-    return (struct side_progress){progress->needed, progress->segment, progress->restated};
+    return (struct side_progress){progress->needed, progress->segment, progress->restated, progress->noted,
+                                  progress->forks, progress->of_parent, progress->of_parent_started,
+                                  progress->becomes, progress->calls, progress->starts,
+                                  progress->has_begun, progress->findings, progress->findings_lost,
+                                  progress->leaks};
 }

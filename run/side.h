@@ -2,14 +2,18 @@
 #ifndef ASANCOL_RUN_SIDE_H
 #define ASANCOL_RUN_SIDE_H
 
-#include "../recorder/format.h"
+#include "common/format.h"
+#include "modules.h"
 
-/* The descriptor that came with the first bytes of a connection, or -1. The bytes stay there for the checker. */
-int side_receive(int connection);
+/* The descriptor that came with the first bytes of a connection, or -1; and the files that came after it. The bytes
+   stay there for the checker. */
+int side_receive(int connection, struct modules *modules);
 /* Maps the first part, if nobody can cut it; or answers null. */
 const struct side *side_map(int descriptor);
 /* Reads the first part from a file; or answers null. */
 const struct side *side_read(const char *path);
+/* What was set for it. */
+struct side_settings side_settings(const struct side *side);
 /* How far the process has come. */
 struct side_progress side_progress(const struct side *side);
 void side_unmap(const struct side *side);

@@ -10,6 +10,7 @@
 #include <sys/signalfd.h>
 #include <unistd.h>
 
+#include "common/array.h"
 #include "say.h"
 
 static const int passed_on[] = {SIGINT, SIGTERM, SIGHUP, SIGQUIT, SIGUSR1, SIGUSR2};
@@ -19,8 +20,6 @@ static const int others[] = {SIGCHLD, SIGTSTP, SIGCONT};
 static sigset_t mask_before;
 static sigset_t ours; /* what is passed on, and was not ignored */
 static struct sigaction child_before;
-
-#define COUNT(array) (sizeof(array) / sizeof *(array))
 
 static void add_unless_ignored(sigset_t *set, int number)
 {

@@ -1,16 +1,16 @@
 #define _GNU_SOURCE
 #include "verdict.h"
 
+#include <fcntl.h>
 #include <inttypes.h>
 #include <signal.h>
 #include <stdio.h>
-#include <stdlib.h>
 #include <string.h>
-#include <sys/stat.h>
 #include <sys/wait.h>
 #include <unistd.h>
 
 #include "deaths.h"
+#include "end_line.h"
 
 const char *signal_name(int number)
 {
@@ -23,67 +23,117 @@ const char *signal_name(int number)
     return room;
 }
 
-/* The number after a word, or 0. */
-static uint64_t number_after(const char *line, const char *word)
-{
-    const char *found = strstr(line, word);
-    return found != NULL ? strtoull(found + strlen(word), NULL, 10) : 0;
-}
+/* How a trace ended, by its end line. */
+enum {
+    CLOSED = 1 << 0,
+    NO_CLOSE = 1 << 1,
+    TRUNCATED = 1 << 2,
+    UNWRITTEN = 1 << 3, /* a file that goes on with zeros */
+    MALFORMED = 1 << 4,
+    TOO_MANY = 1 << 5,
+    NO_MEMORY = 1 << 6,
+    NOT_CHECKED = 1 << 7,
+    OTHER_FATE = 1 << 8,
+    CUT_OFF = NO_CLOSE | TRUNCATED | UNWRITTEN
+};
 
-/* Takes the last line: "p0 end FATE events E offset O reports R", or "p0 end no-memory checked E reports R". */
-static void read_end_line(struct process *process)
-{
-    static const char front[] = "p0 end ";
-    char tail[256];
-    struct stat seen;
-    snprintf(process->fate, sizeof process->fate, "not-checked");
-    if (process->verdicts < 0 || fstat(process->verdicts, &seen) != 0)
-        return;
-    off_t most = sizeof tail - 1, from = seen.st_size > most ? seen.st_size - most : 0;
-    ssize_t length = pread(process->verdicts, tail, sizeof tail - 1, from);
-    if (length <= 0 || tail[length - 1] != '\n')
-        return;
-    tail[length - 1] = 0;
-    char *line = strrchr(tail, '\n');
-    line = line != NULL ? line + 1 : tail;
-    if (strncmp(line, front, sizeof front - 1) != 0)
-        return;
-    line += sizeof front - 1;
-    process->events = number_after(line, strstr(line, " checked ") != NULL ? " checked " : " events ");
-    process->reports = number_after(line, " reports ");
-    line[strcspn(line, "0123456789")] = 0;
-    char *numbers = strstr(line, strstr(line, " checked ") != NULL ? " checked " : " events ");
-    if (numbers != NULL)
-        *numbers = 0;
-    snprintf(process->fate, sizeof process->fate, "%.31s", line);
-}
+/* How the process ended, by its recorder. */
+enum {
+    NONE = 1 << ENDING_NONE,
+    EXIT = 1 << ENDING_EXIT,
+    EXEC = 1 << ENDING_EXEC,
+    SIGNAL = 1 << ENDING_SIGNAL,
+    LOST = 1 << ENDING_LOST,
+    SEGMENT = 1 << ENDING_SEGMENT,
+    OTHER_ENDING = 1 << 6
+};
 
-#define WHY(...) snprintf(process->why, sizeof process->why, __VA_ARGS__)
+enum { ANY = (1 << 9) - 1 };
 
-void verdict_blame_limit(struct process *process)
-{
-    process->is_cut_at_limit = true;
-    /* One more than the limit stands in the stream, and says nothing. A checker with a greater limit has counted it. */
-    bool has_mark = strcmp(process->fate, "no-close") == 0 && process->events > 0;
-    if (process->left_out == 0)
-        WHY("reached the event limit, and was not seen to end");
-    else
-        WHY("reached the event limit: %" PRIu64 " of %" PRIu64 " events were not recorded", process->left_out,
-            process->left_out + process->events - has_mark);
-}
+/* What else is known. docs/FORMAT.md says it in words. */
+enum {
+    BY_WAIT = 1 << 0,
+    BY_TIMEOUT = 1 << 1,
+    KILLED = 1 << 2,
+    LIMIT = 1 << 3,
+    LEFT_OUT = 1 << 4,
+    ONE_SEGMENT = 1 << 5,
+    OWN_CALL = 1 << 6,
+    GONE = 1 << 7,
+    REPLACED = 1 << 8,
+    NONE_MISSING = 1 << 9,
+    BAD_MISSING = 1 << 10,
+    ALL_CAME = 1 << 11,
+    CHECKS = 1 << 12,
+    MAIN = 1 << 13,
+    FILE_ALONE = 1 << 14,
+    FINDINGS_LOST = 1 << 15
+};
 
-/* A process was ended without a word: by what, as far as that is known. */
-static void say_abrupt_end(struct process *process, const char *more)
-{
-    int status;
-    enum death death = death_of(process->peer, &status);
-    if (death == DEATH_SEEN && WIFSIGNALED(status))
-        WHY("ended abruptly, by %s%s", signal_name(WTERMSIG(status)), more);
-    else if (death == DEATH_SEEN)
-        WHY("ended abruptly, with status %d%s", WEXITSTATUS(status), more);
-    else
-        WHY("ended abruptly, as by SIGKILL or an _exit in a library%s", more);
-}
+enum answer { WHOLE, UP_TO_THERE, BEFORE_MAIN, UNCHECKED, NOT_WHOLE };
+
+struct row {
+    unsigned fates, endings, holds, lacks;
+    enum answer answer;
+    const char *why; /* say_why fills in its words in capitals */
+};
+
+/* The judgement: the first row that applies counts. docs/FORMAT.md has the same rows, and each has a test
+   (tests/judge.py). */
+static const struct row rows[] = {
+    {ANY, ANY, BY_WAIT, ALL_CAME, NOT_WHOLE,
+     "still ran at the end of asancol-run"},
+    {ANY & ~CLOSED, NONE | SIGNAL | LOST | SEGMENT, BY_TIMEOUT, 0, NOT_WHOLE,
+     "was ended by --timeout"},
+    {NOT_CHECKED, ANY, KILLED, 0, NOT_WHOLE,
+     "its checker was ended by CHECKER"},
+    {NOT_CHECKED, ANY, 0, 0, NOT_WHOLE,
+     "its checker printed no verdict, and ended with status CHECKER"},
+    {ANY, ANY, LIMIT | LEFT_OUT | ONE_SEGMENT, 0, NOT_WHOLE,
+     "reached the event limit: LEFT of ALL events were not recorded, since ASANCOL_SEGMENTS is 0"},
+    {ANY, ANY, LIMIT | LEFT_OUT, 0, NOT_WHOLE,
+     "reached the event limit: LEFT of ALL events were not recorded"},
+    {ANY, ANY, LIMIT, 0, NOT_WHOLE,
+     "reached the event limit, and was not seen to end"},
+    {ANY, ANY, OWN_CALL, 0, NOT_WHOLE,
+     "ended in a call of the recorder's own, or before an exec, as by SIGKILL or a filter of system calls"},
+    {ANY, ANY, FINDINGS_LOST, 0, NOT_WHOLE,
+     "its recorder had no room for LOST of its findings"},
+    {CUT_OFF, NONE, GONE | NONE_MISSING, CHECKS, UNCHECKED,
+     "no code of it was compiled by asancol-cc"},
+    {CUT_OFF, NONE, GONE | NONE_MISSING | REPLACED | MAIN, 0, WHOLE,
+     "ran another program, by an exec in a library"},
+    {CUT_OFF, NONE, GONE | NONE_MISSING | REPLACED, 0, BEFORE_MAIN,
+     "ran another program, by an exec in a library"},
+    {CUT_OFF, NONE, GONE | NONE_MISSING | MAIN, 0, UP_TO_THERE,
+     "ended abruptly, HOW"},
+    {CUT_OFF, NONE, GONE | NONE_MISSING, 0, BEFORE_MAIN,
+     "ended abruptly, HOW, before main"},
+    {NO_MEMORY, ANY, 0, 0, NOT_WHOLE,
+     "its checker had no more memory after EVENTS events"},
+    {TOO_MANY, ANY, 0, 0, NOT_WHOLE,
+     "reached the event limit of its checker, after EVENTS events"},
+    {ANY, LOST, 0, ALL_CAME, NOT_WHOLE,
+     "its recording ended early"},
+    {CUT_OFF | MALFORMED, NONE, BAD_MISSING, 0, NOT_WHOLE,
+     "ended abruptly, HOW: MISSING"},
+    {UNWRITTEN, NONE, FILE_ALONE, 0, NOT_WHOLE,
+     "ended abruptly, as by SIGKILL, or an _exit or exec in a library, or still running"},
+    {CUT_OFF | MALFORMED, NONE, 0, FILE_ALONE, NOT_WHOLE,
+     "ended abruptly, HOW: what came last was not seen"},
+    {ANY, ANY, BAD_MISSING, ALL_CAME, NOT_WHOLE,
+     "it ended: MISSING"},
+    {ANY, ANY, 0, ALL_CAME, NOT_WHOLE,
+     "its trace ended as FATE"},
+    {ANY, ANY, 0, CHECKS, UNCHECKED,
+     "no code of it was compiled by asancol-cc"},
+    {ANY, SIGNAL, MAIN, 0, WHOLE,
+     "ended by SIGNAL"},
+    {ANY, SIGNAL, 0, 0, BEFORE_MAIN,
+     "ended by SIGNAL before main"},
+    {ANY, ANY, 0, 0, WHOLE,
+     ""},
+};
 
 /* One more than the number of the last event that may be bad; 0: nobody says it. */
 static uint64_t needed_of(const struct process *process)
@@ -91,60 +141,179 @@ static uint64_t needed_of(const struct process *process)
     return process->side != NULL ? side_progress(process->side).needed : 0;
 }
 
-/* What was recorded and did not come, at least. */
-static void blame_abrupt_end(struct process *process)
+/* Whether something bad has no event yet, by its word. */
+static bool has_noted(const struct process *process)
+{
+    return process->side != NULL && side_progress(process->side).noted != 0;
+}
+
+static bool is_bad_missing(const struct process *process)
+{
+    return needed_of(process) > process->events + 1 || has_noted(process);
+}
+
+/* What the words in capitals stand for. */
+
+static void put_how(const struct process *process, char *room, size_t size)
+{
+    int status;
+    enum death death = death_of(process->peer, &status);
+    if (death == DEATH_SEEN && WIFSIGNALED(status))
+        snprintf(room, size, "by %s", signal_name(WTERMSIG(status)));
+    else if (death == DEATH_SEEN)
+        snprintf(room, size, "with status %d", WEXITSTATUS(status));
+    else
+        snprintf(room, size, "as by SIGKILL, or an _exit or exec in a library");
+}
+
+static void put_missing(const struct process *process, char *room, size_t size)
 {
     uint64_t needed = needed_of(process), next = process->events + 1;
-    char more[96] = ": what came last was not seen";
     if (needed > next)
-        snprintf(more, sizeof more, ": its last events were not seen, at least %" PRIu64, needed - next);
-    say_abrupt_end(process, more);
-}
-
-static bool is_cut_off(const struct process *process)
-{
-    return strcmp(process->fate, "no-close") == 0 || strcmp(process->fate, "truncated") == 0
-           || strncmp(process->fate, "malformed", strlen("malformed")) == 0;
-}
-
-static void blame_fate(struct process *process, uint32_t ending)
-{
-    if (strcmp(process->fate, "not-checked") == 0 && WIFSIGNALED(process->checker_status))
-        WHY("its checker was ended by %s", signal_name(WTERMSIG(process->checker_status)));
-    else if (strcmp(process->fate, "not-checked") == 0)
-        WHY("its checker printed no verdict, and ended with status %d", WEXITSTATUS(process->checker_status));
-    else if (strcmp(process->fate, "no-memory") == 0)
-        WHY("its checker had no more memory after %" PRIu64 " events", process->events);
-    else if (strcmp(process->fate, "too-many") == 0)
-        WHY("reached the event limit of its checker, after %" PRIu64 " events", process->events);
-    else if (ending == ENDING_LOST)
-        WHY("its recording ended early");
-    else if (ending == ENDING_NONE && is_cut_off(process))
-        blame_abrupt_end(process);
+        snprintf(room, size, "its last events were not seen, at least %" PRIu64, needed - next);
     else
-        WHY("its trace ended as %s", process->fate);
+        snprintf(room, size, "a bad access or free was not recorded before that");
+}
+
+static void put_checker(const struct process *process, char *room, size_t size)
+{
+    int status = process->checker_status;
+    if (WIFSIGNALED(status))
+        snprintf(room, size, "%s", signal_name(WTERMSIG(status)));
+    else
+        snprintf(room, size, "%d", WEXITSTATUS(status));
+}
+
+static void put_signal(const struct process *process, char *room, size_t size)
+{
+    snprintf(room, size, "%s", signal_name((int)process->signal));
+}
+
+static void put_events(const struct process *process, char *room, size_t size)
+{
+    snprintf(room, size, "%" PRIu64, process->events);
+}
+
+static void put_left(const struct process *process, char *room, size_t size)
+{
+    snprintf(room, size, "%" PRIu64, process->left_out);
+}
+
+/* One more than the limit stands in the stream, and says nothing. A checker with a greater limit has counted it. */
+static void put_all(const struct process *process, char *room, size_t size)
+{
+    bool has_mark = strcmp(process->fate, "no-close") == 0 && process->events > 0;
+    snprintf(room, size, "%" PRIu64, process->left_out + process->events - has_mark);
+}
+
+static void put_lost(const struct process *process, char *room, size_t size)
+{
+    snprintf(room, size, "%" PRIu64, side_progress(process->side).findings_lost);
+}
+
+static void put_fate(const struct process *process, char *room, size_t size)
+{
+    snprintf(room, size, "%s", process->fate);
+}
+
+static const struct {
+    const char *word;
+    void (*put)(const struct process *process, char *room, size_t size);
+} words[] = {
+    {"HOW", put_how},       {"MISSING", put_missing}, {"CHECKER", put_checker}, {"SIGNAL", put_signal},
+    {"EVENTS", put_events}, {"LEFT", put_left},       {"ALL", put_all},         {"FATE", put_fate},
+    {"LOST", put_lost},
+};
+
+/* Puts what a word stands for, or the word. */
+static void put_word(const struct process *process, const char *word, size_t length, char *room, size_t size)
+{
+    for (size_t i = 0; i < sizeof words / sizeof *words; i++) {
+        if (strlen(words[i].word) == length && strncmp(words[i].word, word, length) == 0) {
+            words[i].put(process, room, size);
+            return;
+        }
+    }
+    snprintf(room, size, "%.*s", (int)length, word);
+}
+
+static void say_why(struct process *process, const char *text)
+{
+    static const char capitals[] = "ABCDEFGHIJKLMNOPQRSTUVWXYZ_";
+    char made[sizeof process->why];
+    size_t used = 0;
+    made[0] = 0;
+    while (*text != 0) {
+        size_t word = strspn(text, capitals), length = word > 0 ? word : strcspn(text, capitals);
+        put_word(process, text, length, made + used, sizeof made - used);
+        used += strlen(made + used);
+        text += length;
+    }
+    memcpy(process->why, made, sizeof made);
+}
+
+static unsigned fate_of(const struct process *process)
+{
+    static const struct {
+        const char *text;
+        unsigned fate;
+    } fates[] = {
+        {"closed", CLOSED},       {"no-close", NO_CLOSE},   {"truncated", TRUNCATED},
+        {"too-many", TOO_MANY},   {"no-memory", NO_MEMORY}, {"not-checked", NOT_CHECKED},
+    };
+    for (size_t i = 0; i < sizeof fates / sizeof *fates; i++)
+        if (strcmp(process->fate, fates[i].text) == 0)
+            return fates[i].fate;
+    if (process->is_unwritten && strcmp(process->fate, "malformed code") == 0)
+        return UNWRITTEN;
+    return strncmp(process->fate, "malformed", strlen("malformed")) == 0 ? MALFORMED : OTHER_FATE;
 }
 
 /* Whether the trace has all that the process recorded up to an end that the recorder saw. */
-static bool has_all(const struct process *process, uint32_t ending)
+static bool has_all(const struct process *process, unsigned fate)
 {
-    bool is_open = strcmp(process->fate, "no-close") == 0;
-    bool is_end = ending == ENDING_EXIT || ending == ENDING_EXEC || ending == ENDING_SIGNAL;
-    if (strcmp(process->fate, "closed") == 0)
-        return true;
-    return is_open && is_end && process->side->events == process->events;
+    uint32_t ending = process->ending;
+    /* Who goes on with the next segment looks again for what was noted in this one. */
+    if (ending != ENDING_SEGMENT && is_bad_missing(process))
+        return false;
+    if (fate != NO_CLOSE)
+        return fate == CLOSED;
+    if (ending == ENDING_EXIT) /* threads may have gone on until the system ended them */
+        return process->side->events <= process->events;
+    return (ending == ENDING_EXEC || ending == ENDING_SIGNAL) && process->side->events == process->events;
 }
 
-/* Whether a process that said nothing of its end is gone, and each event that it may have a report for was checked:
-   those after them, if there are any, are good mallocs and frees. In a file the stream ends before zeros. */
-static bool has_all_needed(const struct process *process, uint32_t ending)
+/* Whether another program runs in the place of a process whose connection has ended: it runs still, or it has connected
+   by itself. */
+static bool is_replaced(const struct process *process)
+{
+    if (has_other_image(process->peer))
+        return true;
+    for (size_t i = process->place + 1; i < process_count(); i++) {
+        const struct process *later = process_at(i);
+        if (later->peer == process->peer && later->parent == process->parent && later->started != process->started)
+            return true;
+    }
+    return false;
+}
+
+/* Whether a call of the recorder's own has ended the process, or a child of vfork before its exec, as where a filter
+   ends whoever makes it. */
+static bool has_stopped(const struct process *process)
 {
     int status;
-    uint64_t needed = needed_of(process);
-    bool is_cut = strcmp(process->fate, "no-close") == 0 || strcmp(process->fate, "truncated") == 0
-                  || (process->trace != NULL && strcmp(process->fate, "malformed code") == 0);
-    return ending == ENDING_NONE && is_cut && needed != 0 && needed - 1 <= process->events
-           && death_of(process->peer, &status) != DEATH_NONE;
+    if (process->side == NULL || process->ending == ENDING_SEGMENT)
+        return false;
+    struct side_progress progress = side_progress(process->side);
+    if (process->ending != ENDING_NONE && process->ending != ENDING_SIGNAL)
+        return progress.starts != 0;
+    if (progress.calls == 0 && progress.starts == 0)
+        return false;
+    if (process->ending == ENDING_SIGNAL)
+        return process->side->signal == SIGSYS;
+    enum death death = death_of(process->peer, &status);
+    bool is_other = death == DEATH_SEEN && !(WIFSIGNALED(status) && WTERMSIG(status) == SIGSYS);
+    return death != DEATH_NONE && !is_other;
 }
 
 /* Whether the process itself has raised it, by a mistake. */
@@ -157,52 +326,150 @@ static bool is_crash(unsigned number)
     return false;
 }
 
+/* Whether the process came as far as main. What it is for was not seen if it did not. */
+static bool has_begun(const struct process *process)
+{
+    return process->side == NULL || side_progress(process->side).has_begun != 0;
+}
+
+static bool leaks_count;
+
+void verdict_counts_leaks(bool do_count)
+{
+    leaks_count = do_count;
+}
+
 /* Takes what the recorder says of its end, and of what the stream has. */
 static void read_side(struct process *process)
 {
     const struct side *side = process->side;
     process->ending = side != NULL ? side->ending : ENDING_NONE;
     process->left_out = side != NULL ? side->left_out : 0;
-    process->restated = side != NULL ? side_progress(side).restated : 0;
+    process->has_checks = !process->is_mark && (side == NULL || side->has_checks != 0);
+    process->signal = process->ending == ENDING_SIGNAL ? side->signal : 0;
+    struct side_progress progress = side != NULL ? side_progress(side) : (struct side_progress){0};
+    process->restated = progress.restated;
+    process->findings = progress.findings < SIDE_FAULTS ? progress.findings : SIDE_FAULTS;
+    process->leaks = leaks_count ? 0 : progress.leaks < process->findings ? progress.leaks : process->findings;
+    process->findings -= process->leaks;
+    process->forks = progress.forks;
+    process->becomes = progress.becomes != 0 && process->ending == ENDING_EXEC;
+    process->of_parent = (int)progress.of_parent;
+    process->of_parent_started = progress.of_parent_started;
     if (process->restated > process->events)
         process->restated = process->events;
 }
 
+static unsigned limit_of(const struct process *process)
+{
+    return LIMIT | (process->left_out != 0 ? LEFT_OUT : 0) | (process->settings.is_one ? ONE_SEGMENT : 0);
+}
+
+/* Of one that said nothing of its end. */
+static unsigned look_if_gone(struct process *process)
+{
+    int status;
+    process->was_replaced |= is_replaced(process);
+    if (process->was_replaced)
+        return GONE | REPLACED;
+    return death_of(process->peer, &status) != DEATH_NONE ? GONE : 0;
+}
+
+static unsigned facts_of(struct process *process, unsigned fate)
+{
+    unsigned facts = 0;
+    if (process->cut != CUT_NONE)
+        facts |= process->cut == CUT_BY_WAIT ? BY_WAIT : BY_TIMEOUT;
+    if (fate == NOT_CHECKED && WIFSIGNALED(process->checker_status))
+        facts |= KILLED;
+    if (process->left_out != 0 || (process->side != NULL && process->side->is_at_limit != 0))
+        facts |= limit_of(process);
+    if (is_bad_missing(process))
+        facts |= BAD_MISSING;
+    else if (needed_of(process) != 0)
+        facts |= NONE_MISSING;
+    if (has_all(process, fate))
+        facts |= ALL_CAME;
+    if (has_stopped(process))
+        facts |= OWN_CALL;
+    if (process->ending == ENDING_NONE && (facts & NONE_MISSING) && (fate & CUT_OFF))
+        facts |= look_if_gone(process);
+    if (process->side != NULL && side_progress(process->side).findings_lost != 0)
+        facts |= FINDINGS_LOST;
+    facts |= process->is_file ? FILE_ALONE : 0;
+    return facts | (process->has_checks ? CHECKS : 0) | (has_begun(process) ? MAIN : 0);
+}
+
+/* A process may say anything. */
+static unsigned ending_of(const struct process *process)
+{
+    return process->ending <= ENDING_SEGMENT ? 1u << process->ending : OTHER_ENDING;
+}
+
+static const struct row *find_row(unsigned fate, unsigned ending, unsigned facts)
+{
+    const struct row *row = rows;
+    while (!(row->fates & fate) || !(row->endings & ending) || (facts & row->holds) != row->holds
+           || (facts & row->lacks))
+        row++; /* the last one takes all */
+    return row;
+}
+
+void verdict_blame_limit(struct process *process)
+{
+    process->is_cut_at_limit = true;
+    say_why(process, find_row(OTHER_FATE, OTHER_ENDING, limit_of(process))->why);
+}
+
+/* The signal that has ended a process without its recorder's knowledge, or 0. */
+static unsigned unheard_signal(const struct process *process)
+{
+    int status;
+    bool is_seen = death_of(process->peer, &status) == DEATH_SEEN && WIFSIGNALED(status);
+    return is_seen ? (unsigned)WTERMSIG(status) : 0;
+}
+
 static void judge(struct process *process)
 {
-    const struct side *side = process->side;
-    bool is_at_limit = side != NULL && side->is_at_limit != 0;
     read_side(process);
+    unsigned fate = fate_of(process), facts = facts_of(process, fate);
     uint32_t ending = process->ending;
-    bool was_checked = strcmp(process->fate, "not-checked") != 0;
-    process->has_checks = !process->is_mark && (side == NULL || side->has_checks != 0);
-    process->is_whole = process->is_unchecked = process->is_abrupt = process->is_cut_at_limit = false;
-    process->signal = ending == ENDING_SIGNAL ? side->signal : 0;
+    const struct row *row = find_row(fate, ending_of(process), facts);
+    enum answer answer = row->answer;
+    process->is_whole = answer == WHOLE || answer == UP_TO_THERE;
+    process->is_unchecked = answer == UNCHECKED;
+    process->is_abrupt = answer == UP_TO_THERE;
+    process->is_cut_at_limit = row->holds & LIMIT;
+    bool is_unheard = ending == ENDING_NONE && !(facts & REPLACED);
+    if (answer == UP_TO_THERE || (answer == BEFORE_MAIN && is_unheard))
+        process->signal = unheard_signal(process);
     process->is_crash = is_crash(process->signal);
+    say_why(process, row->why);
     /* What is read from a file does not change any more; what is past the limit may still grow, and an event of a
        segment may be left out as long as the process runs. */
-    bool is_over = !is_at_limit && ending != ENDING_NONE && ending != ENDING_SEGMENT;
-    process->is_settled = side == NULL || process->trace != NULL || is_over;
-    process->why[0] = 0;
-    if (process->cut == CUT_BY_WAIT && (!was_checked || !has_all(process, ending)))
-        WHY("still ran at the end of asancol-run");
-    else if (process->cut == CUT_BY_TIMEOUT && strcmp(process->fate, "closed") != 0 && ending != ENDING_EXEC)
-        WHY("was ended by --timeout");
-    else if (was_checked && is_at_limit)
-        verdict_blame_limit(process);
-    else if (was_checked && has_all_needed(process, ending))
-        process->is_whole = process->is_abrupt = process->has_checks;
-    else if (!was_checked || !has_all(process, ending))
-        blame_fate(process, ending);
-    else
-        process->is_whole = process->has_checks;
-    process->is_unchecked = !process->is_whole && process->why[0] == 0;
-    if (process->is_unchecked)
-        WHY("no code of it was compiled by asancol-cc");
-    if (process->is_whole && ending == ENDING_SIGNAL)
-        WHY("ended by %s", signal_name((int)side->signal));
-    else if (process->is_abrupt)
-        say_abrupt_end(process, "");
+    bool is_over = !(facts & LIMIT) && ending != ENDING_NONE && ending != ENDING_SEGMENT;
+    process->is_settled = process->side == NULL || process->trace != NULL || is_over;
+}
+
+/* Whether a zero comes next: room that the recorder made in a file, and did not come to use. */
+static bool goes_on_with_zero(const char *trace, uint64_t offset)
+{
+    char byte = 1;
+    int from = open(trace, O_RDONLY | O_CLOEXEC | O_NONBLOCK);
+    bool is_read = from >= 0 && offset <= MAX_STREAM_SIZE && pread(from, &byte, 1, (off_t)offset) == 1;
+    if (from >= 0)
+        close(from);
+    return is_read && byte == 0;
+}
+
+static void read_end_line(struct process *process)
+{
+    struct end_line end;
+    bool is_read = end_line_find(process->verdicts, &end);
+    process->events = end.events;
+    process->reports = end.reports;
+    process->is_unwritten = process->trace != NULL && goes_on_with_zero(process->trace, end.offset);
+    snprintf(process->fate, sizeof process->fate, "%s", is_read ? end.fate : "not-checked");
 }
 
 void verdict_read(struct process *process)

@@ -6,6 +6,8 @@
 
 #include "processes.h"
 
+/* Leaks are findings as any other from now on, and are not only summed up. */
+void verdict_counts_leaks(bool do_count);
 /* Reads what its checker has printed, and judges. Before that, why may say why it was not checked. */
 void verdict_read(struct process *process);
 /* Judges again what was not settled: how it ended, and how many events were left out. True if this has changed

@@ -1,43 +1,132 @@
-"""The manual pages and the completions of asancol, and of the wrappers: each option of the help is there."""
+"""The manual pages and the completions of all programs, and the tables of options that they are made of."""
 
 import os
 import re
 import shutil
 import subprocess
 import tempfile
-from typing import Callable, Dict, List, Set, Tuple
+from typing import Callable, Dict, List, Tuple
 
-from side_by_side import Failure, expect
+from testing import TOP, expect
 
-TOP = os.path.dirname(os.path.dirname(os.path.abspath(__file__)))
+# Where the completions of each program are.
+FOLDERS = {
+    "asancol": "completions",
+    "asancol-run": "run/completions",
+    "asancol-report": "report/completions",
+    "asancol-cc": "recorder/completions",
+    "asancol-c++": "recorder/completions",
+    "asancol-listen": "listen/completions",
+}
 
-OPTION = re.compile(r"--[a-z][a-z-]+")
-
-# What is typed after `asancol`, and one of the words that are offered.
-OFFERED = [
-    ([""], "serve"),
-    (["--v"], "--version"),
-    (["help", "c"], "check"),
-    (["check", "--verb"], "--verbose"),
-    (["check", "--limit", "5", "--wo"], "--workers"),
-    (["check", "/etc/passw"], "/etc/passwd"),
-    (["serve", "--rea"], "--ready"),
-    (["serve", "--ready", "/etc/passw"], "/etc/passwd"),
-]
+# What is typed after the name of a program, in a folder with run.trace, result.jsonl and a folder results, and one of
+# the words that are offered.
+OFFERED: Dict[str, List[Tuple[List[str], str]]] = {
+    "asancol": [
+        ([""], "serve"),
+        (["--v"], "--version"),
+        (["help", "c"], "check"),
+        (["check", "--verb"], "--verbose"),
+        (["check", "--limit", "5", "--wo"], "--workers"),
+        (["check", "run"], "run.trace"),
+        (["serve", "--rea"], "--ready"),
+        (["serve", "--ready", "run"], "run.trace"),
+    ],
+    "asancol-run": [
+        (["--incompl"], "--incomplete-exitcode"),
+        (["-q", "--htm"], "--html"),
+        (["--color", ""], "always"),
+        (["--exitcode", "5", "en"], "env"),
+        (["--", "en"], "env"),
+        (["ls", "resu"], "result.jsonl"),
+        (["--json", "resu"], "result.jsonl"),
+    ],
+    "asancol-report": [
+        (["--su"], "--suppressions"),
+        (["--unchecked", ""], "error"),
+        (["--baseline", "resu"], "result.jsonl"),
+        (["--quiet", ""], "result.jsonl"),
+        (["--trace", ""], "run.trace"),
+    ],
+    "asancol-listen": [
+        (["--conn"], "--connections"),
+        (["--mode", "660", "socket", "resu"], "results"),
+        (["socket", "results", "en"], "env"),
+        (["--", "socket", "results", "en"], "env"),
+        (["socket", "results", "ls", "resu"], "result.jsonl"),
+    ],
+    "asancol-cc": [
+        (["--asancol-a"], "--asancol-all"),
+        (["-fsanitize-address-u"], "-fsanitize-address-use-after-return"),
+    ],
+    "asancol-c++": [(["--asancol-a"], "--asancol-all")],
+}
 
 # Words that are not offered.
-WITHHELD = [(["check", "--"], "--count"), (["serve", "--"], "--verbose"), (["serve", "--"], "--version")]
+WITHHELD: Dict[str, List[Tuple[List[str], str]]] = {
+    "asancol": [(["check", "--"], "--count"), (["serve", "--"], "--verbose"), (["serve", "--"], "--version")],
+    "asancol-run": [(["ls", "--"], "--html"), (["--wait", ""], "result.jsonl")],
+    "asancol-report": [(["--"], "--nested")],
+    "asancol-listen": [(["socket", "results", "ls", "--"], "--connections"), (["--mode", ""], "result.jsonl")],
+}
 
-BASH = """
-source asancol.bash
-COMP_WORDS=(asancol "$@") COMP_CWORD=$#
-_asancol asancol "${COMP_WORDS[COMP_CWORD]}" "${COMP_WORDS[COMP_CWORD - 1]}" 2> /dev/null
-printf '%s\\n' "${COMPREPLY[@]}"
+# What is replaced in options/asancol-run.options, by what, and the option and the words by which that is refused.
+MISTAKES = [
+    ("Takes: a number, 0 to 255", "Takes: a number, 300", "--exitcode N: this is nothing that an option takes"),
+    ("Takes: as asancol check", "Takes: as asancol", "--quarantine B: it takes what a program takes that has no such"),
+    ("Default: 99", "Default: 999", "--exitcode N: its default is not in its range"),
+    ("Sets: quiet", "Set: quiet", "-q, --quiet: Set is no key of it"),
+    ("Sets: quiet", "Sets: quiet\nSets: live", "-q, --quiet: this is no line of a block, or it is there twice"),
+    ("Option: --keep DIR", "Option: --keep", "--keep: it has a value and takes none"),
+    ("Option: -v, --verbose", "Option: -q, --verbose", "-q, --verbose: asancol-run has it twice, or its letter"),
+    ("Group of asancol-run: Checking and others", "Group of asancol-run: Checking",
+     "--quarantine B: asancol-run has no group Checking"),
+    ("Group of asancol-report: Text\n", "", "--no-machines: no program has it"),
+    (", asancol-report: Output files", ": Output files", "--json FILE: asancol-report has no such option"),
+    ("Help: where all lines go", "# ", "--log-file FILE: it has no Help or no Page for asancol-run"),
+    ("Help: a line for each process", f"Help: {'x' * 54}", "asancol-run: its help has 40 lines, and 1 too wide"),
+]
+
+# Each prints what is offered by the file $1 for the words after it, of which the first is the program.
+BASH = r"""
+source "$1" && shift
+COMP_WORDS=("$@") COMP_CWORD=$(($# - 1))
+function=$(complete -p -- "$1") function=${function##*-F } function=${function% *}
+"$function" "$1" "${COMP_WORDS[COMP_CWORD]}" "${COMP_WORDS[COMP_CWORD - 1]}" 2> /dev/null
+printf '%s\n' "${COMPREPLY[@]}"
 """
+FISH = r"""
+source $argv[1]
+complete -C (string join ' ' -- $argv[2..]) | string replace -r '\t.*' ''
+"""
+# A shell at a terminal, in which the key Tab is pressed.
+ZSH = r"""
+zmodload zsh/zpty
+zpty shell zsh -f -i
+zpty -w shell "PROMPT=; autoload -U compinit; compinit -u -D; _it() { source $1 }; compdef _it $2"
+zpty -w shell 'compadd() {
+    local -a hits
+    [[ ${@[1,(i)(-|--)]} == *-(O|A|D)\ * ]] || builtin compadd -A hits "$@"
+    (( $#hits )) && print -rl -- "HIT:"${^hits}
+    builtin compadd "$@"
+}'
+zpty -w shell 'bindkey "^I" complete-word; finish() { print END; exit }; comppostfuncs=(finish); print REA"DY"'
+zpty -r shell seen '*READY*'
+shift
+zpty -w -n shell "$*"$'\t'
+zpty -r shell seen '*END*'
+print -r -- $seen | tr -d '\r' | sed -n 's/^.*HIT://p'
+"""
+SHELLS = {
+    "bash": ["bash", "--norc", "-c", BASH, "bash"],
+    "fish": ["fish", "--no-config", "-c", FISH],
+    "zsh": ["zsh", "-f", "-c", ZSH, "zsh"],
+}
 
 PAGES = (
     "man/asancol.1", "man/asancol-trace.5",
-    "recorder/man/asancol-cc.1", "run/man/asancol-run.1", "run/man/asancol-report.1",
+    "recorder/man/asancol-cc.1", "run/man/asancol-run.1", "report/man/asancol-report.1",
+    "listen/man/asancol-listen.1",
 )
 
 
@@ -51,31 +140,24 @@ def text_of(path: str) -> str:
         return file.read()
 
 
-def options_of(program: str) -> Set[str]:
-    """Returns the options that the help texts have."""
-    texts = [output_of([program, *words, "--help"]) for words in ([], ["check"], ["serve"])]
-    return {option for text in texts for option in OPTION.findall(text)}
+def tables_are_made(program: str) -> None:
+    """What is made of the tables of options is there, and the help of asancol has what its table has."""
+    expect(output_of([f"{TOP}/options/make.py", "--check", program]), "", "options/make.py --check")
 
 
-def options_are_there(program: str) -> None:
-    """Each option of the help is in the page and in each completion, and no other one is."""
-    options = options_of(program)
-    expect("--quarantine" in options, True, "that the help has options")
-    page = set(OPTION.findall(text_of("man/asancol.1").replace("Fl -", "--"))) - {"--option"}
-    fish = {f"--{it}" for it in re.findall(r"^complete .* -l ([a-z-]+)", text_of("completions/asancol.fish"), re.M)}
-    found: Dict[str, Set[str]] = {"the page": page, "fish": fish}
-    found["bash"] = set(OPTION.findall(text_of("completions/asancol.bash")))
-    found["zsh"] = set(OPTION.findall(text_of("completions/asancol.zsh")))
-    for place, there in found.items():
-        expect(options - there, set(), f"missing in {place}")
-        expect(there - options, set(), f"unknown in {place}")
-
-
-def defaults_are_there(program: str) -> None:
-    """Each number of the help texts is in the page: ranges and defaults."""
-    texts = "".join(output_of([program, *words, "--help"]) for words in (["check"], ["serve"]))
-    numbers = set(re.findall(r"\d{2,}", texts))
-    expect(numbers - set(re.findall(r"\d{2,}", text_of("man/asancol.1"))), set(), "missing in the page")
+def mistakes_are_refused(_: str) -> None:
+    """A mistake in a table is said with its option, and nothing is made."""
+    for old, new, said in MISTAKES:
+        with tempfile.TemporaryDirectory() as folder:
+            for part in ("options", "man", "run", "report", "recorder/man", "listen"):
+                shutil.copytree(f"{TOP}/{part}", f"{folder}/{part}", ignore=shutil.ignore_patterns("tests", "out"))
+            path = f"{folder}/options/asancol-run.options"
+            text = text_of("options/asancol-run.options")
+            with open(path, "w", encoding="utf-8") as file:
+                file.write(text.replace(old, new, 1))
+            ran = subprocess.run([f"{folder}/options/make.py"], capture_output=True, text=True, check=False)
+            expect((old in text, ran.returncode, ran.stdout, said in ran.stderr), (True, 1, "", True), ran.stderr)
+            expect(os.path.exists(f"{folder}/completions"), False, "that something was made")
 
 
 def sample_is_printed(program: str) -> None:
@@ -89,11 +171,14 @@ def sample_is_printed(program: str) -> None:
 
 
 def settings_are_there(_: str) -> None:
-    """Each variable that the recorder and the wrappers read is in the page of the wrappers."""
-    known = set(re.findall(r'"(ASANCOL_\w+)"', text_of("recorder/settings.c") + text_of("recorder/wrapper/asancol-cc.c")))
+    """Each variable and option that the recorder and the wrappers read is in the page of the wrappers."""
+    sources = text_of("recorder/process/settings.c") + text_of("recorder/wrapper/fronts.def")
+    known = set(re.findall(r'"(ASANCOL_\w+)"', sources))
     of_run = {"ASANCOL_REPORT", "ASANCOL_SYMBOLIZER"}
     page = set(re.findall(r"ASANCOL_\w+", text_of("recorder/man/asancol-cc.1")))
     expect(page, known - of_run, "variables")
+    options = re.findall(r"^\.It Fl -(asancol-\w+)", text_of("recorder/man/asancol-cc.1"), re.M)
+    expect(options, re.findall(r'"--(asancol-\w+)', text_of("recorder/wrapper/command.c")), "options")
 
 
 def pages_have_no_flaw(_: str) -> None:
@@ -113,45 +198,54 @@ def mandoc_sees_no_flaw(_: str) -> None:
         expect((ran.returncode, ran.stdout), (0, b""), page)
 
 
-def offered_by_bash(words: List[str]) -> List[str]:
-    return output_of(["bash", "--norc", "-c", BASH, "bash", *words], f"{TOP}/completions").splitlines()
-
-
-def offered_by_fish(words: List[str]) -> List[str]:
-    line = f"source asancol.fish; complete -C 'asancol {' '.join(words)}'"
-    found = output_of(["fish", "--no-config", "-c", line], f"{TOP}/completions")
-    return [it.split("\t")[0] for it in found.splitlines()]
-
-
-def offers(shell: Callable[[List[str]], List[str]]) -> Callable[[str], None]:
+def offers(shell: str) -> Callable[[str], None]:
     def test(_: str) -> None:
-        for words, wanted in OFFERED:
-            offered = shell(words)
-            expect(wanted in offered, True, f"{words}: {offered}")
-        for words, unwanted in WITHHELD:
-            expect(unwanted in shell(words), False, f"{words}: {unwanted}")
+        with tempfile.TemporaryDirectory() as folder:
+            for name in ("run.trace", "result.jsonl"):
+                os.mknod(f"{folder}/{name}")
+            os.mkdir(f"{folder}/results")
+            for rows, is_offered in ((OFFERED, True), (WITHHELD, False)):
+                for program, words, word in ((it, *row) for it, of_it in rows.items() for row in of_it):
+                    path = f"{TOP}/{FOLDERS[program]}/{program}.{shell}"
+                    text = output_of([*SHELLS[shell], path, program, *words], folder)
+                    offered = [it.rstrip("/=") for it in text.split("\n")]
+                    expect(word in offered, is_offered, f"{program} {' '.join(words)}: {word} in {offered}")
 
     return test
 
 
 def files_can_be_read(_: str) -> None:
     """Each shell that is there reads its files without an error."""
-    for shell in filter(shutil.which, ("bash", "zsh", "fish")):
-        for path in ("completions/asancol", "recorder/completions/asancol-cc", "recorder/completions/asancol-c++"):
-            words = [shell, "-n", f"{TOP}/{path}.{shell}"]
+    for shell in filter(shutil.which, SHELLS):
+        for program, folder in FOLDERS.items():
+            words = [shell, "-n", f"{TOP}/{folder}/{program}.{shell}"]
             ran = subprocess.run(words, stderr=subprocess.PIPE, check=False)
-            expect((ran.returncode, ran.stderr), (0, b""), f"{path}.{shell}")
+            expect((ran.returncode, ran.stderr), (0, b""), f"{program}.{shell}")
+
+
+def are_installed(_: str) -> None:
+    """They are where the shells look, and programs and pages beside them."""
+    with tempfile.TemporaryDirectory() as folder:
+        words = ["make", "-s", "-C", TOP, "install-run", "PREFIX=/usr", f"DESTDIR={folder}"]
+        subprocess.run(words, check=True)
+        for it in ("asancol-run", "asancol-report", "asancol-listen"):
+            for path in (f"share/man/man1/{it}.1", f"share/bash-completion/completions/{it}",
+                         f"share/zsh/site-functions/_{it}", f"share/fish/vendor_completions.d/{it}.fish"):
+                expect(os.path.isfile(f"{folder}/usr/{path}"), True, path)
+            said = output_of([f"{folder}/usr/bin/{it}", "--version"])
+            expect(said, f"{it} {text_of('VERSION').strip()}\n", f"{it} --version")
+        expect(os.path.isfile(f"{folder}/usr/lib/asancol/asancol_report/__init__.py"), True, "the package")
 
 
 # Name, what it does with a built asancol, and the programs that it needs.
 TESTS: List[Tuple[str, Callable[[str], None], Tuple[str, ...]]] = [
-    ("options", options_are_there, ()),
-    ("ranges and defaults", defaults_are_there, ()),
+    ("options", tables_are_made, ()),
+    ("options: mistakes", mistakes_are_refused, ()),
     ("sample of a trace", sample_is_printed, ()),
     ("settings", settings_are_there, ()),
     ("pages", pages_have_no_flaw, ("man",)),
     ("pages in mdoc", mandoc_sees_no_flaw, ("mandoc",)),
     ("completions: syntax", files_can_be_read, ()),
-    ("completions: bash", offers(offered_by_bash), ("bash",)),
-    ("completions: fish", offers(offered_by_fish), ("fish",)),
+    ("completions: installed", are_installed, ("cc",)),
+    *((f"completions: {it}", offers(it), (it,)) for it in SHELLS),
 ]

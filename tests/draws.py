@@ -3,8 +3,8 @@
 from random import Random
 from typing import List
 
-import traces
-from traces import HEADERS, POISON, UNPOISON
+from testing import traces
+from testing.traces import HEADERS, POISON, UNPOISON
 
 END = 1 << 47
 

@@ -18,10 +18,13 @@ import subprocess
 import sys
 import threading
 
-import runs
-from runs import CUT, PAST_THE_END, PATIENCE, SOUND, TWICE_FREED
-from runs import Served, holds, prepared, put, same
-from traces import HEADER, closed, load, malloc
+sys.path.insert(0, f"{os.path.dirname(os.path.realpath(__file__))}/..")  # where `testing` is
+
+import program as programs
+from program import CUT, PAST_THE_END, PATIENCE, SOUND, TWICE_FREED
+from program import Served, holds, prepared, put, same
+from testing import test
+from testing.traces import HEADER, closed, load, malloc
 
 # 2,000 blocks that are far from one another, and 200 loads past their ends. It takes some memory.
 SPREAD = closed(
@@ -94,6 +97,7 @@ def limit_of(kind, most):
 # ---- what runs short
 
 
+@test
 def less_and_less_memory(program):
     """200 files, under a bound on the address space that shrinks until the program can't start."""
     traces = [[SOUND, PAST_THE_END, SPREAD, TWICE_FREED, CUT][i % 5] for i in range(200)]
@@ -110,6 +114,7 @@ def less_and_less_memory(program):
     same("seen", seen, {b"", b"closed", b"not-started", b"no-memory", b"no memory\n"})
 
 
+@test
 def fewer_descriptors_than_files(program):
     traces = [[SOUND, PAST_THE_END, CUT][i % 3] for i in range(40)]
     known = Traces(program, traces)
@@ -123,6 +128,7 @@ def fewer_descriptors_than_files(program):
     holds("opened", opened[0] < 10 and opened[-1] == 40, opened)
 
 
+@test
 def fewer_descriptors_than_peers(program):
     """An accept that fails uses up one of the count, and the peers before it keep their texts."""
     known = Traces(program, [PAST_THE_END] * 20)
@@ -142,6 +148,7 @@ def fewer_descriptors_than_peers(program):
         same(most, known.explain(most, served.answer()), max(20 - (most - 4), 0))
 
 
+@test
 def small_stack(program):
     """256 files and 64 workers with a stack of 256 KB: no call nests by their number."""
     traces = [[SOUND, PAST_THE_END, TWICE_FREED, CUT][i % 4] for i in range(256)]
@@ -193,6 +200,7 @@ def send_more(peer, data):
     send(peer, data + bytes(1 << 22))
 
 
+@test
 def peers_that_go_wrong(program):
     """Each stands between two peers whose text stays the same."""
     wrong = [
@@ -220,6 +228,7 @@ def peers_that_go_wrong(program):
             one.join()
 
 
+@test
 def peer_that_resets(program):
     """The connection on standard input is reset after these bytes."""
     put("spread", SPREAD)
@@ -240,6 +249,7 @@ def peer_that_resets(program):
 # ---- the output
 
 
+@test
 def outputs_that_take_no_more(program):
     """The output is on a full device, or its reader is gone, at once or after some bytes."""
     names = [put(f"trace {i}", SPREAD) for i in range(10)]
@@ -262,15 +272,5 @@ def outputs_that_take_no_more(program):
     same("check", running.wait(PATIENCE), 4)
 
 
-CASES = [
-    less_and_less_memory,
-    fewer_descriptors_than_files,
-    fewer_descriptors_than_peers,
-    small_stack,
-    peers_that_go_wrong,
-    peer_that_resets,
-    outputs_that_take_no_more,
-]
-
 if __name__ == "__main__":
-    sys.exit(runs.main(sys.argv[1:], CASES))
+    sys.exit(programs.main(__doc__, lambda suite: suite.collect(sys.modules[__name__])))

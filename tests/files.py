@@ -47,4 +47,4 @@ def files_of_tree() -> List[str]:
         return sorted(files_beside_gitignore())
     words = ["git", "ls-files", "--cached", "--others", "--exclude-standard"]
     ran = subprocess.run(words, cwd=TOP, stdout=subprocess.PIPE, text=True, check=True)
-    return sorted(it for it in set(ran.stdout.splitlines()) if os.path.isfile(f"{TOP}/{it}"))
+    return sorted(it for it in set(ran.stdout.splitlines()) if os.path.lexists(f"{TOP}/{it}"))

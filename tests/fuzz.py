@@ -27,9 +27,11 @@ import time
 from random import Random
 from typing import Dict, List, NamedTuple, Optional, Tuple
 
+sys.path.insert(0, f"{os.path.dirname(os.path.realpath(__file__))}/..")  # where `testing` is
+
 import draws
 import second_reading
-from traces import layout_at, version_of
+from testing.traces import layout_at, version_of
 
 # No batch may take longer, in seconds.
 PATIENCE = 120

@@ -1,196 +1,32 @@
 #!/usr/bin/env python3
 """Runs the parsers of the recorder, of asancol-cc and of asancol-run under the compilers' own sanitizers.
 
-usage: tests/fuzzers.py [--seconds S] [WORD..]
+usage: tests/fuzzers.py [--seconds S] [--list] [--junit FILE] [WORD..]
 
-Each target is built by GCC and by Clang with AddressSanitizer and UndefinedBehaviorSanitizer, and is run on its seeds
-and on changes of them, the same each time. Then libFuzzer runs it for S seconds, if Clang has it; what it finds is left
-in the current folder. The stream of the recorder is built with ThreadSanitizer, and four threads write into it. With
-words, only tests whose names have one of them. The last line is 'N passed, M failed'. It needs a built recorder.
+libFuzzer draws inputs for each target, for S seconds: testing/fuzzers.py says more. With words, only tests whose names
+have one of them. The last line is 'N passed, M failed'. It needs a built recorder.
 """
 
-import argparse
 import os
-import re
-import shutil
-import subprocess
 import sys
-import tempfile
-from typing import List, NamedTuple, Sequence, Tuple
+from typing import Sequence
 
-TOP = os.path.dirname(os.path.dirname(os.path.abspath(__file__)))
-RECORDER, RUN = f"{TOP}/recorder", f"{TOP}/run"
-WRAPPER = f"{RECORDER}/wrapper"
-OURS, THEIRS = f"{RECORDER}/tests/fuzz", f"{RUN}/tests/fuzz"
+sys.path.insert(0, f"{os.path.dirname(os.path.realpath(__file__))}/..")  # where `testing` is
 
-WARNINGS = ["-Wall", "-Wextra", "-Wconversion", "-Wno-unused-parameter"]
-SANITIZERS = "address,undefined"
-# How often a seed is changed, how long an input gets, and how much memory may be taken, in MB.
-CHANGES, LONGEST, MAX_MEMORY = 2000, 4096, 2048
-# No run takes longer than this and what libFuzzer was given, in seconds.
-PATIENCE = 120
-
-
-class Target(NamedTuple):
-    name: str
-    sources: Sequence[str]
-    seeds: Sequence[bytes]
-    words: Sequence[bytes] = ()  # that libFuzzer puts into inputs
-    flags: Sequence[str] = ()
-
-
-ENVIRONMENT = [
-    b"ASANCOL_TRACE=a/%%b.%p.trace\0ASANCOL_LOG=/tmp/%p\0ASANCOL_LIMIT=100\0ASANCOL_LIMITS=5\0ASANCOL_WHERE=1",
-    b"ASANCOL_HUB=/run/x/hub\0ASANCOL_HALT=2\0ASANCOL_STOP=1\0ASANCOL_PATIENCE=0",
-]
-FORMATS = [b"\0%d %-10s %5.2f %ls %lc %n %%", b"\0%*.*s|%Lf|%hhd|%#x|%m", b"\5%d %s %[a-z] %10c %ms %n",
-           b"\7%*d %ls %l[^]] %as"]
-COMPILES = [b"-c\0a.c\0-o\0a.o", b"-Wl,-Bstatic,x.o\0-lm\0-Lfoo\0@response\0a.c '-o' \"b c\" \\x -x c++",
-            b"-fsanitize=address\0-fno-sanitize=all\0-x\0assembler\0-\0@response\0@response @response"]
-RUNS = [b"--json\0a.%p.%q{HOME}.%%\0--timeout=1.5\0--\0true", b"-qv\0--exitcode\x00255\0--memory=1048576\0x",
-        b"--color\0never\0--live\0--suppressions=a\0make"]
-SIDE = (bytes(18) + b"\1\0\0\0\x0b\0\0\0" + bytes(16) + b"\1\0\0\0\0\0\0\0" + bytes(16)).ljust(162, b"a")
-REPORT = b"p0 #2 store 4 at 000000001004 bad 000000001005 heap-buffer-overflow shadow 05\n"
-ENDS = [b"closed events 2 offset 36 reports 1", b"no-memory checked 5 reports 1", b"not-started",
-        b"malformed code events 1 offset 20 reports 0", b"no-close events 1 offset 20 reports 0"]
-
-TARGETS = [
-    Target("recorder: settings", [f"{OURS}/settings.c", f"{RECORDER}/settings.c"], ENVIRONMENT,
-           [b"ASANCOL_", b"TRACE=", b"QUARANTINE=", b"SOCKET=", b"HUB=", b"%p", b"%%"]),
-    Target("recorder: formats", [f"{OURS}/formats.c"], FORMATS, [b"%", b"*", b"hh", b"ll", b"%[", b"^]", b"%1$d"]),
-    Target("recorder: frames", [f"{OURS}/frames.c", f"{RECORDER}/stacks/frames.c"],
-           [b"2 32 16 4 name 64 8 9 other:123", b"18446744073709551616 0 99999999999999999999 5 a"]),
-    Target("asancol-cc: words", [f"{OURS}/words.c", *(f"{WRAPPER}/{it}.c" for it in ("linked", "own_data", "view"))],
-           COMPILES, [b"-Xlinker", b"-fsanitize=", b"@response", b"-Wl,", b"-x"], ["-Wno-conversion"]),
-    Target("asancol-cc: objects", [f"{OURS}/objects.c", f"{WRAPPER}/linked.c", f"{WRAPPER}/own_data.c"], [],
-           [b"\x7fELF\2\1\1\0", b"!<arch>\n", b"BC\xc0\xde", b"-fsanitize=kernel-address", b".gnu.lto_"]),
-    Target("asancol-run: hub",
-           [f"{THEIRS}/hub.c", *(f"{RUN}/{it}.c" for it in ("side", "processes", "verdict", "deaths", "json", "say"))],
-           [SIDE + REPORT + b"p0 end " + it + b"\n" for it in ENDS],
-           [b"p0 end ", b"events ", b" reports ", b" checked "]),
-    Target("asancol-run: words", [f"{THEIRS}/words.c", f"{THEIRS}/ends.c", f"{RUN}/options.c", f"{RUN}/names.c"],
-           RUNS, [b"--wait=", b"--at-least=", b"%q{", b"}", b"--quarantine=", b"--html="],
-           ["-Dexit=fuzz_exit", "-include", f"{THEIRS}/ends.h", '-DRELEASE="1"']),
-]
-
-
-class Failure(Exception):
-    """What a compiler or a sanitizer has found."""
-
-
-def run(words: Sequence[str], folder: str, seconds: float = PATIENCE) -> str:
-    settings = {**os.environ, "ASAN_OPTIONS": "detect_leaks=0", "UBSAN_OPTIONS": "print_stacktrace=1"}
-    streams = {"stdin": subprocess.DEVNULL, "stdout": subprocess.PIPE, "stderr": subprocess.STDOUT}
-    ran = subprocess.run(words, cwd=folder, env=settings, timeout=seconds, check=False, **streams)
-    text = ran.stdout.decode(errors="replace")
-    if ran.returncode != 0:
-        raise Failure(f"{os.path.basename(words[0])}: status {ran.returncode}: {text[-3000:]}")
-    return text
-
-
-def build(compiler: str, target: Target, sanitizers: str, more: Sequence[str], folder: str) -> str:
-    program = f"{folder}/{compiler}-{sanitizers.replace(',', '-')}"
-    words = [compiler, "-std=gnu11", "-g", "-O1", "-fno-omit-frame-pointer", *WARNINGS, *target.flags]
-    words += ["-iquote", RECORDER]
-    words += [f"-fsanitize={sanitizers}", "-fno-sanitize-recover=all", *target.sources, *more, "-o", program]
-    said = run(words, folder)
-    if said:
-        raise Failure(said)
-    return program
-
-
-def write_seeds(target: Target, folder: str) -> List[str]:
-    """Writes the seeds of a target, each into a file. Those of objects are what the compiler has made."""
-    os.mkdir(f"{folder}/seeds")
-    seeds = list(target.seeds)
-    for number, data in enumerate(seeds):
-        with open(f"{folder}/seeds/{number}", "wb") as file:
-            file.write(data)
-    if not seeds:
-        source = ["-x", "c", "-include", "stdlib.h", os.devnull, "-nostdlib", "-frecord-gcc-switches"]
-        run(["cc", "-c", *source, "-o", "seeds/object"], folder)
-        run(["cc", "-shared", "-Wl,-z,norelro", *source, "-o", "seeds/library"], folder)
-    return sorted(f"{folder}/seeds/{name}" for name in os.listdir(f"{folder}/seeds"))
-
-
-def check_changes(compiler: str, target: Target, folder: str) -> None:
-    """The seeds, and changes of them."""
-    program = build(compiler, target, SANITIZERS, [f"{TOP}/tests/fuzz_main.c"], folder)
-    run([program, str(CHANGES), *write_seeds(target, folder)], folder)
-
-
-def check_fuzzer(target: Target, folder: str, seconds: float) -> None:
-    """What libFuzzer draws, for so many seconds. It leaves an input that fails in the current folder."""
-    program = build("clang", target, f"fuzzer,{SANITIZERS}", [], folder)
-    write_seeds(target, folder)
-    with open(f"{folder}/words", "w", encoding="utf-8") as file:
-        file.write("# of this target\nall=\"\\x00\"\n")
-        for word in target.words:
-            file.write('"' + "".join(f"\\x{byte:02x}" for byte in word) + '"\n')
-    front = f"-artifact_prefix={os.getcwd()}/{target.name.replace(': ', '-')}-"
-    run([program, f"-max_total_time={seconds:.0f}", f"-max_len={LONGEST}", f"-rss_limit_mb={MAX_MEMORY}", "-timeout=10",
-         "-dict=words", front, "seeds"], folder, seconds + PATIENCE)
-
-
-def check_threads(compiler: str, folder: str) -> None:
-    """Four threads that write into a stream, under ThreadSanitizer; and under the others also into segments, for whose
-    switch a thread reads what another one may be changing."""
-    parts = ("stream", "keeper", "opening", "growing", "switching", "ending", "holes", "output", "windows", "segments")
-    sources = [f"{OURS}/threads.c"] + [f"{RECORDER}/stream/{part}.c" for part in parts]
-    for sanitizers, words in (("thread", []), (SANITIZERS, ["segments"])):
-        run([build(compiler, Target("threads", sources, []), sanitizers, ["-pthread"], folder), *words], folder)
-
-
-def has_fuzzer(folder: str) -> bool:
-    """Whether Clang is there with libFuzzer."""
-    try:
-        target = Target("", [f"{OURS}/frames.c", f"{RECORDER}/stacks/frames.c"], [])
-        build("clang", target, f"fuzzer,{SANITIZERS}", [], folder)
-    except (Failure, OSError):
-        return False
-    return True
-
-
-def tests_of(seconds: float, words: Sequence[str], folder: str) -> List[Tuple[str, object]]:
-    """Returns the tests whose names have one of the words, each with what it calls with a folder."""
-    found: List[Tuple[str, object]] = []
-    compilers = [it for it in ("gcc", "clang") if shutil.which(it)]
-    for target in TARGETS:
-        found += [(f"{target.name}: {compiler}", lambda folder, compiler=compiler, target=target:
-                   check_changes(compiler, target, folder)) for compiler in compilers]
-        found.append((f"{target.name}: fuzzer", lambda folder, target=target: check_fuzzer(target, folder, seconds)))
-    found += [(f"recorder: threads: {compiler}", lambda folder, compiler=compiler: check_threads(compiler, folder))
-              for compiler in compilers]
-    found = [it for it in found if not words or any(word in it[0] for word in words)]
-    if any("fuzzer" in name for name, _ in found) and not has_fuzzer(folder):
-        print("left out: libFuzzer is not there", flush=True)
-        found = [it for it in found if "fuzzer" not in it[0]]
-    return found
-
-
-def check(seconds: float, words: Sequence[str]) -> Tuple[int, int]:
-    """Runs the tests, and returns how many passed and failed."""
-    passed = failed = 0
-    with tempfile.TemporaryDirectory(prefix="asancol-fuzzers-") as room:
-        for name, test in tests_of(seconds, words, room):
-            folder = tempfile.mkdtemp(dir=room)
-            try:
-                test(folder)  # type: ignore
-                passed += 1
-            except (Failure, OSError, subprocess.TimeoutExpired) as error:
-                failed += 1
-                print(f"FAILED {name}: {error}", flush=True)
-    return passed, failed
+from testing import Suite, fuzzers, suite
 
 
 def main() -> int:
-    reader = argparse.ArgumentParser(usage=re.findall(r"usage: (.*)", __doc__ or "")[0])
+    reader = suite.reader_of(__doc__)
     reader.add_argument("--seconds", type=float, default=5)
-    reader.add_argument("words", nargs="*")
-    request = reader.parse_args()
-    passed, failed = check(request.seconds, request.words)
-    print(f"{passed} passed, {failed} failed")
-    return 1 if failed or not passed else 0
+    request = suite.read(reader)
+
+    def make(words: Sequence[str]) -> Suite:
+        made = Suite(words)
+        fuzzers.add_tests(made, request.seconds, ["recorder", "asancol-cc", "asancol-run"])
+        return made
+
+    return suite.run(make, request)
 
 
 if __name__ == "__main__":

@@ -5,7 +5,9 @@ usage: tests/hygiene.py
 
 - No line of a crate's proofs has more than 120 columns, and none of its code and definitions more
   than 100. Imports in code and definitions may be longer.
+- No line of C, C++ or Python has more than 120 bytes.
 - Each file is as `rt fmt` lays it out.
+- No file is a link: `rt ci` takes no tree with one in it.
 - Each lemma right in a folder `proofs` is cited. `Examples` and `Refuted` are lists of worked
   examples, and are left out.
 - Each name that a file imports is used there (`names.py`). `rt tidy` drops those that are not; it
@@ -15,6 +17,7 @@ usage: tests/hygiene.py
 - The worked examples that MODEL.md shows, the stored traces and the lemmas of `Examples` are what
   the rows of their names say (`worked.py`).
 - What a crate is for stands on its own page as in the table of ARCHITECTURE.md.
+- What is made of the tables in `options` is what `make options` would write.
 - The program says the release that VERSION says: it can't read the file, since it is proved.
 
 Each finding is a line `FILE:LINE: what`. The last line counts them, and the status is 1 if there are
@@ -27,6 +30,8 @@ import shutil
 import subprocess
 import sys
 from typing import Iterator, List, Tuple
+
+sys.path.insert(0, f"{os.path.dirname(os.path.realpath(__file__))}/..")  # where `testing` is
 
 import names
 import pages
@@ -56,6 +61,17 @@ def long_lines(files: List[str]) -> Iterator[Finding]:
                     yield path, number, f"{columns} columns, and at most {width} are allowed"
 
 
+def long_lines_of_others(files: List[str]) -> Iterator[Finding]:
+    for path in files:
+        if path.startswith("crates/") or not path.endswith((".c", ".cpp", ".def", ".h", ".py")):
+            continue
+        with open(f"{TOP}/{path}", "rb") as file:
+            for number, line in enumerate(file, 1):
+                count = len(line.rstrip(b"\n"))
+                if count > 120:
+                    yield path, number, f"{count} bytes, and at most 120 are allowed"
+
+
 def bad_layouts(files: List[str]) -> Iterator[Finding]:
     """Goes over the files that `rt fmt` would change, or cannot read. The toolchain's `rattle`,
     which lies beside `rt`, finds them."""
@@ -73,6 +89,12 @@ def bad_layouts(files: List[str]) -> Iterator[Finding]:
         yield path, 1, "rt fmt would change it, or cannot read it"
     if ran.returncode and not found:
         yield "crates", 1, f"rattle fmt --check: status {ran.returncode}: {ran.stdout[:200]}"
+
+
+def links(files: List[str]) -> Iterator[Finding]:
+    for path in files:
+        if os.path.islink(f"{TOP}/{path}"):
+            yield path, 1, "it is a link, and rt ci takes no tree with one in it"
 
 
 def sources_of(files: List[str]) -> List[names.Source]:
@@ -93,6 +115,16 @@ def other_release() -> Iterator[Finding]:
             yield path, 1, f"VERSION says: {wanted}"
 
 
+def other_options() -> Iterator[Finding]:
+    words = [f"{TOP}/options/make.py", "--check"]
+    ran = subprocess.run(words, stdout=subprocess.PIPE, text=True, check=False)
+    for line in ran.stdout.splitlines():
+        path, number, what = line.split(":", 2)
+        yield path, int(number), what.strip()
+    if ran.returncode not in (0, 1):
+        yield "options/make.py", 1, f"status {ran.returncode}"
+
+
 def other_summaries() -> Iterator[Finding]:
     """Goes over the crates' pages whose first sentence is not the crate's row of ARCHITECTURE.md."""
     with open(f"{TOP}/docs/ARCHITECTURE.md", encoding="utf-8") as file:
@@ -108,7 +140,8 @@ def all_tests(sources: List[names.Source], rows: List[worked.Row]) -> Iterator[n
     """Goes over the worked examples, the tests of the crates and the runs of built programs."""
     yield from (names.Test(row.name, row.path, row.line) for row in rows)
     yield from names.tests_of(sources)
-    for path in ("tests/runs.py", "tests/failures.py"):
+    runs = [f"tests/runs/{it}" for it in sorted(os.listdir(f"{TOP}/tests/runs")) if it.endswith(".py")]
+    for path in ("tests/failures.py", *runs):
         with open(f"{TOP}/{path}", encoding="utf-8") as file:
             yield from names.tests_in(path, file.read(), names.CASE)
 
@@ -117,8 +150,11 @@ def findings() -> Iterator[Finding]:
     files = files_of_tree()
     sources = sources_of(files)
     yield from long_lines(files)
+    yield from long_lines_of_others(files)
     yield from bad_layouts(files)
+    yield from links(files)
     yield from other_release()
+    yield from other_options()
     yield from other_summaries()
     yield from names.uncited_lemmas(sources)
     yield from names.unused_imports(sources)

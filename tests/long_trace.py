@@ -13,7 +13,7 @@ import collections
 import random
 from typing import Deque, Dict, List, NamedTuple, Optional, Tuple
 
-import traces
+from testing import traces
 
 # The largest quarantine, in bytes, and the largest block.
 QUARANTINE = 1 << 40

@@ -32,7 +32,7 @@ SIGNATURE = re.compile(
 RULESET = re.compile(r"^((?:pub\s+)?ruleset\s+)([^\s=]+)\s*=")
 TEST = re.compile(r"#\s*\[\s*test\s*\]\s*fn\s+(\w+)")
 # A case of runs.py and its like.
-CASE = re.compile(r"^def (\w+)\(program\):", re.M)
+CASE = re.compile(r"^@test\ndef (\w+)\(program\):", re.M)
 
 
 class Import(NamedTuple):

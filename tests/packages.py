@@ -1,7 +1,7 @@
 #!/usr/bin/env python3
 """Builds the archive of the sources and the package for Debian, and uses them; looks at pages and completions.
 
-usage: tests/packages.py ASANCOL [WORD..]
+usage: tests/packages.py [--list] [--junit FILE] ASANCOL [WORD..]
 
 With words, only tests whose names have one of them are run. The last line is 'N passed, M failed', and the status is 1
 if a test failed. What needs a program that is not there is left out, and it says which. Nothing is installed outside of
@@ -15,32 +15,22 @@ import shutil
 import subprocess
 import sys
 import tarfile
-import tempfile
-from typing import Callable, Dict, List, NamedTuple, Tuple
+from typing import Callable, List, Sequence, Tuple
+
+sys.path.insert(0, f"{os.path.dirname(os.path.realpath(__file__))}/..")  # where `testing` is
 
 import completions
 from completions import TOP, text_of
-from side_by_side import Failure, expect
 from files import files_of_tree, is_repository
-
-# No command may take longer, in seconds.
-PATIENCE = 300
-
-
-class Ran(NamedTuple):
-    status: int
-    out: str
-    err: str
+from testing import Failure, LeftOut, Ran, Suite, environment, expect, suite
+from testing.programs import PATIENCE, ran_of
 
 
 def run(words: List[str], folder: str = TOP, **settings: str) -> Ran:
     """Runs a command, in an environment that says nothing to make or to asancol."""
-    kept = {it: value for it, value in os.environ.items() if not it.startswith(("ASANCOL", "MAKE", "MFLAGS", "GIT_"))}
-    pipes = {"stdout": subprocess.PIPE, "stderr": subprocess.PIPE, "stdin": subprocess.DEVNULL}
-    ran = subprocess.run(
-        words, cwd=folder, env={**kept, **settings}, text=True, errors="replace", timeout=PATIENCE, check=False, **pipes
-    )
-    return Ran(ran.returncode, ran.stdout, ran.stderr)
+    ran = subprocess.run(words, cwd=folder, env=environment("MAKE", "MFLAGS", "GIT_", **settings), capture_output=True,
+                         stdin=subprocess.DEVNULL, timeout=PATIENCE, check=False)
+    return ran_of(ran)
 
 
 def must(words: List[str], folder: str = TOP, **settings: str) -> str:
@@ -61,9 +51,9 @@ def release() -> str:
 
 
 def programs_say_the_release(program: str, _: str) -> None:
-    for words in ([program], [f"{TOP}/run/asancol-run"], [f"{TOP}/run/asancol-report"]):
-        name = os.path.basename(words[0])
-        expect(must([*words, "--version"]), f"{name} {release()}\n", name)
+    for path in (program, *(f"{TOP}/{it}/asancol-{it}" for it in ("run", "report", "listen"))):
+        name = os.path.basename(path)
+        expect(must([path, "--version"]), f"{name} {release()}\n", name)
 
 
 # The archive of the sources.
@@ -82,7 +72,7 @@ def archive_is_the_same(_: str, folder: str) -> None:
     expect(sum_of(archive), first, "the archive, once more")
     front = f"asancol-{release()}/"
     with tarfile.open(archive) as members:
-        files = {it.name[len(front) :] for it in members.getmembers() if it.isfile()}
+        files = {it.name[len(front) :] for it in members.getmembers() if not it.isdir()}
         expect({(it.uid, it.gid, it.uname) for it in members.getmembers()}, {(0, 0, "root")}, "owners")
         expect(len({it.mtime for it in members.getmembers()}), 1, "times")
     committed = must(["git", "ls-tree", "-r", "--name-only", "-z", "HEAD"]).split("\0")
@@ -104,7 +94,7 @@ def archive_is_enough(program: str, folder: str) -> None:
     shutil.copy(program, f"{top}/asancol")
     os.utime(f"{top}/asancol")
     must(["make", "-q", "asancol"], top, **no_git)
-    must([f"{top}/run/tests/check.py", f"{top}/asancol", "completion"], top, **no_git)
+    must([f"{top}/run/tests/check.py", f"{top}/asancol", "help"], top, **no_git)
     if shutil.which("dpkg-deb"):
         must(["make", "-s", "deb"], top, **no_git)
 
@@ -127,6 +117,17 @@ def what_is_installed_goes_again(_: str, folder: str) -> None:
     must(["make", "-s", "uninstall", *words])
     left = [f"{place}/{name}" for place, _, names in os.walk(folder) for name in names]
     expect(left, [], "what is left")
+
+
+def programs_stay_small(_: str, folder: str) -> None:
+    """What is installed has no debug information, which would come into each program; a bug's lines are there."""
+    sizes = []
+    for asked in ("", "DEBUG=1"):
+        place = f"{folder}/{asked}"
+        must(["make", "-s", "install-recorder", f"PREFIX={place}", *filter(None, [asked])])
+        must([f"{place}/bin/asancol-cc", "-g", "examples/bug.c", "-o", f"{place}/bug"])
+        sizes.append(os.path.getsize(f"{place}/bug"))
+    expect((sizes[0] < 700_000, sizes[1] > 2 * sizes[0]), (True, True), f"bytes of a program: {sizes}")
 
 
 def says_what_is_missing(_: str, folder: str) -> None:
@@ -203,7 +204,7 @@ def package_finds_a_bug(_: str, folder: str) -> None:
         file.write("int main(int count, char **) { int *one = new int[1]; return one[count]; }\n")
     must([f"{programs}/asancol-c++", "-g", f"{folder}/bug.cpp", "-o", f"{folder}/bug"])
     expect(run([f"{programs}/asancol-run", "-q", "--", f"{folder}/bug"]).status, 99, "by asancol-c++")
-    for name in ("asancol", "asancol-run", "asancol-report"):
+    for name in ("asancol", "asancol-run", "asancol-report", "asancol-listen"):
         expect(must([f"{programs}/{name}", "--version"]), f"{name} {release()}\n", name)
     expect(root.files(), installed, "what the programs have left there")
     # As after an older release of the package, which let Python write there.
@@ -215,18 +216,22 @@ def package_finds_a_bug(_: str, folder: str) -> None:
 def package_is_whole(_: str, folder: str) -> None:
     """Pages, completions and documents are where they are looked for."""
     must(["dpkg-deb", "-x", package_of(folder), folder])
-    wanted = ["lib/asancol/libasancol_record.a", "lib/asancol/libasancol_static.a", "lib/asancol/libasancol_shared.a"]
-    wanted += ["lib/asancol/no-second-allocator.ld", "lib/asancol/cold_reports.h"]
-    for name in ("asancol", "asancol-cc", "asancol-c++", "asancol-run", "asancol-report"):
+    wanted = [f"lib/asancol/libasancol_{it}.a" for it in ("record", "static", "shared", "first", "first_static")]
+    wanted += ["lib/asancol/no-second-allocator.ld", "lib/asancol/cold_reports.h", "lib/asancol/cxx/libc++/__config"]
+    wanted += ["lib/asancol/cxx/libstdc++/bits/basic_string.tcc"]
+    for name in ("asancol", "asancol-cc", "asancol-c++", "asancol-run", "asancol-report", "asancol-listen"):
         wanted += [f"bin/{name}", f"share/man/man1/{name}.1.gz", f"share/bash-completion/completions/{name}"]
         wanted += [f"share/zsh/vendor-completions/_{name}", f"share/fish/vendor_completions.d/{name}.fish"]
     wanted.append("share/man/man5/asancol-trace.5.gz")
     documents = [it for it in files_of_tree() if re.fullmatch(r"README.md|docs/[^/]+.md|examples/.*", it)]
     documents += ["changelog.gz", "changelog.Debian.gz", "copyright"]
     wanted += [f"share/doc/asancol/{it}" for it in documents]
-    modules = [it for it in files_of_tree() if re.fullmatch(r"run/asancol_report/.*", it)]
-    wanted += [f"lib/asancol/{it[len('run/') :]}" for it in modules]
+    modules = [it for it in files_of_tree() if re.fullmatch(r"report/asancol_report/.*", it)]
+    wanted += [f"lib/asancol/{it[len('report/') :]}" for it in modules]
     expect([it for it in wanted if not os.path.isfile(f"{folder}/usr/{it}")], [], "missing")
+    with open(f"{folder}/usr/share/doc/asancol/README.md", encoding="utf-8") as page:
+        links = re.findall(r"\]\((?!https?:)([^)#]+)", page.read())
+    expect([it for it in links if not os.path.exists(f"{folder}/usr/share/doc/asancol/{it}")], [], "dead links")
     expect("no licence" in must(["cat", f"{folder}/usr/share/doc/asancol/copyright"]), True, "copyright")
     if shutil.which("man"):
         page = must(["man", f"{folder}/usr/share/man/man1/asancol-c++.1.gz"], folder, LC_ALL="C")
@@ -239,6 +244,7 @@ TESTS: List[Tuple[str, Callable[[str, str], None], Tuple[str, ...]]] = [
     ("archive: the same", archive_is_the_same, ("git",)),
     ("archive: enough", archive_is_enough, ("git", "cc")),
     ("make: install and uninstall", what_is_installed_goes_again, ("cc", "c++")),
+    ("make: small programs", programs_stay_small, ("cc",)),
     ("make: without the toolchain", says_what_is_missing, ("git", "cc")),
     ("package: the same", package_is_the_same, ("dpkg-deb", "dpkg-shlibdeps")),
     ("package: lintian", package_has_no_error, ("dpkg-deb", "dpkg-shlibdeps", "lintian")),
@@ -254,30 +260,24 @@ def left_out(needed: Tuple[str, ...]) -> str:
     return ", ".join(f"{it} is not there" for it in needed if not shutil.which(it))
 
 
-def main() -> int:
-    if len(sys.argv) < 2:
-        print((__doc__ or "").split("\n\n")[1], file=sys.stderr)
-        return 2
-    program, words = os.path.abspath(sys.argv[1]), sys.argv[2:]
-    counts: Dict[bool, int] = {True: 0, False: 0}
-    of_words = [(name, lambda program, _, test=test: test(program), needed) for name, test, needed in completions.TESTS]
-    for name, test, needed in [*of_words, *TESTS]:
-        if words and not any(word in name for word in words):
-            continue
-        why = left_out(needed)
-        if why:
-            print(f"left out: {name}: {why}")
-            continue
-        with tempfile.TemporaryDirectory(prefix="asancol-packages-") as folder:
-            try:
-                test(program, folder)
-                counts[True] += 1
-            except Exception as error:  # whatever it is, the test has failed
-                counts[False] += 1
-                print(f"FAILED {name}: {type(error).__name__}: {error}", flush=True)
-    print(f"{counts[True]} passed, {counts[False]} failed")
-    return 0 if counts[True] and not counts[False] else 1
+def check(suite: Suite, folder: str, test: Callable[[str, str], None], program: str, needed: Tuple[str, ...]) -> None:
+    why = left_out(needed)
+    if why:
+        raise LeftOut(why)
+    test(program, folder)
+
+
+class Packages(Suite):
+    """The tests, one after the other: they make things in this tree."""
+
+    most = 1
+
+    def __init__(self, program: str, words: Sequence[str]) -> None:
+        super().__init__(words)
+        of_words = [(name, lambda program, _, test=test: test(program), it) for name, test, it in completions.TESTS]
+        for name, test, needed in [*of_words, *TESTS]:
+            self.test(name, check, test, program, needed)
 
 
 if __name__ == "__main__":
-    sys.exit(main())
+    sys.exit(suite.main(Packages, __doc__))

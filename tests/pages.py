@@ -14,7 +14,7 @@ import os
 import re
 from typing import Dict, Iterator, List, Optional, Set, Tuple
 
-from traces import is_row
+from testing.traces import is_row
 from worked import Row
 
 Finding = Tuple[str, int, str]
@@ -23,6 +23,9 @@ Finding = Tuple[str, int, str]
 ELSEWHERE = {
     "asan_interface.h",
     "common_interface_defs.h",
+    "allocator_interface.h",
+    "coverage_interface.h",
+    "linux_syscall_hooks.h",
     "lsan_interface.h",
     "malloc.h",
     "__SANITIZE_ADDRESS__",
@@ -239,7 +242,7 @@ def targets_of(tree: Tree) -> Dict[str, Set[str]]:
 
 def findings(tree: Tree, known: Dict[str, Row]) -> Iterator[Finding]:
     targets = targets_of(tree)
-    named = re.compile(r"(?:docs/[^/]+|crates/\w+/README|README|CHANGELOG)\.md")
+    named = re.compile(r"(?:docs/[^/]+|crates/\w+/README|(?:recorder|run)/README|README|CHANGELOG)\.md")
     pages = [it for it in tree.files if named.fullmatch(it)]
     for page in sorted(pages):
         text = tree.text_of(page)

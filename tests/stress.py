@@ -22,7 +22,9 @@ import tempfile
 import threading
 import time
 
-from traces import CLOSE, HEADER, free, load, malloc, poison, store, unpoison
+sys.path.insert(0, f"{os.path.dirname(os.path.realpath(__file__))}/..")  # where `testing` is
+
+from testing.traces import CLOSE, HEADER, free, load, malloc, poison, store, unpoison
 
 RINGS = ["1", "1024"]
 WORKERS = ["1", "2", "64"]

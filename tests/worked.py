@@ -6,7 +6,7 @@ import re
 from typing import Dict, Iterator, List, NamedTuple, Tuple
 
 from files import TOP
-from traces import HEADER, HEADERS, Event, events_of, is_row, trace_of
+from testing.traces import HEADER, HEADERS, Event, events_of, is_row, trace_of
 
 FOLDER = "examples/worked"
 

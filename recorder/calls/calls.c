@@ -47,37 +47,67 @@
 #include <utmpx.h>
 #include <wordexp.h>
 
+#ifndef IN_SHARED_OBJECT
+#define LISTS_STUBS
+#endif
+#include "calls/library.h"
+#include "calls/calls.h"
 #include "calls/rows.h"
 #include "heap/arena.h"
-#include "hooks.h"
+#include "interface/hooks.h"
 
-__attribute__((noinline, cold)) void call_is_bad(enum code code, uintptr_t start, size_t size, uintptr_t caller)
+__attribute__((noinline, cold)) void call_is_bad(enum code code, uintptr_t start, size_t size, size_t good,
+                                                 struct call call)
 {
     int before = errno;
-    note_bad_range(code, start, size, caller);
+    note_bad_call(code, start, size, good, call.caller, call.name);
+    errno = before;
+}
+
+__attribute__((noinline, cold)) void call_overlaps(const void *to, const void *from, size_t size, struct call call)
+{
+    int before = errno;
+    note_wrong_call(&(struct wrong_call){FINDING_OVERLAP, call.caller, call.name, (uintptr_t)to, size,
+                                         (uintptr_t)from});
     errno = before;
 }
 
 /* A string that is put after another one. */
 
-static void appends(const char *to, const char *from, size_t most, uintptr_t caller)
+/* A text of `before` bytes and the `after` bytes that are put after it must have none of the bytes that are copied. Of
+   the text, what lies before the copied bytes is not noted: a finding has one size, that of the copied ones. */
+static void appended_apart(const char *to, size_t before, size_t after, const void *from, size_t size,
+                           struct call call)
+{
+    uintptr_t start = (uintptr_t)to, copied = (uintptr_t)from;
+    size_t skipped = copied <= start ? 0 : copied - start < before ? copied - start : before;
+    APART(to + skipped, before - skipped + after, from, size);
+}
+
+static void appends(const char *to, const char *from, size_t most, struct call call)
 {
     size_t length = strlen(to), read = most == SIZE_MAX ? strlen(from) + 1 : length_within(from, most);
     READS(to, length + 1);
     READS(from, read);
-    WRITES(to + length, read == 0 || from[read - 1] != 0 ? read + 1 : read);
+    size_t written = read == 0 || from[read - 1] != 0 ? read + 1 : read;
+    WRITES(to + length, written);
+    if (read != 0 && from[0] != 0)
+        appended_apart(to, length, written, from, read, call);
 }
 
-static void wide_appends(const wchar_t *to, const wchar_t *from, size_t most, uintptr_t caller)
+static void wide_appends(const wchar_t *to, const wchar_t *from, size_t most, struct call call)
 {
     size_t length = wcslen(to), read = most == SIZE_MAX ? wcslen(from) + 1 : wide_length_within(from, most);
     READS_ARRAY(to, length + 1, sizeof *to);
     READS_ARRAY(from, read, sizeof *from);
-    WRITES_ARRAY(to + length, read == 0 || from[read - 1] != 0 ? read + 1 : read, sizeof *to);
+    size_t written = read == 0 || from[read - 1] != 0 ? read + 1 : read;
+    WRITES_ARRAY(to + length, written, sizeof *to);
+    if (read != 0 && from[0] != 0)
+        appended_apart((const char *)to, length * sizeof *to, written * sizeof *to, from, read * sizeof *from, call);
 }
 
-#define APPENDS(to, from, most) appends(to, from, most, caller)
-#define WIDE_APPENDS(to, from, most) wide_appends(to, from, most, caller)
+#define APPENDS(to, from, most) appends(to, from, most, call)
+#define WIDE_APPENDS(to, from, most) wide_appends(to, from, most, call)
 
 /* Both strings are read up to the first difference or the end. */
 
@@ -112,7 +142,7 @@ __attribute__((no_sanitize("address"))) static size_t same_front(const char *one
     return same;
 }
 
-static inline void compares(const char *one, const char *other, size_t most, int fold(int), uintptr_t caller)
+static inline void compares(const char *one, const char *other, size_t most, int fold(int), struct call call)
 {
     size_t read = 0;
     while (read < most) {
@@ -129,7 +159,7 @@ static inline void compares(const char *one, const char *other, size_t most, int
     READS(other, read);
 }
 
-static void wide_compares(const wchar_t *one, const wchar_t *other, size_t most, uintptr_t caller)
+static void wide_compares(const wchar_t *one, const wchar_t *other, size_t most, struct call call)
 {
     size_t read = 0;
     while (read < most) {
@@ -142,9 +172,9 @@ static void wide_compares(const wchar_t *one, const wchar_t *other, size_t most,
     READS_ARRAY(other, read, sizeof *other);
 }
 
-#define COMPARES(one, other, most) compares(one, other, most, as_it_is, caller)
-#define COMPARES_FOLDED(one, other, most) compares(one, other, most, lowered, caller)
-#define WIDE_COMPARES(one, other, most) wide_compares(one, other, most, caller)
+#define COMPARES(one, other, most) compares(one, other, most, as_it_is, call)
+#define COMPARES_FOLDED(one, other, most) compares(one, other, most, lowered, call)
+#define WIDE_COMPARES(one, other, most) wide_compares(one, other, most, call)
 
 /* Numbers. Where there is none, blanks and a sign are read all the same. */
 
@@ -167,7 +197,7 @@ static bool is_blank(wchar_t letter)
 DEFINE_NUMBER_READ(number_read, char)
 DEFINE_NUMBER_READ(wide_number_read, wchar_t)
 
-static void reads_digits(const char *text, uintptr_t caller)
+static void reads_digits(const char *text, struct call call)
 {
     size_t read = number_read(text, text) - 1;
     while (text[read] >= '0' && text[read] <= '9')
@@ -175,11 +205,11 @@ static void reads_digits(const char *text, uintptr_t caller)
     READS(text, read + 1);
 }
 
-static void reads_real(const char *text, uintptr_t caller)
+static void reads_real(const char *text, struct call call)
 {
     char *end;
     int before = errno;
-    strtod(text, &end);
+    LIBRARY->strtod(text, &end);
     errno = before;
     READS(text, number_read(text, end));
 }
@@ -194,8 +224,8 @@ static void reads_real(const char *text, uintptr_t caller)
     }
 #define READS_NUMBER(text, end, rest) GIVES_END(text, end, rest, number_read)
 #define READS_WIDE_NUMBER(text, end, rest) GIVES_END(text, end, rest, wide_number_read)
-#define READS_DIGITS(text) reads_digits(text, caller)
-#define READS_REAL(text) reads_real(text, caller)
+#define READS_DIGITS(text) reads_digits(text, call)
+#define READS_REAL(text) reads_real(text, call)
 
 /* Addresses and messages of sockets, sets of files. */
 
@@ -204,7 +234,7 @@ static void reads_real(const char *text, uintptr_t caller)
     socklen_t room = length != NULL ? *length : 0
 #define WRITES_ADDRESS(address, length) WRITES(address, LEAST(*length, room))
 
-static void reads_message(const struct msghdr *message, uintptr_t caller)
+static void reads_message(const struct msghdr *message, struct call call)
 {
     READS(message, sizeof *message);
     READS_HEADS(message->msg_iov, message->msg_iovlen);
@@ -212,33 +242,122 @@ static void reads_message(const struct msghdr *message, uintptr_t caller)
     READS(message->msg_control, message->msg_controllen);
 }
 
-static void writes_message(const struct msghdr *message, size_t room, size_t size, uintptr_t caller)
+static void writes_message(const struct msghdr *message, size_t room, size_t size, struct call call)
 {
     WRITES_PIECES(message->msg_iov, message->msg_iovlen, size);
     WRITES(message->msg_name, LEAST(message->msg_namelen, room));
     WRITES(message->msg_control, message->msg_controllen);
 }
 
-#define READS_MESSAGE(message) reads_message(message, caller)
-#define WRITES_MESSAGE(message, room, size) writes_message(message, room, (size_t)(size), caller)
+/* The first message with a bad byte, or `count`. */
+static unsigned first_bad_message(const struct mmsghdr *messages, unsigned count, size_t *good)
+{
+    for (unsigned i = 0; i < count; i++) {
+        const struct msghdr *message = &messages[i].msg_hdr;
+        if ((*good = good_pieces(message->msg_iov, message->msg_iovlen)) != SIZE_MAX)
+            return i;
+    }
+    return count;
+}
+
+#define SENDS_MESSAGES(messages, count)                                                                                \
+    size_t good;                                                                                                       \
+    unsigned wrong = first_bad_message(messages, count, &good)
+#define SENT_MESSAGES(messages, count)                                                                                 \
+    if (UNLIKELY(count > 0 && wrong < (unsigned)(count)))                                                              \
+        pieces_check(CODE_LOAD, messages[wrong].msg_hdr.msg_iov, messages[wrong].msg_hdr.msg_iovlen, good,             \
+                     messages[wrong].msg_len, call)
+#define READS_MESSAGE(message) reads_message(message, call)
+#define WRITES_MESSAGE(message, room, size) writes_message(message, room, (size_t)(size), call)
 
 /* The system reads whole words of a set. A count may be greater than what the set has room for. */
-static void reads_set(const void *set, int count, uintptr_t caller)
+static void reads_set(const void *set, int count, struct call call)
 {
     enum { WORD = NFDBITS };
     if (count > 0)
         READS(set, (LEAST(count, FD_SETSIZE) + WORD - 1) / WORD * (WORD / CHAR_BIT));
 }
 
-#define READS_SET(set, count) reads_set(set, count, caller)
+#define READS_SET(set, count) reads_set(set, count, call)
 
-/* Entries of databases begin with their name. */
-static void writes_name(const void *entry, uintptr_t caller)
+/* What is waited for, and what was found. */
+static void checks_files(enum code code, struct pollfd *files, nfds_t count, struct call call)
 {
-    WRITES_STRING(*(char *const *)entry);
+    for (nfds_t i = 0; i < count && files != NULL; i++) {
+        if (code == CODE_LOAD)
+            READS(&files[i], offsetof(struct pollfd, revents));
+        else
+            WRITES(&files[i].revents, sizeof files[i].revents);
+    }
 }
 
-static void writes_texts_of_user(const struct passwd *user, uintptr_t caller)
+#define READS_FILES(files, count) checks_files(CODE_LOAD, files, count, call)
+#define WRITES_FILES(files, count)                                                                                     \
+    if (result >= 0)                                                                                                   \
+    checks_files(CODE_STORE, files, count, call)
+
+/* What a date says, without the day of the week and of the year. */
+#define READS_DATE(time)                                                                                               \
+    READS(time, offsetof(struct tm, tm_wday));                                                                         \
+    READS(&(time)->tm_isdst, sizeof (time)->tm_isdst)
+
+/* The state of a conversion, if the caller has one. */
+#define READS_STATE(state) READS(state, sizeof(mbstate_t))
+/* From the first byte as far as a conversion has come, which it says where it stores something; else it ends by
+   itself. */
+#define READS_TO(first, from, whole)                                                                                   \
+    if (result != SIZE_MAX)                                                                                            \
+    READS(first, to != NULL && *(from) != NULL ? (size_t)((const char *)*(from) - (const char *)(first)) : (whole))
+
+/* Strings up to a null. Entries of databases begin with their name, and then have such a list. */
+static void checks_list(enum code code, char *const *list, struct call call)
+{
+    for (; list != NULL; list++) {
+        call_checks(code, list, sizeof *list, call);
+        if (*list == NULL)
+            return;
+        call_checks_string(code, *list, call);
+    }
+}
+
+#define READS_LIST(list) checks_list(CODE_LOAD, list, call)
+
+static void writes_name(const void *entry, struct call call)
+{
+    const struct protoent *it = entry;
+    WRITES_STRING(it->p_name);
+    checks_list(CODE_STORE, it->p_aliases, call);
+}
+
+static void writes_texts_of_group(const struct group *it, struct call call)
+{
+    WRITES_STRING(it->gr_name);
+    WRITES_STRING(it->gr_passwd);
+    checks_list(CODE_STORE, it->gr_mem, call);
+}
+
+static void writes_texts_of_host(const struct hostent *it, struct call call)
+{
+    writes_name(it, call);
+    for (char **address = it->h_addr_list; address != NULL; address++) {
+        WRITES(address, sizeof *address);
+        if (*address == NULL)
+            return;
+        WRITES(*address, it->h_length);
+    }
+}
+
+static void writes_mount(const struct mntent *it, struct call call)
+{
+    const char *const texts[] = {it->mnt_fsname, it->mnt_dir, it->mnt_type, it->mnt_opts};
+    WRITES(it, sizeof *it);
+    for (size_t i = 0; i < sizeof texts / sizeof *texts; i++)
+        WRITES_STRING(texts[i]);
+}
+
+#define WRITES_MOUNT(to) writes_mount(to, call)
+
+static void writes_texts_of_user(const struct passwd *user, struct call call)
 {
     const char *const texts[] = {user->pw_name, user->pw_passwd, user->pw_gecos, user->pw_dir, user->pw_shell};
     for (size_t i = 0; i < sizeof texts / sizeof *texts; i++)
@@ -248,12 +367,14 @@ static void writes_texts_of_user(const struct passwd *user, uintptr_t caller)
 #define WRITES_ENTRY(to, found, writes_texts)                                                                          \
     {                                                                                                                  \
         WRITES(found, sizeof *found);                                                                                  \
-        if (*found != NULL) {                                                                                          \
+        if (DONE && *found != NULL) {                                                                                  \
             WRITES(to, sizeof *to);                                                                                    \
-            writes_texts(to, caller);                                                                                  \
+            writes_texts(to, call);                                                                                    \
         }                                                                                                              \
     }
 #define WRITES_FOUND(to, found) WRITES_ENTRY(to, found, writes_name)
+#define WRITES_GROUP(to, found) WRITES_ENTRY(to, found, writes_texts_of_group)
+#define WRITES_HOST(to, found) WRITES_ENTRY(to, found, writes_texts_of_host)
 #define WRITES_USER(to, found) WRITES_ENTRY(to, found, writes_texts_of_user)
 
 /* What a request of ioctl reads and writes at its argument. Of a request that is not here nothing is known. */
@@ -311,9 +432,86 @@ static size_t sets_of_version(uint32_t version)
 
 static size_t pages_of(size_t size)
 {
-    size_t page = (size_t)getpagesize();
-    return size / page + (size % page != 0);
+    return size / PAGE + (size % PAGE != 0);
 }
+
+/* Lines and texts with _FORTIFY_SOURCE: the C library ends the process once it has filled the room, so only then it is
+   known how much would be written. A line is read as far as there is room, and is too long if the stream has more. */
+
+#undef MB_CUR_MAX
+#define MB_CUR_MAX LIBRARY->__ctype_get_mb_cur_max()
+
+REAL(int, __vsnprintf_chk, (char *, size_t, int, size_t, const char *, va_list));
+
+/* Stands at the end of the room while a line is read: it is gone if the line has filled that. */
+enum { NOT_FILLED = 1 };
+
+static int byte_of(FILE *stream)
+{
+    return LIBRARY->getc(stream);
+}
+
+static int letter_of(FILE *stream)
+{
+    wint_t letter = LIBRARY->getwc(stream);
+    return letter == WEOF ? -1 : (int)letter;
+}
+
+#define DEFINE_LINE(name, type, get)                                                                                   \
+    static bool is_within_##name(type *to, size_t room, int size, FILE *stream, struct call call)                      \
+    {                                                                                                                  \
+        if (size <= 0 || (size_t)size <= room || room == 0 || LIBRARY->ferror(stream))                                 \
+            return false;                                                                                              \
+        if (room > 1)                                                                                                  \
+            return true;                                                                                               \
+        if (get(stream) >= 0) {                                                                                        \
+            WRITES_ARRAY(to, 2, sizeof *to);                                                                           \
+            LIBRARY->__chk_fail();                                                                                     \
+        }                                                                                                              \
+        return false;                                                                                                  \
+    }                                                                                                                  \
+    static type *end_##name(type *to, size_t room, type *result, type last, FILE *stream, struct call call)            \
+    {                                                                                                                  \
+        if (to[room - 1] == NOT_FILLED) {                                                                              \
+            to[room - 1] = last;                                                                                       \
+            return result;                                                                                             \
+        }                                                                                                              \
+        if (result == NULL || to[room - 2] == '\n')                                                                    \
+            return result;                                                                                             \
+        if (get(stream) < 0)                                                                                           \
+            return LIBRARY->ferror(stream) && errno != EAGAIN ? NULL : result;                                         \
+        WRITES_ARRAY(to, room + 1, sizeof *to);                                                                        \
+        LIBRARY->__chk_fail();                                                                                         \
+    }
+
+DEFINE_LINE(line, char, byte_of)
+DEFINE_LINE(wide_line, wchar_t, letter_of)
+
+#define BEGINS_LINE(name, to, size, room)                                                                              \
+    bool is_within = is_within_##name(to, room, size, stream, call);                                                   \
+    __typeof__(*to) last = is_within ? to[room - 1] : 0;                                                               \
+    if (is_within)                                                                                                     \
+        to[room - 1] = NOT_FILLED
+#define LINE_WITHIN(size, room) (is_within ? (int)room : size)
+#define ENDS_LINE(name, to, room)                                                                                      \
+    if (is_within)                                                                                                     \
+        result = end_##name(to, room, result, last, stream, call)
+
+/* As sprintf: also what it leaves in the buffer if it fails. */
+static int print_within(char *to, size_t room, int flag, const char *format, va_list values, struct call call)
+{
+    IS_OWN_FRAME;
+    int result = real___vsnprintf_chk(to, room, flag, room, format, values);
+    if (result >= 0)
+        WRITES(to, (size_t)result + 1);
+    if (result >= 0 && (size_t)result >= room)
+        LIBRARY->__chk_fail();
+    return result;
+}
+
+#define PRINTS_WITHIN(to, room)                                                                                        \
+    if (room != SIZE_MAX)                                                                                              \
+        return print_within(to, room, flag, format, values, call)
 
 /* Rows of formats. */
 
@@ -326,24 +524,24 @@ static size_t pages_of(size_t size)
     CHECK int checked_##listed(UNPACKED parameters, va_list values)                                                    \
     {                                                                                                                  \
         IS_OWN_FRAME;                                                                                                  \
-        return with_##name(UNPACKED arguments, values, CALLER());                                                      \
+        return with_##name(UNPACKED arguments, values, THIS_CALL(#listed));                                            \
     }                                                                                                                  \
     CHECK int checked_##name(UNPACKED parameters, ...)                                                                 \
     {                                                                                                                  \
         IS_OWN_FRAME;                                                                                                  \
         va_list values;                                                                                                \
         va_start(values, format);                                                                                      \
-        int result = with_##name(UNPACKED arguments, values, CALLER());                                                \
+        int result = with_##name(UNPACKED arguments, values, THIS_CALL(#name));                                        \
         va_end(values);                                                                                                \
         return result;                                                                                                 \
     }
 
 #define PRINT_BY(walk, name, listed, parameters, arguments, format, before, after)                                     \
-    extern int real_##listed(UNPACKED parameters, va_list) __asm__(#listed);                                           \
-    static int with_##name(UNPACKED parameters, va_list values, uintptr_t caller)                                      \
+    REAL(int, listed, (UNPACKED parameters, va_list));                                                                 \
+    static int with_##name(UNPACKED parameters, va_list values, struct call call)                                      \
     {                                                                                                                  \
         IS_OWN_FRAME;                                                                                                  \
-        walk(format, values, caller);                                                                                  \
+        walk(format, values, call);                                                                                    \
         before;                                                                                                        \
         int result = real_##listed(UNPACKED arguments, values);                                                        \
         after;                                                                                                         \
@@ -352,15 +550,15 @@ static size_t pages_of(size_t size)
     FORMATTED(name, listed, parameters, arguments, format)
 
 #define SCAN_BY(walk, name, listed, parameters, arguments, format, before)                                             \
-    extern int real_##listed(UNPACKED parameters, va_list) __asm__(#listed);                                           \
-    static int with_##name(UNPACKED parameters, va_list values, uintptr_t caller)                                      \
+    REAL(int, listed, (UNPACKED parameters, va_list));                                                                 \
+    static int with_##name(UNPACKED parameters, va_list values, struct call call)                                      \
     {                                                                                                                  \
         IS_OWN_FRAME;                                                                                                  \
         va_list again;                                                                                                 \
         va_copy(again, values);                                                                                        \
         before;                                                                                                        \
         int result = real_##listed(UNPACKED arguments, values);                                                        \
-        walk(format, again, result, caller);                                                                           \
+        walk(format, again, result, call);                                                                             \
         va_end(again);                                                                                                 \
         return result;                                                                                                 \
     }                                                                                                                  \
@@ -372,13 +570,13 @@ static size_t pages_of(size_t size)
 #define WIDE_SCAN(...) SCAN_BY(format_checks_wide_scan, __VA_ARGS__)
 
 #define LOG(name, listed, parameters, arguments, format)                                                               \
-    extern void real_##listed(UNPACKED parameters, va_list) __asm__(#listed);                                          \
+    REAL(void, listed, (UNPACKED parameters, va_list));                                                                \
     STUB_OF_TWO(name, listed)                                                                                          \
     STUB(listed)                                                                                                       \
     CHECK void checked_##listed(UNPACKED parameters, va_list values)                                                   \
     {                                                                                                                  \
         IS_OWN_FRAME;                                                                                                  \
-        format_checks_print(format, values, CALLER());                                                                 \
+        format_checks_print(format, values, THIS_CALL(#listed));                                                       \
         real_##listed(UNPACKED arguments, values);                                                                     \
     }                                                                                                                  \
     CHECK void checked_##name(UNPACKED parameters, ...)                                                                \
@@ -386,31 +584,37 @@ static size_t pages_of(size_t size)
         IS_OWN_FRAME;                                                                                                  \
         va_list values;                                                                                                \
         va_start(values, format);                                                                                      \
-        format_checks_print(format, values, CALLER());                                                                 \
+        format_checks_print(format, values, THIS_CALL(#name));                                                         \
         real_##listed(UNPACKED arguments, values);                                                                     \
         va_end(values);                                                                                                \
     }
 
 /* Of such a function that has no form with a va_list: it gets the text that the format makes. */
 #define MESSAGE(name, parameters, arguments, format, before)                                                           \
-    extern void real_##name(UNPACKED parameters, ...) __asm__(#name);                                                  \
+    REAL(void, name, (UNPACKED parameters, ...));                                                                      \
     STUB(name)                                                                                                         \
     CHECK void checked_##name(UNPACKED parameters, ...)                                                                \
     {                                                                                                                  \
         IS_OWN_FRAME;                                                                                                  \
-        uintptr_t caller = CALLER();                                                                                   \
+        struct call call = THIS_CALL(#name);                                                                           \
         va_list values, again;                                                                                         \
         va_start(values, format);                                                                                      \
         va_copy(again, values);                                                                                        \
-        format_checks_print(format, values, caller);                                                                   \
+        format_checks_print(format, values, call);                                                                     \
         before;                                                                                                        \
-        int length = vsnprintf(NULL, 0, format, values);                                                               \
+        int length = LIBRARY->vsnprintf(NULL, 0, format, values);                                                      \
         char text[length < 0 ? 1 : length + 1];                                                                        \
         text[0] = 0;                                                                                                   \
-        vsnprintf(text, sizeof text, format, again);                                                                   \
+        LIBRARY->vsnprintf(text, sizeof text, format, again);                                                          \
         va_end(again);                                                                                                 \
         va_end(values);                                                                                                \
         real_##name(UNPACKED arguments, "%s", text);                                                                   \
     }
 
+#ifdef LISTS_STUBS
+__asm__(".pushsection asancol_stubs,\"a\",@progbits\n.balign 4\n.globl plain_stubs\nplain_stubs:\n.popsection\n");
+#endif
 #include "out/calls.def"
+#ifdef LISTS_STUBS
+__asm__(".pushsection asancol_stubs,\"a\",@progbits\n.globl plain_stubs_end\nplain_stubs_end:\n.popsection\n");
+#endif

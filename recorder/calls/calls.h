@@ -3,47 +3,93 @@
 #define ASANCOL_CALLS_H
 
 #include <stdarg.h>
+#include <stdint.h>
 #include <string.h>
 #include <sys/uio.h>
 #include <wchar.h>
 
-#include "format.h"
-#include "platform.h"
-#include "shadow.h"
+#include "common/format.h"
+#include "base/platform.h"
+#include "shadow/shadow.h"
 
-/* Records the bad pieces of a range. errno stays as it is. */
-void call_is_bad(enum code code, uintptr_t start, size_t size, uintptr_t caller) OWN_NAME(call_is_bad);
+/* A call of a function: the address after it, and the function's name. */
+struct call {
+    uintptr_t caller;
+    const char *name;
+};
 
-/* Nothing is bad at null. */
-static inline void call_checks(enum code code, const volatile void *start, size_t size, uintptr_t caller)
+#define THIS_CALL(name) ((struct call){CALLER(), name})
+
+/* Always, so that the name of a call is looked for only if the call is bad. */
+#define INLINED static inline __attribute__((always_inline))
+
+/* Records the bad pieces of a range, of which so many of the first bytes are good. errno stays as it is. */
+void call_is_bad(enum code code, uintptr_t start, size_t size, size_t good, struct call call) OWN_NAME(call_is_bad);
+
+/* Notes that two ranges of a call overlap. errno stays as it is. */
+void call_overlaps(const void *to, const void *from, size_t size, struct call call) OWN_NAME(call_overlaps);
+
+/* Of two ranges that must have no byte in common. */
+INLINED void call_checks_apart(const void *to, size_t size_to, const void *from, size_t size_from, struct call call)
+{
+    uintptr_t one = (uintptr_t)to, other = (uintptr_t)from;
+    if (UNLIKELY(one - other < size_from || other - one < size_to) && size_from != 0 && size_to != 0)
+        call_overlaps(to, from, size_from, call);
+}
+
+/* Of a range, what comes after so many bytes. Nothing is bad at null. */
+INLINED void call_checks_after(enum code code, const volatile void *start, size_t size, size_t good, struct call call)
+{
+    if (UNLIKELY(!shadow_is_clean((uintptr_t)start + good, size - good)))
+        call_is_bad(code, (uintptr_t)start, size, good, call);
+}
+
+INLINED void call_checks(enum code code, const volatile void *start, size_t size, struct call call)
 {
     if (UNLIKELY(!shadow_is_clean((uintptr_t)start, size)))
-        call_is_bad(code, (uintptr_t)start, size, caller);
+        call_is_bad(code, (uintptr_t)start, size, 0, call);
+}
+
+/* Of a range that is read and another that is written. A size below zero is one mistake, which is noted once. */
+INLINED void call_checks_move(const volatile void *to, const volatile void *from, size_t size, struct call call)
+{
+    bool is_bad = !shadow_is_clean((uintptr_t)from, size);
+    if (UNLIKELY(is_bad))
+        call_is_bad(CODE_LOAD, (uintptr_t)from, size, 0, call);
+    if (!UNLIKELY(is_bad) || size <= PTRDIFF_MAX)
+        call_checks(CODE_STORE, to, size, call);
 }
 
 static inline void call_checks_array(enum code code, const volatile void *start, size_t count, size_t size,
-                                     uintptr_t caller)
+                                     struct call call)
 {
     size_t bytes;
     if (!__builtin_mul_overflow(count, size, &bytes))
-        call_checks(code, start, bytes, caller);
+        call_checks(code, start, bytes, call);
 }
 
-static inline void call_checks_string(enum code code, const char *text, uintptr_t caller)
+static inline void call_checks_string(enum code code, const char *text, struct call call)
 {
     if (text != NULL)
-        call_checks(code, text, strlen(text) + 1, caller);
+        call_checks(code, text, strlen(text) + 1, call);
 }
 
-static inline void call_checks_wide(enum code code, const wchar_t *text, uintptr_t caller)
+static inline void call_checks_wide(enum code code, const wchar_t *text, struct call call)
 {
     if (text != NULL)
-        call_checks_array(code, text, wcslen(text) + 1, sizeof *text, caller);
+        call_checks_array(code, text, wcslen(text) + 1, sizeof *text, call);
 }
 
 static inline size_t least(size_t one, size_t other)
 {
     return one < other ? one : other;
+}
+
+/* Or the greatest size, if there is none of that many bytes. */
+static inline size_t product(size_t count, size_t size)
+{
+    size_t bytes;
+    return __builtin_mul_overflow(count, size, &bytes) ? SIZE_MAX : bytes;
 }
 
 /* How many bytes of a string are read if no more than `most` may be. */
@@ -60,19 +106,19 @@ static inline size_t wide_length_within(const wchar_t *text, size_t most)
 }
 
 /* formats.c: what a printf reads and writes by its format, but for its output. Nothing without a format. */
-void format_checks_print(const char *format, va_list values, uintptr_t caller) OWN_NAME(format_checks_print);
-void format_checks_wide_print(const wchar_t *format, va_list values, uintptr_t caller)
+void format_checks_print(const char *format, va_list values, struct call call) OWN_NAME(format_checks_print);
+void format_checks_wide_print(const wchar_t *format, va_list values, struct call call)
     OWN_NAME(format_checks_wide_print);
 /* What a scanf has written that has assigned `count` values. */
-void format_checks_scan(const char *format, va_list values, int count, uintptr_t caller) OWN_NAME(format_checks_scan);
-void format_checks_wide_scan(const wchar_t *format, va_list values, int count, uintptr_t caller)
+void format_checks_scan(const char *format, va_list values, int count, struct call call) OWN_NAME(format_checks_scan);
+void format_checks_wide_scan(const wchar_t *format, va_list values, int count, struct call call)
     OWN_NAME(format_checks_wide_scan);
 
 /* pieces.c: memory in pieces. */
 
 /* The first bytes of the pieces, from the one with this number on. */
 void pieces_check(enum code code, const struct iovec *pieces, size_t count, size_t from, size_t size,
-                  uintptr_t caller) OWN_NAME(pieces_check);
+                  struct call call) OWN_NAME(pieces_check);
 /* How many of the first bytes are good, or SIZE_MAX if all are. */
 size_t good_length(const void *start, size_t size) OWN_NAME(good_length);
 size_t good_pieces(const struct iovec *pieces, size_t count) OWN_NAME(good_pieces);

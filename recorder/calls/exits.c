@@ -1,7 +1,5 @@
 /* The ways out of a process that run none of its exit handlers, and those into another program. */
 #define _GNU_SOURCE
-#include <assert.h>
-#include <dlfcn.h>
 #include <errno.h>
 #include <fcntl.h>
 #include <stdarg.h>
@@ -9,104 +7,163 @@
 #include <sys/stat.h>
 #include <unistd.h>
 
-#include "hooks.h"
+#include "calls/library.h"
+#include "calls/stubs.h"
+#include "interface/hooks.h"
+#include "base/system.h"
 
-_Noreturn void __wrap__exit(int status)
+REAL(_Noreturn void, _exit, (int));
+REAL(_Noreturn void, _Exit, (int));
+REAL(_Noreturn void, abort, (void));
+REAL(_Noreturn void, __assert_fail, (const char *, const char *, unsigned, const char *));
+REAL(int, daemon, (int, int));
+REAL(int, execve, (const char *, char *const *, char *const *));
+REAL(int, execv, (const char *, char *const *));
+REAL(int, execvpe, (const char *, char *const *, char *const *));
+REAL(int, execvp, (const char *, char *const *));
+REAL(int, fexecve, (int, char *const *, char *const *));
+
+GUARD_OWN(_exit);
+CHECK _Noreturn void checked__exit(int status)
 {
     if (HAS_HOOKS)
         asancol_hooks.finish(FINISH_CLOSED);
-    _exit(status);
+    real__exit(status);
 }
 
-_Noreturn void __wrap__Exit(int status)
+GUARD_OWN(_Exit);
+CHECK _Noreturn void checked__Exit(int status)
 {
-    __wrap__exit(status);
+    if (HAS_HOOKS)
+        asancol_hooks.finish(FINISH_CLOSED);
+    real__Exit(status);
 }
 
-_Noreturn void __wrap_abort(void)
-{
-    note_abort(CALLER());
-    abort();
-}
-
-_Noreturn void __wrap___assert_fail(const char *assertion, const char *file, unsigned line, const char *function)
+GUARD_OWN(abort);
+CHECK _Noreturn void checked_abort(void)
 {
     note_abort(CALLER());
-    __assert_fail(assertion, file, line, function);
+    real_abort();
 }
 
-/* Puts /dev/null in the place of the standard streams. */
-static bool leave_streams(void)
+GUARD_OWN(__assert_fail);
+CHECK _Noreturn void checked___assert_fail(const char *assertion, const char *file, unsigned line,
+                                           const char *function)
 {
-    int null = open("/dev/null", O_RDWR);
+    note_abort(CALLER());
+    real___assert_fail(assertion, file, line, function);
+}
+
+/* Puts /dev/null in the place of the standard streams. Answers 0, or an error below zero. */
+static int leave_streams(void)
+{
+    int null = system_open("/dev/null", O_RDWR, 0);
     struct stat seen;
     if (null < 0)
-        return false;
-    bool is_null = fstat(null, &seen) == 0 && S_ISCHR(seen.st_mode);
+        return null;
+    bool is_null = system_fstat(null, &seen) == 0 && S_ISCHR(seen.st_mode);
     for (int stream = STDIN_FILENO; is_null && stream <= STDERR_FILENO; stream++)
-        dup2(null, stream);
+        system_dup2(null, stream);
     if (null > STDERR_FILENO)
-        close(null);
-    if (!is_null)
-        errno = ENODEV;
-    return is_null;
+        system_close(null);
+    return is_null ? 0 : -ENODEV;
 }
 
 /* As the C library's, in which the parent ends where nobody sees it. */
-int __wrap_daemon(int keeps_folder, int keeps_streams)
+GUARD_OWN(daemon);
+CHECK int checked_daemon(int keeps_folder, int keeps_streams)
 {
-    pid_t child = fork();
-    if (child > 0)
-        __wrap__exit(EXIT_SUCCESS);
-    if (child < 0 || setsid() < 0)
+    if (!HAS_HOOK(library))
+        return real_daemon(keeps_folder, keeps_streams);
+    int result = LIBRARY->fork();
+    if (result > 0) {
+        asancol_hooks.finish(FINISH_CLOSED);
+        system_exit(EXIT_SUCCESS);
+    }
+    if (result < 0)
         return -1;
-    if (keeps_folder == 0)
-        (void)!chdir("/");
-    return keeps_streams != 0 || leave_streams() ? 0 : -1;
-}
-
-static bool before_exec(void)
-{
-    return HAS_HOOKS && asancol_hooks.before_exec();
-}
-
-static int failed(bool was_recorded)
-{
-    if (was_recorded)
-        asancol_hooks.exec_failed();
+    result = system_setsid();
+    if (result >= 0 && keeps_folder == 0)
+        system_chdir("/");
+    if (result >= 0 && keeps_streams == 0)
+        result = leave_streams();
+    if (result >= 0)
+        return 0;
+    errno = -result;
     return -1;
 }
 
-int __wrap_execve(const char *path, char *const words[], char *const environment[])
+/* A function that returns twice is not called from here, where its second return would meet other frames: the caller's
+   place is noted, and it goes on there. */
+CHECK void note_caller_of_vfork(uintptr_t stack)
 {
-    bool recorded = before_exec();
-    execve(path, words, environment);
-    return failed(recorded);
+    note_vfork(stack);
 }
 
-int __wrap_execv(const char *path, char *const words[])
+GUARD_OWN(vfork);
+__asm__(".pushsection .text\n"
+        ".type checked_vfork,@function\nchecked_vfork:\n"
+        "\t.cfi_startproc\n"
+        "\tendbr64\n"
+        "\tleaq 8(%rsp), %rdi\n"
+        "\tsubq $8, %rsp\n"
+        "\t.cfi_adjust_cfa_offset 8\n"
+        "\tcall note_caller_of_vfork\n"
+        "\taddq $8, %rsp\n"
+        "\t.cfi_adjust_cfa_offset -8\n"
+        "\tjmp *__real_vfork@GOTPCREL(%rip)\n"
+        "\t.cfi_endproc\n"
+        ".size checked_vfork, .-checked_vfork\n"
+        ".popsection\n");
+
+/* What the process has to take back if an exec fails. */
+struct leaving {
+    bool is_recorded, is_expected;
+};
+
+static struct leaving leave(const struct target *target)
 {
-    return __wrap_execve(path, words, environ);
+    struct leaving leaving = {.is_expected = HAS_HOOK(becoming) && asancol_hooks.becoming(target)};
+    leaving.is_recorded = HAS_HOOKS && asancol_hooks.before_exec();
+    return leaving;
 }
 
-int __wrap_execvpe(const char *file, char *const words[], char *const environment[])
+static int stay(struct leaving leaving)
 {
-    bool recorded = before_exec();
-    execvpe(file, words, environment);
-    return failed(recorded);
+    int error = errno;
+    if (leaving.is_recorded)
+        asancol_hooks.exec_failed();
+    if (leaving.is_expected)
+        asancol_hooks.not_becoming();
+    errno = error;
+    return -1;
 }
 
-int __wrap_execvp(const char *file, char *const words[])
+static char *const *environment_now(void)
 {
-    return __wrap_execvpe(file, words, environ);
+    bool is_known = HAS_HOOK(library) && LIBRARY->environment != NULL;
+    return is_known ? *LIBRARY->environment : NULL;
 }
 
-int __wrap_fexecve(int descriptor, char *const words[], char *const environment[])
-{
-    bool recorded = before_exec();
-    fexecve(descriptor, words, environment);
-    return failed(recorded);
-}
+/* After the arguments stands what the process becomes. */
+#define EXEC(name, parameters, arguments, ...)                                                                         \
+    GUARD_OWN(name);                                                                                                   \
+    CHECK int checked_##name parameters                                                                                \
+    {                                                                                                                  \
+        struct leaving leaving = leave(&(struct target){__VA_ARGS__});                                                 \
+        real_##name arguments;                                                                                         \
+        return stay(leaving);                                                                                          \
+    }
+
+EXEC(execve, (const char *path, char *const *words, char *const *environment), (path, words, environment),
+     .name = path, .environment = environment)
+EXEC(execv, (const char *path, char *const *words), (path, words), .name = path, .environment = environment_now())
+EXEC(execvpe, (const char *file, char *const *words, char *const *environment), (file, words, environment),
+     .name = file, .is_looked_for = true, .environment = environment)
+EXEC(execvp, (const char *file, char *const *words), (file, words),
+     .name = file, .is_looked_for = true, .environment = environment_now())
+EXEC(fexecve, (int descriptor, char *const *words, char *const *environment), (descriptor, words, environment),
+     .descriptor = descriptor, .environment = environment)
 
 /* How many words there are, with the null at their end. */
 static size_t count_words(va_list rest)
@@ -136,17 +193,20 @@ static void take_words(char **words, size_t count, const char *first, va_list re
     va_end(rest);                                                                                                      \
     return result
 
-int __wrap_execl(const char *path, const char *first, ...)
+GUARD_OWN(execl);
+CHECK int checked_execl(const char *path, const char *first, ...)
 {
-    WITH_WORDS(first, __wrap_execve(path, words, environ));
+    WITH_WORDS(first, checked_execv(path, words));
 }
 
-int __wrap_execlp(const char *file, const char *first, ...)
+GUARD_OWN(execlp);
+CHECK int checked_execlp(const char *file, const char *first, ...)
 {
-    WITH_WORDS(first, __wrap_execvpe(file, words, environ));
+    WITH_WORDS(first, checked_execvp(file, words));
 }
 
-int __wrap_execle(const char *path, const char *first, ...)
+GUARD_OWN(execle);
+CHECK int checked_execle(const char *path, const char *first, ...)
 {
-    WITH_WORDS(first, __wrap_execve(path, words, va_arg(again, char **)));
+    WITH_WORDS(first, checked_execve(path, words, va_arg(again, char **)));
 }

@@ -70,19 +70,19 @@ static const char *read_print(const char *at, struct conversion *it, struct argu
     return at;
 }
 
-static void print_string(const struct conversion *it, const char *text, uintptr_t caller)
+static void print_string(const struct conversion *it, const char *text, struct call call)
 {
     bool is_wide = it->kind == 'S' || *it->length == 'l';
     if (text == NULL)
         return;
     if (!is_wide)
-        call_checks(CODE_LOAD, text, length_within(text, it->precision), caller);
+        call_checks(CODE_LOAD, text, length_within(text, it->precision), call);
     else if (it->precision == SIZE_MAX)
-        call_checks_wide(CODE_LOAD, (const wchar_t *)text, caller);
+        call_checks_wide(CODE_LOAD, (const wchar_t *)text, call);
 }
 
 /* Takes the argument of a conversion. False: it is not known. */
-static bool print_one(const struct conversion *it, struct arguments *arguments, uintptr_t caller)
+static bool print_one(const struct conversion *it, struct arguments *arguments, struct call call)
 {
     switch (it->kind) {
     case '%': case 'm':
@@ -97,17 +97,17 @@ static bool print_one(const struct conversion *it, struct arguments *arguments, 
             (void)va_arg(arguments->list, double);
         return true;
     case 's': case 'S':
-        print_string(it, va_arg(arguments->list, const char *), caller);
+        print_string(it, va_arg(arguments->list, const char *), call);
         return true;
     case 'n':
-        call_checks(CODE_STORE, va_arg(arguments->list, void *), it->size, caller);
+        call_checks(CODE_STORE, va_arg(arguments->list, void *), it->size, call);
         return true;
     default:
         return false;
     }
 }
 
-void format_checks_print(const char *format, va_list values, uintptr_t caller)
+void format_checks_print(const char *format, va_list values, struct call call)
 {
     struct arguments arguments;
     struct conversion it = {0};
@@ -117,12 +117,12 @@ void format_checks_print(const char *format, va_list values, uintptr_t caller)
     va_copy(arguments.list, values);
     while ((at = strchr(at, '%')) != NULL) {
         at = read_print(at + 1, &it, &arguments);
-        if (!print_one(&it, &arguments, caller))
+        if (!print_one(&it, &arguments, call))
             break;
         at++;
     }
     va_end(arguments.list);
-    call_checks_string(CODE_LOAD, format, caller);
+    call_checks_string(CODE_LOAD, format, call);
 }
 
 /* Of a wide format, what follows a percent sign, as far as it fits, in letters of one byte. */
@@ -137,7 +137,7 @@ static void narrow(char *to, const wchar_t *from)
     to[length] = 0;
 }
 
-void format_checks_wide_print(const wchar_t *format, va_list values, uintptr_t caller)
+void format_checks_wide_print(const wchar_t *format, va_list values, struct call call)
 {
     struct arguments arguments;
     struct conversion it = {0};
@@ -147,12 +147,12 @@ void format_checks_wide_print(const wchar_t *format, va_list values, uintptr_t c
     while ((at = wcschr(at, '%')) != NULL) {
         narrow(text, at + 1);
         const char *end = read_print(text, &it, &arguments);
-        if (!print_one(&it, &arguments, caller))
+        if (!print_one(&it, &arguments, call))
             break;
         at += end - text + 2;
     }
     va_end(arguments.list);
-    call_checks_wide(CODE_LOAD, format, caller);
+    call_checks_wide(CODE_LOAD, format, call);
 }
 
 /* The end of a set of letters, which may begin with its own bracket. */
@@ -204,45 +204,48 @@ static size_t scanned_size(const struct conversion *it, const char *to)
 
 /* Takes the argument of a conversion that ends there. False: it is not known. */
 static bool scan_one(const struct conversion *it, const char *end, struct arguments *arguments, int *count,
-                     uintptr_t caller)
+                     struct call call)
 {
     if (*end == 0 || strchr("%diouxXbBpaAeEfFgGcCsS[n", it->kind) == NULL || may_allocate(it, end[1]))
         return false;
     if (it->kind == '%' || it->is_left_out)
         return true;
     char *to = va_arg(arguments->list, char *);
-    call_checks(CODE_STORE, to, scanned_size(it, to), caller);
+    call_checks(CODE_STORE, to, scanned_size(it, to), call);
     *count -= it->kind != 'n';
     return true;
 }
 
-/* A %n after the last value is left out: whether the scan has come to it is not known. */
-void format_checks_scan(const char *format, va_list values, int count, uintptr_t caller)
+/* A %n after the last value counts if there are only blanks between: whether the scan has come to one after other text
+   is not known. */
+#define BLANKS " \t\n\v\f\r"
+
+void format_checks_scan(const char *format, va_list values, int count, struct call call)
 {
     struct arguments arguments;
     struct conversion it = {0};
     const char *at = format;
     va_copy(arguments.list, values);
-    while (count > 0 && (at = strchr(at, '%')) != NULL) {
+    while ((at = count > 0 ? strchr(at, '%') : skip(at, BLANKS)) != NULL && *at == '%') {
         at = read_scan(at + 1, &it);
-        if (!scan_one(&it, at, &arguments, &count, caller))
+        if ((count <= 0 && it.kind != 'n') || !scan_one(&it, at, &arguments, &count, call))
             break;
         at++;
     }
     va_end(arguments.list);
 }
 
-void format_checks_wide_scan(const wchar_t *format, va_list values, int count, uintptr_t caller)
+void format_checks_wide_scan(const wchar_t *format, va_list values, int count, struct call call)
 {
     struct arguments arguments;
     struct conversion it = {0};
     char text[MAX_CONVERSION_LENGTH];
     const wchar_t *at = format;
     va_copy(arguments.list, values);
-    while (count > 0 && (at = wcschr(at, '%')) != NULL) {
+    while ((at = count > 0 ? wcschr(at, '%') : at + wcsspn(at, L"" BLANKS)) != NULL && *at == '%') {
         narrow(text, at + 1);
         const char *end = read_scan(text, &it);
-        if (!scan_one(&it, end, &arguments, &count, caller))
+        if ((count <= 0 && it.kind != 'n') || !scan_one(&it, end, &arguments, &count, call))
             break;
         at += end - text + 2;
     }

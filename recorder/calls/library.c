@@ -1,7 +1,40 @@
 #define _GNU_SOURCE
 #include "calls/library.h"
 
+#include <link.h>
+
 #ifdef IS_STATIC
+
+/* Under the names that are kept for the library, so that a program may have the others. */
+extern int *__errno_location(void);
+extern int __register_atfork(void (*)(void), void (*)(void), void (*)(void), void *);
+extern int __cxa_at_quick_exit(void (*)(void *), void *);
+extern int __clock_gettime(int, struct timespec *);
+extern int find_object(void *, struct dl_find_object *) __asm__("_dl_find_object") __attribute__((weak));
+extern int _IO_fputs(const char *, FILE *);
+extern int __cxa_atexit(void (*)(void *), void *, void *);
+extern int _IO_flush_all(void);
+extern char **__environ;
+extern void *__libc_stack_end;
+extern char single_threaded __asm__("__libc_single_threaded");
+
+struct library library = {
+    .__errno_location = __errno_location,
+    .clock_gettime = __clock_gettime,
+    .__register_atfork = __register_atfork,
+    .__cxa_at_quick_exit = __cxa_at_quick_exit,
+    ._dl_find_object = find_object,
+    .fputs = _IO_fputs,
+    .__cxa_atexit = __cxa_atexit,
+    ._IO_flush_all = _IO_flush_all,
+    .__libc_single_threaded = &single_threaded,
+    .environment = &__environ,
+    .__libc_stack_end = &__libc_stack_end,
+};
+
+void library_begin(void)
+{
+}
 
 void library_find(struct meeting *meeting)
 {
@@ -18,68 +51,180 @@ void library_leave_unchecked(void)
 
 #else
 
-#include <gnu/libc-version.h>
-#include <link.h>
 #include <string.h>
-#include <sys/auxv.h>
 #include <sys/mman.h>
 
-static struct code_range range_of(const struct dl_phdr_info *module)
+#include "calls/objects.h"
+#include "process/beginning.h"
+#include "base/system.h"
+
+/* Until they are found. */
+
+static int none(void)
 {
-    uintptr_t size = 0;
-    for (int i = 0; i < module->dlpi_phnum; i++)
-        if (module->dlpi_phdr[i].p_type == PT_LOAD)
-            size = module->dlpi_phdr[i].p_vaddr + module->dlpi_phdr[i].p_memsz;
-    return (struct code_range){module->dlpi_addr, size};
+    return 0;
 }
 
-static bool has(struct code_range range, uintptr_t address)
+static int *own_error(void)
 {
-    return address - range.start < range.size;
+    static int error;
+    return &error;
 }
 
-static bool is_mathematics(const struct dl_phdr_info *module)
+static const char more_than_one;
+
+struct library library = {.__errno_location = own_error, .__libc_single_threaded = &more_than_one};
+
+/* Of the program, made by the linker. */
+extern const Elf64_Dyn program_entries[] __asm__("_DYNAMIC") __attribute__((visibility("hidden")));
+
+/* The loader's list of what is loaded, with the program first. */
+static const struct link_map *loaded(void)
 {
-    static const char name[] = "libm.so";
-    const char *slash = strrchr(module->dlpi_name, '/');
-    return strncmp(slash != NULL ? slash + 1 : module->dlpi_name, name, strlen(name)) == 0;
+    for (const Elf64_Dyn *it = program_entries; it->d_tag != DT_NULL; it++)
+        if (it->d_tag == DT_DEBUG && it->d_un.d_ptr != 0)
+            return ((const struct r_debug *)it->d_un.d_ptr)->r_map;
+    return NULL;
+}
+
+static const struct link_map *library_named(const char *front)
+{
+    const struct link_map *map = loaded();
+    while (map != NULL && !object_is_named(map->l_name, front))
+        map = map->l_next;
+    return map;
+}
+
+static const struct {
+    const char *name;
+    size_t place;
+} wanted_names[] = {
+#define WANTED(name) {#name, offsetof(struct library, name)}
+    WANTED(__errno_location), WANTED(vsnprintf), WANTED(strtod), WANTED(clock_gettime), WANTED(__register_atfork),
+    WANTED(__cxa_at_quick_exit), WANTED(_dl_find_object), WANTED(dl_iterate_phdr), WANTED(fputs),
+    WANTED(pthread_key_create), WANTED(pthread_setspecific), WANTED(pthread_getattr_default_np),
+    WANTED(pthread_attr_getstacksize), WANTED(pthread_attr_destroy), WANTED(fork), WANTED(dladdr), WANTED(dlsym),
+    WANTED(__cxa_atexit), WANTED(_IO_flush_all), WANTED(__chk_fail), WANTED(getc), WANTED(getwc), WANTED(ferror),
+    WANTED(__ctype_get_mb_cur_max), WANTED(dlerror),
+};
+
+/* A variable, which may have been moved into the program. */
+static uintptr_t find_variable(const struct object *program, const struct object *from, const char *name)
+{
+    uintptr_t moved = object_find_moved(program, name);
+    return moved != 0 ? moved : object_find(from, name);
+}
+
+static void find_all(const struct object *program, const struct object *from)
+{
+    for (size_t i = 0; i < sizeof wanted_names / sizeof *wanted_names; i++) {
+        uintptr_t *place = (uintptr_t *)((unsigned char *)&library + wanted_names[i].place);
+        uintptr_t found = object_find(from, wanted_names[i].name);
+        if (found != 0)
+            *place = found;
+    }
+    uintptr_t alone = find_variable(program, from, "__libc_single_threaded");
+    if (alone != 0)
+        library.__libc_single_threaded = (const char *)alone;
+    library.stderr_stream = (FILE **)find_variable(program, from, "stderr");
+    static const char *const names[] = {"environ", "_environ", "__environ"};
+    uintptr_t environment = 0;
+    for (size_t i = 0; i < sizeof names / sizeof *names && environment == 0; i++)
+        environment = object_find_moved(program, names[i]);
+    library.environment = (char ***)(environment != 0 ? environment : object_find(from, "__environ"));
+    library._thread_db_sizeof_pthread = (const uint32_t *)object_find(from, "_thread_db_sizeof_pthread");
+}
+
+void library_begin(void)
+{
+    static bool has_begun;
+    if (has_begun)
+        return;
+    has_begun = true;
+    const struct link_map *map = library_named("libc.so."), *loader = library_named("ld-linux");
+    for (size_t i = 0; i < sizeof wanted_names / sizeof *wanted_names; i++) {
+        uintptr_t *place = (uintptr_t *)((unsigned char *)&library + wanted_names[i].place);
+        if (*place == 0)
+            *place = (uintptr_t)&none;
+    }
+    if (map == NULL)
+        return;
+    struct object program = object_read(loaded()->l_addr, program_entries);
+    struct object from = object_read(map->l_addr, map->l_ld);
+    find_all(&program, &from);
+    if (loader != NULL) {
+        struct object other = object_read(loader->l_addr, loader->l_ld);
+        library.__libc_stack_end = (void **)find_variable(&program, &other, "__libc_stack_end");
+        library._dl_get_tls_static_info = (void (*)(size_t *, size_t *))object_find(&other, "_dl_get_tls_static_info");
+    }
+}
+
+struct search {
+    const char *name;
+    uintptr_t found;
+    bool is_past_program;
+};
+
+static int look_for_name(struct dl_phdr_info *module, size_t size, void *of)
+{
+    struct search *search = of;
+    (void)size;
+    if (!search->is_past_program) {
+        search->is_past_program = true;
+        return 0;
+    }
+    for (int i = 0; i < module->dlpi_phnum && search->found == 0; i++) {
+        if (module->dlpi_phdr[i].p_type != PT_DYNAMIC)
+            continue;
+        struct object object = object_read(
+            module->dlpi_addr, (const Elf64_Dyn *)(module->dlpi_addr + module->dlpi_phdr[i].p_vaddr));
+        search->found = object_find(&object, search->name);
+    }
+    return search->found != 0;
+}
+
+void *library_next(const char *name)
+{
+    struct search search = {.name = name};
+    library.dl_iterate_phdr(look_for_name, &search);
+    return (void *)search.found;
 }
 
 /* Some functions of time are those that the system maps into the process. */
 static int look_at(struct dl_phdr_info *module, size_t size, void *of)
 {
     struct meeting *meeting = of;
-    struct code_range range = range_of(module);
+    struct code_range range = object_range(module);
     (void)size;
-    if (has(range, (uintptr_t)&gnu_get_libc_version))
+    if (range_has(range, (uintptr_t)library.vsnprintf))
         meeting->library = range;
-    if (has(range, getauxval(AT_SYSINFO_EHDR)))
+    if (range_has(range, beginning.system_code))
         meeting->system = range;
-    if (is_mathematics(module))
+    if (object_is_named(module->dlpi_name, "libm.so"))
         meeting->mathematics = range;
     return 0;
 }
 
 void library_find(struct meeting *meeting)
 {
-    dl_iterate_phdr(look_at, meeting);
+    library.dl_iterate_phdr(look_at, meeting);
 }
 
 /* The loader's lock is held: no other thread writes to the page. */
 static int look_for_mathematics(struct dl_phdr_info *module, size_t size, void *of)
 {
     struct meeting *meeting = of;
-    struct code_range range = range_of(module);
+    struct code_range range = object_range(module);
     (void)size;
-    if (!is_mathematics(module) || range.start == meeting->mathematics.start
-        || mprotect(meeting, sizeof *meeting, PROT_READ | PROT_WRITE) != 0)
+    if (!object_is_named(module->dlpi_name, "libm.so") || range.start == meeting->mathematics.start
+        || system_mprotect(meeting, sizeof *meeting, PROT_READ | PROT_WRITE) != 0)
         return 0;
     /* A call that comes between these is not checked. */
     volatile struct code_range *noted = &meeting->mathematics;
     noted->size = 0;
     noted->start = range.start;
     noted->size = range.size;
-    mprotect(meeting, sizeof *meeting, PROT_READ);
+    system_mprotect(meeting, sizeof *meeting, PROT_READ);
     return 0;
 }
 
@@ -87,16 +232,16 @@ void library_look_again(void)
 {
     struct meeting *meeting = (struct meeting *)MEETING_START;
     if (meeting->library.size != 0)
-        dl_iterate_phdr(look_for_mathematics, meeting);
+        library.dl_iterate_phdr(look_for_mathematics, meeting);
 }
 
 void library_leave_unchecked(void)
 {
     struct meeting *meeting = (struct meeting *)MEETING_START;
-    if (mprotect(meeting, sizeof *meeting, PROT_READ | PROT_WRITE) != 0)
+    if (system_mprotect(meeting, sizeof *meeting, PROT_READ | PROT_WRITE) != 0)
         return;
     meeting->library.size = meeting->system.size = meeting->mathematics.size = 0;
-    mprotect(meeting, sizeof *meeting, PROT_READ);
+    system_mprotect(meeting, sizeof *meeting, PROT_READ);
 }
 
 #endif

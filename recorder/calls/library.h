@@ -1,11 +1,82 @@
-/* The code of the C library, whose functions are checked when they are called. */
+/* The C library: where its code lies, whose functions are checked when they are called, and those of its functions that
+   the recorder calls for itself. A program may have any name for itself, so these are found by address. */
 #ifndef ASANCOL_LIBRARY_H
 #define ASANCOL_LIBRARY_H
 
-#include "shadow.h"
+#include <pthread.h>
+#include <stdarg.h>
+#include <stdbool.h>
+#include <stdio.h>
+#include <string.h>
+#include <time.h>
+#include <wchar.h>
 
-/* Says where it is. Where the library is a part of the program, nothing is wrapped, and it stays unsaid. */
+#include "shadow/shadow.h"
+
+struct dl_find_object;
+struct dl_phdr_info;
+
+/* Each has the library's name, and an effect as that. What a library does not have does nothing, and answers 0.
+   Shared objects find this too (hooks.h): new ones come last. */
+struct library {
+    int *(*__errno_location)(void);
+    int (*vsnprintf)(char *to, size_t room, const char *format, va_list values);
+    double (*strtod)(const char *text, char **end);
+    int (*clock_gettime)(int clock, struct timespec *now);
+    int (*__register_atfork)(void (*before)(void), void (*in_parent)(void), void (*in_child)(void), void *object);
+    int (*__cxa_at_quick_exit)(void (*function)(void *), void *object);
+    int (*_dl_find_object)(void *address, struct dl_find_object *found);
+    int (*dl_iterate_phdr)(int (*visit)(struct dl_phdr_info *, size_t, void *), void *with);
+    int (*fputs)(const char *text, FILE *to);
+    FILE **stderr_stream;
+    int (*pthread_key_create)(pthread_key_t *key, void (*at_end)(void *));
+    int (*pthread_setspecific)(pthread_key_t key, const void *value);
+    int (*pthread_getattr_default_np)(pthread_attr_t *attributes);
+    int (*pthread_attr_getstacksize)(const pthread_attr_t *attributes, size_t *size);
+    int (*pthread_attr_destroy)(pthread_attr_t *attributes);
+    const char *__libc_single_threaded;
+    pid_t (*fork)(void);
+    int (*dladdr)(const void *address, void *found);
+    char ***environment;
+    void **__libc_stack_end; /* of the first thread: what the system has put there */
+    void *(*dlsym)(void *where, const char *name);
+    int (*__cxa_atexit)(void (*handler)(void *), void *argument, void *object);
+    int (*_IO_flush_all)(void);
+    void (*__chk_fail)(void) __attribute__((noreturn));
+    int (*getc)(FILE *from);
+    wint_t (*getwc)(FILE *from);
+    int (*ferror)(FILE *stream);
+    size_t (*__ctype_get_mb_cur_max)(void);
+    void (*_dl_get_tls_static_info)(size_t *size, size_t *alignment); /* of the loader; null: there is none */
+    const uint32_t *_thread_db_sizeof_pthread; /* what it keeps of a thread has so many bytes; or null */
+    char *(*dlerror)(void);
+};
+
+extern struct library library OWN_NAME(library);
+
+/* Whether this thread is known to be the only one. */
+static inline bool library_is_alone(void)
+{
+    return *library.__libc_single_threaded != 0;
+}
+
+/* Whether a file is a library of C++, by its name: its operators new and delete call malloc and free. */
+static inline bool library_is_of_cxx(const char *path)
+{
+    static const char *const names[] = {"libstdc++.so", "libc++.so", "libc++abi.so"};
+    const char *slash = strrchr(path, '/'), *name = slash != NULL ? slash + 1 : path;
+    for (size_t i = 0; i < sizeof names / sizeof *names; i++)
+        if (strncmp(name, names[i], strlen(names[i])) == 0)
+            return true;
+    return false;
+}
+
+/* Finds these functions, once. */
+void library_begin(void);
+/* Says where the code is. Where the library is a part of the program, nothing is wrapped, and it stays unsaid. */
 void library_find(struct meeting *meeting);
+/* The function of this name in the objects after the program, which the program's own one hides; or null. */
+void *library_next(const char *name) OWN_NAME(library_next);
 /* After a library was opened: the mathematics may have come with it. */
 void library_look_again(void);
 /* From now on no call is checked. */

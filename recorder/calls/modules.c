@@ -1,14 +1,37 @@
-/* A library that is opened later has its place in the map of modules. */
+/* A library that is opened later has its place in the map of modules, and may have another malloc than the program. */
+#define _GNU_SOURCE
 #include <dlfcn.h>
 
-#include "hooks.h"
+#include "calls/stubs.h"
+#include "interface/hooks.h"
 #include "stacks/cfi.h"
 
-void *__wrap_dlopen(const char *file, int mode)
+REAL(void *, dlopen, (const char *, int));
+REAL(void *, dlmopen, (Lmid_t, const char *, int));
+
+static void note_opened(void *opened, int mode)
+{
+    if (opened == NULL || !HAS_HOOKS)
+        return;
+    if ((mode & RTLD_DEEPBIND) != 0 && HAS_HOOK(deeply_bound))
+        asancol_hooks.deeply_bound(opened);
+    asancol_hooks.modules_changed();
+}
+
+GUARD_OWN(dlopen);
+CHECK void *checked_dlopen(const char *file, int mode)
 {
     IS_OWN_FRAME; /* a constructor of the library may run */
-    void *library = dlopen(file, mode);
-    if (library != 0 && HAS_HOOKS)
-        asancol_hooks.modules_changed();
-    return library;
+    void *opened = real_dlopen(file, mode);
+    note_opened(opened, mode);
+    return opened;
+}
+
+GUARD_OWN(dlmopen);
+CHECK void *checked_dlmopen(Lmid_t namespace, const char *file, int mode)
+{
+    IS_OWN_FRAME;
+    void *opened = real_dlmopen(namespace, file, mode);
+    note_opened(opened, mode);
+    return opened;
 }

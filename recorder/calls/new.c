@@ -1,87 +1,171 @@
-/* Operator new: its malloc is recorded with the place of the `new`, and with the size that was asked for. */
+/* Operators of C++. The malloc of a `new` is recorded with the place of that, and with the size that was asked for. And
+   a block is known by the operator that has allocated it: another family of functions must not free it. */
 #define _GNU_SOURCE
 #include <dlfcn.h>
 #include <stdatomic.h>
 #include <stdlib.h>
-#include <string.h>
 
-#include "hooks.h"
+#include "calls/library.h"
+#include "calls/stubs.h"
+#include "interface/hooks.h"
 #include "stacks/cfi.h"
 
-#define NEW(name, parameters, arguments)                                                                               \
-    void *name parameters;                                                                                             \
-    void *__wrap_##name parameters                                                                                     \
+/* A library of C++ that takes these from another one, as libc++ does, refers to them. */
+#define WRAPPED __attribute__((visibility("protected")))
+
+REAL(void *, _Znwm, (size_t size));
+REAL(void *, _Znam, (size_t size));
+REAL(void *, _ZnwmRKSt9nothrow_t, (size_t size, const void *tag));
+REAL(void *, _ZnamRKSt9nothrow_t, (size_t size, const void *tag));
+REAL(void *, _ZnwmSt11align_val_t, (size_t size, size_t alignment));
+REAL(void *, _ZnamSt11align_val_t, (size_t size, size_t alignment));
+REAL(void *, _ZnwmSt11align_val_tRKSt9nothrow_t, (size_t size, size_t alignment, const void *tag));
+REAL(void *, _ZnamSt11align_val_tRKSt9nothrow_t, (size_t size, size_t alignment, const void *tag));
+REAL(void, _ZdlPv, (void *pointer));
+REAL(void, _ZdaPv, (void *pointer));
+REAL(void, _ZdlPvm, (void *pointer, size_t size));
+REAL(void, _ZdaPvm, (void *pointer, size_t size));
+REAL(void, _ZdlPvRKSt9nothrow_t, (void *pointer, const void *tag));
+REAL(void, _ZdaPvRKSt9nothrow_t, (void *pointer, const void *tag));
+REAL(void, _ZdlPvSt11align_val_t, (void *pointer, size_t alignment));
+REAL(void, _ZdaPvSt11align_val_t, (void *pointer, size_t alignment));
+REAL(void, _ZdlPvmSt11align_val_t, (void *pointer, size_t size, size_t alignment));
+REAL(void, _ZdaPvmSt11align_val_t, (void *pointer, size_t size, size_t alignment));
+REAL(void, _ZdlPvSt11align_val_tRKSt9nothrow_t, (void *pointer, size_t alignment, const void *tag));
+REAL(void, _ZdaPvSt11align_val_tRKSt9nothrow_t, (void *pointer, size_t alignment, const void *tag));
+
+/* Whether a function is that of a library of C++, and not one with which the program has replaced it. */
+static bool is_of_library(uintptr_t function)
+{
+    Dl_info found;
+    return LIBRARY->dladdr((const void *)function, &found) != 0 && found.dli_fname != NULL
+           && library_is_of_cxx(found.dli_fname);
+}
+
+static bool are_all_of_library(const uintptr_t *forms, size_t count)
+{
+    size_t of_library = 0;
+    while (of_library < count && is_of_library(forms[of_library]))
+        of_library++;
+    return of_library == count;
+}
+
+#define WORD(name) (uintptr_t)&real_##name
+
+/* The library's, as this module calls them. Some call others, so all of them have to be. */
+static bool new_is_of_library(void)
+{
+    const uintptr_t forms[] = {
+        WORD(_Znwm), WORD(_Znam), WORD(_ZnwmRKSt9nothrow_t), WORD(_ZnamRKSt9nothrow_t), WORD(_ZnwmSt11align_val_t),
+        WORD(_ZnamSt11align_val_t), WORD(_ZnwmSt11align_val_tRKSt9nothrow_t), WORD(_ZnamSt11align_val_tRKSt9nothrow_t),
+    };
+    return are_all_of_library(forms, sizeof forms / sizeof *forms);
+}
+
+static bool delete_is_of_library(void)
+{
+    const uintptr_t forms[] = {
+        WORD(_ZdlPv), WORD(_ZdaPv), WORD(_ZdlPvm), WORD(_ZdaPvm), WORD(_ZdlPvRKSt9nothrow_t),
+        WORD(_ZdaPvRKSt9nothrow_t), WORD(_ZdlPvSt11align_val_t), WORD(_ZdaPvSt11align_val_t),
+        WORD(_ZdlPvmSt11align_val_t), WORD(_ZdaPvmSt11align_val_t), WORD(_ZdlPvSt11align_val_tRKSt9nothrow_t),
+        WORD(_ZdaPvSt11align_val_tRKSt9nothrow_t),
+    };
+    return are_all_of_library(forms, sizeof forms / sizeof *forms);
+}
+
+static _Atomic signed char known; /* 1: all operators are the library's; -1: one is not; 0: it is not known yet */
+
+static __attribute__((noinline, cold)) bool look_at_operators(void)
+{
+    if (!HAS_HOOK(library) || LIBRARY->dladdr == NULL)
+        return false;
+    bool are_of_library = new_is_of_library() && delete_is_of_library();
+    atomic_store_explicit(&known, are_of_library ? 1 : -1, memory_order_relaxed);
+    return are_of_library;
+}
+
+/* Whether nobody has replaced any of them. */
+static inline bool operators_are_of_library(void)
+{
+    signed char now = atomic_load_explicit(&known, memory_order_relaxed);
+    return LIKELY(now != 0) ? now > 0 : look_at_operators();
+}
+
+static inline enum family family_or_any(enum family family)
+{
+    return LIKELY(operators_are_of_library()) ? family : FAMILY_ANY;
+}
+
+#define NEW(name, family, parameters, arguments)                                                                       \
+    WRAPPED void *__wrap_##name parameters                                                                             \
     {                                                                                                                  \
         IS_OWN_FRAME;                                                                                                  \
         note_called_from(CALLER());                                                                                    \
-        void *made = name arguments;                                                                                   \
+        note_called_by(family_or_any(family), 0);                                                                      \
+        void *made = real_##name arguments;                                                                            \
+        note_called_by(FAMILY_MALLOC, 0);                                                                              \
         note_called_from(0);                                                                                           \
         return made;                                                                                                   \
     }
 
-/* Whether a function is that of a library of C++, and not one with which the program has replaced it. */
-static bool is_of_library(const void *function)
-{
-    static const char *const names[] = {"libstdc++.so", "libc++.so", "libc++abi.so"};
-    Dl_info found;
-    if (dladdr(function, &found) == 0 || found.dli_fname == NULL)
-        return false;
-    const char *slash = strrchr(found.dli_fname, '/'), *name = slash != NULL ? slash + 1 : found.dli_fname;
-    for (size_t i = 0; i < sizeof names / sizeof *names; i++)
-        if (strncmp(name, names[i], strlen(names[i])) == 0)
-            return true;
-    return false;
-}
-
-/* Operator new with an alignment, in its four forms: some call others, so none of them may be the program's. */
-void *_ZnwmSt11align_val_t(size_t size, size_t alignment);
-void *_ZnamSt11align_val_t(size_t size, size_t alignment);
-void *_ZnwmSt11align_val_tRKSt9nothrow_t(size_t size, size_t alignment, const void *tag);
-void *_ZnamSt11align_val_tRKSt9nothrow_t(size_t size, size_t alignment, const void *tag);
-
-static bool aligned_is_of_library(void)
-{
-    static _Atomic signed char known; /* 1: it is the library's; -1: it is not */
-    const uintptr_t forms[] = {
-        (uintptr_t)&_ZnwmSt11align_val_t,
-        (uintptr_t)&_ZnamSt11align_val_t,
-        (uintptr_t)&_ZnwmSt11align_val_tRKSt9nothrow_t,
-        (uintptr_t)&_ZnamSt11align_val_tRKSt9nothrow_t,
-    };
-    if (known == 0) {
-        bool is_of_all = true;
-        for (size_t i = 0; i < sizeof forms / sizeof *forms; i++)
-            is_of_all = is_of_all && is_of_library((const void *)forms[i]);
-        known = is_of_all ? 1 : -1;
+/* A delete that knows the size says one more. */
+#define DELETE(name, family, size_and_one, parameters, arguments)                                                      \
+    WRAPPED void __wrap_##name parameters                                                                              \
+    {                                                                                                                  \
+        IS_OWN_FRAME;                                                                                                  \
+        note_called_from(CALLER());                                                                                    \
+        note_called_by(family_or_any(family), size_and_one);                                                           \
+        real_##name arguments;                                                                                         \
+        note_called_by(FAMILY_MALLOC, 0);                                                                              \
+        note_called_from(0);                                                                                           \
     }
-    return known > 0;
-}
 
 /* The library rounds the size up to the alignment, so that what lies between would belong to the block. Null: it has to
    be asked. If there is no memory, it calls the new handler, and throws. */
 static void *aligned_new(size_t size, size_t alignment)
 {
     bool is_power = alignment != 0 && (alignment & (alignment - 1)) == 0;
-    return is_power && aligned_is_of_library() ? aligned_alloc(alignment, size != 0 ? size : 1) : NULL;
+    return is_power && operators_are_of_library() ? aligned_alloc(alignment, size != 0 ? size : 1) : NULL;
 }
 
-#define ALIGNED_NEW(name, parameters, arguments)                                                                       \
-    void *__wrap_##name parameters                                                                                     \
+#define ALIGNED_NEW(name, family, parameters, arguments)                                                               \
+    WRAPPED void *__wrap_##name parameters                                                                             \
     {                                                                                                                  \
         IS_OWN_FRAME;                                                                                                  \
         note_called_from(CALLER());                                                                                    \
+        note_called_by(family_or_any(family), 0);                                                                      \
         void *made = aligned_new(size, alignment);                                                                     \
         if (made == NULL)                                                                                              \
-            made = name arguments;                                                                                     \
+            made = real_##name arguments;                                                                              \
+        note_called_by(FAMILY_MALLOC, 0);                                                                              \
         note_called_from(0);                                                                                           \
         return made;                                                                                                   \
     }
 
-NEW(_Znwm, (size_t size), (size))
-NEW(_Znam, (size_t size), (size))
-NEW(_ZnwmRKSt9nothrow_t, (size_t size, const void *tag), (size, tag))
-NEW(_ZnamRKSt9nothrow_t, (size_t size, const void *tag), (size, tag))
-ALIGNED_NEW(_ZnwmSt11align_val_t, (size_t size, size_t alignment), (size, alignment))
-ALIGNED_NEW(_ZnamSt11align_val_t, (size_t size, size_t alignment), (size, alignment))
-ALIGNED_NEW(_ZnwmSt11align_val_tRKSt9nothrow_t, (size_t size, size_t alignment, const void *tag), (size, alignment, tag))
-ALIGNED_NEW(_ZnamSt11align_val_tRKSt9nothrow_t, (size_t size, size_t alignment, const void *tag), (size, alignment, tag))
+#define TAG const void *tag
+#define ALIGNMENT_TO size_t alignment
+NEW(_Znwm, FAMILY_NEW, (size_t size), (size))
+NEW(_Znam, FAMILY_NEW_ARRAY, (size_t size), (size))
+NEW(_ZnwmRKSt9nothrow_t, FAMILY_NEW, (size_t size, TAG), (size, tag))
+NEW(_ZnamRKSt9nothrow_t, FAMILY_NEW_ARRAY, (size_t size, TAG), (size, tag))
+ALIGNED_NEW(_ZnwmSt11align_val_t, FAMILY_NEW, (size_t size, ALIGNMENT_TO), (size, alignment))
+ALIGNED_NEW(_ZnamSt11align_val_t, FAMILY_NEW_ARRAY, (size_t size, ALIGNMENT_TO), (size, alignment))
+ALIGNED_NEW(_ZnwmSt11align_val_tRKSt9nothrow_t, FAMILY_NEW, (size_t size, ALIGNMENT_TO, TAG), (size, alignment, tag))
+ALIGNED_NEW(_ZnamSt11align_val_tRKSt9nothrow_t, FAMILY_NEW_ARRAY, (size_t size, ALIGNMENT_TO, TAG),
+            (size, alignment, tag))
+DELETE(_ZdlPv, FAMILY_NEW, 0, (void *pointer), (pointer))
+DELETE(_ZdaPv, FAMILY_NEW_ARRAY, 0, (void *pointer), (pointer))
+DELETE(_ZdlPvm, FAMILY_NEW, size + 1, (void *pointer, size_t size), (pointer, size))
+DELETE(_ZdaPvm, FAMILY_NEW_ARRAY, size + 1, (void *pointer, size_t size), (pointer, size))
+DELETE(_ZdlPvRKSt9nothrow_t, FAMILY_NEW, 0, (void *pointer, TAG), (pointer, tag))
+DELETE(_ZdaPvRKSt9nothrow_t, FAMILY_NEW_ARRAY, 0, (void *pointer, TAG), (pointer, tag))
+DELETE(_ZdlPvSt11align_val_t, FAMILY_NEW, 0, (void *pointer, ALIGNMENT_TO), (pointer, alignment))
+DELETE(_ZdaPvSt11align_val_t, FAMILY_NEW_ARRAY, 0, (void *pointer, ALIGNMENT_TO), (pointer, alignment))
+DELETE(_ZdlPvmSt11align_val_t, FAMILY_NEW, size + 1, (void *pointer, size_t size, ALIGNMENT_TO),
+       (pointer, size, alignment))
+DELETE(_ZdaPvmSt11align_val_t, FAMILY_NEW_ARRAY, size + 1, (void *pointer, size_t size, ALIGNMENT_TO),
+       (pointer, size, alignment))
+DELETE(_ZdlPvSt11align_val_tRKSt9nothrow_t, FAMILY_NEW, 0, (void *pointer, ALIGNMENT_TO, TAG),
+       (pointer, alignment, tag))
+DELETE(_ZdaPvSt11align_val_tRKSt9nothrow_t, FAMILY_NEW_ARRAY, 0, (void *pointer, ALIGNMENT_TO, TAG),
+       (pointer, alignment, tag))

@@ -30,11 +30,11 @@ size_t good_pieces(const struct iovec *pieces, size_t count)
 }
 
 void pieces_check(enum code code, const struct iovec *pieces, size_t count, size_t from, size_t size,
-                  uintptr_t caller)
+                  struct call call)
 {
     for (size_t i = 0; i < least(count, IOV_MAX) && size > 0; i++) {
         size_t here = least(pieces[i].iov_len, size), left = least(from, here);
-        call_checks(code, (const char *)pieces[i].iov_base + left, here - left, caller);
+        call_checks_after(code, pieces[i].iov_base, here, left, call);
         from -= left;
         size -= here;
     }

@@ -2,38 +2,60 @@
 #ifndef ASANCOL_ROWS_H
 #define ASANCOL_ROWS_H
 
-#include "calls/calls.h"
 #include "calls/stubs.h"
-#include "hooks.h"
+#include "interface/hooks.h"
 #include "stacks/cfi.h"
 
 /* What is read and written. */
 
-#define READS(start, size) call_checks(CODE_LOAD, start, (size_t)(size), caller)
-#define WRITES(start, size) call_checks(CODE_STORE, start, (size_t)(size), caller)
+#define READS(start, size) call_checks(CODE_LOAD, start, (size_t)(size), call)
+#define WRITES(start, size) call_checks(CODE_STORE, start, (size_t)(size), call)
+#define MOVES(to, from, size) call_checks_move(to, from, (size_t)(size), call)
 #define READS_FIRST(start) READS(start, 1)
-#define READS_ARRAY(start, count, size) call_checks_array(CODE_LOAD, start, (size_t)(count), size, caller)
-#define WRITES_ARRAY(start, count, size) call_checks_array(CODE_STORE, start, (size_t)(count), size, caller)
-#define READS_STRING(text) call_checks_string(CODE_LOAD, text, caller)
-#define WRITES_STRING(text) call_checks_string(CODE_STORE, text, caller)
-#define READS_WIDE(text) call_checks_wide(CODE_LOAD, text, caller)
-#define WRITES_WIDE(text) call_checks_wide(CODE_STORE, text, caller)
+#define READS_ARRAY(start, count, size) call_checks_array(CODE_LOAD, start, (size_t)(count), size, call)
+#define WRITES_ARRAY(start, count, size) call_checks_array(CODE_STORE, start, (size_t)(count), size, call)
+#define READS_STRING(text) call_checks_string(CODE_LOAD, text, call)
+#define WRITES_STRING(text) call_checks_string(CODE_STORE, text, call)
+#define READS_WIDE(text) call_checks_wide(CODE_LOAD, text, call)
+#define WRITES_WIDE(text) call_checks_wide(CODE_STORE, text, call)
+
+#define APART(to, size_to, from, size_from) call_checks_apart(to, size_to, from, size_from, call)
+#define APART_OR_SAME(to, from, size)                                                                                  \
+    if (UNLIKELY((to) != (from)))                                                                                      \
+    APART(to, size, from, size)
+
+#define APART_WITHIN(to, from, most) APART(to, LENGTH_WITHIN(from, most), from, LENGTH_WITHIN(from, most))
 
 #define READS_HEADS(pieces, count) READS_ARRAY(pieces, LEAST(count, IOV_MAX), sizeof *(pieces))
-#define WRITES_PIECES(pieces, count, size) pieces_check(CODE_STORE, pieces, (size_t)(count), 0, (size_t)(size), caller)
+#define WRITES_PIECES(pieces, count, size) pieces_check(CODE_STORE, pieces, (size_t)(count), 0, (size_t)(size), call)
 #define SENDS(start, size) size_t good = good_length(start, size)
 #define SENT(start, size)                                                                                              \
     if (UNLIKELY((size_t)(size) > good) && GOT)                                                                        \
-        READS((const char *)(start) + good, (size_t)(size) - good)
+        call_checks_after(CODE_LOAD, start, (size_t)(size), good, call)
 #define SENDS_PIECES(pieces, count) size_t good = good_pieces(pieces, (size_t)(count))
 #define SENT_PIECES(pieces, count, size)                                                                               \
     if (UNLIKELY((size_t)(size) > good) && GOT)                                                                        \
-        pieces_check(CODE_LOAD, pieces, (size_t)(count), good, (size_t)(size), caller)
+        pieces_check(CODE_LOAD, pieces, (size_t)(count), good, (size_t)(size), call)
+
+#define FITS(start, size, room)                                                                                        \
+    if (UNLIKELY((size_t)(size) > (size_t)(room)))                                                                     \
+        WRITES(start, size)
+#define FITS_ARRAY(start, count, room)                                                                                 \
+    if (UNLIKELY((size_t)(count) > (size_t)(room)))                                                                    \
+        WRITES_ARRAY(start, count, sizeof *(start))
 
 #define GOT (result > 0)
 #define DONE (result == 0)
 #define LEAST(one, other) least((size_t)(one), (size_t)(other))
-#define ALLOCATES note_called_from(caller)
+#define PRODUCT(count, size) product((size_t)(count), (size_t)(size))
+#define BEGINS(path, environment)                                                                                      \
+    const struct target target = {path, 0, true, environment};                                                         \
+    bool is_expected = HAS_HOOK(child_becoming) && asancol_hooks.child_becoming(&target)
+#define HAS_BEGUN(child)                                                                                               \
+    if (is_expected)                                                                                                   \
+        asancol_hooks.child_number(DONE && (child) != NULL ? *(child) : 0)
+#define NAMES_THREAD(thread, name) note_thread_name(thread, name)
+#define ALLOCATES note_called_from(call.caller)
 #define ALLOCATED note_called_from(0)
 
 #define SIZE_TO(start, end, otherwise)                                                                                 \
@@ -41,33 +63,33 @@
 #define LENGTH_WITHIN(text, most) length_within(text, most)
 #define WIDE_LENGTH_WITHIN(text, most) wide_length_within(text, most)
 
-/* The rows. `real_` and a name is the function itself, apart from what a header declares. */
+/* The rows. */
 
 #define CALL(name, type, parameters, arguments, before, after)                                                         \
-    extern type real_##name parameters __asm__(#name);                                                                 \
+    REAL(type, name, parameters);                                                                                      \
     STUB(name)                                                                                                         \
     CHECK type checked_##name parameters                                                                               \
     {                                                                                                                  \
         IS_OWN_FRAME;                                                                                                  \
-        uintptr_t caller = CALLER();                                                                                   \
+        struct call call = THIS_CALL(#name);                                                                           \
         before;                                                                                                        \
         type result = real_##name arguments;                                                                           \
         after;                                                                                                         \
-        (void)caller;                                                                                                  \
+        (void)call;                                                                                                    \
         return result;                                                                                                 \
     }
 
 #define NO_RESULT(name, parameters, arguments, before, after)                                                          \
-    extern void real_##name parameters __asm__(#name);                                                                 \
+    REAL(void, name, parameters);                                                                                      \
     STUB(name)                                                                                                         \
     CHECK void checked_##name parameters                                                                               \
     {                                                                                                                  \
         IS_OWN_FRAME;                                                                                                  \
-        uintptr_t caller = CALLER();                                                                                   \
+        struct call call = THIS_CALL(#name);                                                                           \
         before;                                                                                                        \
         real_##name arguments;                                                                                         \
         after;                                                                                                         \
-        (void)caller;                                                                                                  \
+        (void)call;                                                                                                    \
     }
 
 #endif

@@ -5,49 +5,61 @@
 #include <sys/mman.h>
 #include <ucontext.h>
 
-#include "shadow.h"
+#include "calls/stubs.h"
+#include "interface/hooks.h"
+
+REAL(int, munmap, (void *, size_t));
+REAL(void *, mmap, (void *, size_t, int, int, int, off_t));
+REAL(void *, mmap64, (void *, size_t, int, int, int, off_t));
+REAL(void *, mremap, (void *, size_t, size_t, int, ...));
+REAL(int, mlockall, (int));
+REAL(void, makecontext, (ucontext_t *, void (*)(void), int, ...));
 
 /* Before the call: after it another thread may have the addresses. */
-int __wrap_munmap(void *start, size_t size)
+GUARD_OWN(munmap);
+CHECK int checked_munmap(void *start, size_t size)
 {
     shadow_clear((uintptr_t)start, size);
-    return munmap(start, size);
+    return real_munmap(start, size);
 }
 
-void *__wrap_mmap(void *start, size_t size, int protection, int flags, int descriptor, off_t offset)
-{
-    void *found = mmap(start, size, protection, flags, descriptor, offset);
-    if (found != MAP_FAILED)
-        shadow_clear((uintptr_t)found, size);
-    return found;
-}
+/* It has another name with _FILE_OFFSET_BITS=64. */
+#define MMAP(name)                                                                                                     \
+    GUARD_OWN(name);                                                                                                   \
+    CHECK void *checked_##name(void *start, size_t size, int protection, int flags, int descriptor, off_t offset)      \
+    {                                                                                                                  \
+        void *found = real_##name(start, size, protection, flags, descriptor, offset);                                 \
+        if (found != MAP_FAILED)                                                                                       \
+            shadow_clear((uintptr_t)found, size);                                                                      \
+        return found;                                                                                                  \
+    }
 
-/* The same function under the name that it has with _FILE_OFFSET_BITS=64. */
-void *__wrap_mmap64(void *start, size_t size, int protection, int flags, int descriptor, off_t offset)
-{
-    return __wrap_mmap(start, size, protection, flags, descriptor, offset);
-}
+MMAP(mmap)
+MMAP(mmap64)
 
-void *__wrap_mremap(void *old, size_t old_size, size_t size, int flags, ...)
+GUARD_OWN(mremap);
+CHECK void *checked_mremap(void *old, size_t old_size, size_t size, int flags, ...)
 {
     va_list rest;
     va_start(rest, flags);
     void *wanted = flags & MREMAP_FIXED ? va_arg(rest, void *) : NULL;
     va_end(rest);
-    void *found = mremap(old, old_size, size, flags, wanted);
+    void *found = real_mremap(old, old_size, size, flags, wanted);
     if (found != MAP_FAILED && found != old)
         shadow_clear((uintptr_t)found, size);
     return found;
 }
 
 /* Not what was never touched: the shadow has 32 TiB of addresses. */
-int __wrap_mlockall(int flags)
+GUARD_OWN(mlockall);
+CHECK int checked_mlockall(int flags)
 {
-    return mlockall(flags | MCL_ONFAULT);
+    return real_mlockall(flags | MCL_ONFAULT);
 }
 
 /* A stack of the program's own begins anew. What was left on it in the middle will not go on. */
-void __wrap_makecontext(ucontext_t *context, void function(void), int count, ...)
+GUARD_OWN(makecontext);
+CHECK void checked_makecontext(ucontext_t *context, void function(void), int count, ...)
 {
     enum { MOST = 16 };
     long words[MOST] = {0};
@@ -56,7 +68,76 @@ void __wrap_makecontext(ucontext_t *context, void function(void), int count, ...
     for (int i = 0; i < count && i < MOST; i++)
         words[i] = va_arg(rest, long);
     va_end(rest);
-    shadow_clear((uintptr_t)context->uc_stack.ss_sp, context->uc_stack.ss_size);
-    makecontext(context, function, count, words[0], words[1], words[2], words[3], words[4], words[5], words[6],
+    uintptr_t start = (uintptr_t)context->uc_stack.ss_sp;
+    note_stack_begins((struct span){start, start + context->uc_stack.ss_size});
+    real_makecontext(context, function, count, words[0], words[1], words[2], words[3], words[4], words[5], words[6],
                 words[7], words[8], words[9], words[10], words[11], words[12], words[13], words[14], words[15]);
 }
+
+/* Switches. The function is gone to, and not called: what it keeps of its caller may be gone to more than once. */
+
+/* The stack of a context, if the address lies on it: only makecontext needs to know of one. */
+static struct span stack_of(const ucontext_t *context, uintptr_t address)
+{
+    uintptr_t start = (uintptr_t)context->uc_stack.ss_sp;
+    return address - start < context->uc_stack.ss_size ? (struct span){start, start + context->uc_stack.ss_size}
+                                                       : (struct span){0, 0};
+}
+
+/* `old` is null if the caller is left for good. */
+__attribute__((used)) static void before_switch(const ucontext_t *old, const ucontext_t *new, uintptr_t frame)
+{
+    uintptr_t target = (uintptr_t)new->uc_mcontext.gregs[REG_RSP];
+    struct stack_switch it = {.frame = frame, .target = target, .goes_on = old != NULL, .says_stacks = true};
+    it.to = stack_of(new, target);
+    if (old != NULL)
+        it.from = stack_of(old, frame);
+    note_stack_switch(&it);
+}
+
+/* What follows calls `before` with the first two arguments and the frame of the caller, and goes to the function. */
+#define NOTED(label, name, before, pass)                                                                               \
+    __asm__(".pushsection .text\n"                                                                                     \
+            ".type " label ",@function\n" label ":\n"                                                                  \
+            "\t.cfi_startproc\n"                                                                                       \
+            "\tendbr64\n"                                                                                              \
+            "\tpushq %rdi\n\t.cfi_adjust_cfa_offset 8\n"                                                               \
+            "\tpushq %rsi\n\t.cfi_adjust_cfa_offset 8\n"                                                               \
+            "\tpushq %rdx\n\t.cfi_adjust_cfa_offset 8\n"                                                               \
+            "\tleaq 32(%rsp), %rdx\n" pass                                                                             \
+            "\tcall " #before "\n"                                                                                     \
+            "\tpopq %rdx\n\t.cfi_adjust_cfa_offset -8\n"                                                               \
+            "\tpopq %rsi\n\t.cfi_adjust_cfa_offset -8\n"                                                               \
+            "\tpopq %rdi\n\t.cfi_adjust_cfa_offset -8\n"                                                               \
+            "\tjmp *__real_" #name "@GOTPCREL(%rip)\n"                                                                 \
+            "\t.cfi_endproc\n"                                                                                         \
+            ".size " label ", .-" label "\n"                                                                           \
+            ".popsection\n");
+
+#define SWITCH(name, pass)                                                                                             \
+    STUB(name)                                                                                                         \
+    NOTED("checked_" #name, name, before_switch, pass)
+
+SWITCH(swapcontext, "")
+SWITCH(setcontext, "\tmovq %rdi, %rsi\n\txorl %edi, %edi\n")
+
+/* Those of Boost.Context, whose callers are its headers. A context is its stack pointer. */
+
+__attribute__((used)) static void before_make(uintptr_t top, size_t size)
+{
+    note_stack_begins((struct span){top - size, top});
+}
+
+__attribute__((used)) static void before_jump(uintptr_t target, const void *unused, uintptr_t frame)
+{
+    (void)unused;
+    note_stack_switch(&(struct stack_switch){.frame = frame, .target = target, .goes_on = true});
+}
+
+#define OF_BOOST(name, before)                                                                                         \
+    __asm__(".weak __real_" #name "\n" BIND("__wrap_" #name) HIDE("__wrap_" #name));                                   \
+    NOTED("__wrap_" #name, name, before, "")
+
+OF_BOOST(make_fcontext, before_make)
+OF_BOOST(jump_fcontext, before_jump)
+OF_BOOST(ontop_fcontext, before_jump)

@@ -6,7 +6,7 @@
 
 #include <stddef.h>
 
-#include "shadow.h"
+#include "shadow/shadow.h"
 
 #define TEXT_OF(word) #word
 #define TEXT(word) TEXT_OF(word)
@@ -14,6 +14,18 @@
 _Static_assert(offsetof(struct meeting, library) == 8, "as the stubs have it");
 _Static_assert(offsetof(struct meeting, system) == 24, "as the stubs have it");
 _Static_assert(offsetof(struct meeting, mathematics) == 40, "as the stubs have it");
+_Static_assert(offsetof(struct meeting, program) == 56, "as the stubs have it");
+
+/* A program shows its stubs, since a library that it is linked with may have unversioned calls: a linker that wraps
+   takes these for calls of the stub. They are weak there: a program may wrap a function by itself, as tests do. If a
+   shared object does, its calls would come to the stub of the program. */
+#ifdef IN_SHARED_OBJECT
+#define HIDE(label) ".hidden " label "\n"
+#define BIND(label) ".globl " label "\n"
+#else
+#define HIDE(label)
+#define BIND(label) ".weak " label "\n"
+#endif
 
 /* Goes to `check` if the code of `tested` is in the range of the meeting page that begins there. */
 #define GO_IF_IN(start, size, tested, check)                                                                           \
@@ -27,8 +39,7 @@ _Static_assert(offsetof(struct meeting, mathematics) == 40, "as the stubs have i
 #define GUARD(label, tested, check, real)                                                                              \
     __asm__(".pushsection .text\n"                                                                                     \
             ".p2align 4\n"                                                                                             \
-            ".hidden " label "\n"                                                                                      \
-            ".type " label ",@function\n" label ":\n"                                                                  \
+            HIDE(label) ".type " label ",@function\n" label ":\n.L" label ":\n"                                        \
             "\t.cfi_startproc\n"                                                                                       \
             "\tendbr64\n"                                                                                              \
             "\tmovabsq $" TEXT(MEETING_START) ", %r10\n"                                                               \
@@ -40,15 +51,59 @@ _Static_assert(offsetof(struct meeting, mathematics) == 40, "as the stubs have i
             ".size " label ", .-" label "\n"                                                                           \
             ".popsection\n");
 
+/* The function itself, apart from what a header declares and from the recorder's own of that name. */
+#define REAL(type, name, parameters) extern type real_##name parameters __asm__("__real_" #name)
+
+/* The program's stubs of the C library are in a list (plain.c): how far from there the stub is, the pointer to its
+   function, and the name. A program may wrap the function by itself, so the stub is not meant by its name. */
+#ifdef LISTS_STUBS
+#define LIST(name)                                                                                                     \
+    __asm__(".pushsection asancol_stubs,\"a\",@progbits\n"                                                            \
+            "\t.long .L__wrap_" #name " - .\n"                                                                         \
+            "\t.long __real_" #name "@GOTPCREL\n"                                                                      \
+            "\t.long .Lname_of_" #name " - .\n"                                                                        \
+            ".popsection\n"                                                                                            \
+            ".pushsection .rodata.str1.1,\"aMS\",@progbits,1\n"                                                       \
+            ".Lname_of_" #name ": .asciz \"" #name "\"\n"                                                             \
+            ".popsection\n");
+#else
+#define LIST(name)
+#endif
+
 #define STUB(name)                                                                                                     \
-    __asm__(".globl __wrap_" #name);                                                                                   \
-    GUARD("__wrap_" #name, #name, "checked_" #name, #name)
+    __asm__(BIND("__wrap_" #name));                                                                                    \
+    GUARD("__wrap_" #name, "__real_" #name, "checked_" #name, "__real_" #name)                                         \
+    LIST(name)
+
+/* For a function that the program calls to end, to go on otherwise or to give memory another use: what it does is seen
+   as long as the name is not the object's own, or the program's. */
+#define GUARD_OWN(name)                                                                                                \
+    __asm__(".pushsection .text\n"                                                                                     \
+            ".p2align 4\n"                                                                                             \
+            BIND("__wrap_" #name) HIDE("__wrap_" #name)                                                                \
+            ".type __wrap_" #name ",@function\n__wrap_" #name ":\n"                                                    \
+            "\t.cfi_startproc\n"                                                                                       \
+            "\tendbr64\n"                                                                                              \
+            "\tmovq __real_" #name "@GOTPCREL(%rip), %r11\n"                                                           \
+            "\tmovq %r11, %r10\n"                                                                                      \
+            "\tsubq asancol_own_code(%rip), %r10\n"                                                                    \
+            "\tcmpq asancol_own_code+8(%rip), %r10\n"                                                                  \
+            "\tjb 1f\n"                                                                                                \
+            "\tmovabsq $" TEXT(MEETING_START) ", %r10\n"                                                               \
+            "\tsubq 56(%r10), %r11\n"                                                                                  \
+            "\tcmpq 64(%r10), %r11\n"                                                                                  \
+            "\tjae checked_" #name "\n"                                                                                \
+            "1:\tjmp *__real_" #name "@GOTPCREL(%rip)\n"                                                               \
+            "\t.cfi_endproc\n"                                                                                         \
+            ".size __wrap_" #name ", .-__wrap_" #name "\n"                                                             \
+            ".popsection\n")
 
 /* For a function whose check calls another one: both have to be the library's. */
 #define STUB_OF_TWO(name, other)                                                                                       \
-    __asm__(".globl __wrap_" #name);                                                                                   \
-    GUARD("__wrap_" #name, #name, "other_of_" #name, #name)                                                            \
-    GUARD("other_of_" #name, #other, "checked_" #name, #name)
+    __asm__(BIND("__wrap_" #name));                                                                                    \
+    GUARD("__wrap_" #name, "__real_" #name, "other_of_" #name, "__real_" #name)                                        \
+    GUARD("other_of_" #name, "__real_" #other, "checked_" #name, "__real_" #name)                                      \
+    LIST(name)
 
 /* A check is reached by its stub alone. */
 #define CHECK __attribute__((used)) static

@@ -1,6 +1,8 @@
-# Completion of asancol-cc for bash: that of gcc, if it is there, and else files.
+# Completion of asancol-cc for bash: that of gcc, and options.
+# Made by `make options` from options/asancol-cc.options.
 
 _asancol_cc() {
+    COMPREPLY=()
     if declare -F _comp_load > /dev/null; then
         _comp_load gcc
     elif declare -F _completion_loader > /dev/null; then
@@ -10,6 +12,9 @@ _asancol_cc() {
         _gcc "$@"
     elif declare -F _comp_cmd_gcc > /dev/null; then
         _comp_cmd_gcc "$@"
+    fi
+    if [[ $2 == -* ]]; then
+        mapfile -t -O ${#COMPREPLY[@]} COMPREPLY < <(compgen -W '--asancol-all --asancol-compiler= -fsanitize-address-use-after-return=' -- "$2")
     fi
 }
 

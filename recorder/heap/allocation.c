@@ -5,12 +5,13 @@
    One member of the library, that comes in only if it is asked for. What sets something has no effect. */
 #define _GNU_SOURCE
 #include <errno.h>
-#include <inttypes.h>
 #include <malloc.h>
 #include <stdio.h>
 
+#include "calls/library.h"
+#include "base/digits.h"
 #include "heap/heap.h"
-#include "platform.h"
+#include "base/platform.h"
 
 /* 1: the parameter was taken. */
 REPLACES int mallopt(int parameter, int value)
@@ -53,35 +54,61 @@ REPLACES struct mallinfo mallinfo(void)
     return in_ints();
 }
 
+/* A line with a number that has this width at least. */
+static void put_line(FILE *out, const char *front, uint64_t number, int width, const char *end)
+{
+    char digits[DIGITS_ROOM];
+    char *first = put_digits(digits + sizeof digits, number, 1);
+    while (digits + sizeof digits - 1 - first < width)
+        *--first = ' ';
+    library.fputs(front, out);
+    library.fputs(first, out);
+    library.fputs(end, out);
+}
+
+/* Standard error as the program has set it, or null. A static program that asks for this member has no `stderr` but the
+   library's. */
+static FILE *standard_error(void)
+{
+#ifdef IS_STATIC
+    return stderr;
+#else
+    return library.stderr_stream != NULL ? *library.stderr_stream : NULL;
+#endif
+}
+
 REPLACES void malloc_stats(void)
 {
     struct heap_numbers numbers = heap_count();
-    static const char *const heads[] = {"Arena 0:", "Total (incl. mmap):"};
+    static const char *const heads[] = {"Arena 0:\n", "Total (incl. mmap):\n"};
+    FILE *out = standard_error();
+    if (out == NULL)
+        return;
     for (size_t i = 0; i < sizeof heads / sizeof *heads; i++) {
-        fprintf(stderr, "%s\n", heads[i]);
-        fprintf(stderr, "system bytes     = %10" PRIu64 "\n", numbers.system_bytes);
-        fprintf(stderr, "in use bytes     = %10" PRIu64 "\n", numbers.live_bytes);
+        library.fputs(heads[i], out);
+        put_line(out, "system bytes     = ", numbers.system_bytes, 10, "\n");
+        put_line(out, "in use bytes     = ", numbers.live_bytes, 10, "\n");
     }
-    fprintf(stderr, "max mmap regions = %10d\nmax mmap bytes   = %10d\n", 0, 0);
+    put_line(out, "max mmap regions = ", 0, 10, "\n");
+    put_line(out, "max mmap bytes   = ", 0, 10, "\n");
 }
 
 /* One heap, with the sums that are known. */
 REPLACES int malloc_info(int options, FILE *out)
 {
     struct heap_numbers numbers = heap_count();
-    uint64_t system = numbers.system_bytes;
+    uint64_t system = numbers.system_bytes, rest = system > numbers.live_bytes ? system - numbers.live_bytes : 0;
     if (options != 0)
         return EINVAL;
-    fputs("<malloc version=\"1\">\n<heap nr=\"0\">\n<sizes>\n</sizes>\n", out);
+    library.fputs("<malloc version=\"1\">\n<heap nr=\"0\">\n<sizes>\n</sizes>\n", out);
     for (int i = 0; i < 2; i++) {
-        fprintf(out, "<total type=\"fast\" count=\"0\" size=\"0\"/>\n");
-        fprintf(out, "<total type=\"rest\" count=\"0\" size=\"%" PRIu64 "\"/>\n",
-                system > numbers.live_bytes ? system - numbers.live_bytes : 0);
-        fprintf(out, "<system type=\"current\" size=\"%" PRIu64 "\"/>\n", system);
-        fprintf(out, "<system type=\"max\" size=\"%" PRIu64 "\"/>\n", system);
-        fprintf(out, "<aspace type=\"total\" size=\"%" PRIu64 "\"/>\n", system);
-        fprintf(out, "<aspace type=\"mprotect\" size=\"%" PRIu64 "\"/>\n", system);
-        fputs(i == 0 ? "</heap>\n" : "</malloc>\n", out);
+        library.fputs("<total type=\"fast\" count=\"0\" size=\"0\"/>\n", out);
+        put_line(out, "<total type=\"rest\" count=\"0\" size=\"", rest, 0, "\"/>\n");
+        put_line(out, "<system type=\"current\" size=\"", system, 0, "\"/>\n");
+        put_line(out, "<system type=\"max\" size=\"", system, 0, "\"/>\n");
+        put_line(out, "<aspace type=\"total\" size=\"", system, 0, "\"/>\n");
+        put_line(out, "<aspace type=\"mprotect\" size=\"", system, 0, "\"/>\n");
+        library.fputs(i == 0 ? "</heap>\n" : "</malloc>\n", out);
     }
     return 0;
 }

@@ -1,12 +1,18 @@
 #define _GNU_SOURCE
 #include "heap/arena.h"
-#include "shadow.h"
+#include "shadow/mapping.h"
+#include "shadow/shadow.h"
 
 #include <string.h>
 #include <sys/mman.h>
 
-/* By how many units memory is asked for: the notes on them then fill whole pages. */
-enum { COMMIT_STEP = 256 };
+#include "base/system.h"
+
+/* For how many units notes are asked for: they then fill whole pages. */
+enum { NOTE_STEP = 256 };
+/* By how many units memory grows: by as many as there are, within these. It is poison until it is handed out
+   (heap.c), which takes an eighth of it in the shadow. */
+enum { LEAST_STEP = 4, MOST_STEP = 16 };
 /* Where the range begins: shadow.h says why there. */
 #define RANGE ((uint64_t)ARENA_NUMBER << ARENA_SHIFT)
 
@@ -15,7 +21,30 @@ struct arena arena;
 bool arena_give_memory(void *start, size_t bytes)
 {
     int flags = MAP_PRIVATE | MAP_ANONYMOUS | MAP_NORESERVE | MAP_FIXED_NOREPLACE;
-    return mmap(start, bytes, PROT_READ | PROT_WRITE, flags, -1, 0) == start;
+    return system_mmap(start, bytes, PROT_READ | PROT_WRITE, flags, -1, 0) == (long)start;
+}
+
+static bool note(uint32_t units)
+{
+    if (units <= arena.noted)
+        return true;
+    size_t from = arena.noted, count = (units - from + NOTE_STEP - 1) / NOTE_STEP * NOTE_STEP;
+    const struct {
+        void *start;
+        size_t bytes;
+    } parts[] = {{arena.units + from, count * sizeof(struct unit)},
+                 {arena.blocks + from * SLOTS, count * SLOTS * sizeof(struct block)}};
+    for (int i = 0; i < 2; i++) {
+        if (arena_give_memory(parts[i].start, parts[i].bytes)) {
+            system_madvise(parts[i].start, parts[i].bytes, MADV_DONTDUMP); /* a core has the blocks alone */
+            continue;
+        }
+        while (i-- > 0)
+            system_munmap(parts[i].start, parts[i].bytes);
+        return false;
+    }
+    arena.noted += (uint32_t)count;
+    return true;
 }
 
 static bool commit(uint32_t units)
@@ -24,21 +53,16 @@ static bool commit(uint32_t units)
         return true;
     if (units > UNITS)
         return false;
-    size_t from = arena.committed, count = (units - from + COMMIT_STEP - 1) / COMMIT_STEP * COMMIT_STEP;
-    const struct {
-        void *start;
-        size_t bytes;
-    } parts[] = {{arena.units + from, count * sizeof(struct unit)},
-                 {arena.blocks + from * SLOTS, count * SLOTS * sizeof(struct block)},
-                 {arena.bytes + from * UNIT, count * UNIT}};
-    for (int i = 0; i < 3; i++) {
-        if (arena_give_memory(parts[i].start, parts[i].bytes))
-            continue;
-        while (i-- > 0)
-            munmap(parts[i].start, parts[i].bytes);
+    uint32_t step = arena.committed < LEAST_STEP ? LEAST_STEP : arena.committed;
+    step = step < MOST_STEP ? step : MOST_STEP;
+    uint32_t count = (units - arena.committed + step - 1) / step * step;
+    if (count > UNITS - arena.committed)
+        count = UNITS - arena.committed;
+    if (!note(arena.committed + count))
         return false;
-    }
-    arena.committed += (uint32_t)count;
+    if (!arena_give_memory(unit_start(arena.committed), (size_t)count * UNIT))
+        return false;
+    arena.committed += count;
     return true;
 }
 
@@ -49,12 +73,13 @@ bool arena_find(void)
     shadow_map(); /* in a static program this comes before all constructors */
     arena.blocks = (struct block *)RANGE;
     arena.units = (struct unit *)(arena.blocks + (size_t)UNITS * SLOTS);
-    arena.bytes = (unsigned char *)(arena.units + UNITS);
-    arena.spare = arena.bytes + (size_t)UNITS * UNIT;
-    arena.top = 1;
+    unsigned char *bytes = (unsigned char *)(arena.units + UNITS);
+    arena.spare = bytes + (size_t)UNITS * UNIT;
+    SET_NOTE(arena.top, 1);
+    __atomic_store_n(&arena.bytes, bytes, __ATOMIC_RELEASE);
     if (commit(1))
         return true;
-    arena.bytes = NULL;
+    SET_NOTE(arena.bytes, NULL);
     return false;
 }
 
@@ -66,9 +91,9 @@ void arena_keep_places(void)
     size_t bytes = (size_t)UNITS * SLOTS * sizeof(struct places);
     if (!arena_give_memory(start, bytes))
         return;
-    madvise(start, bytes, MADV_NOHUGEPAGE);
-    madvise(start, bytes, MADV_DONTDUMP);
-    arena.places = start;
+    system_madvise(start, bytes, MADV_NOHUGEPAGE);
+    system_madvise(start, bytes, MADV_DONTDUMP);
+    __atomic_store_n(&arena.places, start, __ATOMIC_RELEASE);
 }
 
 /* Runs of units. */
@@ -81,11 +106,11 @@ static uint32_t *bin_of(uint32_t count)
 static void list_run(uint32_t first, uint32_t count)
 {
     uint32_t *bin = bin_of(count);
-    arena.units[first] = (struct unit){.kind = UNIT_FREE, .count = count, .next = *bin};
+    unit_write(first, (struct unit){.kind = UNIT_FREE, .count = count, .next = *bin});
     if (count > 1)
-        arena.units[first + count - 1] = (struct unit){.kind = UNIT_FREE_END, .count = count - 1};
+        unit_write(first + count - 1, (struct unit){.kind = UNIT_FREE_END, .count = count - 1});
     if (*bin != 0)
-        arena.units[*bin].previous = first;
+        SET_NOTE(arena.units[*bin].previous, first);
     *bin = first;
 }
 
@@ -93,11 +118,11 @@ static void unlist_run(uint32_t first)
 {
     struct unit *run = &arena.units[first];
     if (run->previous != 0)
-        arena.units[run->previous].next = run->next;
+        SET_NOTE(arena.units[run->previous].next, run->next);
     else
         *bin_of(run->count) = run->next;
     if (run->next != 0)
-        arena.units[run->next].previous = run->previous;
+        SET_NOTE(arena.units[run->next].previous, run->previous);
 }
 
 uint32_t arena_take_run(uint32_t count)
@@ -115,14 +140,14 @@ uint32_t arena_take_run(uint32_t count)
     }
     if (count > UNITS - arena.top || !commit(arena.top + count))
         return 0;
-    arena.top += count;
+    SET_NOTE(arena.top, arena.top + count);
     return arena.top - count;
 }
 
 void arena_give_run(uint32_t first, uint32_t count)
 {
     /* Memory that the process has locked can't be given back to the system. */
-    if (madvise(unit_start(first), (size_t)count * UNIT, MADV_DONTNEED) != 0)
+    if (system_madvise(unit_start(first), (size_t)count * UNIT, MADV_DONTNEED) != 0)
         memset(unit_start(first), 0, (size_t)count * UNIT);
     uint32_t after = first + count;
     if (after < arena.top && arena.units[after].kind == UNIT_FREE) {

@@ -1,6 +1,6 @@
 /* Where the allocator's memory comes from: one range of addresses, which is cut into units of 64 KiB. The notes on
    units and blocks lie apart from them, so that a program that writes out of bounds does not meet them; and a pointer
-   is looked up by arithmetic alone. The allocator's lock is held. */
+   is looked up by arithmetic alone. What has no memory yet faults. The allocator's lock is held. */
 #ifndef ASANCOL_ARENA_H
 #define ASANCOL_ARENA_H
 
@@ -8,8 +8,9 @@
 #include <stddef.h>
 #include <stdint.h>
 
-#include "format.h"
-#include "platform.h"
+#include "common/format.h"
+#include "base/platform.h"
+#include "heap/family.h"
 #include "stacks/stacks.h"
 
 enum { UNIT = 1 << 16, MIN_SLOT_SIZE = 2 * REDZONE, SLOTS = UNIT / MIN_SLOT_SIZE, ALIGNMENT = 16 };
@@ -20,10 +21,28 @@ enum { UNITS = 1 << 22 };
 /* Free runs are listed by their number of units, the longer ones together. */
 enum { BINS = 64 };
 
+/* The notes on units and blocks are read without the lock too, by NOTE_NOW (nearest.c). So whoever has the lock writes
+   what is read there by SET_NOTE, and may read it as it is. Relaxed: whoever reads without the lock believes nothing of
+   it. */
+#define SET_NOTE(note, value) __atomic_store_n(&(note), value, __ATOMIC_RELAXED)
+#define NOTE_NOW(note) __atomic_load_n(&(note), __ATOMIC_RELAXED)
+
+enum { STATE_BITS = 2, FAMILY_BITS = 2, OFFSET_BITS = 27 };
+/* An offset has room for alignments up to this. */
+#define MAX_ALIGNMENT ((size_t)1 << 30)
+_Static_assert(MAX_ALIGNMENT / ALIGNMENT <= (1 << OFFSET_BITS) / 2, "with what comes before the block");
+
 struct block {
-    uint32_t size;       /* as it was asked for; of one that is not recorded, in `next` */
-    uint32_t state : 2;
-    uint32_t offset : 30; /* of the block in its slot or run, in multiples of ALIGNMENT */
+    uint32_t size; /* as it was asked for; of one that is not recorded, in `next` */
+    union {
+        struct {
+            uint32_t state : STATE_BITS;
+            uint32_t family : FAMILY_BITS; /* enum family */
+            uint32_t is_ignored : 1;       /* the process has said that it is no leak */
+            uint32_t offset : OFFSET_BITS; /* of the block in its slot or run, in multiples of ALIGNMENT */
+        };
+        uint32_t all_bits;
+    };
     union {
         struct block *next; /* in its list of free slots, or in the quarantine */
         uint64_t large_size;
@@ -40,7 +59,8 @@ struct places {
 enum unit_kind { UNIT_NEW, UNIT_SLAB, UNIT_RUN, UNIT_RUN_BODY, UNIT_FREE, UNIT_FREE_END };
 
 struct unit {
-    uint32_t kind;
+    uint16_t kind;
+    uint16_t lead;  /* of a slab: how many bytes come before its first slot */
     uint32_t count; /* of a run or a free run: its units; in its body or at its end: how far back it begins */
     union {
         struct {
@@ -53,19 +73,49 @@ struct unit {
 };
 
 extern struct arena {
-    unsigned char *bytes; /* null until the first allocation */
+    /* Null until the first allocation. It is released, and without the lock it is acquired; so is `places`. */
+    unsigned char *bytes;
     struct unit *units;
     struct block *blocks; /* SLOTS for each unit */
     unsigned char *spare; /* memory for signal handlers */
     struct places *places; /* one for each of `blocks`; or null: they are not noted */
-    uint32_t committed;   /* units that have memory */
-    uint32_t top;         /* units used so far */
+    uint32_t noted;       /* units that have notes, */
+    uint32_t committed;   /* and memory */
+    uint32_t top;         /* units used so far, with unit 0, which is never used: it is the first block's neighbour */
     uint32_t bins[BINS + 1];
 } arena;
 
 static inline unsigned char *unit_start(uint32_t unit)
 {
     return arena.bytes + (size_t)unit * UNIT;
+}
+
+/* Whether there was an allocation; without the lock. */
+static inline bool arena_is_found(void)
+{
+    return __atomic_load_n(&arena.bytes, __ATOMIC_ACQUIRE) != NULL;
+}
+
+static inline void unit_write(uint32_t number, struct unit value)
+{
+    struct unit *unit = &arena.units[number];
+    SET_NOTE(unit->kind, value.kind);
+    SET_NOTE(unit->lead, value.lead);
+    SET_NOTE(unit->count, value.count);
+    SET_NOTE(unit->slot_size, value.slot_size);
+    SET_NOTE(unit->used, value.used);
+}
+
+static inline void block_write(struct block *block, struct block now)
+{
+    SET_NOTE(block->all_bits, now.all_bits);
+}
+
+static inline void block_go(struct block *block, enum block_state state)
+{
+    struct block now = *block;
+    now.state = state & ((1 << STATE_BITS) - 1);
+    block_write(block, now);
 }
 
 /* Where the block begins of a slot or run that begins here. */

@@ -2,13 +2,13 @@
 #ifndef ASANCOL_BLOCKS_H
 #define ASANCOL_BLOCKS_H
 
-#include <pthread.h>
 #include <stdatomic.h>
 #include <stdbool.h>
 #include <stddef.h>
 #include <stdint.h>
 
 #include "heap/arena.h"
+#include "base/lock.h"
 
 enum { MAX_SLOT_SIZE = 1 << 14, FINE_STEP = 16, FINE_END = 1024, CLASSES = 64 + 16 };
 
@@ -18,12 +18,13 @@ struct class {
 };
 
 extern struct heap {
-    pthread_mutex_t lock;
-    bool is_locked; /* by the thread that is in here: one that is alone need not */
+    struct lock lock;
+    bool is_locked; /* the thread in the allocator took the lock: in a process of one thread it does not */
     struct class classes[CLASSES];
     struct block *oldest, *newest; /* the quarantine */
     uint64_t held_bytes, held_count;
-    bool is_unpainted; /* the shadow shows no blocks */
+    _Atomic bool is_unpainted; /* the shadow shows no blocks; changed without the lock too */
+    uint32_t poisoned; /* units that have become poison; they have had memory since */
     _Atomic uint64_t bound;
     _Atomic size_t spare_used;
 } heap;
@@ -36,9 +37,10 @@ static inline uint32_t unit_of(const struct block *block)
 /* Where the slot or the run of a block begins. */
 static inline unsigned char *slot_start(const struct block *block)
 {
-    uint32_t unit = unit_of(block);
+    uint32_t number = unit_of(block);
+    const struct unit *unit = &arena.units[number];
     size_t slot = (size_t)(block - arena.blocks) % SLOTS;
-    return unit_start(unit) + slot * (arena.units[unit].kind == UNIT_SLAB ? arena.units[unit].slot_size : 0);
+    return unit_start(number) + (unit->kind == UNIT_SLAB ? unit->lead + slot * unit->slot_size : 0);
 }
 
 static inline unsigned char *block_start(const struct block *block)
@@ -51,6 +53,40 @@ static inline size_t size_of(const struct block *block)
     return block->state == BLOCK_UNRECORDED ? block->large_size : block->size;
 }
 
+/* The block whose slot or run has this address, or null. */
+static inline struct block *block_around(uintptr_t address)
+{
+    uintptr_t distance = address - (uintptr_t)arena.bytes;
+    if (arena.bytes == NULL || distance >= (size_t)arena.top * UNIT)
+        return NULL;
+    uint32_t unit = (uint32_t)(distance / UNIT);
+    const struct unit *at = &arena.units[unit];
+    struct block *first = arena.blocks + (size_t)unit * SLOTS;
+    if (at->kind == UNIT_SLAB && distance % UNIT >= at->lead) {
+        uint32_t slot = ((uint32_t)(distance % UNIT) - at->lead) / at->slot_size;
+        return slot < at->used ? first + slot : NULL;
+    }
+    if (at->kind == UNIT_RUN_BODY)
+        return first - (size_t)at->count * SLOTS;
+    return at->kind == UNIT_RUN ? first : NULL;
+}
+
+/* Whether the process has it. */
+static inline bool is_in_use(const struct block *block)
+{
+    return block->state == BLOCK_LIVE || block->state == BLOCK_UNRECORDED;
+}
+
+/* The block that the process has, and of whose bytes this is one, or null. One of no bytes counts as one of a byte. */
+static inline struct block *block_in_use(uintptr_t address)
+{
+    struct block *block = block_around(address);
+    if (block == NULL || !is_in_use(block))
+        return NULL;
+    uintptr_t distance = address - (uintptr_t)block_start(block);
+    return distance == 0 || distance < size_of(block) ? block : NULL;
+}
+
 /* Every slot and every run that is in use, or was. */
 void heap_for_each(void (*visit)(const struct block *block, void *with), void *with);
 /* Takes the oldest block out of the quarantine. */
@@ -61,9 +97,11 @@ void heap_release_oldest(void);
 /* Null, and ENOMEM: there is no memory. `zeroed`: all bytes are zeros. */
 void *heap_allocate(size_t size, size_t alignment, bool zeroed, uintptr_t caller);
 void heap_give_back(void *pointer, uintptr_t caller);
-/* A malloc of the new, and then a free of the old. */
-void *heap_move(void *old, size_t size, uintptr_t caller);
-/* The size of a block that is live, or SIZE_MAX. */
-size_t heap_live_size(void *pointer);
+/* A malloc of the new, and then a free of the old, by this function. */
+void *heap_move(void *old, size_t size, uintptr_t caller, const char *call);
+
+/* The recorder's functions, whatever stands in their places. */
+void heap_own_free(void *pointer);
+void *heap_own_realloc(void *old, size_t size);
 
 #endif

@@ -1,5 +1,9 @@
 /* The allocator. A unit of the arena is a slab of slots of one size, or it is part of a run of units that is one large
    block, or part of a free run. A slot has 32 bytes of redzone, the bytes of the block, and again 32 bytes or more.
+   Blocks lie as far apart as AddressSanitizer's.
+
+   **What was never a part of a block's span is poison**, so an access is found however far from a block it is: memory
+   becomes poison when the arena gets it. What a block leaves is bad until it is handed out again.
 
    A freed block waits in the quarantine, as long as the checker holds it: it counts the same bytes in the same order.
 
@@ -12,24 +16,26 @@
 #include "heap/heap.h"
 
 #include <errno.h>
-#include <pthread.h>
 #include <string.h>
 #include <sys/mman.h>
 
-#include "halt.h"
 #include "heap/arena.h"
 #include "heap/blocks.h"
+#include "heap/families.h"
 #include "heap/paint.h"
-#include "shadow.h"
+#include "shadow/shadow.h"
+#include "stream/losing.h"
 #include "stream/record.h"
-#include "stream/stream.h"
-
-enum { MAX_OFFSET = (1 << 30) - 1 };
+#include "stream/state.h"
 
 /* What fits into the notes of a block. The format has one byte more. */
 #define MAX_BLOCK_SIZE ((size_t)UINT32_MAX)
 
-struct heap heap = {.lock = PTHREAD_MUTEX_INITIALIZER};
+/* A greater request is a mistake, to AddressSanitizer too. */
+#define MAX_REQUEST ((size_t)1 << 40)
+
+/* What is freed before the settings are read is held, too. */
+struct heap heap = {.bound = QUARANTINE_BOUND};
 
 /* The caller for whom the C library allocates, and the frame of the function that said so. */
 static _Thread_local struct {
@@ -40,6 +46,25 @@ void heap_called_from(uintptr_t caller)
 {
     borrowed.caller = caller;
     borrowed.frame = caller != 0 ? *(const uintptr_t *)__builtin_frame_address(0) : 0;
+}
+
+/* What the next malloc or free is for. */
+struct use {
+    enum family family;
+    size_t size_and_one; /* that a delete knows; 0: it does not */
+};
+static _Thread_local struct use use_next;
+
+void heap_called_by(enum family family, size_t size_and_one)
+{
+    use_next = (struct use){family, size_and_one};
+}
+
+static struct use take_use(void)
+{
+    struct use use = use_next;
+    use_next = (struct use){FAMILY_MALLOC, 0};
+    return use;
 }
 
 static uintptr_t caller_or(uintptr_t caller)
@@ -57,6 +82,24 @@ void heap_set_bound(uint64_t bytes)
     /* The end of the recording is not yet that of the shadow if the process is to end at a fault. */
     if (bytes != 0 || !atomic_load(&halt_is_on))
         atomic_store(&heap.bound, bytes);
+}
+
+/* How far from a block of this size the next one is at least, in either direction. */
+static size_t gap_for(size_t size)
+{
+    static const struct {
+        uint32_t gap, end;
+    } steps[] = {{2 * REDZONE, 1 << 9}, {128, 1 << 12}, {256, 1 << 14}, {512, 1 << 15}, {1024, 1 << 16}};
+    for (size_t i = 0; i < sizeof steps / sizeof *steps; i++)
+        if (size <= steps[i].end - steps[i].gap)
+            return steps[i].gap;
+    return 2048;
+}
+
+/* How much of the gap before the first block of a unit does not lie in the slot before it, as it does for the next. */
+static size_t lead_for(size_t size)
+{
+    return gap_for(size) - (size_t)2 * REDZONE;
 }
 
 /* Slots. Up to FINE_END bytes there is a class for each 16 bytes, and then four for each doubling. */
@@ -89,13 +132,14 @@ static struct block *take_slot(size_t bytes)
         uint32_t unit = arena_take_run(1);
         if (unit == 0)
             return NULL;
-        arena.units[unit] = (struct unit){.kind = UNIT_SLAB, .count = 1, .slot_size = slot_size};
+        uint16_t lead = (uint16_t)lead_for(slot_size - (size_t)2 * REDZONE);
+        unit_write(unit, (struct unit){.kind = UNIT_SLAB, .lead = lead, .count = 1, .slot_size = slot_size});
         class->slab = unit;
     }
     struct unit *unit = &arena.units[class->slab];
     block = arena.blocks + (size_t)class->slab * SLOTS + unit->used;
-    unit->used++;
-    if ((unit->used + 1) * unit->slot_size > UNIT)
+    SET_NOTE(unit->used, unit->used + 1);
+    if (unit->lead + (unit->used + 1) * unit->slot_size > UNIT)
         class->slab = 0;
     return block;
 }
@@ -108,48 +152,17 @@ static struct block *take_large(size_t bytes)
     uint32_t first = arena_take_run((uint32_t)count);
     if (first == 0)
         return NULL;
-    arena.units[first] = (struct unit){.kind = UNIT_RUN, .count = (uint32_t)count};
+    unit_write(first, (struct unit){.kind = UNIT_RUN, .count = (uint32_t)count});
     for (uint32_t i = 1; i < count; i++)
-        arena.units[first + i] = (struct unit){.kind = UNIT_RUN_BODY, .count = i};
+        unit_write(first + i, (struct unit){.kind = UNIT_RUN_BODY, .count = i});
     return arena.blocks + (size_t)first * SLOTS;
 }
 
 /* The block that starts here, or null. */
 static struct block *find(const void *pointer)
 {
-    uintptr_t distance = (uintptr_t)pointer - (uintptr_t)arena.bytes;
-    if (arena.bytes == NULL || distance >= (size_t)arena.top * UNIT)
-        return NULL;
-    uint32_t unit = (uint32_t)(distance / UNIT);
-    const struct unit *at = &arena.units[unit];
-    struct block *block;
-    if (at->kind == UNIT_SLAB && distance % UNIT / at->slot_size < at->used)
-        block = arena.blocks + (size_t)unit * SLOTS + distance % UNIT / at->slot_size;
-    else if (at->kind == UNIT_RUN)
-        block = arena.blocks + (size_t)unit * SLOTS;
-    else if (at->kind == UNIT_RUN_BODY)
-        block = arena.blocks + (size_t)(unit - at->count) * SLOTS;
-    else
-        return NULL;
-    return block->state != BLOCK_FREE && block_start(block) == pointer ? block : NULL;
-}
-
-uintptr_t heap_end_around(uintptr_t address)
-{
-    uintptr_t distance = address - (uintptr_t)arena.bytes;
-    if (arena.bytes == NULL || distance >= (size_t)arena.top * UNIT)
-        return address;
-    uint32_t unit = (uint32_t)(distance / UNIT);
-    const struct unit *at = &arena.units[unit];
-    if (at->kind != UNIT_SLAB && at->kind != UNIT_RUN && at->kind != UNIT_RUN_BODY)
-        return address;
-    uint32_t first = at->kind == UNIT_RUN_BODY ? unit - at->count : unit;
-    size_t slot = at->kind == UNIT_SLAB ? distance % UNIT / at->slot_size : 0;
-    const struct block *block = arena.blocks + (size_t)first * SLOTS + slot;
-    if (block->state != BLOCK_LIVE && block->state != BLOCK_UNRECORDED)
-        return address;
-    uintptr_t end = (uintptr_t)block_start(block) + (block->state == BLOCK_UNRECORDED ? block->large_size : block->size);
-    return end > address ? end : address;
+    struct block *block = block_around((uintptr_t)pointer);
+    return block != NULL && block->state != BLOCK_FREE && block_start(block) == pointer ? block : NULL;
 }
 
 /* The quarantine. */
@@ -157,13 +170,13 @@ uintptr_t heap_end_around(uintptr_t address)
 static void release(struct block *block)
 {
     uint32_t unit = unit_of(block), slot_size;
-    block->state = BLOCK_FREE;
+    block_go(block, BLOCK_FREE);
     if (arena.units[unit].kind != UNIT_SLAB) {
         arena_give_run(unit, arena.units[unit].count);
         return;
     }
     struct class *class = &heap.classes[class_of(arena.units[unit].slot_size, &slot_size)];
-    block->next = class->free;
+    SET_NOTE(block->next, class->free);
     class->free = block;
 }
 
@@ -188,16 +201,41 @@ static void release_down_to(uint64_t bound)
 
 static void hold(struct block *block)
 {
-    block->state = BLOCK_HELD;
-    block->next = NULL;
+    block_go(block, BLOCK_HELD);
+    SET_NOTE(block->next, NULL);
     if (heap.newest != NULL)
-        heap.newest->next = block;
+        SET_NOTE(heap.newest->next, block);
     else
         heap.oldest = block;
     heap.newest = block;
     heap.held_bytes += span_bytes(block->size);
     heap.held_count++;
     release_down_to(atomic_load_explicit(&heap.bound, memory_order_relaxed));
+}
+
+static void poison(uintptr_t start, uintptr_t end)
+{
+    if (heap.is_unpainted || start >= end)
+        return;
+    shadow_poison(start, end - start, SHADE_USER);
+    record_unused(start, end - start);
+}
+
+/* What the arena got when this block was taken. Of a run not the block, which may have gigabytes. */
+static void poison_new(const struct block *block, uintptr_t address, size_t size)
+{
+    uintptr_t from = (uintptr_t)unit_start(heap.poisoned), to = (uintptr_t)unit_start(arena.committed);
+    uintptr_t hole = to, hole_end = to;
+    if (LIKELY(from == to))
+        return;
+    heap.poisoned = arena.committed;
+    if (arena.units[unit_of(block)].kind == UNIT_RUN) {
+        bool is_recorded = size <= MAX_BLOCK_SIZE;
+        hole = is_recorded ? address - REDZONE : address;
+        hole_end = hole + (is_recorded ? span_bytes(size) : size);
+    }
+    poison(from, hole);
+    poison(hole_end > from ? hole_end : from, to);
 }
 
 /* Going in and out. A signal handler whose thread is in here already is not let in. */
@@ -209,6 +247,7 @@ enum { DEFERRED = 32 };
 static _Thread_local struct {
     void *pointers[DEFERRED];
     uintptr_t callers[DEFERRED];
+    const char *calls[DEFERRED];
     _Atomic unsigned count;
 } deferred;
 
@@ -222,18 +261,23 @@ static bool enter(void)
     if (UNLIKELY(is_inside))
         return false;
     is_inside = true;
-    bool alone = __libc_single_threaded;
+    bool alone = library_is_alone();
     if (!alone)
-        pthread_mutex_lock(&heap.lock);
+        lock_take(&heap.lock);
     heap.is_locked = !alone;
     return true;
 }
 
 /* Returns whether it was one that can be freed. */
-static bool free_block(void *pointer, uintptr_t caller)
+static bool free_block(void *pointer, uintptr_t caller, const char *call, struct use use)
 {
     struct block *block = find(pointer);
+    if (block != NULL && (block->state == BLOCK_LIVE || block->state == BLOCK_UNRECORDED)
+        && UNLIKELY(block->family != use.family || use.size_and_one != 0))
+        families_look_at(block, &(struct release){(uintptr_t)pointer, caller, borrowed.frame, call, use.family,
+                                                  use.size_and_one});
     if (block != NULL && block->state == BLOCK_UNRECORDED) {
+        poison((uintptr_t)pointer, (uintptr_t)pointer + block->large_size);
         release(block);
         return true;
     }
@@ -242,11 +286,11 @@ static bool free_block(void *pointer, uintptr_t caller)
         paint_held((uintptr_t)pointer, block->size);
     /* A bad free is recorded, and goes no further. */
     if (!is_live) {
-        record_bad_free((uintptr_t)pointer, caller);
+        record_bad_free((uintptr_t)pointer, caller, call);
         return false;
     }
     if (UNLIKELY(arena.places != NULL))
-        arena.places[block - arena.blocks].freed = place_from(borrowed.frame, caller);
+        SET_NOTE(arena.places[block - arena.blocks].freed, place_from(borrowed.frame, caller));
     record_free((uintptr_t)pointer);
     hold(block);
     return true;
@@ -258,18 +302,20 @@ static void free_deferred(void)
     while ((count = atomic_load_explicit(&deferred.count, memory_order_relaxed)) != 0) {
         void *pointer = deferred.pointers[count - 1];
         uintptr_t caller = deferred.callers[count - 1];
+        const char *call = deferred.calls[count - 1];
         /* Unless a handler has just added one. */
         if (atomic_compare_exchange_strong(&deferred.count, &count, count - 1))
-            free_block(pointer, caller);
+            free_block(pointer, caller, call, (struct use){FAMILY_ANY, 0});
     }
 }
 
-static void defer(void *pointer, uintptr_t caller)
+static void defer(void *pointer, uintptr_t caller, const char *call)
 {
     unsigned place = atomic_fetch_add(&deferred.count, 1);
     if (place < DEFERRED) {
         deferred.pointers[place] = pointer;
         deferred.callers[place] = caller;
+        deferred.calls[place] = call;
     } else {
         atomic_fetch_sub(&deferred.count, 1);
     }
@@ -280,7 +326,7 @@ static void leave(void)
     do {
         free_deferred();
         if (heap.is_locked)
-            pthread_mutex_unlock(&heap.lock);
+            lock_give(&heap.lock);
         is_inside = false;
     } while (UNLIKELY(atomic_load_explicit(&deferred.count, memory_order_relaxed) != 0) && enter());
 }
@@ -309,7 +355,7 @@ enum { SPARE_HEADER = 16 };
 
 static bool is_spare(const void *pointer)
 {
-    return arena.bytes != NULL && (uintptr_t)pointer - (uintptr_t)arena.spare < SPARE_BYTES;
+    return arena_is_found() && (uintptr_t)pointer - (uintptr_t)arena.spare < SPARE_BYTES;
 }
 
 static void *take_spare(size_t size, size_t alignment)
@@ -335,99 +381,188 @@ static void drop_spare(void *pointer)
 {
     unsigned char *start = pointer;
     size_t before = (uintptr_t)(start - SPARE_HEADER) % PAGE + SPARE_HEADER;
-    madvise(start - before, (before + spare_size(pointer) + PAGE - 1) / PAGE * PAGE, MADV_DONTNEED);
+    system_madvise(start - before, (before + spare_size(pointer) + PAGE - 1) / PAGE * PAGE, MADV_DONTNEED);
 }
 
 /* Allocation. */
 
-/* How many bytes a block takes with its redzones. */
+/* How many bytes a block takes in its slot. */
 static size_t room_for(size_t size, size_t alignment)
 {
     size_t rounded = (size + ALIGNMENT - 1) / ALIGNMENT * ALIGNMENT;
-    return rounded + alignment - ALIGNMENT + (size_t)2 * REDZONE;
+    return rounded + alignment - ALIGNMENT + gap_for(size);
 }
 
-static struct block *take_block(size_t bytes)
+static struct block *take_block(size_t bytes, size_t size)
 {
-    return bytes <= MAX_SLOT_SIZE ? take_slot(bytes) : take_large(bytes);
+    return bytes <= MAX_SLOT_SIZE ? take_slot(bytes) : take_large(lead_for(size) + bytes);
 }
 
-static void *place_block(size_t size, size_t alignment, uintptr_t caller)
+static void note_places(struct places *places, place_word allocated)
+{
+    SET_NOTE(places->allocated, allocated);
+    SET_NOTE(places->freed, 0);
+}
+
+/* How often this thread has said that what it allocates is no leak, less how often it has taken that back. */
+static _Thread_local unsigned ignoring;
+
+void heap_ignore_next(bool is_on)
+{
+    if (is_on)
+        ignoring++;
+    else if (ignoring > 0)
+        ignoring--;
+}
+
+void heap_ignore(const void *pointer)
+{
+    bool alone = enter();
+    struct block *block = block_in_use((uintptr_t)pointer);
+    if (block != NULL) {
+        struct block now = *block;
+        now.is_ignored = 1;
+        block_write(block, now);
+    }
+    if (alone)
+        leave();
+}
+
+static void *place_block(size_t size, size_t alignment, uintptr_t caller, enum family family)
 {
     size_t bytes = room_for(size, alignment);
-    struct block *block = take_block(bytes);
+    struct block *block = take_block(bytes, size);
     if (block == NULL && heap.held_bytes != 0 && bytes <= (size_t)UNITS * UNIT) {
         /* Without a recorder the process might have this memory: so no more recording, and nothing held back. */
         stream_stop("no memory");
         release_down_to(0);
-        block = take_block(bytes);
+        block = take_block(bytes, size);
     }
     if (block == NULL)
         return NULL;
-    uintptr_t start = (uintptr_t)slot_start(block);
-    uintptr_t address = (start + REDZONE + alignment - 1) / alignment * alignment;
-    block->offset = (address - start) / ALIGNMENT & MAX_OFFSET;
+    uintptr_t start = (uintptr_t)slot_start(block), lead = bytes <= MAX_SLOT_SIZE ? 0 : lead_for(size);
+    uintptr_t address = (start + lead + REDZONE + alignment - 1) / alignment * alignment;
+    struct block now = {.state = block->state, .family = family & ((1 << FAMILY_BITS) - 1),
+                        .is_ignored = ignoring != 0};
+    now.offset = (address - start) / ALIGNMENT & ((1 << OFFSET_BITS) - 1);
+    block_write(block, now);
     if (UNLIKELY(arena.places != NULL))
-        arena.places[block - arena.blocks] = (struct places){place_from(borrowed.frame, caller), 0};
+        note_places(&arena.places[block - arena.blocks], place_from(borrowed.frame, caller));
+    poison_new(block, address, size);
     if (size <= MAX_BLOCK_SIZE) {
-        block->size = (uint32_t)size;
+        SET_NOTE(block->size, (uint32_t)size);
         if (!heap.is_unpainted)
             paint_redzones(address, size);
         record_region(CODE_MALLOC, address, size);
         /* The record may be the first of a segment, which restates what is live: this block is not yet. */
-        block->state = BLOCK_LIVE;
+        block_go(block, BLOCK_LIVE);
         if (!heap.is_unpainted)
             paint_live(address, size);
     } else {
-        /* It can't be spelled, so it is no block for the checker: memory like a global's. */
-        block->state = BLOCK_UNRECORDED;
-        block->large_size = size;
+        /* It can't be spelled, so it is no block for the checker: memory between poison. */
+        SET_NOTE(block->large_size, size);
+        block_go(block, BLOCK_UNRECORDED);
     }
     return (void *)address;
+}
+
+/* Five, and those that the program defines. */
+enum { MAX_HOOKS = 6 };
+static struct heap_hooks all_hooks[MAX_HOOKS];
+static _Atomic int hook_count;
+
+int heap_add_hooks(struct heap_hooks hooks)
+{
+    static bool has_by_name;
+    int count = atomic_load(&hook_count);
+    if (count == MAX_HOOKS)
+        return 0;
+    all_hooks[count] = hooks;
+    atomic_store(&hook_count, count + 1);
+    has_by_name |= hooks.is_by_name;
+    return count + 1 - has_by_name;
+}
+
+static void call_after_malloc(const void *start, size_t size)
+{
+    for (int i = 0; i < atomic_load(&hook_count); i++)
+        if (all_hooks[i].after_malloc != NULL)
+            all_hooks[i].after_malloc(start, size);
+}
+
+static void call_before_free(const void *start)
+{
+    for (int i = 0; i < atomic_load(&hook_count); i++)
+        if (all_hooks[i].before_free != NULL)
+            all_hooks[i].before_free(start);
+}
+
+static bool has_hooks(void)
+{
+    return UNLIKELY(atomic_load_explicit(&hook_count, memory_order_relaxed) != 0);
 }
 
 void *heap_allocate(size_t size, size_t alignment, bool zeroed, uintptr_t caller)
 {
     void *address = NULL;
+    struct use use = take_use();
     caller = caller_or(caller);
-    bool fits = size <= PTRDIFF_MAX - UNIT && alignment <= (size_t)1 << 32;
+    bool fits = size <= PTRDIFF_MAX - UNIT && alignment <= MAX_ALIGNMENT;
     if (!fits || !enter()) {
         address = fits ? take_spare(size, alignment) : NULL;
     } else {
         if (arena.bytes != NULL || arena_find())
-            address = place_block(size, alignment, caller);
+            address = place_block(size, alignment, caller, use.family);
         if (address == NULL)
             record_region(CODE_MALLOC, 0, size); /* refused */
         leave();
         if (address != NULL && size > MAX_BLOCK_SIZE)
             record_regions(CODE_UNPOISON, (uintptr_t)address, size);
     }
+    if (UNLIKELY(address == NULL && size > MAX_REQUEST) && use.family == FAMILY_MALLOC)
+        families_note_too_big(size, caller);
     if (address == NULL)
         errno = ENOMEM;
     else if (zeroed && room_for(size, alignment) <= MAX_SLOT_SIZE)
         memset(address, 0, size); /* a larger block is zeros: pages that are not used take no memory */
+    if (has_hooks() && address != NULL)
+        call_after_malloc(address, size);
     return address;
 }
 
-void heap_give_back(void *pointer, uintptr_t caller)
+/* By this function. */
+static void give_back(void *pointer, uintptr_t caller, const char *call)
 {
+    struct use use = take_use();
     caller = caller_or(caller);
     if (pointer == NULL)
         return;
+    if (has_hooks())
+        call_before_free(pointer);
     int before = errno;
     bool is_bad = false;
     if (is_spare(pointer)) {
         drop_spare(pointer);
     } else if (enter()) {
-        is_bad = !free_block(pointer, caller);
+        is_bad = !free_block(pointer, caller, call, use);
         leave();
     } else {
-        defer(pointer, caller);
+        defer(pointer, caller, call);
     }
+    /* Nothing is recorded yet, and in the lock it could not begin. */
+    if (UNLIKELY(is_bad) && stream_state() == STATE_UNSTARTED)
+        record_bad_free((uintptr_t)pointer, caller, call);
     /* Out of the lock: what is called before the end may allocate. */
-    if (UNLIKELY(is_bad) && atomic_load(&halt_is_on))
-        halt_at(CODE_FREE, 0, (uintptr_t)pointer, caller);
+    if (UNLIKELY(is_bad) && atomic_load(&halt_is_on)) {
+        struct access access = access_of(CODE_FREE, (uintptr_t)pointer, 0, caller, call);
+        above.halt_at(CODE_FREE, 0, (uintptr_t)pointer, caller, &access);
+    }
     errno = before;
+}
+
+void heap_give_back(void *pointer, uintptr_t caller)
+{
+    give_back(pointer, caller, "free");
 }
 
 size_t heap_live_size(void *pointer)
@@ -444,14 +579,14 @@ size_t heap_live_size(void *pointer)
     return size;
 }
 
-void *heap_move(void *old, size_t size, uintptr_t caller)
+void *heap_move(void *old, size_t size, uintptr_t caller, const char *call)
 {
     caller = caller_or(caller);
     if (old == NULL)
         return heap_allocate(size, ALIGNMENT, false, caller);
     size_t before = heap_live_size(old);
     if (size == 0 || before == SIZE_MAX) {
-        heap_give_back(old, caller);
+        give_back(old, caller, call);
         if (size != 0)
             errno = EINVAL;
         return NULL;
@@ -460,7 +595,7 @@ void *heap_move(void *old, size_t size, uintptr_t caller)
     if (moved == NULL)
         return NULL;
     memcpy(moved, old, before < size ? before : size);
-    heap_give_back(old, caller);
+    give_back(old, caller, call);
     return moved;
 }
 
@@ -478,7 +613,7 @@ void heap_paint(bool is_painted)
 {
     bool alone = enter();
     if (!is_painted && arena.bytes != NULL)
-        shadow_clear((uintptr_t)arena.bytes, (uint64_t)arena.top * UNIT);
+        shadow_clear((uintptr_t)arena.bytes, (uint64_t)arena.committed * UNIT);
     heap.is_unpainted = !is_painted;
     if (alone)
         leave();
@@ -491,7 +626,7 @@ void heap_keep_places(void)
 
 void heap_is_poisoned(void)
 {
-    heap.is_unpainted = false;
+    atomic_store_explicit(&heap.is_unpainted, false, memory_order_relaxed);
 }
 
 static void add_if_used(const struct block *block, void *numbers)

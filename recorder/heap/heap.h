@@ -3,9 +3,11 @@
 #define ASANCOL_HEAP_H
 
 #include <stdbool.h>
+#include <stddef.h>
 #include <stdint.h>
 
-#include "platform.h"
+#include "base/platform.h"
+#include "heap/family.h"
 
 /* How many bytes of freed spans are held from now on. */
 void heap_set_bound(uint64_t bytes);
@@ -25,9 +27,21 @@ void heap_is_poisoned(void);
 /* The next malloc of this thread is recorded with this place, and not with that of libc's code which calls it. */
 void heap_called_from(uintptr_t caller);
 
+/* The next malloc or free of this thread is an operator's. One that knows the size of what it deletes says one more;
+   others say 0. FAMILY_MALLOC takes it back. */
+void heap_called_by(enum family family, size_t size_and_one);
+/* Whether a free of another family, or a delete with another size, is noted. */
+void heap_check_families(bool is_on);
+
 /* The places of mallocs and frees are noted from now on. */
 void heap_keep_places(void);
+/* What this thread allocates from now on is no leak, until that is taken back as often as it was said. */
+void heap_ignore_next(bool is_on) OWN_NAME(heap_ignore_next);
+/* The block that has this byte is no leak; if there is none, nothing. */
+void heap_ignore(const void *pointer) OWN_NAME(heap_ignore);
 
+/* A block was allocated for an array, and holds the count of its elements here. That is the compiler's. */
+void heap_poison_count(uintptr_t address) OWN_NAME(heap_poison_count);
 /* The end of the live block around an address; the address itself if there is none. */
 uintptr_t heap_end_around(uintptr_t address);
 
@@ -39,5 +53,21 @@ struct heap_numbers {
 };
 
 struct heap_numbers heap_count(void) OWN_NAME(heap_count);
+/* The size of a block that is live, or SIZE_MAX. */
+size_t heap_live_size(void *pointer) OWN_NAME(heap_live_size);
+
+/* What the program wants to be called after each malloc and before each free, without the lock. */
+struct heap_hooks {
+    void (*after_malloc)(const volatile void *start, size_t size);
+    void (*before_free)(const volatile void *start);
+    bool is_by_name; /* the program defines them, and does not count them */
+};
+/* Answers how many were added then, or 0: there is no room for more. */
+int heap_add_hooks(struct heap_hooks hooks) OWN_NAME(heap_add_hooks);
+
+/* The recorder's malloc, whatever stands in its place. */
+void *heap_own_malloc(size_t size);
+/* Whether what stands in its place takes its blocks from the recorder. */
+bool heap_is_below(void);
 
 #endif

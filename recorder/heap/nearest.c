@@ -1,9 +1,14 @@
-/* The block that is nearest to a bad access: by the notes on blocks and units, which another thread may be changing, or
-   which this thread was changing when a signal came. Each is read once, and nothing of it is believed. */
+/* The block that is nearest to a bad access, and the end of the one around an address: by the notes on blocks and
+   units, which another thread may be changing, or which this thread was changing when a signal came. Each is read once,
+   and nothing of it is believed. */
 #include "heap/arena.h"
+#include "heap/blocks.h"
+#include "heap/heap.h"
+#include "shadow/shadow.h"
+#include "stream/record.h"
 
-/* So far from an access a block is looked for. */
-enum { FAR = PAGE };
+/* So many slots are looked at on either side: in between are free ones, and what has none is passed at once. */
+enum { MOST_SLOTS = 1 << 12 };
 
 /* A slot or a run, or a part of a unit that has none. */
 struct slot {
@@ -11,39 +16,79 @@ struct slot {
     size_t block; /* the number of its notes; 0 if there is none */
 };
 
-static struct unit unit_now(uint32_t unit)
+static struct unit unit_now(uint32_t number)
 {
-    return *(const volatile struct unit *)&arena.units[unit];
+    const struct unit *unit = &arena.units[number];
+    struct unit now = {.kind = NOTE_NOW(unit->kind), .lead = NOTE_NOW(unit->lead), .count = NOTE_NOW(unit->count)};
+    now.slot_size = NOTE_NOW(unit->slot_size);
+    now.used = NOTE_NOW(unit->used);
+    return now;
 }
 
-static struct block block_now(size_t block)
+static struct block block_now(size_t number)
 {
-    return *(const volatile struct block *)&arena.blocks[block];
+    const struct block *block = &arena.blocks[number];
+    struct block now = {.size = NOTE_NOW(block->size), .large_size = NOTE_NOW(block->large_size)};
+    now.all_bits = NOTE_NOW(block->all_bits);
+    return now;
 }
 
-static void find_in_slab(uint32_t unit, uint32_t slot_size, uintptr_t address, struct slot *slot)
+static struct places places_now(size_t number)
 {
-    uintptr_t start = (uintptr_t)unit_start(unit);
-    if (slot_size < MIN_SLOT_SIZE || slot_size > UNIT)
+    const struct places *all = __atomic_load_n(&arena.places, __ATOMIC_ACQUIRE);
+    if (all == NULL)
+        return (struct places){0, 0};
+    return (struct places){NOTE_NOW(all[number].allocated), NOTE_NOW(all[number].freed)};
+}
+
+static void find_in_slab(uint32_t number, const struct unit *unit, uintptr_t address, struct slot *slot)
+{
+    uintptr_t start = (uintptr_t)unit_start(number) + unit->lead, end = (uintptr_t)unit_start(number) + UNIT;
+    if (unit->slot_size < MIN_SLOT_SIZE || unit->slot_size > UNIT)
         return;
-    size_t number = (address - start) / slot_size;
-    slot->start = start + number * slot_size;
-    if ((number + 1) * slot_size > UNIT)
-        return; /* the rest of a unit, in which there is no slot */
-    slot->end = slot->start + slot_size;
-    slot->block = (size_t)unit * SLOTS + number;
+    if (address < start) {
+        slot->end = start; /* what is before the first slot */
+        return;
+    }
+    size_t index = (address - start) / unit->slot_size;
+    bool is_used = index < unit->used;
+    slot->start = start + (is_used ? index : unit->used) * unit->slot_size;
+    if (!is_used || end - slot->start < unit->slot_size)
+        return; /* the rest of a unit, in which there is no slot yet */
+    slot->end = slot->start + unit->slot_size;
+    slot->block = (size_t)number * SLOTS + index;
+}
+
+/* Units in a row that are free, by the notes on the first and on the last of them. Between these may stand older notes:
+   on runs that have become a part of this one, so that what they say is as free, unless a part of one was taken. */
+static void find_free(uint32_t number, const struct unit *unit, struct slot *slot)
+{
+    if (unit->kind == UNIT_FREE && unit->count <= UNITS - number)
+        slot->end = slot->start + (size_t)unit->count * UNIT;
+    if (unit->kind == UNIT_FREE_END && unit->count < number) {
+        struct unit first = unit_now(number - unit->count);
+        if (first.kind == UNIT_FREE && first.count == unit->count + 1)
+            slot->start -= (size_t)unit->count * UNIT;
+    }
 }
 
 static bool find_slot(uintptr_t address, struct slot *slot)
 {
-    uintptr_t distance = address - (uintptr_t)arena.bytes;
-    if (arena.bytes == NULL || distance >= (size_t)arena.top * UNIT)
+    if (!arena_is_found())
         return false;
-    uint32_t number = (uint32_t)(distance / UNIT), first = number;
+    uintptr_t distance = address - (uintptr_t)arena.bytes;
+    if (distance >= (size_t)UNITS * UNIT)
+        return false;
+    uint32_t number = (uint32_t)(distance / UNIT), first = number, top = NOTE_NOW(arena.top);
+    if (number >= top) {
+        *slot = (struct slot){(uintptr_t)unit_start(top), (uintptr_t)unit_start(UNITS), 0};
+        return true;
+    }
     struct unit unit = unit_now(number);
     *slot = (struct slot){(uintptr_t)unit_start(number), (uintptr_t)unit_start(number) + UNIT, 0};
+    find_free(number, &unit, slot);
     if (unit.kind == UNIT_SLAB)
-        find_in_slab(number, unit.slot_size, address, slot);
+        find_in_slab(number, &unit, address, slot);
     if (unit.kind == UNIT_RUN_BODY && unit.count < number)
         unit = unit_now(first = number - unit.count);
     if (unit.kind == UNIT_RUN && unit.count > number - first && unit.count <= UNITS - first) {
@@ -69,14 +114,13 @@ static bool look_at(const struct slot *slot, uintptr_t address, uint64_t *least,
         return false;
     struct block block = block_now(slot->block);
     uintptr_t start = block_address(&block, slot->start);
-    uint64_t far = distance_of(address, start, block.size);
-    if (block.state != BLOCK_LIVE && block.state != BLOCK_HELD)
+    uint64_t size = block.state == BLOCK_UNRECORDED ? block.large_size : block.size;
+    uint64_t far = distance_of(address, start, size);
+    if (block.state == BLOCK_FREE)
         return false;
     if (far < *least || (far == *least && start < found->start)) {
         *least = far;
-        *found = (struct nearest){start, block.size, {0, 0}};
-        if (arena.places != NULL)
-            found->places = *(const volatile struct places *)&arena.places[slot->block];
+        *found = (struct nearest){start, size, places_now(slot->block)};
     }
     return true;
 }
@@ -84,16 +128,44 @@ static bool look_at(const struct slot *slot, uintptr_t address, uint64_t *least,
 bool arena_find_nearest(uintptr_t address, struct nearest *found)
 {
     struct slot here, slot;
-    uint64_t least = FAR;
+    uint64_t least = UINT64_MAX;
     *found = (struct nearest){0, 0, {0, 0}};
     if (!find_slot(address, &here))
         return false;
     look_at(&here, address, &least, found);
-    for (uintptr_t last = here.start - 1; address - last <= least && find_slot(last, &slot); last = slot.start - 1)
+    uintptr_t last = here.start - 1, next = here.end;
+    for (int i = 0; i < MOST_SLOTS && address - last <= least && find_slot(last, &slot); i++, last = slot.start - 1)
         if (look_at(&slot, address, &least, found))
             break;
-    for (uintptr_t next = here.end; next - address <= least && find_slot(next, &slot); next = slot.end)
+    for (int i = 0; i < MOST_SLOTS && next - address <= least && find_slot(next, &slot); i++, next = slot.end)
         if (look_at(&slot, address, &least, found))
             break;
     return found->start != 0;
+}
+
+/* Clang has the count before the elements, which begin at a multiple of their alignment. Elsewhere it may be a part of
+   what an operator new of the program hands out, and again without a word. */
+void heap_poison_count(uintptr_t address)
+{
+    struct slot slot;
+    if (heap.is_unpainted || !find_slot(address, &slot) || slot.block == 0)
+        return;
+    struct block block = block_now(slot.block);
+    uintptr_t before = address - block_address(&block, slot.start) + GRANULE;
+    if (address % GRANULE != 0 || before == 0 || (before & (before - 1)) != 0)
+        return;
+    shadow_poison(address, GRANULE, SHADE_COOKIE);
+    record_poison(KIND_USER, address, GRANULE);
+}
+
+uintptr_t heap_end_around(uintptr_t address)
+{
+    struct slot slot;
+    if (!find_slot(address, &slot) || slot.block == 0)
+        return address;
+    struct block block = block_now(slot.block);
+    if (block.state != BLOCK_LIVE && block.state != BLOCK_UNRECORDED)
+        return address;
+    uintptr_t end = block_address(&block, slot.start) + (block.state == BLOCK_LIVE ? block.size : block.large_size);
+    return end > address ? end : address;
 }

@@ -8,7 +8,7 @@
 
 #include <string.h>
 
-#include "shadow.h"
+#include "shadow/shadow.h"
 
 enum { RED_GRANULES = REDZONE / GRANULE };
 _Static_assert(RED_GRANULES == sizeof(uint32_t), "a redzone is one number in the shadow");

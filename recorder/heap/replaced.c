@@ -5,22 +5,45 @@
 #include <stdlib.h>
 
 #include "heap/blocks.h"
-#include "platform.h"
+#include "heap/heap.h"
+#include "base/platform.h"
+#include "stream/findings.h"
 
-REPLACES void *malloc(size_t size)
+static _Atomic bool is_below;
+
+bool heap_is_below(void)
+{
+    return atomic_load_explicit(&is_below, memory_order_relaxed);
+}
+
+void *heap_own_malloc(size_t size)
 {
     return heap_allocate(size, ALIGNMENT, false, CALLER());
 }
 
-REPLACES void free(void *pointer)
+REPLACES void *malloc(size_t size) __attribute__((alias("heap_own_malloc")));
+
+void heap_own_free(void *pointer)
 {
     heap_give_back(pointer, CALLER());
+}
+
+REPLACES void free(void *pointer) __attribute__((alias("heap_own_free")));
+
+static __attribute__((noinline, cold)) void note(enum finding_kind kind, const char *call, uintptr_t caller,
+                                                 struct wrong_call given)
+{
+    given.kind = kind;
+    given.call = call;
+    given.caller = caller;
+    finding_note_call(&given);
 }
 
 static void *allocate_array(size_t count, size_t size, uintptr_t caller)
 {
     size_t bytes;
     if (__builtin_mul_overflow(count, size, &bytes)) {
+        note(FINDING_OVERFLOW, "calloc", caller, (struct wrong_call){.size = size, .other = count});
         errno = ENOMEM;
         return NULL;
     }
@@ -32,19 +55,22 @@ REPLACES void *calloc(size_t count, size_t size)
     return allocate_array(count, size, CALLER());
 }
 
-REPLACES void *realloc(void *old, size_t size)
+void *heap_own_realloc(void *old, size_t size)
 {
-    return heap_move(old, size, CALLER());
+    return heap_move(old, size, CALLER(), "realloc");
 }
+
+REPLACES void *realloc(void *old, size_t size) __attribute__((alias("heap_own_realloc")));
 
 static void *move_array(void *old, size_t count, size_t size, uintptr_t caller)
 {
     size_t bytes;
     if (__builtin_mul_overflow(count, size, &bytes)) {
+        note(FINDING_OVERFLOW, "reallocarray", caller, (struct wrong_call){.size = size, .other = count});
         errno = ENOMEM;
         return NULL;
     }
-    return heap_move(old, bytes, caller);
+    return heap_move(old, bytes, caller, "reallocarray");
 }
 
 REPLACES void *reallocarray(void *old, size_t count, size_t size)
@@ -60,21 +86,36 @@ static size_t power_of_two(size_t least)
     return power;
 }
 
+static bool is_power_of_two(size_t alignment)
+{
+    return alignment != 0 && (alignment & (alignment - 1)) == 0;
+}
+
+/* As the C library does, what is no alignment is rounded up to one. */
+static void *allocate_aligned(size_t alignment, size_t size, uintptr_t caller, const char *call)
+{
+    if (UNLIKELY(!is_power_of_two(alignment)))
+        note(FINDING_ALIGNMENT, call, caller, (struct wrong_call){.start = alignment, .size = size});
+    return heap_allocate(size, power_of_two(alignment), false, caller);
+}
+
 REPLACES void *memalign(size_t alignment, size_t size)
 {
-    return heap_allocate(size, power_of_two(alignment), false, CALLER());
+    return allocate_aligned(alignment, size, CALLER(), "memalign");
 }
 
 REPLACES void *aligned_alloc(size_t alignment, size_t size)
 {
-    return heap_allocate(size, power_of_two(alignment), false, CALLER());
+    return allocate_aligned(alignment, size, CALLER(), "aligned_alloc");
 }
 
 REPLACES int posix_memalign(void **result, size_t alignment, size_t size)
 {
     int before = errno;
-    if (alignment < sizeof(void *) || (alignment & (alignment - 1)) != 0)
+    if (alignment < sizeof(void *) || !is_power_of_two(alignment)) {
+        note(FINDING_ALIGNMENT, "posix_memalign", CALLER(), (struct wrong_call){.start = alignment, .size = size});
         return EINVAL;
+    }
     void *address = heap_allocate(size, power_of_two(alignment), false, CALLER());
     errno = before;
     if (address == NULL)
@@ -88,11 +129,13 @@ REPLACES void *valloc(size_t size)
     return heap_allocate(size, PAGE, false, CALLER());
 }
 
+/* Of no bytes it is a page, as with AddressSanitizer. */
 static void *allocate_pages(size_t size, uintptr_t caller)
 {
-    size_t pages = size / PAGE + (size % PAGE != 0);
+    size_t pages = size / PAGE + (size % PAGE != 0 || size == 0);
     size_t bytes;
     if (__builtin_mul_overflow(pages, PAGE, &bytes)) {
+        note(FINDING_OVERFLOW, "pvalloc", caller, (struct wrong_call){.size = size});
         errno = ENOMEM;
         return NULL;
     }
@@ -107,13 +150,23 @@ REPLACES void *pvalloc(size_t size)
 REPLACES size_t malloc_usable_size(void *pointer)
 {
     size_t size = pointer == NULL ? 0 : heap_live_size(pointer);
-    return size == SIZE_MAX ? 0 : size;
+    if (LIKELY(size != SIZE_MAX))
+        return size;
+    note(FINDING_NOT_OWNED, "malloc_usable_size", CALLER(), (struct wrong_call){.start = (uintptr_t)pointer});
+    return 0;
 }
 
 /* The names by which a program calls the C library's own allocator, under one that it defines. */
 
+static void note_below(void)
+{
+    if (!heap_is_below())
+        atomic_store_explicit(&is_below, true, memory_order_relaxed);
+}
+
 REPLACES void *__libc_malloc(size_t size)
 {
+    note_below();
     return heap_allocate(size, ALIGNMENT, false, CALLER());
 }
 
@@ -124,30 +177,36 @@ REPLACES void __libc_free(void *pointer)
 
 REPLACES void *__libc_calloc(size_t count, size_t size)
 {
+    note_below();
     return allocate_array(count, size, CALLER());
 }
 
 REPLACES void *__libc_realloc(void *old, size_t size)
 {
-    return heap_move(old, size, CALLER());
+    note_below();
+    return heap_move(old, size, CALLER(), "realloc");
 }
 
 REPLACES void *__libc_reallocarray(void *old, size_t count, size_t size)
 {
+    note_below();
     return move_array(old, count, size, CALLER());
 }
 
 REPLACES void *__libc_memalign(size_t alignment, size_t size)
 {
+    note_below();
     return heap_allocate(size, power_of_two(alignment), false, CALLER());
 }
 
 REPLACES void *__libc_valloc(size_t size)
 {
+    note_below();
     return heap_allocate(size, PAGE, false, CALLER());
 }
 
 REPLACES void *__libc_pvalloc(size_t size)
 {
+    note_below();
     return allocate_pages(size, CALLER());
 }

@@ -3,13 +3,13 @@
 #define _GNU_SOURCE
 #include "heap/blocks.h"
 #include "heap/heap.h"
-#include "shadow.h"
+#include "shadow/shadow.h"
 #include "stream/record.h"
 
 struct restating {
     bool is_counted;    /* nothing is recorded */
     uint64_t events;    /* how many there were */
-    uintptr_t from, to; /* free memory that has no poison yet */
+    uintptr_t from, to; /* memory outside live blocks that has no poison yet */
 };
 
 static void restate_poison(struct restating *restating, uintptr_t address, size_t size)
@@ -21,7 +21,7 @@ static void restate_poison(struct restating *restating, uintptr_t address, size_
 
 static bool is_poison(unsigned char shade)
 {
-    return shade == SHADE_USER || shade == SHADE_CONTAINER;
+    return shade == SHADE_USER || shade == SHADE_CONTAINER || shade == SHADE_FIELD || shade == SHADE_COOKIE;
 }
 
 /* What the process has poisoned in a live block, by its shadow. Redzones of a stack that lies in it are none. */
@@ -55,8 +55,8 @@ static void restate_poison_if_live(const struct block *block, void *with)
         restate_poison_of(with, (uintptr_t)block_start(block), size_of(block));
 }
 
-/* Poisons the free memory that was found. */
-static void restate_free(struct restating *restating)
+/* Poisons the memory that was found. */
+static void restate_unused(struct restating *restating)
 {
     for (uint64_t piece; restating->from < restating->to; restating->from += piece) {
         uint64_t rest = restating->to - restating->from;
@@ -65,32 +65,32 @@ static void restate_free(struct restating *restating)
     }
 }
 
-static void add_free(struct restating *restating, uintptr_t start, uint64_t size)
+static void add_unused(struct restating *restating, uintptr_t start, uintptr_t end)
 {
     if (restating->to != start) {
-        restate_free(restating);
+        restate_unused(restating);
         restating->from = start;
     }
-    restating->to = start + size;
+    restating->to = end;
 }
 
-/* A block that was released was redzone for the checker. It does not know it any more, and an access there is bad: one
-   poison stands for all that lie in a row. */
-static void restate_released(struct restating *restating)
+/* All but large live blocks, which may have gigabytes. What is a block, live or held, becomes that after it; what was
+   released was redzone for the checker, and is bad as before. */
+static void restate_memory(struct restating *restating)
 {
-    for (uint32_t unit = 1; unit < arena.top; unit++) {
-        const struct unit *at = &arena.units[unit];
-        const struct block *blocks = arena.blocks + (size_t)unit * SLOTS;
-        uintptr_t start = (uintptr_t)unit_start(unit);
-        for (uint32_t slot = 0; at->kind == UNIT_SLAB && slot < at->used; slot++)
-            if (blocks[slot].state == BLOCK_FREE)
-                add_free(restating, start + slot * (uintptr_t)at->slot_size, at->slot_size);
-        if (at->kind == UNIT_FREE || (at->kind == UNIT_RUN && blocks->state == BLOCK_FREE))
-            add_free(restating, start, (uint64_t)at->count * UNIT);
-        if (at->kind == UNIT_FREE || at->kind == UNIT_RUN)
-            unit += at->count - 1;
+    for (uint32_t unit = 0; unit < heap.poisoned; unit++) {
+        bool is_run = unit < arena.top && arena.units[unit].kind == UNIT_RUN;
+        uint32_t count = is_run ? arena.units[unit].count : 1;
+        const struct block *block = arena.blocks + (size_t)unit * SLOTS;
+        uintptr_t start = (uintptr_t)unit_start(unit), end = start + (uintptr_t)count * UNIT;
+        if (is_run && (block->state == BLOCK_LIVE || block->state == BLOCK_UNRECORDED)) {
+            add_unused(restating, start, (uintptr_t)block_start(block));
+            start = (uintptr_t)block_start(block) + size_of(block);
+        }
+        add_unused(restating, start, end);
+        unit += count - 1;
     }
-    restate_free(restating);
+    restate_unused(restating);
 }
 
 /* The events but for those of the quarantine. */
@@ -100,38 +100,35 @@ static uint64_t count_restated(void)
     heap_for_each(restate_live, &counted);
     if (!heap.is_unpainted)
         heap_for_each(restate_poison_if_live, &counted);
-    restate_released(&counted);
+    restate_memory(&counted);
     return counted.events;
 }
 
-/* Releases the oldest blocks of the quarantine until the rest can be restated, with all else, in so many events. What
-   is released is poison, so it may need events too. */
+/* Releases the oldest blocks of the quarantine until the rest can be restated, with all else, in so many events. A part
+   of these is for what other threads poison after it was counted: that needs no lock. */
 static void fit_quarantine(uint64_t most_held, uint64_t room)
 {
-    uint64_t most = most_held;
-    do {
-        while (heap.held_count > most)
-            heap_release_oldest();
-        /* A few are no matter, and need no count of all others. */
-        if (heap.held_count <= room / 16)
-            return;
-        uint64_t others = count_restated(), fit = others < room ? (room - others) / 2 : 0;
-        if (heap.held_count <= fit)
-            return;
-        most = fit < heap.held_count / 4 * 3 ? fit : heap.held_count / 4 * 3;
-    } while (heap.held_count != 0);
+    uint64_t most = most_held, few = room / 16;
+    uint64_t held = heap.held_count < most ? heap.held_count : most;
+    /* All blocks are counted only if they could be too many. */
+    if ((uint64_t)arena.top * SLOTS + 2 * held + few > room) {
+        uint64_t others = count_restated() + few, fit = others < room ? (room - others) / 2 : 0;
+        most = fit < most ? fit : most;
+    }
+    while (heap.held_count > most)
+        heap_release_oldest();
 }
 
 void heap_restate(uint64_t most_held, uint64_t room)
 {
     struct restating restating = {0};
     fit_quarantine(most_held, room);
+    restate_memory(&restating);
     heap_for_each(restate_live, &restating);
     for (const struct block *block = heap.oldest; block != NULL; block = block->next) {
         record_region(CODE_MALLOC, (uintptr_t)block_start(block), block->size);
         record_free((uintptr_t)block_start(block));
     }
-    restate_released(&restating);
     if (!heap.is_unpainted)
         heap_for_each(restate_poison_if_live, &restating);
 }

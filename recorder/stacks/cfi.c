@@ -6,22 +6,19 @@
 #include <stddef.h>
 #include <string.h>
 
-#include "memory.h"
-
-/* How the C library says which module an address is in, without a lock, from 2.35 on. */
-#if __GLIBC_PREREQ(2, 35)
-extern int find_object(void *address, struct dl_find_object *found) __asm__("_dl_find_object") __attribute__((weak));
-#endif
+#include "calls/library.h"
+#include "base/memory.h"
 
 /* The program's. Some have none. */
 extern int program_main(void) __asm__("main") __attribute__((weak));
 
-/* The table of a module that leads to the description of each function; 0: it has none. */
+/* The table of a module that leads to the description of each function; 0: it has none. From version 2.35 on the C
+   library says without a lock which module an address is in. */
 static uintptr_t table_of(uintptr_t instruction)
 {
 #if __GLIBC_PREREQ(2, 35)
-    struct dl_find_object found;
-    if (find_object != NULL && find_object((void *)instruction, &found) == 0)
+    struct dl_find_object found = {0};
+    if (library._dl_find_object != NULL && library._dl_find_object((void *)instruction, &found) == 0)
         return (uintptr_t)found.dlfo_eh_frame;
 #else
     (void)instruction;

@@ -3,15 +3,15 @@
    letters, and may end in ":LINE". What a frame that is gone has left may be anything, so nothing of it is believed. */
 #include "stacks/frames.h"
 
-#include "memory.h"
-#include "shadow.h"
+#include <string.h>
 
-#define FRAME_MAGIC UINT64_C(0x41b58ab3)
+#include "base/memory.h"
+#include "shadow/shadow.h"
+#include "stacks/fake_stack.h"
+
 /* So many granules are gone over from what is in a frame for certain, so many from what may be in none, and so many
    variables. */
 enum { MAX_GRANULES = 1 << 16, FEW_GRANULES = 1 << 11, MAX_VARIABLES = 1 << 12 };
-/* The words of a left redzone. */
-enum { WORD_MAGIC, WORD_DESCRIPTION, WORDS };
 
 /* The shadow of the maps themselves can't be read. */
 static bool has_shadow(uint64_t address)
@@ -121,11 +121,14 @@ static uint64_t distance_of(uint64_t address, const struct frame_variable *varia
 
 bool frame_around(uint64_t address, struct frame *frame)
 {
-    uint64_t words[WORDS];
-    frame->start = frame_start(address / GRANULE * GRANULE);
-    if (frame->start == 0 || !memory_read(frame->start, words, sizeof words) || words[WORD_MAGIC] != FRAME_MAGIC)
+    uint64_t words[WORDS], fake = fake_start_of(address);
+    frame->start = fake != 0 ? fake : frame_start(address / GRANULE * GRANULE);
+    if (frame->start == 0 || !memory_read(frame->start, words, sizeof words))
+        return false;
+    if (words[WORD_MAGIC] != FRAME_MAGIC && (fake == 0 || words[WORD_MAGIC] != RETURNED_MAGIC))
         return false;
     frame->description = words[WORD_DESCRIPTION];
+    frame->function = words[WORD_FUNCTION];
     return true;
 }
 
@@ -143,4 +146,68 @@ bool frame_nearest(const struct frame *frame, uint64_t address, struct frame_var
         }
     }
     return least != UINT64_MAX;
+}
+
+void frame_each_part(const struct frame *frame, size_t most, void visit(const char *text, size_t length, void *with),
+                     void *with)
+{
+    struct text text = {.next = frame->description};
+    while (most > 0 && peek(&text) != 0) {
+        const char *part = text.piece + text.at;
+        size_t room = text.count - text.at < most ? text.count - text.at : most;
+        const char *end = memchr(part, 0, room);
+        size_t length = end != NULL ? (size_t)(end - part) : room;
+        visit(part, length, with);
+        text.at += length;
+        most -= length;
+    }
+}
+
+/* Dynamic arrays: 32 bytes or more of SHADE_ALLOCA_LEFT, the array, whose last granule may be one in part, and as many
+   bytes or more of SHADE_ALLOCA_RIGHT. */
+
+static unsigned char shade_at(uint64_t granule)
+{
+    return has_shadow(granule) ? *shadow_of(granule) : 0;
+}
+
+/* The end of the array before this redzone. */
+static uint64_t array_end(uint64_t granule)
+{
+    for (unsigned seen = 0; seen < MAX_GRANULES && shade_at(granule - GRANULE) == SHADE_ALLOCA_RIGHT; seen++)
+        granule -= GRANULE;
+    unsigned char last = shade_at(granule - GRANULE);
+    return last != 0 && last < GRANULE ? granule - GRANULE + last : granule;
+}
+
+/* The first granule from this one on, up or down, that has this shade; 0: there is none near. */
+static uint64_t find_shade(uint64_t granule, unsigned char shade, uint64_t step)
+{
+    for (unsigned seen = 0; seen < MAX_GRANULES && has_shadow(granule); seen++, granule += step)
+        if (*shadow_of(granule) == shade)
+            return granule;
+    return 0;
+}
+
+bool frame_dynamic_array(uint64_t address, uint64_t *start, uint64_t *size)
+{
+    uint64_t granule = address / GRANULE * GRANULE, left = 0, right = 0;
+    unsigned char shade = shade_at(granule);
+    if (shade != 0 && shade < GRANULE)
+        shade = shade_at(granule += GRANULE);
+    if (shade == SHADE_ALLOCA_RIGHT) {
+        right = granule;
+        left = find_shade(granule, SHADE_ALLOCA_LEFT, -(uint64_t)GRANULE);
+    } else if (shade == SHADE_ALLOCA_LEFT) {
+        while (shade_at(granule + GRANULE) == SHADE_ALLOCA_LEFT)
+            granule += GRANULE;
+        left = granule;
+        right = find_shade(granule, SHADE_ALLOCA_RIGHT, GRANULE);
+    }
+    if (left == 0 || right == 0)
+        return false;
+    *start = left + GRANULE;
+    uint64_t end = array_end(right);
+    *size = end > *start ? end - *start : 0;
+    return true;
 }

@@ -1,4 +1,4 @@
-/* The variables of frames, as the compilers describe them. */
+/* The variables of frames, as the compilers describe them, and arrays of dynamic size. */
 #ifndef ASANCOL_FRAMES_H
 #define ASANCOL_FRAMES_H
 
@@ -6,9 +6,9 @@
 #include <stddef.h>
 #include <stdint.h>
 
-/* Where a frame begins, and where its description stands. */
+/* Where a frame begins, where its description stands, and an address in its function. */
 struct frame {
-    uint64_t start, description;
+    uint64_t start, description, function;
 };
 
 struct frame_variable {
@@ -21,5 +21,12 @@ struct frame_variable {
 bool frame_around(uint64_t address, struct frame *frame);
 /* The variable of it that is nearest to the address. False: it has none. */
 bool frame_nearest(const struct frame *frame, uint64_t address, struct frame_variable *found);
+
+/* Goes over the letters of a description, some at a time, at most so many. */
+void frame_each_part(const struct frame *frame, size_t most, void visit(const char *text, size_t length, void *with),
+                     void *with);
+
+/* The array of an `alloca`, or of variable length, in whose redzone an address lies. False: in none. */
+bool frame_dynamic_array(uint64_t address, uint64_t *start, uint64_t *size);
 
 #endif

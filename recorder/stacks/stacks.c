@@ -1,17 +1,26 @@
+#define _GNU_SOURCE
 #include "stacks/stacks.h"
 
 #include <stdatomic.h>
 #include <stdbool.h>
 #include <string.h>
+#include <sys/mman.h>
 
+#include "base/platform.h"
+#include "base/system.h"
+#include "stacks/thread_notes.h"
 
 /* A stack is a word and then its frames. The word has its number in the lower half, and over it for which recording
    that was given, and how many frames there are. */
 enum { COUNT_SHIFT = 56, RECORDING_SHIFT = 32 };
 #define RECORDING_MASK UINT32_C(0xffffff)
 
-/* What tells a stack from an address: no address has this bit. The rest is the number of its first word. */
+/* What tells a stack from an address: no address has this bit. Below are the number of the thread, and an address or
+   the number of the stack's first word. */
 #define IS_STACK (UINT64_C(1) << 63)
+enum { THREAD_SHIFT = 47 };
+#define ADDRESS_MASK ((UINT64_C(1) << THREAD_SHIFT) - 1)
+_Static_assert(THREAD_SHIFT + THREAD_BITS < 63 && ADDRESS_END == UINT64_C(1) << THREAD_SHIFT, "there is room");
 
 #define STACK_WORDS ((uint32_t)1 << 22)
 #define STACKS ((uint64_t)1 << 18)
@@ -25,9 +34,14 @@ static struct {
     _Atomic uint32_t recording;
 } stacks = {.taken = 1};
 
-static uint64_t words[STACK_WORDS];
+static _Alignas(PAGE) uint64_t words[STACK_WORDS];
 /* The upper bits of a hash, and the number of the first word. */
 static _Atomic uint64_t known[STACKS];
+
+void stacks_begin(void)
+{
+    system_madvise(words, sizeof words, MADV_DONTDUMP); /* no debugger wants 32 MB of ours in a core */
+}
 
 static uint64_t hash_of(const uint64_t *frames, unsigned count)
 {
@@ -88,11 +102,13 @@ place_word place_of(uintptr_t caller)
     return place_from(0, caller);
 }
 
-/* The place of a stack; or only its innermost address, if there is no more of it, or no room. */
+/* The place of a stack; or only its innermost address, if there is no more of it, or no room. One that is none of the
+   program's, to which it has jumped, is a stack too. */
 static place_word place_of_frames(const uint64_t *frames, unsigned count)
 {
-    uint32_t first = count > 1 ? find_or_keep(frames, count) : 0;
-    return first != 0 ? IS_STACK | first : frames[0];
+    uint32_t first = count > 1 || frames[0] > ADDRESS_MASK ? find_or_keep(frames, count) : 0;
+    place_word thread = (place_word)thread_number() << THREAD_SHIFT;
+    return thread | (first != 0 ? IS_STACK | first : frames[0] & ADDRESS_MASK);
 }
 
 place_word place_from(uintptr_t frame, uintptr_t caller)
@@ -112,7 +128,17 @@ place_word place_at(const struct registers *registers)
 
 uintptr_t place_address(place_word of)
 {
-    return of & IS_STACK ? words[(of & WORD_MASK) + 1] : of;
+    return of & IS_STACK ? words[(of & WORD_MASK) + 1] : of & ADDRESS_MASK;
+}
+
+unsigned place_thread(place_word of)
+{
+    return of >> THREAD_SHIFT & THREAD_UNKNOWN;
+}
+
+place_word place_of_any_thread(place_word of)
+{
+    return of & ~((place_word)THREAD_UNKNOWN << THREAD_SHIFT);
 }
 
 unsigned place_frames(place_word of, const uint64_t **frames)

@@ -10,9 +10,12 @@
 /* The most frames of a stack. */
 enum { MAX_FRAMES = 32 };
 
-/* A place is the address after a call, as it is if nothing else is known; or it stands for a stack. 0: not known. */
+/* A place is the address after a call, as it is if nothing else is known; or it stands for a stack. Over these it has
+   the number of the thread that made the call (thread_notes.h). 0: not known. */
 typedef uint64_t place_word;
 
+/* Before the first place. */
+void stacks_begin(void);
 /* The place of the call from which we came to `caller`, with the calls that led there (unwinding.h). At any time, and
    in a signal handler too. */
 place_word place_of(uintptr_t caller);
@@ -22,6 +25,9 @@ place_word place_from(uintptr_t frame, uintptr_t caller);
 place_word place_at(const struct registers *registers);
 /* The address after the innermost call. */
 uintptr_t place_address(place_word of);
+unsigned place_thread(place_word of);
+/* The same place and stack, of whichever thread. */
+place_word place_of_any_thread(place_word of);
 /* Its frames, the innermost first, and how many there are; 0: it has no stack. They stay. */
 unsigned place_frames(place_word of, const uint64_t **frames);
 

@@ -4,10 +4,10 @@
 #include <stdbool.h>
 #include <stddef.h>
 
-#include "memory.h"
-#include "platform.h"
+#include "base/memory.h"
+#include "base/platform.h"
 #include "stacks/cfi.h"
-#include "threads.h"
+#include "stacks/own_stack.h"
 
 /* Rules that are known. An instruction has its own place, and three more in the same line of the cache. */
 enum { PLACES = 1 << 16, WAYS = 4, PLACE_SHIFT = 2, FAR_SHIFT = 16, GENERATION_SHIFT = 48 };

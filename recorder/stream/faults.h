@@ -7,17 +7,27 @@
 #include <stdint.h>
 
 #include "stacks/stacks.h"
+#include "stream/access.h"
 
 /* Faults of the stream in this window are noted in these bytes (side.h). It is the newest. */
 void faults_begin(unsigned char *bytes, unsigned window);
 /* The side file was cut after what it has. */
 void faults_are_cut(void);
-/* Puts the stack of a place beside the stream, if it is not there yet. Answers its number; 0: it has none, or no room. */
+/* Puts the stack of a place beside the stream, if it is not there yet. Answers its number; 0: it has none, or no
+   room. */
 uint32_t fault_put_stack(place_word of);
-/* The number of a fault, from 1; 0 if there is no room for it. It is found before its event has its place in the
-   stream, for which other threads may wait. At any time, and in a signal handler too. */
-uint32_t fault_of(unsigned window, unsigned code_and_width, uint64_t address, uintptr_t caller);
-/* An event has this fault. */
-void fault_note(unsigned window, uint32_t fault, uint64_t event);
+/* A bad access or free is being noted from here on, and has an event now, or none in this window. The first is before
+   the system is called: if that ends the process, who reads the memory knows that something is missing. */
+void fault_begin(unsigned window);
+void fault_end(unsigned window);
+/* What the index is to have of a bad piece of an access, so many bytes from an address on: the number of its fault,
+   from 1, with SIDE_IS_PIECE if another piece was noted before; 0 if there is no room for it. All pieces in a list have
+   the fault that the first of them has there. It is found before its event has its place in the stream, for which other
+   threads may wait. At any time, and in a signal handler too. */
+uint32_t fault_of(unsigned window, struct access *access, unsigned width, uint64_t address);
+/* Notes where a signal has met the process, the address that could not be accessed, and enum side_how. */
+void fault_note_last(place_word last, uint64_t address, uint32_t how);
+/* Writes that to the index. */
+void fault_note(unsigned window, uint32_t entry, uint64_t event);
 
 #endif

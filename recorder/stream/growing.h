@@ -1,13 +1,23 @@
-/* The room that a stream has, as it grows. The lock is held. */
+/* The room that a stream has, as it grows. */
 #ifndef ASANCOL_GROWING_H
 #define ASANCOL_GROWING_H
 
+#include <stdatomic.h>
 #include <stdbool.h>
 #include <stdint.h>
 
-/* Makes room up to this offset. False: there is none, and the recording has ended. */
+#include "stream/state.h"
+
+/* After how many bytes a socket is given what there is. */
+enum { PIECES_STEP = 1 << 16 };
+
+/* Whether bytes can be stored up to this offset. */
+static inline bool has_room(uint64_t end)
+{
+    return atomic_load_explicit(&STREAM->ready, memory_order_acquire) >= end;
+}
+
+/* Makes room up to this offset. False: there is none, and the recording has ended. The lock is held. */
 bool growing_to(uint64_t end);
-/* Gives a socket or a pipe what is whole, as far as it takes it. Answers null, or what went wrong. */
-const char *growing_send(void);
 
 #endif

@@ -2,7 +2,10 @@
 #include "stream/holes.h"
 
 #include <string.h>
-#include <sys/single_threaded.h>
+
+#include "calls/library.h"
+#include "stream/locked.h"
+#include "stream/writing.h"
 
 /* How many records in a row may be missing. */
 enum { MAX_HOLES = 8 };
@@ -43,46 +46,65 @@ void holes_fill(unsigned char *at, unsigned length)
     unsigned i = 0;
     while (fillers[i].length != length)
         i++;
-    memset(at, 0, length);
+    memset(at + 1, 0, length - 1); /* the code may stand there already */
     if (fillers[i].code == CODE_LOAD)
         at[1] = 1;
     put_code(at, fillers[i].code);
 }
 
+/* Takes the place of a record that is missing, unless its thread writes it just now. */
+static bool claim(uint64_t offset, enum code code)
+{
+    unsigned char seen = code_at(offset);
+    _Atomic unsigned char *place = (_Atomic unsigned char *)(STREAM->bytes + offset);
+    return record_length(seen) == 0 && atomic_compare_exchange_strong(place, &seen, (unsigned char)code);
+}
+
 /* A record that was begun and will never be written, as when a signal handler left by a jump: puts one there that says
-   nothing. Answers its length, 0 where that can't be known. */
+   nothing. Answers its length, 0 where that can't be known, or if it was written now. */
 static unsigned fill_hole(uint64_t offset, uint64_t end)
 {
     for (unsigned i = 0; i < FILLERS; i++) {
         unsigned length = fillers[i].length;
         if (offset + length > end || !looks_sound(offset + length, end))
             continue;
+        if (!claim(offset, fillers[i].code))
+            return 0;
         holes_fill(STREAM->bytes + offset, length);
         return length;
     }
     return 0;
 }
 
-unsigned holes_check(uint64_t end, uint64_t limit, enum patience patience)
+static unsigned go_over(uint64_t end, uint64_t limit, enum patience patience)
 {
     int looks = 0;
     unsigned holes = 0;
-    while (keeper.checked < end && keeper.checked_events < limit) {
-        unsigned char code = code_at(keeper.checked);
+    while (locked.checked < end && locked.checked_events < limit) {
+        unsigned char code = code_at(locked.checked);
         /* The common case has its own branch: the processor then need not wait for one record to find the next. */
         unsigned length = LIKELY(code == CODE_LOAD || code == CODE_STORE) ? ACCESS_LENGTH : record_length(code);
         if (UNLIKELY(length == 0)) {
             /* With one thread there is nobody to wait for: a signal handler has left by a jump. */
-            if (!__libc_single_threaded && keeper_waits_again(looks++, patience))
+            if (!library_is_alone() && stream_waits_again(looks++, patience))
                 continue;
-            length = patience != NONE ? fill_hole(keeper.checked, end) : 0;
+            length = patience != NONE ? fill_hole(locked.checked, end) : 0;
+            if (length == 0 && record_length(code_at(locked.checked)) != 0)
+                continue;
             if (length == 0)
                 return holes;
             holes++;
         }
         looks = 0;
-        keeper.checked += length;
-        keeper.checked_events++;
+        locked.checked += length;
+        locked.checked_events++;
     }
+    return holes;
+}
+
+unsigned holes_check(uint64_t end, uint64_t limit, enum patience patience)
+{
+    unsigned holes = go_over(end, limit, patience);
+    atomic_store_explicit(&shared.seen_events, locked.checked_events, memory_order_relaxed);
     return holes;
 }

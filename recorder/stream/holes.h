@@ -1,16 +1,16 @@
-/* Records that are whole, and holes: records that were begun and will never be written, as when a signal handler left by a
-   jump. */
+/* Records that are whole, and holes: records that were begun and will never be written, as when a signal handler left
+   by a jump. */
 #ifndef ASANCOL_HOLES_H
 #define ASANCOL_HOLES_H
 
 #include <stdint.h>
 
-#include "stream/keeper.h"
+#include "stream/state.h"
 
 /* Puts a record of this length that says nothing. */
 void holes_fill(unsigned char *at, unsigned length);
 /* Goes on over the records that are whole, up to `end`, which is a border. With patience it waits for others to finish
-   theirs, and then fills holes. Answers how many these were. */
+   theirs, and then fills holes. Answers how many these were. The lock is held. */
 unsigned holes_check(uint64_t end, uint64_t limit, enum patience patience);
 
 #endif

@@ -4,12 +4,18 @@
 #include <string.h>
 #include <sys/mman.h>
 
-#include "say.h"
-#include "stream/keeper.h"
+#include "base/say.h"
+#include "base/system.h"
+#include "process/earlier.h"
+#include "process/unseen.h"
+#include "stream/faults.h"
+#include "stream/growing.h"
+#include "stream/locked.h"
 #include "stream/segments.h"
+#include "stream/sending.h"
 #include "stream/side.h"
+#include "stream/state.h"
 #include "stream/windows.h"
-#include "unseen.h"
 
 static const char *open_side_file(struct output *side, const char *trace, unsigned number)
 {
@@ -40,85 +46,140 @@ bool opening_side(struct output *side, const struct output *trace, unsigned numb
 
 static void begin_side(void)
 {
-    side_begin(keeper.side.bytes, keeper.window, keeper.segment, keeper.settings->quarantine);
+    side_forget();
+    faults_begin(locked.side.bytes, locked.window);
+    side_begin(locked.side.bytes, locked.segment, plan.settings);
 }
 
 const char *opening_hub(const struct settings *settings)
 {
-    struct window window = windows_of_stream(keeper.window);
-    const char *why = output_connect(&keeper.trace, settings->hub, true, window, settings->patience_ms);
+    struct window window = windows_of_stream(locked.window);
+    const char *why = output_connect(&locked.trace, settings->hub, true, window, settings->patience_ms);
     if (why != NULL)
         return why;
-    memcpy(keeper.trace.bytes, HEADER, HEADER_LENGTH);
-    bool has_room = windows_of_side(keeper.window, &window);
-    const char *why_not = has_room ? output_open_memory(&keeper.side, window) : "there is no room for it";
+    memcpy(locked.trace.bytes, HEADER, HEADER_LENGTH);
+    bool has_room = windows_of_side(locked.window, &window);
+    const char *why_not = has_room ? output_open_memory(&locked.side, window) : "there is no room for it";
     if (why_not != NULL) {
         recorder_say("nothing is kept beside the trace: ", settings->hub, why_not);
-        return output_send(&keeper.trace, HEADER_LENGTH, true, settings->patience_ms);
+        return output_send(&locked.trace, HEADER_LENGTH, true, settings->patience_ms);
     }
-    keeper.has_side = true;
+    locked.has_side = true;
     begin_side();
-    return output_send_first(&keeper.trace, HEADER_LENGTH, &keeper.side, settings->patience_ms);
+    int files[SIDE_FILES];
+    unsigned count = side_open_files(files);
+    why = output_send_first(&locked.trace, HEADER_LENGTH, &locked.side, files, count, settings->patience_ms);
+    while (count-- > 0)
+        system_close(files[count]);
+    return why;
 }
 
 void opening_take_back(void)
 {
     side_forget();
-    output_close(&keeper.trace);
-    output_close(&keeper.side);
-    keeper.has_side = false;
+    output_close(&locked.trace);
+    output_close(&locked.side);
+    locked.has_side = false;
+}
+
+void stream_forget(void)
+{
+    state_forget();
+    opening_take_back();
+}
+
+/* Says which file the trace went to, if it is not the one that was asked for. The further processes of a run take other
+   names in the usual course: only the first says so, and only of a file that was there before. */
+static void say_other_name(const char *asked)
+{
+    static char name[PATH_MAX], why[PATH_MAX + 32]; /* the lock is held; and a stack may be small */
+    static bool was_asked; /* by this process, or by the one that has forked it */
+    bool is_first = !was_asked;
+    was_asked = true;
+    unsigned number = locked.trace.number;
+    if (!is_first || number == 0 || !output_number(name, asked, number - 1) || !is_of_earlier_run(name))
+        return;
+    strcat(strcpy(why, asked), " was there before");
+    recorder_say("the trace goes to ", locked.trace.path, why);
+}
+
+static const char *open_trace(const struct settings *settings)
+{
+    struct window window = windows_of_stream(locked.window);
+    const char *why;
+    if (settings->trace != NULL)
+        why = output_open_file(&locked.trace, settings->trace, NAME_NUMBERED, window, FILE_STEP);
+    else
+        why = output_connect(&locked.trace, settings->socket, false, window, settings->patience_ms);
+    if (why != NULL)
+        return why;
+    plan.way = settings->trace == NULL ? WAY_SOCKET : locked.trace.is_mapped ? WAY_FILE : WAY_PIECES;
+    if (settings->trace != NULL && settings->hub == NULL)
+        say_other_name(settings->trace);
+    if (settings->with_side)
+        locked.has_side = opening_side(&locked.side, &locked.trace, locked.window);
+    return NULL;
 }
 
 static const char *open_output(const struct settings *settings)
 {
-    const char *why;
-    keeper.has_side = keeper.is_hub = false;
+    locked.has_side = false;
     if (windows_start() == NULL)
         return "there is no room for it";
-    struct window window = windows_of_stream(keeper.window);
-    if (settings->hub != NULL) {
-        why = opening_hub(settings);
-        keeper.is_hub = why == NULL;
-        if (why == NULL || settings->trace == NULL)
-            return why;
-        opening_take_back();
-        recorder_say("the hub can't be reached, so the trace goes to a file: ", settings->hub, why);
-    }
-    if (settings->trace != NULL)
-        why = output_open_file(&keeper.trace, settings->trace, NAME_NUMBERED, window, FILE_STEP);
-    else
-        why = output_connect(&keeper.trace, settings->socket, false, window, settings->patience_ms);
-    if (why == NULL && settings->with_side)
-        keeper.has_side = opening_side(&keeper.side, &keeper.trace, keeper.window);
-    return why;
+    if (settings->hub == NULL)
+        return open_trace(settings);
+    plan.way = WAY_HUB;
+    const char *why = opening_hub(settings);
+    if (why == NULL || settings->trace == NULL)
+        return why;
+    opening_take_back();
+    recorder_say("the hub can't be reached, so the trace goes to a file: ", settings->hub, why);
+    return open_trace(settings);
 }
 
 void opening_segment(void)
 {
-    keeper.start = keeper.window * WINDOW_BYTES;
-    keeper.checked = keeper.start + HEADER_LENGTH;
-    keeper.checked_events = 0;
-    keeper.is_overfull = false;
-    atomic_store(&keeper.has_missed, false);
-    atomic_store(&keeper.is_cut, false);
-    atomic_store(&keeper.is_side_full, false);
-    atomic_store(&keeper.sent_at, coarse_clock());
-    atomic_store(&keeper.sent_at_once, 0);
-    memcpy(keeper.trace.bytes, HEADER, HEADER_LENGTH);
-    if (!keeper.has_side)
+    locked.start = locked.window * WINDOW_BYTES;
+    locked.checked = locked.start + HEADER_LENGTH;
+    locked.checked_events = 0;
+    locked.is_overfull = false;
+    atomic_store_explicit(&shared.seen_events, 0, memory_order_relaxed);
+    atomic_store(&shared.has_missed, false);
+    atomic_store(&shared.has_close, false);
+    atomic_store(&shared.is_cut, false);
+    atomic_store(&shared.is_side_full, false);
+    sending_begin();
+    memcpy(locked.trace.bytes, HEADER, HEADER_LENGTH);
+    if (!locked.has_side)
         side_forget();
-    else if (keeper.side.is_mapped)
+    else if (is_file())
         begin_side();
-    STREAM->has_side = keeper.has_side;
-    STREAM->is_watched = keeper.has_side || keeper.trace.is_socket;
-    atomic_store(&STREAM->ready, keeper.start + (keeper.trace.is_mapped ? FILE_STEP : PIECES_STEP));
+    bool is_watched = locked.has_side || plan.way == WAY_SOCKET || is_hub();
+    atomic_store_explicit(&STREAM->has_side, locked.has_side, memory_order_relaxed);
+    atomic_store_explicit(&STREAM->is_watched, is_watched, memory_order_relaxed);
+    atomic_store(&STREAM->ready, locked.start + (is_file() ? FILE_STEP : PIECES_STEP));
+}
+
+/* What stands in the first segment of a process. */
+static void begin_process(const struct settings *settings)
+{
+    system_madvise(&stream_page, sizeof stream_page, MADV_WIPEONFORK);
+    locked.said_unseen = false;
+    atomic_store(&shared.is_closing, false);
+    atomic_store(&shared.is_late, false);
+    atomic_store(&shared.left_out, 0);
+    atomic_store(&shared.stop, settings->stop);
+    STREAM->bytes = windows_start();
+    state_set_events_end(settings->stop);
+    if (is_file())
+        segments_begin(&locked.trace);
 }
 
 bool stream_begin(const struct settings *settings)
 {
-    keeper.settings = settings;
-    keeper.segment = 0;
-    keeper.window = (keeper.window + 1) % WINDOWS;
+    plan.settings = settings;
+    locked.segment = 0;
+    locked.window = (locked.window + 1) % WINDOWS;
     const char *why = open_output(settings);
     if (why != NULL) {
         const char *of = settings->trace ? settings->trace : settings->hub ? settings->hub : settings->socket;
@@ -126,20 +187,8 @@ bool stream_begin(const struct settings *settings)
         unseen_note(settings->hub, why);
         return false;
     }
-    madvise(&stream_page, sizeof stream_page, MADV_WIPEONFORK);
-    keeper.patience_ms = settings->patience_ms;
-    keeper.said_unseen = false;
-    atomic_store(&keeper.is_suspended, false);
-    atomic_store(&keeper.left_out, 0);
-    STREAM->bytes = windows_start();
-    keeper.limit = settings->limit;
-    atomic_store(&keeper.stop, settings->stop);
-    set_events_end(settings->stop);
-    if (keeper.trace.is_mapped)
-        segments_begin(&keeper.trace);
+    begin_process(settings);
     opening_segment();
-    atomic_store(&STREAM->window, keeper.window);
-    stream_go(STATE_RECORDING);
-    atomic_store(&STREAM->cursor, CURSOR_ON | keeper.checked);
-    return true;
+    atomic_store(&STREAM->window, locked.window);
+    return state_record(stream_state());
 }

@@ -1,11 +1,19 @@
-/* The beginning of a stream: where it goes, and its header. The lock is held, or nothing is recorded yet. */
+/* The beginning of a stream: where it goes, and its header. */
 #ifndef ASANCOL_OPENING_H
 #define ASANCOL_OPENING_H
 
 #include <stdbool.h>
 
-#include "settings.h"
+#include "process/settings.h"
 #include "stream/output.h"
+
+/* Opens the output, writes the header, and turns the stream on. False: one line said why not. No other thread is in the
+   stream. */
+bool stream_begin(const struct settings *settings);
+/* In a child: forgets the parent's stream. Likewise. */
+void stream_forget(void);
+
+/* The lock of the stream is held for these. */
 
 /* Opens what stands beside a trace, in a window. Without it the trace is no worse. */
 bool opening_side(struct output *side, const struct output *trace, unsigned number);

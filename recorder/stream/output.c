@@ -3,20 +3,20 @@
 
 #include <errno.h>
 #include <fcntl.h>
-#include <poll.h>
 #include <stddef.h>
+#include <signal.h>
 #include <string.h>
 #include <sys/file.h>
 #include <sys/mman.h>
-#include <sys/resource.h>
-#include <sys/socket.h>
-#include <sys/stat.h>
 #include <sys/un.h>
-#include <unistd.h>
 
-#include "digits.h"
-#include "platform.h"
-#include "signals.h"
+#include "base/digits.h"
+#include "base/disturbance.h"
+#include "base/errors.h"
+#include "common/format.h"
+#include "process/hub_names.h"
+#include "base/platform.h"
+#include "base/system.h"
 
 /* The name gets a text before its last dot, or at its end. */
 static bool insert(char *name, const char *path, const char *text)
@@ -51,16 +51,17 @@ bool output_name_segment(char *name, const char *path, uint64_t number)
     return insert(name, path, first);
 }
 
-static const char *reason(void)
+/* What a call has answered that failed, in words. The signals that came with it are taken away. */
+static const char *reason(long result)
 {
-    int error = errno;
+    int error = (int)-result;
     if (error == ENXIO)
         return "nobody reads it yet";
     if (error == EPIPE)
         signal_take_away(SIGPIPE);
     if (error == EFBIG)
         signal_take_away(SIGXFSZ);
-    return strerrordesc_np(error);
+    return error_text(error);
 }
 
 /* Moves a descriptor that is kept out of the way of those that the process opens. */
@@ -68,38 +69,48 @@ static int moved_up(int descriptor)
 {
     struct rlimit limit;
     int least = 512;
-    if (getrlimit(RLIMIT_NOFILE, &limit) == 0 && limit.rlim_cur <= 1024)
+    if (system_getrlimit(RLIMIT_NOFILE, &limit) == 0 && limit.rlim_cur <= 1024)
         least = (int)(limit.rlim_cur / 4 * 3);
-    int moved = fcntl(descriptor, F_DUPFD_CLOEXEC, least);
+    int moved = system_fcntl(descriptor, F_DUPFD_CLOEXEC, least);
     if (moved < 0)
         return descriptor;
-    close(descriptor);
+    system_close(descriptor);
     return moved;
 }
 
 static bool is_still(const struct output *output, int descriptor)
 {
     struct stat seen;
-    return fstat(descriptor, &seen) == 0 && seen.st_dev == output->device && seen.st_ino == output->node;
+    return system_fstat(descriptor, &seen) == 0 && seen.st_dev == output->device && seen.st_ino == output->node;
+}
+
+/* Maps an output, which is no part of a core. */
+static long map(struct window window, int flags, int descriptor)
+{
+    long result = system_mmap(window.bytes, window.room, PROT_READ | PROT_WRITE, flags | MAP_NORESERVE | MAP_FIXED,
+                              descriptor, 0);
+    if (result >= 0)
+        system_madvise(window.bytes, window.room, MADV_DONTDUMP);
+    return result;
 }
 
 /* Puts plain memory, of zeros, where an output lies. */
-static bool put_memory(struct window window)
+static long put_memory(struct window window)
 {
-    return mmap(window.bytes, window.room, PROT_READ | PROT_WRITE,
-                MAP_PRIVATE | MAP_ANONYMOUS | MAP_NORESERVE | MAP_FIXED, -1, 0) == window.bytes;
+    return map(window, MAP_PRIVATE | MAP_ANONYMOUS, -1);
 }
 
 static const char *take_pieces(struct output *output, int descriptor, struct window window)
 {
     struct stat seen;
     output->descriptor = moved_up(descriptor);
-    if (fstat(output->descriptor, &seen) != 0)
-        return reason();
+    long result = system_fstat(output->descriptor, &seen);
+    if (result < 0)
+        return reason(result);
     output->device = seen.st_dev;
     output->node = seen.st_ino;
-    if (!put_memory(window))
-        return reason();
+    if ((result = put_memory(window)) < 0)
+        return reason(result);
     output->bytes = window.bytes;
     return NULL;
 }
@@ -109,24 +120,21 @@ static const char *take_pieces(struct output *output, int descriptor, struct win
 static int open_new(struct output *output, const char *path, enum naming naming)
 {
     if (naming == NAME_TAKEN_OVER)
-        unlink(path);
+        system_unlink(path);
     for (unsigned number = 0; number < 1000000; number++) {
         output->number = number;
-        if (!output_number(output->path, path, number)) {
-            errno = ENAMETOOLONG;
-            return -1;
-        }
-        int descriptor = open(output->path, O_RDWR | O_CREAT | O_EXCL | O_CLOEXEC, 0666);
-        if (descriptor >= 0 || errno != EEXIST || naming == NAME_TAKEN_OVER)
+        if (!output_number(output->path, path, number))
+            return -ENAMETOOLONG;
+        int descriptor = system_open(output->path, O_RDWR | O_CREAT | O_EXCL | O_CLOEXEC, 0666);
+        if (descriptor != -EEXIST || naming == NAME_TAKEN_OVER)
             return descriptor;
         struct stat seen;
-        if (number == 0 && stat(output->path, &seen) == 0 && !S_ISREG(seen.st_mode))
-            return open(output->path, O_WRONLY | O_NONBLOCK | O_NOCTTY | O_CLOEXEC);
+        if (number == 0 && system_stat(output->path, &seen) == 0 && !S_ISREG(seen.st_mode))
+            return system_open(output->path, O_WRONLY | O_NONBLOCK | O_NOCTTY | O_CLOEXEC, 0);
         if (strncmp(path, "/dev/", strlen("/dev/")) == 0)
-            return -1; /* a descriptor of a file: no other name stands for it */
+            return -EEXIST; /* a descriptor of a file: no other name stands for it */
     }
-    errno = EEXIST;
-    return -1;
+    return -EEXIST;
 }
 
 static void clear(struct output *output, uint64_t room)
@@ -138,72 +146,51 @@ static void clear(struct output *output, uint64_t room)
     output->bytes = NULL;
 }
 
-/* Maps a file in the place of plain memory. */
-static void *map_file(struct window window, int descriptor)
-{
-    int flags = MAP_SHARED | MAP_NORESERVE | MAP_FIXED;
-    return mmap(window.bytes, window.room, PROT_READ | PROT_WRITE, flags, descriptor, 0);
-}
-
 const char *output_open_file(struct output *output, const char *path, enum naming naming, struct window window,
                              uint64_t backed)
 {
     struct stat seen;
     clear(output, window.room);
     int descriptor = open_new(output, path, naming);
-    if (descriptor < 0 || fstat(descriptor, &seen) != 0)
-        return reason();
+    long result = descriptor < 0 ? descriptor : system_fstat(descriptor, &seen);
+    if (result < 0)
+        return reason(result);
     if (!S_ISREG(seen.st_mode)) {
         /* One stream has one writer. The lock is held as long as the descriptor. */
-        if (S_ISFIFO(seen.st_mode) && flock(descriptor, LOCK_EX | LOCK_NB) != 0 && errno == EWOULDBLOCK) {
-            close(descriptor);
+        if (S_ISFIFO(seen.st_mode) && system_flock(descriptor, LOCK_EX | LOCK_NB) == -EWOULDBLOCK) {
+            system_close(descriptor);
             return "another process writes into this pipe";
         }
         return take_pieces(output, descriptor, window);
     }
-    void *bytes = MAP_FAILED;
-    if (fallocate(descriptor, 0, 0, (off_t)backed) == 0)
-        bytes = map_file(window, descriptor);
-    if (bytes == MAP_FAILED) {
-        if (errno == EOPNOTSUPP || errno == ENOSYS || errno == ENODEV)
+    result = system_fallocate(descriptor, 0, (off_t)backed);
+    if (result == 0)
+        result = map(window, MAP_SHARED, descriptor);
+    if (result < 0) {
+        if (result == -EOPNOTSUPP || result == -ENOSYS || result == -ENODEV)
             return take_pieces(output, descriptor, window);
-        const char *why = reason();
-        unlink(output->path);
-        close(descriptor);
-        return why;
+        system_unlink(output->path);
+        system_close(descriptor);
+        return reason(result);
     }
-    output->bytes = bytes;
+    output->bytes = window.bytes;
     output->backed = backed;
     output->is_mapped = true;
     output->device = seen.st_dev;
     output->node = seen.st_ino;
-    close(descriptor);
+    system_close(descriptor);
     return NULL;
 }
 
-/* The name of a socket, and how long it is. An abstract one needs no folder: it is seen from a changed root, and by
-   another user. It has nothing of the secret, which follows a last dash in the folder of a run. */
-static socklen_t name_socket(struct sockaddr_un *address, const char *path, bool is_abstract)
-{
-    const char *slash = strrchr(path, '/'), *dash = strrchr(path, '-');
-    bool has_secret = is_abstract && slash != NULL && slash != path && dash > slash;
-    size_t length = has_secret ? (size_t)(dash - path) : strlen(path);
-    memset(address, 0, sizeof *address);
-    address->sun_family = AF_UNIX;
-    memcpy(address->sun_path + is_abstract, path, length);
-    return is_abstract ? (socklen_t)(offsetof(struct sockaddr_un, sun_path) + 1 + length) : sizeof *address;
-}
-
 /* Waits for a place in a queue that is full (EAGAIN): as long as there is patience. */
-static bool connect_patiently(int descriptor, const struct sockaddr_un *address, socklen_t length, int *patience_ms)
+static int connect_patiently(int descriptor, const struct sockaddr_un *address, socklen_t length, int *patience_ms)
 {
-    while (connect(descriptor, (const struct sockaddr *)address, length) != 0) {
-        if (errno != EAGAIN || *patience_ms <= 0)
-            return false;
+    int result;
+    while ((result = system_connect(descriptor, address, length)) == -EAGAIN && *patience_ms > 0) {
         *patience_ms -= 10;
-        poll(NULL, 0, 10);
+        system_poll(NULL, 0, 10);
     }
-    return true;
+    return result;
 }
 
 /* An abstract name is anybody's who takes it, and may be another user's by now. */
@@ -211,8 +198,8 @@ static bool is_trusted(int descriptor)
 {
     struct ucred listener;
     socklen_t size = sizeof listener;
-    return getsockopt(descriptor, SOL_SOCKET, SO_PEERCRED, &listener, &size) == 0
-           && (listener.uid == 0 || listener.uid == geteuid());
+    return system_getsockopt(descriptor, SOL_SOCKET, SO_PEERCRED, &listener, &size) == 0
+           && (listener.uid == 0 || listener.uid == system_geteuid());
 }
 
 const char *output_connect(struct output *output, const char *path, bool has_abstract, struct window window,
@@ -222,93 +209,95 @@ const char *output_connect(struct output *output, const char *path, bool has_abs
     clear(output, window.room);
     output->is_socket = true;
     if (strlen(path) >= sizeof address.sun_path)
-        return strerrordesc_np(ENAMETOOLONG);
+        return error_text(ENAMETOOLONG);
     strcpy(output->path, path);
-    int descriptor = socket(AF_UNIX, SOCK_STREAM | SOCK_CLOEXEC | SOCK_NONBLOCK, 0);
+    int descriptor = system_socket(AF_UNIX, SOCK_STREAM | SOCK_CLOEXEC | SOCK_NONBLOCK, 0);
     if (descriptor < 0)
-        return reason();
-    if (connect_patiently(descriptor, &address, name_socket(&address, path, false), &patience_ms))
+        return reason(descriptor);
+    socklen_t length = hub_socket(&address, path, false);
+    int result = connect_patiently(descriptor, &address, length, &patience_ms);
+    if (result == 0)
         return take_pieces(output, descriptor, window);
-    const char *why = reason();
-    if (has_abstract && connect_patiently(descriptor, &address, name_socket(&address, path, true), &patience_ms)) {
+    const char *why = reason(result);
+    length = hub_socket(&address, path, true);
+    if (has_abstract && connect_patiently(descriptor, &address, length, &patience_ms) == 0) {
         if (is_trusted(descriptor))
             return take_pieces(output, descriptor, window);
         why = "its name is another user's";
     }
-    close(descriptor);
+    system_close(descriptor);
     return why;
-}
-
-void output_knock(const char *path)
-{
-    struct sockaddr_un address;
-    int descriptor = strlen(path) < sizeof address.sun_path ? socket(AF_UNIX, SOCK_STREAM | SOCK_CLOEXEC, 0) : -1;
-    if (descriptor < 0)
-        return;
-    if (connect(descriptor, (const struct sockaddr *)&address, name_socket(&address, path, false)) != 0)
-        (void)!connect(descriptor, (const struct sockaddr *)&address, name_socket(&address, path, true));
-    close(descriptor);
 }
 
 const char *output_open_memory(struct output *output, struct window window)
 {
     clear(output, window.room);
     output->path[0] = 0;
-    int descriptor = memfd_create("asancol", MFD_CLOEXEC | MFD_ALLOW_SEALING);
+    int descriptor = system_memfd_create(SIDE_MEMORY, MFD_CLOEXEC | MFD_ALLOW_SEALING);
     if (descriptor < 0)
-        return reason();
-    void *bytes = MAP_FAILED;
-    if (ftruncate(descriptor, (off_t)window.room) == 0
-        && fcntl(descriptor, F_ADD_SEALS, F_SEAL_SHRINK | F_SEAL_GROW | F_SEAL_SEAL) == 0)
-        bytes = map_file(window, descriptor);
-    if (bytes == MAP_FAILED) {
-        const char *why = reason();
-        close(descriptor);
-        return why;
+        return reason(descriptor);
+    long result = system_ftruncate(descriptor, (off_t)window.room);
+    if (result == 0)
+        result = system_fcntl(descriptor, F_ADD_SEALS, F_SEAL_SHRINK | F_SEAL_GROW | F_SEAL_SEAL);
+    if (result == 0)
+        result = map(window, MAP_SHARED, descriptor);
+    if (result < 0) {
+        system_close(descriptor);
+        return reason(result);
     }
-    madvise(bytes, window.room, MADV_DONTDUMP);
-    output->bytes = bytes;
+    output->bytes = window.bytes;
     output->descriptor = descriptor;
     return NULL;
 }
 
-const char *output_send_first(struct output *output, uint64_t length, struct output *memory, int patience_ms)
+/* Sends bytes and descriptors at once. */
+static ssize_t send_with(int socket, struct iovec piece, const int *descriptors, size_t count)
 {
-    struct iovec piece = {output->bytes, length};
     union {
         struct cmsghdr header;
-        char room[CMSG_SPACE(sizeof(int))];
+        char room[CMSG_SPACE((1 + SIDE_FILES) * sizeof(int))];
     } control = {0};
-    struct msghdr message = {
-        .msg_iov = &piece, .msg_iovlen = 1, .msg_control = &control, .msg_controllen = sizeof control.room};
+    struct msghdr message = {.msg_iov = &piece, .msg_iovlen = 1, .msg_control = &control,
+                             .msg_controllen = CMSG_SPACE(count * sizeof(int))};
     struct cmsghdr *header = CMSG_FIRSTHDR(&message);
     header->cmsg_level = SOL_SOCKET;
     header->cmsg_type = SCM_RIGHTS;
-    header->cmsg_len = CMSG_LEN(sizeof(int));
-    memcpy(CMSG_DATA(header), &memory->descriptor, sizeof(int));
-    ssize_t count;
-    /* ETOOMANYREFS: many descriptors are on their way, and the hub has not taken them yet. */
-    while ((count = sendmsg(output->descriptor, &message, MSG_NOSIGNAL | MSG_DONTWAIT)) < 0 && errno == ETOOMANYREFS
-           && patience_ms > 0) {
-        patience_ms -= 1;
-        poll(NULL, 0, 1);
+    header->cmsg_len = CMSG_LEN(count * sizeof(int));
+    memcpy(CMSG_DATA(header), descriptors, count * sizeof(int));
+    return system_sendmsg(socket, &message, MSG_NOSIGNAL | MSG_DONTWAIT);
+}
+
+const char *output_send_first(struct output *output, uint64_t length, struct output *memory, const int *files,
+                              unsigned count, int patience_ms)
+{
+    struct iovec piece = {output->bytes, length};
+    int descriptors[1 + SIDE_FILES] = {memory->descriptor};
+    memcpy(descriptors + 1, files, count * sizeof *files);
+    ssize_t sent;
+    /* ETOOMANYREFS: many descriptors are on their way, and the hub has not taken them yet. The files can be missed. */
+    while ((sent = send_with(output->descriptor, piece, descriptors, 1 + count)) == -ETOOMANYREFS
+           && (count > 0 || patience_ms > 0)) {
+        if (count == 0) {
+            patience_ms -= 1;
+            system_poll(NULL, 0, 1);
+        }
+        count = 0;
     }
-    const char *why = count < 0 ? reason() : NULL;
+    const char *why = sent < 0 ? reason(sent) : NULL;
     if (why == NULL)
-        output->sent = (uint64_t)count;
-    close(memory->descriptor);
+        output->sent = (uint64_t)sent;
+    system_close(memory->descriptor);
     memory->descriptor = -1;
     return why;
 }
 
 static int reopen(const struct output *output)
 {
-    int descriptor = open(output->path, O_RDWR | O_CLOEXEC);
+    int descriptor = system_open(output->path, O_RDWR | O_CLOEXEC, 0);
     if (descriptor < 0 || is_still(output, descriptor))
         return descriptor;
-    close(descriptor);
-    errno = ESTALE; /* it is another file by now */
-    return -1;
+    system_close(descriptor);
+    return -ESTALE; /* it is another file by now */
 }
 
 const char *output_extend(struct output *output, uint64_t length)
@@ -319,13 +308,13 @@ const char *output_extend(struct output *output, uint64_t length)
         return "the file was cut";
     int descriptor = reopen(output);
     if (descriptor < 0)
-        return reason();
-    int failed = fallocate(descriptor, 0, (off_t)output->backed, (off_t)(length - output->backed));
-    const char *why = failed ? reason() : NULL;
-    close(descriptor);
-    if (!failed) {
+        return reason(descriptor);
+    int result = system_fallocate(descriptor, (off_t)output->backed, (off_t)(length - output->backed));
+    const char *why = result < 0 ? reason(result) : NULL;
+    system_close(descriptor);
+    if (result == 0) {
         /* All at once is quicker than a fault for each page. Where the system can't, the faults come. */
-        madvise(output->bytes + output->backed, length - output->backed, MADV_POPULATE_WRITE);
+        system_madvise(output->bytes + output->backed, length - output->backed, MADV_POPULATE_WRITE);
         output->backed = length;
     }
     return why;
@@ -337,9 +326,10 @@ const char *output_back(struct output *output, uint64_t offset, uint64_t length)
         return "the file was cut";
     int descriptor = reopen(output);
     if (descriptor < 0)
-        return reason();
-    const char *why = fallocate(descriptor, 0, (off_t)offset, (off_t)length) != 0 ? reason() : NULL;
-    close(descriptor);
+        return reason(descriptor);
+    int result = system_fallocate(descriptor, (off_t)offset, (off_t)length);
+    const char *why = result < 0 ? reason(result) : NULL;
+    system_close(descriptor);
     return why;
 }
 
@@ -350,9 +340,9 @@ void output_trim(struct output *output, uint64_t length)
     int descriptor = reopen(output);
     if (descriptor < 0)
         return; /* what stands after the last record is zeros: no harm */
-    if (ftruncate(descriptor, (off_t)length) == 0)
+    if (system_ftruncate(descriptor, (off_t)length) == 0)
         output->backed = length;
-    close(descriptor);
+    system_close(descriptor);
 }
 
 /* Gives whole pages that were sent back to the system. */
@@ -360,11 +350,23 @@ static void release_sent(struct output *output, uint64_t from)
 {
     uint64_t first = from / PAGE * PAGE, end = output->sent / PAGE * PAGE;
     if (end > first)
-        madvise(output->bytes + first, end - first, MADV_DONTNEED);
+        system_madvise(output->bytes + first, end - first, MADV_DONTNEED);
+}
+
+/* Waits until a socket may take more. Answers for how long in vain. The system says that there is room only if most of
+   what waits was read, and takes more before that: a collector that is slow is none that does not read. */
+static int wait_for_room(int descriptor, int patience_ms)
+{
+    enum { LOOK_AGAIN_MS = 100 };
+    struct pollfd wait = {descriptor, POLLOUT, 0};
+    int span = patience_ms < LOOK_AGAIN_MS ? patience_ms : LOOK_AGAIN_MS;
+    return system_poll(&wait, 1, span) == 0 ? span : 0;
 }
 
 const char *output_send(struct output *output, uint64_t length, bool all, int patience_ms)
 {
+    enum { PIECE = 1 << 14 }; /* the system gives room back for what was read whole */
+    int waited_ms = 0;
     uint64_t from = output->sent;
     const char *why = NULL;
     if (output->sent == length)
@@ -374,20 +376,24 @@ const char *output_send(struct output *output, uint64_t length, bool all, int pa
     while (output->sent < length && why == NULL) {
         const unsigned char *next = output->bytes + output->sent;
         size_t rest = length - output->sent;
-        ssize_t count = output->is_socket ? send(output->descriptor, next, rest, MSG_NOSIGNAL | MSG_DONTWAIT)
-                                          : write(output->descriptor, next, rest);
+        ssize_t count = output->is_socket
+                            ? system_send(output->descriptor, next, rest < PIECE ? rest : PIECE,
+                                          MSG_NOSIGNAL | MSG_DONTWAIT)
+                            : system_write(output->descriptor, next, rest);
         if (count > 0) {
             output->sent += (uint64_t)count;
+            waited_ms = 0;
         } else if (count == 0) {
             why = "it takes nothing, and says no error";
-        } else if (errno == EAGAIN) {
-            struct pollfd wait = {output->descriptor, POLLOUT, 0};
+        } else if (count == -EAGAIN) {
             if (!all)
                 break; /* the rest stays in memory, and the process need not wait */
-            if (poll(&wait, 1, patience_ms) == 0)
+            if (waited_ms >= patience_ms)
                 why = "the collector does not read";
-        } else if (errno != EINTR) {
-            why = reason();
+            else
+                waited_ms += wait_for_room(output->descriptor, patience_ms - waited_ms);
+        } else if (count != -EINTR) {
+            why = reason(count);
         }
     }
     release_sent(output, from);
@@ -399,7 +405,7 @@ bool output_lose(struct output *output, const void *address)
     const unsigned char *at = address;
     if (!output->is_mapped || at < output->bytes || at >= output->bytes + output->room)
         return false;
-    output->is_lost = put_memory((struct window){output->bytes, output->room});
+    output->is_lost = put_memory((struct window){output->bytes, output->room}) > 0;
     return output->is_lost;
 }
 
@@ -408,7 +414,7 @@ void output_leave(struct output *output)
     if (output->bytes != NULL)
         put_memory((struct window){output->bytes, output->room});
     if (output->descriptor >= 0 && is_still(output, output->descriptor))
-        close(output->descriptor);
+        system_close(output->descriptor);
     output->bytes = NULL;
     output->descriptor = -1;
 }
@@ -421,6 +427,6 @@ void output_close(struct output *output)
 
 void output_discard(struct output *output)
 {
-    unlink(output->path);
+    system_unlink(output->path);
     output_close(output);
 }

@@ -2,7 +2,7 @@
 #ifndef ASANCOL_OUTPUT_H
 #define ASANCOL_OUTPUT_H
 
-#include <limits.h>
+#include <linux/limits.h>
 #include <stdbool.h>
 #include <stdint.h>
 #include <sys/types.h>
@@ -41,12 +41,12 @@ const char *output_open_file(struct output *output, const char *path, enum namin
 /* To a socket: by its path, or else, where `has_abstract`, by the abstract name of the same text without its secret. */
 const char *output_connect(struct output *output, const char *path, bool has_abstract, struct window window,
                            int patience_ms);
-/* Connects to a hub by either name, as far as it can, and sends nothing. */
-void output_knock(const char *path);
 /* Memory of zeros that another process can map. Nobody can change its size. */
 const char *output_open_memory(struct output *output, struct window window);
-/* Sends the first bytes of a socket, and the descriptor of that memory with them, which is closed here. */
-const char *output_send_first(struct output *output, uint64_t length, struct output *memory, int patience_ms);
+/* Sends the first bytes of a socket, and with them the descriptor of that memory, which is closed here, and those of
+   files, as long as there is room for them. */
+const char *output_send_first(struct output *output, uint64_t length, struct output *memory, const int *files,
+                              unsigned count, int patience_ms);
 /* Backs a mapped file up to this length. */
 const char *output_extend(struct output *output, uint64_t length);
 /* Backs a part of a mapped file, which may leave a hole before it. */

@@ -2,10 +2,9 @@
 #include "stream/segments.h"
 
 #include <string.h>
-#include <sys/stat.h>
-#include <unistd.h>
 
-#include "settings.h"
+#include "process/settings.h"
+#include "base/system.h"
 
 static char first_path[PATH_MAX];
 
@@ -46,11 +45,11 @@ static void throw_away(uint64_t segment)
     strcpy(path, first_path);
     if (segment != 0 && (!segments_name(segment, name) || !output_number(path, name, file->number)))
         return;
-    if (stat(path, &seen) != 0 || seen.st_dev != file->device || seen.st_ino != file->node)
+    if (system_stat(path, &seen) != 0 || seen.st_dev != file->device || seen.st_ino != file->node)
         return;
-    unlink(path);
+    system_unlink(path);
     strcat(path, ".where");
-    unlink(path);
+    system_unlink(path);
 }
 
 void segments_keep(uint64_t segment, const struct output *output, uint64_t most)

@@ -2,16 +2,21 @@
 #include "stream/side.h"
 
 #include <elf.h>
-#include <errno.h>
 #include <fcntl.h>
+#include <limits.h>
 #include <stdatomic.h>
 #include <string.h>
 #include <time.h>
-#include <unistd.h>
 
-#include "memory.h"
-#include "process.h"
-#include "stream/faults.h"
+#include "base/memory.h"
+#include "base/say.h"
+#include "base/self.h"
+#include "base/system.h"
+#include "process/beginning.h"
+#include "stacks/thread_notes.h"
+#include "stream/locked.h"
+#include "stream/maps.h"
+#include "stream/state.h"
 
 static struct side *_Atomic current;
 
@@ -20,17 +25,35 @@ static struct side *side_now(void)
     return atomic_load_explicit(&current, memory_order_acquire);
 }
 
+/* Words that any thread may write, and another process may read meanwhile. Each says enough by itself, so the order is
+   of no matter. */
+
+static void put_word(uint32_t *word, uint32_t value)
+{
+    atomic_store_explicit((_Atomic uint32_t *)word, value, memory_order_relaxed);
+}
+
+static void put_long(uint64_t *word, uint64_t value)
+{
+    atomic_store_explicit((_Atomic uint64_t *)word, value, memory_order_relaxed);
+}
+
+static uint32_t word_at(const uint32_t *word)
+{
+    return atomic_load_explicit((const _Atomic uint32_t *)word, memory_order_relaxed);
+}
+
 /* Reads as much of a file as there is room for. */
 static size_t read_file(const char *path, char *to, size_t room)
 {
     size_t length = 0;
     ssize_t count;
-    int file = open(path, O_RDONLY | O_CLOEXEC);
+    int file = system_open(path, O_RDONLY | O_CLOEXEC, 0);
     if (file < 0)
         return 0;
-    while (length < room && (count = read(file, to + length, room - length)) > 0)
+    while (length < room && (count = system_read(file, to + length, room - length)) > 0)
         length += (size_t)count;
-    close(file);
+    system_close(file);
     return length;
 }
 
@@ -38,12 +61,17 @@ static size_t read_file(const char *path, char *to, size_t room)
 static void read_words(struct side *side)
 {
     if (read_file("/proc/self/cmdline", side->words, SIDE_WORDS - 2) == 0)
-        strncpy(side->words, program_invocation_name, SIDE_WORDS - 2);
+        strncpy(side->words, beginning_name(), SIDE_WORDS - 2);
 }
 
 static struct side_progress *progress_in(struct side *side)
 {
     return (struct side_progress *)((unsigned char *)side + SIDE_PROGRESS);
+}
+
+static struct side_beside_threads *beside_threads_in(struct side *side)
+{
+    return (struct side_beside_threads *)((unsigned char *)side + SIDE_BESIDE_THREADS);
 }
 
 static _Atomic uint64_t *needed_in(struct side *side)
@@ -55,18 +83,30 @@ static _Atomic uint64_t *needed_in(struct side *side)
 static void note_process(struct side *side, uint64_t segment)
 {
     static uint32_t process, parent;
-    static uint64_t started;
+    static uint64_t started, of_parent, of_parent_started;
     struct timespec now;
     if (segment == 0) {
-        clock_gettime(CLOCK_REALTIME, &now);
-        process = (uint32_t)getpid();
-        parent = (uint32_t)getppid();
+        uint32_t now_is = (uint32_t)system_getpid();
+        if (process != now_is) { /* a forked child has these from its parent, or zeros */
+            of_parent = process;
+            of_parent_started = started;
+        }
+        system_clock_gettime(CLOCK_REALTIME, &now);
+        process = now_is;
+        parent = (uint32_t)system_getppid();
         started = (uint64_t)now.tv_sec * 1000000000 + (uint64_t)now.tv_nsec;
     }
     side->process = process;
     side->parent = parent;
     side->started = started;
     progress_in(side)->segment = segment;
+    progress_in(side)->of_parent = of_parent;
+    progress_in(side)->of_parent_started = of_parent_started;
+}
+
+bool side_is_there(void)
+{
+    return side_now() != NULL;
 }
 
 void side_forget(void)
@@ -74,137 +114,60 @@ void side_forget(void)
     atomic_store(&current, NULL);
 }
 
-void side_begin(unsigned char *bytes, unsigned window, uint64_t segment, uint64_t quarantine)
+static void note_settings(struct side *side, const struct settings *settings)
+{
+    struct side_settings *noted = (struct side_settings *)((unsigned char *)side + SIDE_SETTINGS);
+    side->quarantine = settings->quarantine;
+    noted->limit = settings->limit;
+    noted->is_one = settings->segments == 0;
+    noted->halt = settings->halt;
+}
+
+void side_begin(unsigned char *bytes, uint64_t segment, const struct settings *settings)
 {
     struct side *side = (struct side *)bytes;
-    side_forget();
-    faults_begin(bytes, window);
     note_process(side, segment);
-    side->has_checks = recorder_has_checks();
-    side->quarantine = quarantine;
+    put_word(&side->has_checks, recorder_has_checks());
+    put_long(&progress_in(side)->has_begun, recorder_has_begun());
+    note_settings(side, settings);
     read_words(side);
     atomic_store_explicit(needed_in(side), 1, memory_order_relaxed);
     memcpy(side->header, SIDE_HEADER, sizeof side->header);
     atomic_store_explicit(&current, side, memory_order_release);
+    side_note_first_name();
     side_write_modules();
 }
 
 uint64_t side_length(void)
 {
     const struct side *side = side_now();
-    if (side != NULL && side->stack_words != 0)
-        return SIDE_STACKS_AT + side->stack_words * sizeof(uint64_t);
-    if (side != NULL && side->fault_count != 0)
-        return SIDE_FAULTS_AT + side->fault_count * sizeof(struct side_fault);
-    return SIDE_INDEX;
+    uint32_t stack_words = side != NULL ? word_at(&side->stack_words) : 0;
+    uint32_t faults = side != NULL ? word_at(&side->fault_count) : 0;
+    if (stack_words != 0)
+        return SIDE_STACKS_AT + stack_words * sizeof(uint64_t);
+    return faults != 0 ? SIDE_FAULTS_AT + faults * sizeof(struct side_fault) : SIDE_INDEX;
 }
 
 /* Modules. */
 
-enum { MAX_SEGMENTS = 16, MAX_NOTES = 1024 };
-
-static size_t padded(uint32_t size)
-{
-    return ((size_t)size + 3) / 4 * 4;
-}
-
-/* Finds the build id in notes. */
-static bool take_build_id(struct side_build *build, const unsigned char *notes, size_t size)
-{
-    Elf64_Nhdr note;
-    for (size_t at = 0; at + sizeof note <= size;) {
-        memcpy(&note, notes + at, sizeof note);
-        size_t id = at + sizeof note + padded(note.n_namesz), end = id + padded(note.n_descsz);
-        if (id < at || end < id || end > size)
-            return false;
-        if (note.n_type == NT_GNU_BUILD_ID && note.n_namesz == sizeof "GNU" && note.n_descsz <= SIDE_ID
-            && memcmp(notes + at + sizeof note, "GNU", sizeof "GNU") == 0) {
-            memcpy(build->id, notes + id, note.n_descsz);
-            build->length = (unsigned char)note.n_descsz;
-            return true;
-        }
-        at = end;
-    }
-    return false;
-}
-
-/* Of the module whose file begins at this address. Another thread may be closing it: so nothing is read directly. */
+/* Of the module whose file begins at this address. */
 static bool find_build_id(struct side_build *build, uint64_t start)
 {
-    Elf64_Ehdr head;
-    Elf64_Phdr segments[MAX_SEGMENTS];
-    unsigned char notes[MAX_NOTES];
-    if (!memory_read(start, &head, sizeof head) || memcmp(head.e_ident, ELFMAG, SELFMAG) != 0)
+    struct note note;
+    if (!maps_find_note(start, "GNU", NT_GNU_BUILD_ID, &note) || note.size > SIDE_ID
+        || !memory_read(note.start, build->id, note.size))
         return false;
-    unsigned count = head.e_phnum < MAX_SEGMENTS ? head.e_phnum : MAX_SEGMENTS;
-    if (!memory_read(start + head.e_phoff, segments, count * sizeof *segments))
-        return false;
-    for (unsigned i = 0; i < count; i++) {
-        /* What lies in the first segment is as far from its start as in the file. */
-        size_t size = segments[i].p_filesz < sizeof notes ? segments[i].p_filesz : sizeof notes;
-        if (segments[i].p_type == PT_NOTE && memory_read(start + segments[i].p_offset, notes, size)
-            && take_build_id(build, notes, size))
-            return true;
-    }
-    return false;
-}
-
-/* A number in hexadecimal digits, and what comes after it. */
-static uint64_t take_number(const char **at)
-{
-    uint64_t number = 0;
-    for (;; (*at)++) {
-        if (**at >= '0' && **at <= '9')
-            number = number * 16 + (uint64_t)(**at - '0');
-        else if (**at >= 'a' && **at <= 'f')
-            number = number * 16 + (uint64_t)(**at - 'a') + 10;
-        else
-            return number;
-    }
-}
-
-/* A line of the map of modules. */
-struct line {
-    const char *text, *next;
-    const char *file; /* its device, number and name; or null */
-    uint64_t start, end;
-    bool has_file, is_first; /* and whether it is the first part of that */
-};
-
-/* The line that begins here. False: there is no more. */
-static bool take_line(const char *text, struct line *line)
-{
-    const char *end = strchr(text, '\n'), *at = text;
-    if (end == NULL)
-        return false;
-    *line = (struct line){.text = text, .next = end + 1};
-    line->start = take_number(&at);
-    at += *at == '-';
-    line->end = take_number(&at);
-    line->has_file = memchr(at, '/', (size_t)(end - at)) != NULL;
-    const char *offset = *at == ' ' ? memchr(at + 1, ' ', (size_t)(end - at - 1)) : NULL;
-    if (line->has_file && offset != NULL) {
-        offset++;
-        line->is_first = take_number(&offset) == 0;
-        line->file = offset;
-    }
+    build->length = (unsigned char)note.size;
     return true;
 }
 
-/* Whether two lines are of one file: from the device on they have the same text. */
-static bool is_same_file(const struct line *one, const struct line *other)
+/* Whether the line of a file need not be kept: the file, or memory of no file, lies there now. If another file does,
+   who reads both lines sees that nobody knows which of them an address meant. */
+static bool is_taken(const char *maps, const struct map_line *old)
 {
-    size_t length = (size_t)(one->next - one->file);
-    return length == (size_t)(other->next - other->file) && memcmp(one->file, other->file, length) == 0;
-}
-
-/* Whether the line of a file need not be kept: the file, or memory of no file, lies there now. If another file does, who
-   reads both lines sees that nobody knows which of them an address meant. */
-static bool is_taken(const char *maps, const struct line *old)
-{
-    struct line line;
-    for (const char *at = maps; take_line(at, &line); at = line.next)
-        if (line.start < old->end && old->start < line.end && (!line.has_file || is_same_file(&line, old)))
+    struct map_line line;
+    for (const char *at = maps; maps_take_line(at, &line); at = line.next)
+        if (line.start < old->end && old->start < line.end && (!line.has_file || maps_is_same_file(&line, old)))
             return true;
     return false;
 }
@@ -215,11 +178,11 @@ enum { MAX_COMPARED = 1 << 16 };
 /* A library that was closed keeps its lines, as long as nothing else lies there: its faults are not gone. */
 static size_t keep_closed(char *maps, size_t length, size_t room, const char *before)
 {
-    struct line line;
+    struct map_line line;
     size_t now = length;
     if (now > MAX_COMPARED)
         return length;
-    for (const char *at = before; take_line(at, &line); at = line.next) {
+    for (const char *at = before; maps_take_line(at, &line); at = line.next) {
         size_t size = (size_t)(line.next - line.text);
         if (!line.has_file || size >= room - length || is_taken(maps, &line))
             continue;
@@ -247,10 +210,10 @@ static void write_builds(struct side *side)
     static struct side_build before[SIDE_BUILD_COUNT]; /* the lock is held */
     struct side_build *builds = (struct side_build *)((unsigned char *)side + SIDE_BUILDS);
     const char *at = (const char *)side + SIDE_MAPS;
-    struct line line;
+    struct map_line line;
     unsigned count = 0;
     memcpy(before, builds, sizeof before);
-    for (; count < SIDE_BUILD_COUNT && take_line(at, &line); at = line.next) {
+    for (; count < SIDE_BUILD_COUNT && maps_take_line(at, &line); at = line.next) {
         struct side_build build = {.start = line.start};
         if (line.is_first && (find_build_id(&build, line.start) || find_before(&build, line.start, before)))
             builds[count++] = build;
@@ -261,16 +224,96 @@ static void write_builds(struct side *side)
 
 void side_write_modules(void)
 {
-    static char now[SIDE_INDEX - SIDE_MAPS]; /* the lock is held */
+    static char now[SIDE_UNCHECKED - SIDE_MAPS]; /* the lock is held */
     struct side *side = side_now();
     size_t length = side != NULL ? read_file("/proc/self/maps", now, sizeof now - 1) : 0;
     if (length == 0)
         return; /* as after a change of root: what is there stays */
     now[length] = 0;
+    /* Without the closed ones, whose notes are gone: they were listed when they came. */
+    above.list_unchecked((char *)side + SIDE_UNCHECKED, now);
     char *maps = (char *)side + SIDE_MAPS;
     length = keep_closed(now, length, sizeof now, maps);
     memcpy(maps, now, length + 1);
     write_builds(side);
+}
+
+void stream_write_modules(void)
+{
+    stream_lock();
+    if (locked.has_side)
+        side_write_modules();
+    stream_unlock();
+}
+
+bool side_back(const struct side_part *part, bool has_place)
+{
+    if (!is_file()) {
+        atomic_fetch_or(part->bits, part->bit);
+        return true;
+    }
+    /* Who has the lock may be waiting for a record of this thread, whose place was taken. */
+    if (atomic_load(&shared.is_side_full) || !stream_lock_within(has_place ? SHORT : LONG))
+        return false;
+    /* While this thread waited, others may have gone on: then the file is that of another segment. */
+    bool is_of_segment = part->window == locked.window;
+    const char *why = is_of_segment ? output_back(&locked.side, part->offset, part->length) : NULL;
+    if (why != NULL && !atomic_exchange(&shared.is_side_full, true))
+        recorder_say("no more is kept beside the trace: ", locked.side.path, why);
+    bool is_backed = is_of_segment && why == NULL;
+    if (is_backed)
+        atomic_fetch_or(part->bits, part->bit);
+    stream_unlock();
+    return is_backed;
+}
+
+/* Whether a file lies where the system has its libraries, which nobody removes. */
+static bool is_of_system(const char *path)
+{
+    return strncmp(path, "/usr/lib", strlen("/usr/lib")) == 0 || strncmp(path, "/lib", strlen("/lib")) == 0;
+}
+
+/* The path of the file of a line. False: it has none, or it is too long. */
+static bool take_path(char *path, size_t room, const struct map_line *line)
+{
+    const char *from = memchr(line->text, '/', (size_t)(line->next - line->text));
+    size_t length = from != NULL ? (size_t)(line->next - 1 - from) : room;
+    if (length >= room)
+        return false;
+    memcpy(path, from, length);
+    path[length] = 0;
+    return true;
+}
+
+static bool is_one_file(int descriptor, int other)
+{
+    struct stat seen, of_other;
+    return system_fstat(descriptor, &seen) == 0 && system_fstat(other, &of_other) == 0
+           && seen.st_dev == of_other.st_dev && seen.st_ino == of_other.st_ino;
+}
+
+unsigned side_open_files(int files[SIDE_FILES])
+{
+    static char path[PATH_MAX]; /* the lock is held; and a stack may be small */
+    const struct side *side = side_now();
+    struct map_line line;
+    unsigned count = 0;
+    if (side == NULL)
+        return 0;
+    int program = system_open("/proc/self/exe", O_RDONLY | O_CLOEXEC, 0);
+    if (program >= 0)
+        files[count++] = program;
+    const char *at = (const char *)side + SIDE_MAPS;
+    for (; count < SIDE_FILES && maps_take_line(at, &line); at = line.next) {
+        if (!line.is_first || !take_path(path, sizeof path, &line) || is_of_system(path))
+            continue;
+        int file = system_open(path, O_RDONLY | O_CLOEXEC | O_NONBLOCK | O_NOCTTY, 0);
+        if (file >= 0 && program >= 0 && is_one_file(file, program))
+            system_close(file);
+        else if (file >= 0)
+            files[count++] = file;
+    }
+    return count;
 }
 
 /* Notes on the process. */
@@ -279,7 +322,14 @@ void side_note_checks(void)
 {
     struct side *side = side_now();
     if (side != NULL)
-        side->has_checks = 1;
+        put_word(&side->has_checks, 1);
+}
+
+void side_note_main(void)
+{
+    struct side *side = side_now();
+    if (side != NULL)
+        put_long(&progress_in(side)->has_begun, 1);
 }
 
 void side_note_needed(uint64_t event)
@@ -300,44 +350,96 @@ void side_note_restated(uint64_t events)
         progress_in(side)->restated = events;
 }
 
+void side_note_fork(void)
+{
+    struct side *side = side_now();
+    if (side != NULL)
+        atomic_fetch_add((_Atomic uint64_t *)&progress_in(side)->forks, 1);
+}
+
+bool side_note_becoming(bool becomes)
+{
+    struct side *side = side_now();
+    if (side != NULL)
+        progress_in(side)->becomes = becomes;
+    return side != NULL;
+}
+
+_Atomic uint64_t *side_begin_calls(bool for_start)
+{
+    struct side *side = side_now();
+    if (side == NULL)
+        return NULL;
+    struct side_progress *progress = progress_in(side);
+    _Atomic uint64_t *calls = (_Atomic uint64_t *)(for_start ? &progress->starts : &progress->calls);
+    atomic_fetch_add(calls, 1);
+    return calls;
+}
+
+void side_end_calls(_Atomic uint64_t *calls)
+{
+    uint64_t before = calls != NULL ? atomic_load(calls) : 0;
+    /* Another segment may lie there by now. */
+    while (before != 0 && !atomic_compare_exchange_weak(calls, &before, before - 1))
+        ;
+}
+
 void side_note_left_out(void)
 {
     struct side *side = side_now();
     if (side == NULL)
         return;
-    side->is_at_limit = 1;
+    put_word(&side->is_at_limit, 1);
     atomic_fetch_add_explicit((_Atomic uint64_t *)&side->left_out, 1, memory_order_relaxed);
 }
 
 static void write_ending(struct side *side, enum ending ending, int number)
 {
-    side->signal = (uint32_t)number;
+    put_word(&side->signal, (uint32_t)number);
     atomic_store_explicit((_Atomic uint32_t *)&side->ending, ending, memory_order_release);
 }
 
 void side_note_ending(enum ending ending, int number, uint64_t events)
 {
     struct side *side = side_now();
-    if (side == NULL || side->ending == ENDING_LOST)
+    if (side == NULL || word_at(&side->ending) == ENDING_LOST)
         return;
-    side->events = events;
+    put_long(&side->events, events);
     write_ending(side, ending, number);
 }
 
-void side_note_last(place_word last, const uint64_t *address)
+void side_note_last(const struct side_last *last)
 {
     struct side *side = side_now();
     if (side == NULL)
         return;
-    side->last = place_address(last);
-    side->last_stack = fault_put_stack(last);
-    side->has_address = address != NULL;
-    side->wrong_address = address != NULL ? *address : 0;
+    put_long(&side->last, last->place);
+    put_word(&side->last_stack, last->stack);
+    put_word(&beside_threads_in(side)->last, last->thread);
+    put_word(&side->how, last->how);
+    put_long(&side->wrong_address, last->address);
+}
+
+/* Whoever names the thread notes that first, and then looks for the memory: one of the two sees the other. */
+void side_note_first_name(void)
+{
+    struct thread_note note, again = thread_note(0);
+    atomic_thread_fence(memory_order_seq_cst);
+    struct side *side = side_now();
+    if (side == NULL)
+        return;
+    _Atomic uint64_t *words = (_Atomic uint64_t *)beside_threads_in(side)->first_name;
+    do {
+        note = again;
+        for (int i = 0; i < NAME_WORDS; i++)
+            atomic_store(&words[i], note.name[i]);
+        again = thread_note(0);
+    } while (memcmp(note.name, again.name, sizeof note.name) != 0);
 }
 
 void side_note_late_signal(int number)
 {
     struct side *side = side_now();
-    if (side != NULL && side->ending == ENDING_EXIT)
+    if (side != NULL && word_at(&side->ending) == ENDING_EXIT)
         write_ending(side, ENDING_SIGNAL, number);
 }

@@ -3,22 +3,51 @@
 #ifndef ASANCOL_SIDE_H
 #define ASANCOL_SIDE_H
 
+#include <stdatomic.h>
 #include <stdbool.h>
+#include <stdint.h>
 
-#include "format.h"
-#include "stacks/stacks.h"
+#include "common/format.h"
+#include "process/settings.h"
 
 /* Begins a new one in these bytes, which are zeros, with who the process is, how many segments of it came before, and
-   how many bytes of freed blocks it holds. The stream lies in this window. */
-void side_begin(unsigned char *bytes, unsigned window, uint64_t segment, uint64_t quarantine);
+   what its settings are. */
+void side_begin(unsigned char *bytes, uint64_t segment, const struct settings *settings);
 void side_forget(void);
+bool side_is_there(void);
 /* So many events have restated what stood at the end of the segment before. */
 void side_note_restated(uint64_t events);
+/* That it has forked a child, which is to be recorded. */
+void side_note_fork(void);
+/* That it becomes a program that is to connect, or does not. False: there is no side memory. */
+bool side_note_becoming(bool becomes);
+/* A sandbox may end the process for the calls of the system that come now: what the recorder tries in the middle of the
+   program, or does for a program that is about to be started. They are over with what this answers. */
+_Atomic uint64_t *side_begin_calls(bool for_start);
+void side_end_calls(_Atomic uint64_t *calls);
 /* Up to where it has something. */
 uint64_t side_length(void);
-/* Copies the map of modules from the system, with the build id of each. */
+/* Copies the map of modules from the system, with the build id of each, and notes what of them was not checked. */
 void side_write_modules(void);
+/* Likewise, after a library was opened. The lock is taken. */
+void stream_write_modules(void);
+/* A part of what stands beside the stream in a window, and where it is noted that it has memory. */
+struct side_part {
+    unsigned window;
+    uint64_t offset, length;
+    _Atomic uint32_t *bits;
+    uint32_t bit;
+};
+
+/* Backs a part of the side file, if there is one, and notes it. False: it can't be, or not without waiting longer than
+   others may wait for this thread: they do if the place of its record was taken; or another segment has begun. At any
+   time. */
+bool side_back(const struct side_part *part, bool has_place);
+/* Opens the program, and the shared objects by now that are not the system's, and answers how many there are. Who has
+   them can show lines of them also if they are removed or made anew meanwhile. */
+unsigned side_open_files(int files[SIDE_FILES]);
 void side_note_checks(void);
+void side_note_main(void);
 /* The stream has to be read up to this event: it may be bad. It is noted before the access is made, so who finds the
    process gone knows whether one is missing. */
 void side_note_needed(uint64_t event);
@@ -26,8 +55,15 @@ void side_note_needed(uint64_t event);
 void side_note_left_out(void);
 /* How the process ends, with so many events in the stream: ENDING_NONE takes an exec back. What is lost stays lost. */
 void side_note_ending(enum ending ending, int number, uint64_t events);
-/* Where a signal has met it, and the address that could not be accessed, or null. */
-void side_note_last(place_word last, const uint64_t *address);
+/* Where a signal has met it: the place, with its stack and its thread as of a fault; the address that could not be
+   accessed, and enum side_how. */
+struct side_last {
+    uint64_t place, address;
+    uint32_t stack, thread, how;
+};
+void side_note_last(const struct side_last *last);
+/* The first thread was given the name that stands in its notes (thread_notes.h). */
+void side_note_first_name(void);
 /* A signal after the stream has ended. */
 void side_note_late_signal(int number);
 

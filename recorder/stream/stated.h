@@ -1,4 +1,4 @@
-/* What the stream states of memory outside the allocator's. */
+/* What the stream states of memory outside the allocator's. stating.c brings it up to the shadow. */
 #ifndef ASANCOL_STATED_H
 #define ASANCOL_STATED_H
 
@@ -6,11 +6,9 @@
 #include <stdbool.h>
 #include <stdint.h>
 
-#include "platform.h"
-#include "shadow.h"
+#include "base/platform.h"
+#include "shadow/shadow.h"
 
-/* Brings the stream up to what the shadow says of the granules that an access meets, outside the allocator's memory. */
-void stated_bring_up(uint64_t address, unsigned width) OWN_NAME(stated_bring_up);
 /* Nothing is stated any more. */
 void stated_forget(void);
 

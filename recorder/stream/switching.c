@@ -4,15 +4,19 @@
 #include <errno.h>
 #include <string.h>
 
-#include "heap/heap.h"
-#include "say.h"
+#include "base/disturbance.h"
+#include "base/errors.h"
+#include "base/say.h"
 #include "stream/ending.h"
 #include "stream/growing.h"
-#include "stream/keeper.h"
+#include "stream/locked.h"
+#include "stream/losing.h"
 #include "stream/opening.h"
 #include "stream/segments.h"
 #include "stream/side.h"
+#include "stream/state.h"
 #include "stream/stated.h"
+#include "stream/tail.h"
 #include "stream/windows.h"
 
 static _Thread_local bool is_switching;
@@ -24,19 +28,19 @@ bool switching_restates(void)
 
 uint64_t stream_restating_room(void)
 {
-    return keeper.limit / 2;
+    return plan.settings->limit / 2;
 }
 
 /* The place of a record that restates. No other thread has one in this stream yet. */
 unsigned char *switching_reserve(unsigned length)
 {
-    bool is_full = keeper.checked_events >= stream_restating_room();
-    keeper.is_overfull |= is_full;
-    if (is_full || stream_state() != STATE_SWITCHING || !growing_to(keeper.checked + length))
+    bool is_full = locked.checked_events >= stream_restating_room();
+    locked.is_overfull |= is_full;
+    if (is_full || stream_state() != STATE_SWITCHING || !growing_to(locked.checked + length))
         return NULL;
-    unsigned char *at = STREAM->bytes + keeper.checked;
-    keeper.checked += length;
-    keeper.checked_events++;
+    unsigned char *at = STREAM->bytes + locked.checked;
+    locked.checked += length;
+    locked.checked_events++;
     return at;
 }
 
@@ -51,8 +55,8 @@ static const char *open_next(struct outputs *next, unsigned window)
 {
     static char name[PATH_MAX];
     next->has_side = false;
-    if (!segments_name(keeper.segment + 1, name))
-        return strerrordesc_np(ENAMETOOLONG);
+    if (!segments_name(locked.segment + 1, name))
+        return error_text(ENAMETOOLONG);
     const char *why = output_open_file(&next->trace, name, NAME_NUMBERED, windows_of_stream(window), FILE_STEP);
     if (why != NULL)
         return why;
@@ -60,13 +64,13 @@ static const char *open_next(struct outputs *next, unsigned window)
         output_close(&next->trace);
         return "it can't be mapped";
     }
-    next->has_side = keeper.settings->with_side && opening_side(&next->side, &next->trace, window);
+    next->has_side = plan.settings->with_side && opening_side(&next->side, &next->trace, window);
     return NULL;
 }
 
 static bool finish_segment(uint64_t cursor)
 {
-    return ending_at((uint32_t)cursor, keeper.limit, ending_of(cursor, FINISH_CLOSED), ENDING_SEGMENT, 0);
+    return ending_at((uint32_t)cursor, plan.settings->limit, ending_of(cursor, FINISH_CLOSED), ENDING_SEGMENT, 0);
 }
 
 /* Ends the segment whose cursor this was, and opens the next. False: the recording has ended. */
@@ -75,7 +79,7 @@ static bool leave_file(uint64_t cursor, unsigned window)
     static struct outputs next; /* the lock is held */
     const char *why = open_next(&next, window);
     if (why != NULL) {
-        ending_lose(cursor, why);
+        losing_give_up_at(cursor, why);
         return false;
     }
     if (!finish_segment(cursor)) {
@@ -84,11 +88,11 @@ static bool leave_file(uint64_t cursor, unsigned window)
             output_discard(&next.side);
         return false;
     }
-    keeper.trace = next.trace;
-    keeper.side = next.side;
-    keeper.has_side = next.has_side;
-    keeper.window = window;
-    keeper.segment++;
+    locked.trace = next.trace;
+    locked.side = next.side;
+    locked.has_side = next.has_side;
+    locked.window = window;
+    locked.segment++;
     return true;
 }
 
@@ -97,19 +101,18 @@ static bool leave_file(uint64_t cursor, unsigned window)
 static bool leave_connection(uint64_t cursor, unsigned window)
 {
     bool has_ended = finish_segment(cursor);
-    ending_leave();
-    keeper.has_side = false;
-    keeper.window = window;
-    keeper.segment++;
-    const char *why = has_ended ? opening_hub(keeper.settings) : NULL;
+    tail_leave();
+    locked.has_side = false;
+    locked.window = window;
+    locked.segment++;
+    const char *why = has_ended ? opening_hub(plan.settings) : NULL;
     if (has_ended && why == NULL)
         return true;
     opening_take_back();
-    STREAM->has_side = false;
-    stream_go(STATE_OFF);
-    heap_set_bound(0);
+    atomic_store_explicit(&STREAM->has_side, false, memory_order_relaxed);
+    state_go(STATE_OFF);
     if (why != NULL)
-        recorder_say("recording ends: ", keeper.settings->hub, why);
+        recorder_say("recording ends: ", plan.settings->hub, why);
     return false;
 }
 
@@ -119,56 +122,54 @@ static void begin_next(void)
 {
     stated_forget();
     opening_segment();
-    if (keeper.trace.is_mapped)
-        segments_keep(keeper.segment, &keeper.trace, keeper.settings->segments);
+    if (is_file())
+        segments_keep(locked.segment, &locked.trace, plan.settings->segments);
     /* Events are numbered anew. */
-    atomic_store(&keeper.stop, 0);
-    set_events_end(0);
-    atomic_store(&STREAM->window, keeper.window);
-    is_switching = keeper.is_restating = true;
-    heap_restate(UINT64_MAX, stream_restating_room());
-    is_switching = keeper.is_restating = false;
-    side_note_restated(keeper.checked_events);
+    atomic_store(&shared.stop, 0);
+    state_set_events_end(0);
+    atomic_fetch_add(&STREAM->segment, 1);
+    atomic_store(&STREAM->window, locked.window);
+    is_switching = locked.is_restating = true;
+    above.restate(UINT64_MAX, stream_restating_room());
+    is_switching = locked.is_restating = false;
+    side_note_restated(locked.checked_events);
 }
 
-/* The allocator's lock is held too. */
-static void switch_segment(void)
+/* From the segment whose cursor this was. The allocator's lock is held too. */
+static void switch_segment(uint64_t cursor)
 {
-    stream_go(STATE_SWITCHING);
-    uint64_t cursor = atomic_exchange(&STREAM->cursor, 0);
-    if (!(cursor & CURSOR_ON)) {
-        stream_go(STATE_OFF); /* the process ends just now */
-        return;
-    }
-    unsigned next = (keeper.window + 1) % WINDOWS;
-    if (keeper.is_hub ? !leave_connection(cursor, next) : !leave_file(cursor, next))
+    unsigned next = (locked.window + 1) % WINDOWS;
+    if (is_hub() ? !leave_connection(cursor, next) : !leave_file(cursor, next))
         return;
     begin_next();
-    if (keeper.is_overfull) {
-        stream_go(STATE_AT_LIMIT);
-        ending_at(keeper.checked, keeper.checked_events, FINISH_AT_LIMIT, ENDING_NONE, 0);
-        heap_set_bound(0);
+    if (locked.is_overfull) {
+        state_go(STATE_AT_LIMIT);
+        ending_at(locked.checked, locked.checked_events, FINISH_AT_LIMIT, ENDING_NONE, 0);
         return;
     }
-    atomic_store(&STREAM->cursor, CURSOR_ON | keeper.checked_events << 32 | keeper.checked);
-    /* Unless a signal handler has found it lost. */
-    if (!stream_go_from(STATE_SWITCHING, STATE_RECORDING))
-        atomic_store(&STREAM->cursor, 0);
+    if (atomic_load(&shared.is_closing)) {
+        ending_close_again();
+        return;
+    }
+    state_record(STATE_SWITCHING);
 }
 
-void switching_go_on(void)
+bool switching_go_on(void)
 {
     struct disturbance before;
-    bool is_in_heap = heap_is_entered();
+    bool is_in_heap = above.is_in_heap();
     undisturbed_begin(&before);
     if (!is_in_heap)
-        heap_lock();
+        above.lock_heap();
     stream_lock();
     uint64_t cursor = atomic_load(&STREAM->cursor);
-    if ((cursor & CURSOR_ON) && (cursor - CURSOR_ON) >> 32 > keeper.limit)
-        switch_segment();
+    bool is_past = (cursor & CURSOR_ON) && (cursor - CURSOR_ON) >> 32 > plan.settings->limit;
+    cursor = is_past ? state_leave(STATE_SWITCHING) : 0;
+    if (cursor & CURSOR_ON)
+        switch_segment(cursor);
     stream_unlock();
     if (!is_in_heap)
-        heap_unlock();
+        above.unlock_heap();
     undisturbed_end(&before);
+    return !is_past || (cursor & CURSOR_ON);
 }

@@ -3,12 +3,16 @@
 #define ASANCOL_SWITCHING_H
 
 #include <stdbool.h>
+#include <stdint.h>
 
+/* How many events may restate what came before a stream. */
+uint64_t stream_restating_room(void);
 /* Whether this thread restates just now what stands at the beginning of a segment. */
 bool switching_restates(void);
 /* The place of a record that restates, or null. */
 unsigned char *switching_reserve(unsigned length);
-/* Goes on in the next segment, unless another thread has done so. */
-void switching_go_on(void);
+/* Goes on in the next segment, unless another thread has done so. False: another thread is turning the stream off just
+   now. Any thread, with the allocator in order. */
+bool switching_go_on(void);
 
 #endif

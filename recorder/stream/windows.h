@@ -4,7 +4,7 @@
 #ifndef ASANCOL_WINDOWS_H
 #define ASANCOL_WINDOWS_H
 
-#include "format.h"
+#include "common/format.h"
 #include "stream/output.h"
 
 enum { WINDOWS = 8, WINDOW_SHIFT = 29, SIDE_WINDOW_SHIFT = 27 };
@@ -24,6 +24,9 @@ unsigned char *windows_start(void);
 struct window windows_of_stream(unsigned number);
 /* And of what stands beside it. False: there is no room. */
 bool windows_of_side(unsigned number, struct window *window);
+
+/* Puts a page of plain memory at an address in a window. False: it is in none. */
+bool windows_mend(const void *address);
 
 static inline unsigned window_of(uint32_t offset)
 {

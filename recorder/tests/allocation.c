@@ -56,6 +56,7 @@ static void take_all(void)
     take(aligned, 256, 100);
     take(valloc(100), 4096, 100);
     take(pvalloc(100), 4096, 4096);
+    take(pvalloc(0), 4096, 4096);
     take(__libc_malloc(10), 16, 10);
     take(__libc_calloc(3, 10), 16, 30);
     take(__libc_realloc(NULL, 100), 16, 100);
@@ -73,6 +74,18 @@ static void give_all(void)
             free(blocks[i]);
         else
             __libc_free(blocks[i]);
+    }
+}
+
+/* As the first blocks of all: one of many units before the steps in which memory grows are at their largest, and then
+   more units than notes are made for at once. */
+static void grow(void)
+{
+    void *volatile block = malloc(20 << 16); /* volatile, so that no compiler leaves it out */
+    WANT(block != NULL);
+    for (int i = 0; i < 300; i++) {
+        block = malloc(60000);
+        WANT(block != NULL);
     }
 }
 
@@ -132,6 +145,7 @@ static void stacks_of_objects(void)
 
 int main(void)
 {
+    grow();
     settings();
     take_all();
     numbers();

@@ -26,6 +26,8 @@ import sys
 import tempfile
 from typing import Dict, List, NamedTuple, Optional, Sequence, Tuple
 
+sys.path.insert(0, f"{os.path.dirname(os.path.realpath(__file__))}/../..")  # where `testing` is
+
 import real
 from support import CC, CXX, TESTS, Compiler, Failure, build, compilers, environment
 
@@ -43,6 +45,9 @@ class Program(NamedTuple):
     runs: Tuple[Sequence[str], ...]
     is_cpp: bool = False
     is_real: bool = False  # `source` is then where its build leaves the program
+    finds_returns: bool = False  # its frames are apart from the stack
+    has_leaks: bool = False  # leaks are looked for at its end
+    has_library: bool = False  # made of the same source without asancol-cc, and without a sanitizer
 
 
 PROGRAMS = [
@@ -51,9 +56,13 @@ PROGRAMS = [
     Program("sort", "speed.c", (["sort", "2000000"],)),
     Program("blocks", "speed.c", (["blocks", "3000000"],)),
     Program("frames", "speed.c", (["frames", "30000000"],)),
+    Program("returns", "speed.c", (["frames", "30000000"],), finds_returns=True),
     Program("calls", "speed.c", (["calls", "50000000"],)),
     Program("copies", "speed.c", (["copies", "20000000"],)),
     Program("strings", "speed.c", (["strings", "5000000"],)),
+    Program("leaks", "speed.c", (["live", "1000000"],), has_leaks=True),
+    Program("live", "speed.c", (["live", "1000000"],)),
+    Program("plain", "speed_plain.c", (["5000000"],), has_library=True),
     Program("containers", "containers.cpp", (["300000"],), is_cpp=True),
     Program("bzip2", "bzip2", (["-kf", "words"], ["-kdf", "words.bz2"]), is_real=True),
     Program("lua5.4", "src/lua", ([f"{TESTS}/real/work.lua", "40000"],), is_real=True),
@@ -72,6 +81,11 @@ def build_small(compiler: Compiler, program: Program, flags: Sequence[str], is_r
     command = compiler.cxx if program.is_cpp else compiler.name
     words = [CXX if program.is_cpp else CC] if is_recorded else [command]
     words += [*flags, f"{TESTS}/{program.source}", "-o", path]
+    if program.has_library:
+        library = f"{path}.so"
+        plain = ["-O2", ALIGNED[compiler.name], "-fno-builtin", "-fPIC", "-shared", "-DLIBRARY"]
+        build([command, *plain, f"{TESTS}/{program.source}", "-o", library], ".")
+        words.append(library)
     build(words, ".", **{"ASANCOL_CXX" if program.is_cpp else "ASANCOL_CC": command})
 
 
@@ -86,7 +100,9 @@ def make(compiler: Compiler, program: Program, way: str, folder: str) -> str:
     """Builds a program and returns its path. The two ways of a recorded one share a build."""
     is_recorded, is_sanitized = way in ("recorded", "off"), way == "sanitizer"
     flags = ["-O2", ALIGNED[compiler.name]] + (["-fsanitize=address"] if is_sanitized else [])
-    name = program.name if program.is_real else program.source
+    if program.finds_returns and is_recorded:
+        flags.append("-fsanitize-address-use-after-return=runtime")
+    name = program.name if program.is_real or program.finds_returns else program.source
     base = f"{folder}/{name}.{compiler}.{'recorded' if is_recorded else way}"
     path = f"{base}/src/{program.source}" if program.is_real else base
     if not os.path.exists(path):
@@ -97,17 +113,21 @@ def make(compiler: Compiler, program: Program, way: str, folder: str) -> str:
     return path
 
 
-def measure_run(path: str, words: Sequence[str], way: str, folder: str) -> Cost:
+def measure_run(path: str, program: Program, words: Sequence[str], way: str, folder: str) -> Cost:
     """Runs a program once, with the libraries that were built beside it."""
-    settings = {"ASAN_OPTIONS": "detect_leaks=0", "LD_LIBRARY_PATH": os.path.dirname(path)}
+    asked = {"detect_leaks": program.has_leaks, "detect_stack_use_after_return": program.finds_returns}
+    options = ":".join(f"{name}={int(value)}" for name, value in asked.items())
+    settings = {"ASAN_OPTIONS": f"{options}:exitcode=0", "LD_LIBRARY_PATH": os.path.dirname(path)}
     if way == "recorded":
         settings["ASANCOL_TRACE"] = f"{folder}/%p.trace"
+        if program.has_leaks:
+            settings.update(ASANCOL_WHERE="1", ASANCOL_LEAKS="1")
     with open(os.devnull, "wb") as nothing:
         process = subprocess.Popen([path, *words], stdout=nothing, cwd=folder, env=environment(**settings))
         _, status, usage = os.wait4(process.pid, 0)
     process.returncode = status
     for name in os.listdir(folder):
-        if name.endswith(".trace"):
+        if name.endswith((".trace", ".where")):
             os.unlink(f"{folder}/{name}")
     if status:
         raise Failure(f"{path} {' '.join(words)}: wait status {status}")
@@ -115,7 +135,7 @@ def measure_run(path: str, words: Sequence[str], way: str, folder: str) -> Cost:
 
 
 def measure(path: str, program: Program, way: str, folder: str) -> Cost:
-    costs = [measure_run(path, words, way, folder) for words in program.runs]
+    costs = [measure_run(path, program, words, way, folder) for words in program.runs]
     return Cost(sum(it.seconds for it in costs), max(it.megabytes for it in costs))
 
 

@@ -1,8 +1,10 @@
 """The ways in which builds call a compiler: each stands here with the wrapper in the compiler's place."""
 
+import os
+import re
 import shutil
 
-from support import CC, Failure, HELPER, PAST_THE_END, build, expect, one_mark, run, write
+from support import CC, CXX, Failure, HELPER, PAST_THE_END, build, expect, noted, one_mark, reports, run, write
 
 
 class Builder:
@@ -12,9 +14,9 @@ class Builder:
         self.suite, self.folder, self.compiler = suite, folder, compiler
         write(folder, main_c=PAST_THE_END, helper_c=HELPER)
 
-    def cc(self, *words, stdin=None, warning=None):
+    def cc(self, *words, stdin=None, warning=None, command=None):
         """Runs the wrapper, which gives this warning and no other, and returns what it prints."""
-        made = run([CC, *words], self.folder, stdin=stdin, ASANCOL_CC=self.compiler.name)
+        made = run([CC, *words], self.folder, stdin=stdin, ASANCOL_CC=command or self.compiler.name)
         if made.returncode != 0:
             raise Failure(f"{words}: {made.stderr.decode()}")
         wanted = f"asancol-cc: warning: {warning}\n" if warning else ""
@@ -71,6 +73,10 @@ def check_inputs(suite, folder, compiler):
     made.link("-DVALUE=1", "-x", "c", "helper.txt", "-x", "none", "main.o")
     made.cc("-x", "c", "-", "-c", "-o", "in.o", stdin=HELPER.replace("VALUE", "3").encode())
     made.link("-DVALUE=1", "main.c", "-x", "c", "helper.txt")
+    # It is linked twice if it is stripped, or has a variable with the name of a function.
+    standard = (HELPER.replace("VALUE", "1") + "int read = 1;\n").encode()
+    made.link("-w", "main.c", "-x", "c", "-", "-s", stdin=standard)
+    made.link("-w", "main.c", "-x", "c", "/dev/stdin", stdin=standard)
     write(folder, a_rsp="-c -DVALUE='1' helper.c -o 'helper two.o'\n", b_rsp="main.o \"helper two.o\" -o program\n")
     made.cc("@a.rsp")
     made.cc("@b.rsp")
@@ -88,13 +94,43 @@ def check_shared_object(suite, folder, compiler):
     expect(run(["./plain"], folder).returncode, 0, "a plain program with such an object")
 
 
+SUM = """
+#include <limits.h>
+int main(int count, char **words) { (void)words; volatile int sum = INT_MAX; sum += count; return 0; }
+"""
+
+# Words that leave checks out.
+LACKING = {
+    "gcc": [
+        "--param asan-stack=0",
+        "--param=asan-stack=0",
+        "--param asan-globals=0",
+        "--param=asan-instrument-reads=0",
+        "--param asan-instrument-writes=0",
+        "--param asan-instrument-allocas=0",
+        "--param asan-memintrin=0",
+    ],
+    "clang": [
+        "-mllvm -asan-stack=0",
+        "-mllvm --asan-stack=false",
+        "-mllvm -asan-globals=0",
+        "-mllvm -asan-instrument-reads=false",
+        "-mllvm -asan-instrument-writes=0",
+        "-mllvm -asan-instrument-atomics=0",
+        "-mllvm -asan-instrument-byval=0",
+        "-mllvm -asan-instrument-dynamic-allocas=0",
+        "-Xclang -mllvm -Xclang -asan-instrument-reads=0",
+    ],
+}
+
+
 def check_options(suite, folder, compiler):
     """Other kinds of programs, all warnings, and the sanitizer of what is undefined."""
     made = Builder(suite, folder, compiler)
     both = ("-DVALUE=1", "main.c", "helper.c")
     for flags in (["-no-pie"], ["-O2", "-D_FORTIFY_SOURCE=2"], ["-std=c99", "-pedantic-errors"]):
         made.link(*flags, *both)
-    made.link("-static", *both, warning="-static: calls of the C library, as memcpy and strlen, are not recorded")
+    made.link("-static", *both)
     if compiler.name != "clang":
         made.link("-O2", "-flto", *both)
     elif shutil.which("ld.lld"):
@@ -104,6 +140,65 @@ def check_options(suite, folder, compiler):
     made.cc("-std=c89", "-Wall", "-Wpedantic", "-Werror", *everything, "sound.c", "-o", "sound")
     if run([compiler.name, "-fsanitize=undefined", "sound.c", "-o", "undefined"], folder).returncode == 0:
         made.link("-fsanitize=undefined", *both)
+
+
+def check_no_recovery(suite, folder, compiler):
+    """-fno-sanitize-recover=all, often beside -fsanitize=undefined: a bad access does not end the process, and what is
+    undefined does, as it says."""
+    made = Builder(suite, folder, compiler)
+    both = ("-DVALUE=1", "main.c", "helper.c")
+    made.link("-fno-sanitize-recover=all", *both)
+    made.link("-fno-sanitize-recover=address,undefined", "-O2", *both)
+    if compiler.name != "clang":
+        flags = ("-O2", "-flto", "-fno-sanitize-recover=all")
+        made.cc(*flags, "-c", *both)
+        made.link(*flags, "main.o", "helper.o")
+    made.link("-fno-sanitize-recover=all", "--asancol-all", *both)
+    write(folder, sum_c=SUM)
+    if run([compiler.name, "-fsanitize=undefined", "sum.c", "-o", "undefined"], folder).returncode != 0:
+        return
+    for recovery, status in (("-fno-sanitize-recover=all", 1), ("-fno-sanitize-recover=undefined", 1),
+                             ("-fsanitize-recover=all", 0)):
+        made.link("-fsanitize=undefined", recovery, *both)
+        made.cc("-fsanitize=undefined", recovery, "sum.c", "-o", "sum")
+        ran = run(["./sum"], folder)
+        expect((ran.returncode, b"signed integer overflow" in ran.stderr), (status, True), recovery)
+
+
+LOST = """
+volatile int sink;
+__attribute__((noinline)) int bug(int i) { int *p = new int[4]; return p[i]; }
+int main(int count, char **) { sink = bug(4 * count); }
+"""
+
+
+def check_new(suite, folder, compiler):
+    """A read past what `new` has returned: no optimisation takes it away. No source, of any kind, gets a word for that
+    of which the compiler says that it does not use it."""
+    write(folder, lost_cpp=LOST, sound_c="int main(void) { return 0; }\n", code_s='.section .note.GNU-stack,""\n')
+    settings = {"ASANCOL_CC": compiler.name, "ASANCOL_CXX": compiler.cxx}
+    for flags in (["-O0"], ["-O1"], ["-O2"], ["-O3"], ["-O2", "--asancol-all"]):
+        build([CXX, "-Werror", *flags, "lost.cpp", "-o", "lost"], folder, **settings)
+        build(["./lost"], folder, ASANCOL_TRACE="lost.trace")
+        status, said, _ = reports(suite.asancol, f"{folder}/lost.trace")
+        expect((status, said), (1, ["load 4 +16 heap-buffer-overflow"]), f"{flags}")
+        os.unlink(f"{folder}/lost.trace")
+    made = Builder(suite, folder, compiler)
+    for words in (["-c", "code.s"], ["sound.c", "code.s"], ["-x", "c++", "lost.cpp", "-c"], ["-E", "sound.c"],
+                  ["-M", "sound.c"], ["-fsyntax-only", "sound.c"], ["-c", "sound.c"], ["sound.o", "-o", "sound"]):
+        made.cc("-Werror", *words)
+
+
+def check_lacking_checks(suite, folder, compiler):
+    """Words that take some of the checks away are let through, and said. The last one holds."""
+    made = Builder(suite, folder, compiler)
+    write(folder, words_rsp=f"{LACKING[compiler.name][0]}\n")
+    text = "what is compiled with this lacks checks: what they would find is not recorded"
+    for words in LACKING[compiler.name]:
+        named = words.replace("--param=", "--param ").replace("-Xclang ", "")
+        made.cc("-c", "-DVALUE=1", "helper.c", *words.split(), warning=f"{named}: {text}")
+        made.link("-DVALUE=1", "main.c", "helper.c", *words.replace("=0", "=1").replace("false", "true").split())
+    made.cc("-c", "-DVALUE=1", "helper.c", "@words.rsp", warning=f"{LACKING[compiler.name][0]}: {text}")
 
 
 def check_languages(suite, folder, compiler):
@@ -122,8 +217,8 @@ def check_languages(suite, folder, compiler):
     made.cc("-c", "-x", "cpp-output", "helper.i", "-o", "helper.o")
     made.link("main.o", "helper.o")
     write(folder, one_S="#define NAME one\n.globl NAME\nNAME: ret\n.section .note.GNU-stack,\"\",@progbits\n")
-    warning = "not recorded, since asancol-cc did not compile it: one.S"
-    made.link("-DVALUE=1", "main.c", "helper.c", "one.S", warning=warning)
+    made.link("-DVALUE=1", "main.c", "helper.c", "one.S")
+    expect(noted(f"{folder}/program"), ["one.S"], "what was not compiled")
 
 
 def check_passed_on(suite, folder, compiler):
@@ -134,17 +229,152 @@ def check_passed_on(suite, folder, compiler):
     ours = run([CC, "-v"], folder, ASANCOL_CC=compiler.name)
     theirs = run([compiler.name, "-v"], folder)
     expect((ours.returncode, ours.stderr.splitlines()[-1]), (0, theirs.stderr.splitlines()[-1]), "-v")
+    made.link("-DVALUE=1", "main.c", "helper.c")
+    before = os.stat(f"{folder}/program").st_mtime_ns
+    write(folder, other_c="int main(void) { return 0; }\n")
+    ours = run([CC, "-###", "other.c", "-o", "program"], folder, ASANCOL_CC=compiler.name)
+    expect((ours.returncode, b"libasancol_record.a" in ours.stderr), (0, True), "-###")
+    expect(os.stat(f"{folder}/program").st_mtime_ns, before, "what was there before -###")
     write(folder, bad_c="int main(void) { return nothing; }\n")
     theirs = run([compiler.name, "-c", "bad.c"], folder)
     ours = run([CC, "-c", "bad.c"], folder, ASANCOL_CC=compiler.name)
     expect((ours.returncode, ours.stderr), (theirs.returncode, theirs.stderr), "an error")
 
 
+def script(folder, path, text):
+    os.makedirs(os.path.dirname(f"{folder}/{path}"), exist_ok=True)
+    with open(f"{folder}/{path}", "w", encoding="utf-8") as file:
+        file.write(f"#!/bin/sh\n{text}\n")
+    os.chmod(f"{folder}/{path}", 0o755)
+    return f"{folder}/{path}"
+
+
+def check_kinds(suite, folder, compiler):
+    """The compiler says which it is, and no name does: neither that of a script or a folder, nor a word of the line."""
+    made = Builder(suite, folder, compiler)
+    name, other = compiler.name, "gcc" if compiler.name == "clang" else "clang"
+    commands = [
+        f"env A=1 {name}",
+        f"{name} -B/usr/lib/{other}",
+        script(folder, f"bin/{other}", f'exec {name} "$@"'),
+        f"{os.path.realpath(shutil.which(name))} -O1",
+    ]
+    if name == "clang":
+        commands.append("clang --driver-mode=g++ -x c")
+    if shutil.which("ccache"):
+        commands.append(f"ccache {name}")
+    for command in commands:
+        made.link("-DVALUE=1", "main.c", "helper.c", command=command)
+    # Words of the compiler's own are looked at too.
+    foreign = ["-c", "-DVALUE=1", "helper.c"]
+    made.cc(*foreign, command=f"{name} -m32", warning="-m32: with this nothing is recorded")
+    warning = "-fsanitize=thread: take it out: with this nothing is recorded"
+    made.cc(*foreign, command=f"{name} -fsanitize=thread", warning=warning)
+    if name == "clang":
+        made.cc(*foreign, "-fsanitize=safe-stack", warning=warning.replace("thread", "safe-stack"))
+    unknown = script(folder, "unknown", f'[ "$1" = --version ] || exec {name} "$@"')
+    warning = f"{unknown}: neither GCC nor Clang by its --version: what it compiles is not recorded"
+    made.cc("-c", "main.c", command=unknown, warning=warning)
+
+
+# What the wrapper is called, to what that leads, and for which language it is then.
+CALLED = (
+    ("asancol-cc", CC, "C"),
+    ("asancol-c++", CC, "C++"),
+    ("cc", CC, "C"),
+    ("g++", CC, "C++"),
+    ("clang++-15", CC, "C++"),
+    ("x86_64-linux-gnu-asancol-cc-14.2", CXX, "C"),
+    ("x86_64-linux-gnu-asancol-c++-14.2", CC, "C++"),
+    ("compiler", CC, "C"),
+    ("cxx", CXX, "C++"),
+    ("first", "second", "C++"),
+    ("second", "asancol-c++", "C++"),
+    ("round", "round-about", None),
+)
+
+
+def check_names(suite, folder, compiler):
+    """Its name says for which language it is: first that by which it was called, and then those along the links."""
+    settings = {"ASANCOL_CC": "echo C", "ASANCOL_CXX": "echo C++", "PATH": f"{folder}/bin:{os.environ['PATH']}"}
+    os.mkdir(f"{folder}/bin")
+    for name, target, _ in CALLED:
+        os.symlink(target, f"{folder}/bin/{name}")
+    for name, _, language in CALLED:
+        for word in filter(lambda _, language=language: language, (name, f"bin/{name}", f"{folder}/bin/{name}")):
+            expect(run([word, "--version"], folder, **settings).stdout.decode(), f"{language} --version\n", word)
+    shutil.copy(CC, f"{folder}/g++")
+    expect(run(["./g++", "--version"], folder, **settings).stdout, b"C++ --version\n", "a copy")
+    said = run(["g++", "a.cc"], folder, **{**settings, "ASANCOL_CXX": "no-such-one"}).stderr.decode()
+    expect(said, "asancol-c++: error: no-such-one: there is no such compiler\n", "what it calls itself")
+
+
+OWN_WRAP = """
+#include <unistd.h>
+ssize_t __real_read(int, void *, size_t);
+ssize_t __wrap_read(int file, void *to, size_t count) { return file == 77 ? 5 : __real_read(file, to, count); }
+int helper(char *p) { if (read(77, p, 8) == 5) ((volatile char *)p)[8] = 1; return 0; }
+"""
+
+
+def check_own_wrap(suite, folder, compiler):
+    """A program that wraps a function which the recorder wraps too, as tests do: its own is called, by each linker."""
+    made = Builder(suite, folder, compiler)
+    write(folder, wrap_c=OWN_WRAP)
+    for linker in filter(lambda it: shutil.which(f"ld.{it}"), ("bfd", "gold", "lld", "mold")):
+        for asked in ("-Wl,--wrap=read", "-Wl,--wrap,read"):
+            made.link(f"-fuse-ld={linker}", "main.c", "wrap.c", asked)
+        if linker == "mold":
+            continue  # it keeps no sign of which symbol was weak
+        ran = run([CC, f"-fuse-ld={linker}", "main.c", "wrap.c"], folder, ASANCOL_CC=compiler.name)
+        said = ran.stderr.decode().partition(":")[2].split(":")[:2]
+        expect((ran.returncode, said), (1, [" error", " __wrap_read"]), "without --wrap it would be called")
+
+
+def check_own_options(suite, folder, compiler):
+    """Options in the place of variables, which ccache does not see."""
+    made = Builder(suite, folder, compiler)
+    made.cc("-S", "-DVALUE=1", "helper.c", "--asancol-all", f"--asancol-compiler={compiler.name}",
+            command="no-such-one")
+    expect("__asan_store1_noabort" in made.text_of("helper.s"), True, "a call before each access")
+
+
+def check_ccache(suite, folder, compiler):
+    """Before the compiler it sees all, and before the wrapper the wrapper's options: each gives another object."""
+    made = Builder(suite, folder, compiler)
+    words = ["-c", "-DVALUE=1", "helper.c", "-o", "helper.o"]
+    setting = f"--asancol-compiler={compiler.name}"
+    forms = {
+        "inside": ([CC], {"ASANCOL_CC": f"ccache {compiler.name}"}, [CC], {"ASANCOL_ALL": "1"}),
+        "outside": (["ccache", CC, setting], {}, ["ccache", CC, setting, "--asancol-all"], {}),
+    }
+    for name, (inline, settings, every, more) in forms.items():
+        cache = {"CCACHE_DIR": f"{folder}/{name}", **settings}
+        for command, added, call in ((inline, {}, "__asan_report_"), (every, more, "__asan_store1_noabort")) * 2:
+            build([*command, *words], folder, **cache, **added)
+            undefined = run(["nm", "-u", "helper.o"], folder).stdout.decode()
+            expect(call in undefined, True, f"{name}: {undefined}")
+        said = run(["ccache", "--print-stats"], folder, **cache).stdout.decode()
+        expect(re.findall(r"(?:direct|preprocessed)_cache_hit\t(\d+)", said).count("2"), 1, f"{name}: {said}")
+    made.link("main.c", "helper.o")
+
+
 def tests(suite, compiler):
+    if shutil.which("ccache"):
+        suite.test(f"{compiler} builds: ccache", check_ccache, compiler)
+    else:
+        print("left out: ccache is not there")
+    suite.test(f"{compiler} builds: kinds", check_kinds, compiler)
+    suite.test(f"{compiler} builds: names", check_names, compiler)
+    suite.test(f"{compiler} builds: own wrap", check_own_wrap, compiler)
+    suite.test(f"{compiler} builds: own options", check_own_options, compiler)
     suite.test(f"{compiler} builds: objects", check_objects, compiler)
     suite.test(f"{compiler} builds: texts", check_texts, compiler)
     suite.test(f"{compiler} builds: inputs", check_inputs, compiler)
     suite.test(f"{compiler} builds: shared object", check_shared_object, compiler)
     suite.test(f"{compiler} builds: options", check_options, compiler)
     suite.test(f"{compiler} builds: languages", check_languages, compiler)
+    suite.test(f"{compiler} builds: no recovery", check_no_recovery, compiler)
+    suite.test(f"{compiler} builds: new", check_new, compiler)
+    suite.test(f"{compiler} builds: lacking checks", check_lacking_checks, compiler)
     suite.test(f"{compiler} builds: passed on", check_passed_on, compiler)

@@ -25,6 +25,7 @@
 #include <regex.h>
 #include <sched.h>
 #include <semaphore.h>
+#include <setjmp.h>
 #include <signal.h>
 #include <stdarg.h>
 #include <stdint.h>
@@ -62,10 +63,11 @@
 #include <wchar.h>
 #include <wordexp.h>
 
-#define ANY ((size_t)-1)
+#define ANY any
 #define WIDE(p) ((wchar_t *)(void *)(p))
 
 static char room[1 << 16];
+static size_t any = (size_t)-1; /* a room that a function of _FORTIFY_SOURCE is told of */
 static char text[] = "abcdefghijklmnopqrstuvwxyz";
 static char *nothing[] = {NULL};
 static int zero, null, hello, pair[2];
@@ -187,6 +189,15 @@ static pid_t ended(void)
     return child;
 }
 
+/* Any child, of which one has not ended: it waits for the end of this process. */
+static pid_t running(void)
+{
+    static FILE *input;
+    if (input == NULL && (input = popen("cat", "w")) == NULL)
+        exit(9);
+    return -1;
+}
+
 /* A signal that waits, in its set. */
 static sigset_t *waiting(void)
 {
@@ -196,6 +207,12 @@ static sigset_t *waiting(void)
     sigprocmask(SIG_BLOCK, &set, NULL);
     raise(SIGUSR1);
     return &set;
+}
+
+static sigset_t *waiting_in(char *p)
+{
+    *(volatile long *)p = *(const long *)waiting();
+    return (sigset_t *)p;
 }
 
 static regex_t *pattern(void)

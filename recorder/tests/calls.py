@@ -1,12 +1,14 @@
 """Tests of calls of the C library: each row of calls.def used well and with a block that is one byte too short."""
 
 import glob
+import grp
 import os
 import pwd
 import re
 from typing import Dict, List, NamedTuple, Sequence, Set, Tuple, Union
 
-from support import RECORDER, TESTS, Compiler, Suite, Trace, expect, placed, reports, run, side_of, write
+from support import RECORDER, TESTS, Compiler, Suite, Trace, expect, leave_out, placed, reports, run, side_of, write
+from testing.side import GLOBAL, NO_VARIABLE, OF_STACK
 
 ROW = re.compile(r"^(CALL|NO_RESULT|(?:WIDE_)?(?:PRINT|SCAN)|LOG|MESSAGE)\((.*?)\)(?=\n(?! )|\Z)", re.M | re.S)
 
@@ -72,11 +74,17 @@ Use = Tuple[Union[str, bytes, int], str]
 ADDRESS = "(struct sockaddr *)p"
 # As the C library keeps the line of root, with a zero at its end.
 LENGTH_OF_ROOT = len(":".join(map(str, pwd.getpwuid(0)))) + 1
+# Likewise the line of its group, and after that, at a multiple of 8, the addresses of its members.
+GROUP_OF_ROOT = grp.getgrgid(0)
+LENGTH_OF_GROUP = len(":".join(map(str, GROUP_OF_ROOT[:3]))) + 1 + len(",".join(GROUP_OF_ROOT.gr_mem)) + 1
+LENGTH_OF_GROUP = (LENGTH_OF_GROUP + 7) // 8 * 8 + 8 * (len(GROUP_OF_ROOT.gr_mem) + 1)
 
 USES: Dict[str, Sequence[Use]] = {
     # Memory.
     "memcpy": [(8, "p, text, 8"), (8, "room, p, 8")],
+    "memmove": [(8, "p, text, 8"), (8, "room, p, 8")],
     "__memcpy_chk": [(8, "p, text, 8, ANY"), (8, "room, p, 8, ANY")],
+    "__memmove_chk": [(8, "p, text, 8, ANY"), (8, "room, p, 8, ANY")],
     "memccpy": [(8, "p, text, 'h', 20"), ("abcdefg", "room, p, 0, 20")],
     "memset": [(8, "p, 1, 8")],
     "__memset_chk": [(8, "p, 1, 8, ANY")],
@@ -88,7 +96,7 @@ USES: Dict[str, Sequence[Use]] = {
     "memchr": [(8, "p, 'a', 8"), ("abcdefg", "p, 0, 20")],
     "memrchr": [(8, "p, 'a', 8")],
     "rawmemchr": [("abcdefg", "p, 0")],
-    "memmem": [(8, "p, 8, text, 2"), (8, "room, 20, p, 8")],
+    "memmem": [(8, "p, 8, text, 2"), ("abcdefg", "p, 8, text, 2"), (8, "room, 20, p, 8")],
     # Strings.
     "strlen": [("abcdefg", "p")],
     "strnlen": [("abcdefg", "p, 20"), ("abcdefgh", "p, 9")],
@@ -182,6 +190,8 @@ USES: Dict[str, Sequence[Use]] = {
     "wcsxfrm_l": [(wide("abc"), "WIDE(room), WIDE(p), 20, latin_locale()"),
                   (16, 'WIDE(p), L"abc", 4, latin_locale()')],
     "wmemcpy": [(16, "WIDE(room), WIDE(p), 4"), (16, "WIDE(p), WIDE(room), 4")],
+    "wmemmove": [(16, "WIDE(room), WIDE(p), 4"), (16, "WIDE(p), WIDE(room), 4")],
+    "__wmemmove_chk": [(16, "WIDE(room), WIDE(p), 4, ANY"), (16, "WIDE(p), WIDE(room), 4, ANY")],
     "__wmemcpy_chk": [(16, "WIDE(room), WIDE(p), 4, ANY"), (16, "WIDE(p), WIDE(room), 4, ANY")],
     "wmemset": [(16, "WIDE(p), 'a', 4")],
     "__wmemset_chk": [(16, "WIDE(p), 'a', 4, ANY")],
@@ -194,22 +204,41 @@ USES: Dict[str, Sequence[Use]] = {
     "__mbstowcs_chk": [(16, 'WIDE(p), "abc", 20, ANY')],
     "wcstombs": [(4, 'p, L"abc", 20')],
     "__wcstombs_chk": [(4, 'p, L"abc", 20, ANY')],
-    "mbsrtowcs": [(16, "WIDE(p), (const char **)address_of(\"abc\"), 20, state()")],
-    "__mbsrtowcs_chk": [(16, "WIDE(p), (const char **)address_of(\"abc\"), 20, state(), ANY")],
-    "wcsrtombs": [(4, "p, (const wchar_t **)address_of(L\"abc\"), 20, state()")],
-    "__wcsrtombs_chk": [(4, "p, (const wchar_t **)address_of(L\"abc\"), 20, state(), ANY")],
-    "mbsnrtowcs": [(16, "WIDE(p), (const char **)address_of(\"abc\"), 20, 20, state()")],
-    "__mbsnrtowcs_chk": [(16, "WIDE(p), (const char **)address_of(\"abc\"), 20, 20, state(), ANY")],
-    "wcsnrtombs": [(4, "p, (const wchar_t **)address_of(L\"abc\"), 20, 20, state()")],
-    "__wcsnrtombs_chk": [(4, "p, (const wchar_t **)address_of(L\"abc\"), 20, 20, state(), ANY")],
+    "mbsrtowcs": [(16, "WIDE(p), (const char **)address_of(\"abc\"), 20, state()"),
+                 (8, 'WIDE(room), (const char **)address_of("abc"), 20, p')],
+    "__mbsrtowcs_chk": [(16, "WIDE(p), (const char **)address_of(\"abc\"), 20, state(), ANY"),
+                       (8, 'WIDE(room), (const char **)address_of("abc"), 20, p, ANY')],
+    "wcsrtombs": [(4, "p, (const wchar_t **)address_of(L\"abc\"), 20, state()"),
+                 (8, 'room, (const wchar_t **)address_of(L"abc"), 20, p')],
+    "__wcsrtombs_chk": [(4, "p, (const wchar_t **)address_of(L\"abc\"), 20, state(), ANY"),
+                       (8, 'room, (const wchar_t **)address_of(L"abc"), 20, p, ANY')],
+    "mbsnrtowcs": [(16, "WIDE(p), (const char **)address_of(\"abc\"), 20, 20, state()"),
+                  ("abc", "WIDE(room), (const char **)address_of(p), 20, 20, state()"),
+                  ("ab", "NULL, (const char **)address_of(p), 3, 20, state()"),
+                  (8, 'WIDE(room), (const char **)address_of("abc"), 20, 20, p')],
+    "__mbsnrtowcs_chk": [(16, "WIDE(p), (const char **)address_of(\"abc\"), 20, 20, state(), ANY"),
+                        ("abc", "WIDE(room), (const char **)address_of(p), 20, 20, state(), ANY"),
+                        (8, 'WIDE(room), (const char **)address_of("abc"), 20, 20, p, ANY')],
+    "wcsnrtombs": [(4, "p, (const wchar_t **)address_of(L\"abc\"), 20, 20, state()"),
+                  (wide("abc"), "room, (const wchar_t **)address_of(p), 20, 20, state()"),
+                  (8, 'room, (const wchar_t **)address_of(L"abc"), 20, 20, p')],
+    "__wcsnrtombs_chk": [(4, "p, (const wchar_t **)address_of(L\"abc\"), 20, 20, state(), ANY"),
+                        (wide("abc"), "room, (const wchar_t **)address_of(p), 20, 20, state(), ANY"),
+                        (8, 'room, (const wchar_t **)address_of(L"abc"), 20, 20, p, ANY')],
     "mbtowc": [(4, 'WIDE(p), "abc", 3')],
-    "mbrtowc": [(4, 'WIDE(p), "abc", 3, state()')],
+    "mbrtowc": [(4, 'WIDE(p), "abc", 3, state()'),
+               (8, 'WIDE(room), "abc", 3, p')],
     "wctomb": [(2, "p + 1, 'a'")],
     "__wctomb_chk": [(2, "p + 1, 'a', ANY")],
-    "wcrtomb": [(2, "p + 1, 'a', state()")],
-    "__wcrtomb_chk": [(2, "p + 1, 'a', state(), ANY")],
+    "wcrtomb": [(2, "p + 1, 'a', state()"),
+               (8, "room, 'a', p")],
+    "__wcrtomb_chk": [(2, "p + 1, 'a', state(), ANY"),
+                     (8, "room, 'a', p, ANY")],
     "iconv": [(8, "latin(), address_of(text), size_of(8), address_of(p), size_of(8)"),
-              ("abcdefgh", "latin(), address_of(p), size_of(9), address_of(room), size_of(20)")],
+              ("abcdefgh", "latin(), address_of(p), size_of(9), address_of(room), size_of(20)"),
+             (8, "latin(), address_of(text), (size_t *)p, address_of(room), size_of(8)"),
+             (8, "latin(), address_of(text), size_of(8), address_of(room), (size_t *)p"),
+             (8, "latin(), (char **)p, size_of(0), address_of(room), size_of(8)")],
     # Descriptors.
     "read": [(8, "zero, p, 8")],
     "__read_chk": [(8, "zero, p, 8, ANY")],
@@ -233,7 +262,8 @@ USES: Dict[str, Sequence[Use]] = {
     "pipe2": [(8, "(int *)p, 0")],
     "poll": [(8, "(struct pollfd *)p, 1, 0")],
     "__poll_chk": [(8, "(struct pollfd *)p, 1, 0, ANY")],
-    "ppoll": [(8, "(struct pollfd *)p, 1, zeros(), NULL"), (16, "NULL, 0, (struct timespec *)p, NULL")],
+    "ppoll": [(8, "(struct pollfd *)p, 1, zeros(), NULL"), (16, "NULL, 0, (struct timespec *)p, NULL"),
+             (128, "NULL, 0, zeros(), (sigset_t *)p")],
     "__ppoll_chk": [(8, "(struct pollfd *)p, 1, zeros(), NULL, ANY")],
     "select": [(8, "3, p, NULL, NULL, zeros()"), (16, "0, NULL, NULL, NULL, (struct timeval *)p")],
     "pselect": [(8, "3, p, NULL, NULL, zeros(), NULL")],
@@ -253,11 +283,12 @@ USES: Dict[str, Sequence[Use]] = {
     "recvfrom": [(8, "filled(), p, 8, 0, NULL, NULL")],
     "__recvfrom_chk": [(8, "filled(), p, 8, ANY, 0, NULL, NULL")],
     "recvmsg": [(8, "filled(), message(p, 8), 0")],
-    "recvmmsg": [(8, "filled(), messages(p, 8), 1, 0, NULL")],
+    "recvmmsg": [(8, "filled(), messages(p, 8), 1, 0, NULL"),
+                (16, "filled(), messages(room, 8), 1, 0, (struct timespec *)p")],
     "send": [(8, "filled(), p, 8, 0")],
     "sendto": [(8, "filled(), p, 8, 0, NULL, 0")],
     "sendmsg": [(8, "filled(), message(p, 8), 0")],
-    "sendmmsg": [(64, "filled(), (struct mmsghdr *)p, 1, 0")],
+    "sendmmsg": [(64, "filled(), (struct mmsghdr *)p, 1, 0"), (8, "filled(), messages(p, 8), 1, 0")],
     "bind": [(110, f"pair[0], {ADDRESS}, 110")],
     "accept": [(2, f"connected(), {ADDRESS}, (socklen_t *)size_of(16)"),
                (4, "connected(), (struct sockaddr *)room, (socklen_t *)p")],
@@ -293,7 +324,8 @@ USES: Dict[str, Sequence[Use]] = {
     "fmemopen": [("r", "room, 8, p")],
     "open_memstream": [(8, "(char **)p, (size_t *)room"), (8, "(char **)room, (size_t *)p")],
     "open_wmemstream": [(8, "(wchar_t **)p, (size_t *)room")],
-    "getmntent_r": [(40, 'stream("a b c d 0 0\\n"), (struct mntent *)p, room, 99')],
+    "getmntent_r": [(40, 'stream("a b c d 0 0\\n"), (struct mntent *)p, room, 99'),
+                   (8, 'stream("a b c d 0 0\\n"), (struct mntent *)room, p, 99')],
     "setbuf": [(8192, "fdopen(dup(null), \"r\"), p")],
     "setbuffer": [(64, "fdopen(dup(null), \"r\"), p, 64")],
     "setvbuf": [(64, "fdopen(dup(null), \"r\"), p, _IOFBF, 64")],
@@ -385,13 +417,18 @@ USES: Dict[str, Sequence[Use]] = {
     "strptime": [("%Y", '"2000", p, (struct tm *)room'), (56, '"2000", "%Y", (struct tm *)p')],
     # Processes, users and the system.
     "wait": [(4, "(ended(), (int *)p)")],
-    "waitpid": [(4, "ended(), (int *)p, 0")],
-    "wait3": [(4, "(ended(), (int *)p), 0, NULL"), (144, "(ended(), NULL), 0, (struct rusage *)p")],
-    "wait4": [(4, "ended(), (int *)p, 0, NULL"), (144, "ended(), NULL, 0, (struct rusage *)p")],
+    "waitpid": [(4, "ended(), (int *)p, 0"), (4, "running(), (int *)p, WNOHANG")],
+    "wait3": [(4, "(ended(), (int *)p), 0, NULL"), (4, "(running(), (int *)p), WNOHANG, NULL"),
+              (144, "(ended(), NULL), 0, (struct rusage *)p")],
+    "wait4": [(4, "ended(), (int *)p, 0, NULL"), (144, "running(), NULL, WNOHANG, (struct rusage *)p"),
+              (144, "ended(), NULL, 0, (struct rusage *)p")],
     "waitid": [(128, "P_PID, (id_t)ended(), (siginfo_t *)p, WEXITED")],
-    "sigwait": [(4, "waiting(), (int *)p")],
-    "sigwaitinfo": [(128, "waiting(), (siginfo_t *)p")],
-    "sigtimedwait": [(128, "waiting(), (siginfo_t *)p, NULL"), (16, "waiting(), NULL, (struct timespec *)p")],
+    "sigwait": [(4, "waiting(), (int *)p"),
+               (128, "waiting_in(p), (int *)room")],
+    "sigwaitinfo": [(128, "waiting(), (siginfo_t *)p"),
+                   (128, "waiting_in(p), (siginfo_t *)room")],
+    "sigtimedwait": [(128, "waiting(), (siginfo_t *)p, NULL"), (16, "waiting(), NULL, (struct timespec *)p"),
+                    (128, "waiting_in(p), (siginfo_t *)room, NULL")],
     "sigaltstack": [(24, "NULL, (stack_t *)p")],
     "sigemptyset": [(128, "(sigset_t *)p")],
     "sigandset": [(128, "(sigset_t *)p, zeros(), zeros()"), (128, "(sigset_t *)room, (sigset_t *)p, zeros()"),
@@ -399,7 +436,10 @@ USES: Dict[str, Sequence[Use]] = {
     "sigprocmask": [(128, "SIG_BLOCK, (sigset_t *)p, NULL"), (128, "SIG_BLOCK, NULL, (sigset_t *)p")],
     "system": [("true", "p")],
     "posix_spawn": [("/no", "(pid_t *)room, p, NULL, NULL, nothing, nothing"),
-                    (4, '(pid_t *)p, "/bin/true", NULL, NULL, nothing, nothing')],
+                    (4, '(pid_t *)p, "/bin/true", NULL, NULL, nothing, nothing'),
+                   (8, '(pid_t *)room, "/bin/true", NULL, NULL, (char **)p, nothing'),
+                   (8, '(pid_t *)room, "/bin/true", NULL, NULL, nothing, (char **)p'),
+                   ("abc", '(pid_t *)room, "/bin/true", NULL, NULL, (char *[]){p, NULL}, nothing')],
     "getenv": [("HOME", "p")],
     "setenv": [("HOME", 'p, "/", 0'), ("/", '"HOME", p, 0')],
     "unsetenv": [("NOTHING", "p")],
@@ -445,7 +485,7 @@ USES: Dict[str, Sequence[Use]] = {
     "pututxline": [(384, "no_accounts((struct utmpx *)p)")],
     "getgrnam_r": [("root", "p, (struct group *)room, room + 99, 999, (struct group **)room")],
     "getgrgid_r": [(32, "0, (struct group *)p, room + 99, 999, (struct group **)room"),
-                   (5, "0, (struct group *)(room + 8), p, 999, (struct group **)room")],
+                   (LENGTH_OF_GROUP, "0, (struct group *)(room + 8), p, 999, (struct group **)room")],
     "getgrent_r": [(32, "(struct group *)p, room + 99, 999, (struct group **)room")],
     "fgetgrent_r": [(32, 'fopen("/etc/group", "r"), (struct group *)p, room + 99, 999, (struct group **)room')],
     # Threads.
@@ -481,14 +521,17 @@ USES: Dict[str, Sequence[Use]] = {
     "gethostbyname2": [("127.0.0.1", "p, AF_INET")],
     "gethostbyname_r": [("127.0.0.1", "p, (struct hostent *)room, room + 99, 999, (struct hostent **)room, "
                                       "(int *)room"),
-                        (32, '"127.0.0.1", (struct hostent *)p, room + 99, 999, (struct hostent **)room, (int *)room')],
+                        (32, '"127.0.0.1", (struct hostent *)p, room + 99, 999, (struct hostent **)room, (int *)room'),
+                        (4, '"127.0.0.1", (struct hostent *)room, room + 99, 999, found(), (int *)p')],
     "gethostbyname2_r": [("127.0.0.1", "p, AF_INET, (struct hostent *)room, room + 99, 999, (struct hostent **)room, "
-                                       "(int *)room")],
+                                       "(int *)room"),
+                        (4, '"127.0.0.1", AF_INET, (struct hostent *)room, room + 99, 999, found(), (int *)p')],
     "gethostbyaddr": [(4, "p, 4, AF_UNSPEC")],
     "gethostbyaddr_r": [(4, "p, 4, AF_UNSPEC, (struct hostent *)room, room + 99, 999, (struct hostent **)room, "
                             "(int *)room")],
     "gethostent_r": [(32, "(struct hostent *)p, room + 99, 999, (struct hostent **)found(), (int *)room"),
-                     (8, "(struct hostent *)room, room + 99, 999, (struct hostent **)p, (int *)room")],
+                     (8, "(struct hostent *)room, room + 99, 999, (struct hostent **)p, (int *)room"),
+                    (4, "(struct hostent *)room, room + 99, 999, (struct hostent **)found(), (int *)p")],
     "getnetbyname": [("loopback", "p")],
     "getnetbyname_r": [("loopback", "p, (struct netent *)room, room + 99, 999, (struct netent **)found(), (int *)room"),
                        (24, '"loopback", (struct netent *)p, room + 99, 999, (struct netent **)found(), (int *)room')],
@@ -559,11 +602,13 @@ USES: Dict[str, Sequence[Use]] = {
     "fscanf": [(4, 'stream("12"), "%d", p'), (8, 'stream("12"), "%ld", p'), (4, 'stream("abc d"), "%s", p'),
                (2, 'stream("12"), "%hd", p'), (8, 'stream("1.5"), "%lf", p'), (4, 'stream("7 abc"), "%*d %[a-c]", p'),
                (3, 'stream("abcdef"), "%3c", p'), (16, 'stream("abc"), "%ls", p'), (8, 'stream("abc"), "%ms", p')],
-    "sscanf": [("12 ", 'p, "%d", (int *)room'), (4, '"12", "%d", p'), (4, '"1 abc 3", "%d %s %d", room, p, room + 9')],
+    "sscanf": [("12 ", 'p, "%d", (int *)room'), (4, '"12 x", "%d %n%d", room, p, room'), (4, '"", " %n%d", p, room'),
+               (4, '"12", "%d", p'), (4, '"1 abc 3", "%d %s %d", room, p, room + 9')],
     "wscanf": [(4, 'after_wide_input("12", L"%d"), p')],
     "fwscanf": [(4, 'stream("12"), L"%d", p'), (4, 'stream("abc d"), L"%s", p'), (16, 'stream("abc"), L"%ls", p'),
                 (4, 'stream("7 abc"), L"%*d %[a-c]", p')],
-    "swscanf": [(wide("12 "), 'WIDE(p), L"%d", (int *)room'), (4, 'L"1 abc 3", L"%d %s %d", room, p, room + 9')],
+    "swscanf": [(wide("12 "), 'WIDE(p), L"%d", (int *)room'), (4, 'L"12 x", L"%d %n%d", room, p, room'),
+                (4, 'L"1 abc 3", L"%d %s %d", room, p, room + 9')],
 }
 # They end the process.
 ENDING = ("err", "errx")
@@ -578,16 +623,25 @@ struct use {
     const char *holds;
     size_t size;
     int ends;
+    unsigned unit; /* of the room that the C library is told of, or 0 if it is told none */
 };
 static const struct use uses[] = {
 %s
 };
-/* How many bytes less each block has; and with another word that use alone, which may end the process. */
+static sigjmp_buf next;
+static void go_on(int number)
+{
+    siglongjmp(next, number);
+}
+/* How many bytes less each block has, of which the C library knows then; and with another word that use alone, which
+   may end the process. */
 int main(int count, char **words)
 {
+    static volatile size_t i;
     size_t less = words[1][0] - '0';
     prepare();
-    for (size_t i = 0; i < sizeof uses / sizeof *uses; i++) {
+    signal(SIGABRT, go_on);
+    for (i = 0; i < sizeof uses / sizeof *uses; i++) {
         if (count > 2 ? i != (size_t)atoi(words[2]) : uses[i].ends)
             continue;
         size_t size = uses[i].size - less;
@@ -595,7 +649,9 @@ int main(int count, char **words)
         for (size_t j = 0; j < size; j++)
             ((volatile char *)p)[j] = uses[i].holds[j];
         is_left_out = 0;
-        uses[i].run(p);
+        any = less > 0 && uses[i].unit > 0 ? size / uses[i].unit : (size_t)-1;
+        if (sigsetjmp(next, 1) == 0)
+            uses[i].run(p);
         if (is_left_out)
             printf("\\nleft out %%zu\\n", i);
         fflush(stdout);
@@ -614,6 +670,11 @@ def holds(use: Use) -> bytes:
     if isinstance(held, int):
         return bytes(held)
     return held if isinstance(held, bytes) else held.encode() + b"\0"
+
+
+def unit_of(use: Use) -> int:
+    """In which units the room of the block is counted if it is an argument; or 0."""
+    return 0 if "ANY" not in use[1] or "room" in use[1] else 4 if "WIDE(" in use[1] else 1
 
 
 def declared(result: str, name: str, parameters: str) -> str:
@@ -658,7 +719,8 @@ def source_of(names: Sequence[str]) -> Tuple[str, Dict[str, str]]:
                 shared = with_list(row, form) if form.startswith("list_") else ""
                 lines.append(f"{shared}static void use_{number}(char *p) {{ {apart(number)} {form}({use[1]}); }}")
                 entries.append(
-                    f"    {{use_{number}, {quoted(holds(use))}, {len(holds(use))}, {int(name in ENDING)}}},"
+                    f"    {{use_{number}, {quoted(holds(use))}, {len(holds(use))}, {int(name in ENDING)}, "
+                    f"{unit_of(use)}}},"
                 )
                 tried[f"calls.c:{number}"] = f"{row.rest[0] if shared else name}({use[1]})"
     return "\n".join(lines) + MAIN % "\n".join(entries), tried
@@ -676,7 +738,8 @@ def found_by(suite: Suite, folder: str, less: int, alone: Sequence[int]) -> Tupl
     for words in [[], *([str(number)] for number in alone)]:
         trace = f"{folder}/calls.trace"
         ran = run(["./calls", str(less), *words], folder, ASANCOL_TRACE=trace, ASANCOL_WHERE="1")
-        expect((ran.returncode, Trace(trace).is_closed), (0, True), f"status, and the close, of {less} {words}")
+        end = reports(suite.asancol, trace)[2]
+        expect((ran.returncode, end.split()[0]), (0, "closed"), f"status, and the fate, of {less} {words}")
         lines |= {it.line for it in placed(suite.asancol, trace)[0]}
         left_out |= {int(number) for number in re.findall(rb"^left out (\d+)$", ran.stdout, re.M)}
         os.unlink(trace)
@@ -697,9 +760,56 @@ def check_rows(suite: Suite, folder: str, compiler: Compiler, level: str) -> Non
     found, numbers = found_by(suite, folder, 1, ending)
     left_out = {list(tried)[number] for number in numbers}
     for line in left_out:
-        print(f"left out: {tried[line]} needs what this system does not have")
+        leave_out(f"{tried[line]} needs what this system does not have")
     expect([tried[line] for line in tried if line not in found | left_out], [], "what is not found")
     expect(found - set(tried), set(), "other lines")
+
+
+# What a call does first is looked at first here, and by AddressSanitizer after the call; or it reads more of a text
+# than the call may have read.
+OTHER_ACCESSES = {"sendmmsg", "mbsnrtowcs", "wcsnrtombs"}
+PLACE = re.compile(r"is located (\d+) bytes (to the right of|to the left of|inside of) (\d+)-byte region")
+
+
+def first_by_sanitizer(folder: str, ending: Sequence[int]) -> Dict[str, Tuple[str, int]]:
+    """What AddressSanitizer says first of each line: a load or a store, and the first bad byte."""
+    found: Dict[str, Tuple[str, int]] = {}
+    options = "detect_leaks=0:halt_on_error=0:suppress_equal_pcs=0:handle_abort=0:alloc_dealloc_mismatch=0"
+    for words in [[], *([str(number)] for number in ending)]:
+        ran = run(["./sanitized", "1", *words], folder, ASAN_OPTIONS=options)
+        expect(ran.returncode, 0, f"status with AddressSanitizer, {words}")
+        for text in re.split(r"^={65}$", ran.stderr.decode(errors="replace"), flags=re.M):
+            kind, line = re.search(r"^(READ|WRITE) of size", text, re.M), re.search(r"/(calls\.c:\d+)", text)
+            place = PLACE.search(text)
+            if kind and line and place:
+                distance, side, size = int(place.group(1)), place.group(2), int(place.group(3))
+                at = {"to the right of": size + distance, "to the left of": -distance, "inside of": distance}[side]
+                found.setdefault(line.group(1), ("load" if kind.group(1) == "READ" else "store", at))
+    return found
+
+
+def check_rows_beside(suite: Suite, folder: str, compiler: Compiler) -> None:
+    """With one byte less, what AddressSanitizer finds is found, as the same kind of access and at the same byte."""
+    source, tried = source_of(names_there())
+    write(folder, calls_c=source)
+    flags = ["-w", "-O0", "-fno-builtin", "-lm"]
+    compiler.c(folder, ["calls.c"], f"{folder}/calls", *flags)
+    compiler.c(folder, ["calls.c"], f"{folder}/sanitized", *flags, "-fsanitize=address", "-fsanitize-recover=address",
+               native=True)
+    ending = [number for number, use in enumerate(tried.values()) if use.split("(")[0] in ENDING_FORMS]
+    found: Dict[str, Tuple[str, int]] = {}
+    for words in [[], *([str(number)] for number in ending)]:
+        run(["./calls", "1", *words], folder, ASANCOL_TRACE="calls.trace", ASANCOL_WHERE="1")
+        _, texts, _ = reports(suite.asancol, f"{folder}/calls.trace", most=1 << 20)
+        for it, text in zip(placed(suite.asancol, f"{folder}/calls.trace")[0], texts):
+            places = [int(word) for word in text.split() if word[0] in "+-"]
+            found.setdefault(it.line, (it.kind, places[-1] if places else -1))
+        os.unlink(f"{folder}/calls.trace")
+    wanted = first_by_sanitizer(folder, ending)
+    expect(len(wanted) > 300, True, "that AddressSanitizer finds many")
+    other = {tried[line]: (found.get(line), it) for line,
+             it in wanted.items() if line in tried and found.get(line) != it}
+    expect({use: it for use, it in other.items() if use.split("(")[0] not in OTHER_ACCESSES}, {}, "other accesses")
 
 
 def check_all_tried(suite: Suite, folder: str) -> None:
@@ -735,7 +845,7 @@ def lines_of_stacks(module: str, stacks: Dict[str, List[int]]) -> Dict[str, List
 def faults_of(path: str) -> List[int]:
     """Where the faults of a trace are in its program."""
     side = side_of(path)
-    return [fault.place - side.module(fault.place)[1] for fault in side.faults]
+    return [fault.place[0] - side.module(fault.place[0])[1] for fault in side.faults()]
 
 
 FRAME = re.compile(r"^ +#\d+ 0x[0-9a-f]+ +(?:in \S+ +)?\((\S+)\+0x([0-9a-f]+)\)", re.M)
@@ -778,6 +888,37 @@ def check_common_bugs(suite: Suite, folder: str, compiler: Compiler, flags: Sequ
         said = lines_by_sanitizer(folder, f"{folder}/sanitized", list(wanted), "common_bugs.c")
         other = {name: said.get(name) for name, line in wanted.items() if said.get(name) != line}
         expect(other, dict.fromkeys(FOUND_HERE_ALONE), "other lines by AddressSanitizer")
+
+
+def check_fortified(suite: Suite, folder: str, compiler: Compiler, flags: Sequence[str]) -> None:
+    """Each overflow has its report at its line, though the C library ends the process there, and nothing else has."""
+    source = f"{TESTS}/fortified.c"
+    compiler.c(folder, [source], f"{folder}/fortified", "-w", *flags)
+    with open(source, encoding="ascii") as file:
+        lines = list(enumerate(file, 1))
+    wanted = {f"fortified.c:{number}": line.strip() for number, line in lines if line.startswith("USES(")}
+    for words in ([], ["good"]):
+        trace = f"{folder}/fortified{len(words)}.trace"
+        ran = run(["./fortified", *words], folder, ASANCOL_TRACE=trace, ASANCOL_WHERE="1")
+        expect((ran.returncode, Trace(trace).is_closed), (0, True), f"status, and the close: {words}")
+        found: Dict[str, List[int]] = {}
+        side = side_of(trace)
+        for line, fault in zip(innermost(f"{folder}/fortified", faults_of(trace)), side.faults()):
+            found.setdefault(line, []).append(fault.variable)
+        good = dict.fromkeys(wanted, 0) if words else {}
+        seen = {it: sorted(set(found.get(name, []))) for name, it in wanted.items()}
+        expect(set(found) - set(wanted), set(), "other lines")
+        missed = {it: kinds for it, kinds in seen.items() if kinds != ([] if good else [NO_VARIABLE, OF_STACK, GLOBAL])}
+        expect(missed, {}, f"the memory of the reports of each line: {words}")
+        fewer = [wanted[name] for name, kinds in found.items() if kinds.count(NO_VARIABLE) < 2]
+        expect(fewer, [], "lines without a report of both blocks")
+        ended = ran.stderr.count(b"buffer overflow detected")
+        expect(ended > 0, not words, "that the C library ends the process")
+    ran = run(["./fortified", "dies"], folder, ASANCOL_TRACE="dies.trace", ASANCOL_WHERE="1")
+    _, texts, end = reports(suite.asancol, f"{folder}/dies.trace")
+    expect((ran.returncode, end.split()[0]), (-6, "no-close"), "if nobody handles its end")
+    overflow = ["store 8 +8 bad +12 heap-buffer-overflow", "store 4 +16 heap-buffer-overflow"]
+    expect(texts, overflow, "what was recorded before")
 
 
 def check_good_calls(suite: Suite, folder: str, compiler: Compiler, flags: Sequence[str]) -> None:
@@ -925,9 +1066,13 @@ FORTIFIED = ["-O2", "-D_FORTIFY_SOURCE=2"]
 def tests(suite: Suite, compiler: Compiler) -> None:
     for level in ("-O0", "-O2"):
         suite.test(f"{compiler} calls, each row {level}", check_rows, compiler, level)
+    if compiler.has_sanitizer:
+        suite.test(f"{compiler} calls, each row beside AddressSanitizer", check_rows_beside, compiler)
     suite.test(f"{compiler} calls, all rows tried", check_all_tried)
     for flags in (["-O0"], ["-O2"], FORTIFIED):
         suite.test(f"{compiler} calls, common bugs {' '.join(flags)}", check_common_bugs, compiler, flags)
+    for flags in (["-O1", "-D_FORTIFY_SOURCE=1"], FORTIFIED, ["-O2", "-D_FORTIFY_SOURCE=3"]):
+        suite.test(f"{compiler} calls, fortified {' '.join(flags)}", check_fortified, compiler, flags)
     for flags in (["-O0"], ["-O2"], FORTIFIED, ["-no-pie", "-fno-pie"], ["-static"]):
         suite.test(f"{compiler} calls, good ones {' '.join(flags)}", check_good_calls, compiler, flags)
     suite.test(f"{compiler} calls, own names", check_own_names, compiler)

@@ -9,32 +9,37 @@ import re
 import sys
 from typing import Dict, List
 
-TESTS = os.path.dirname(os.path.abspath(__file__))
-sys.path.insert(0, TESTS)
+sys.path.insert(0, f"{os.path.dirname(os.path.realpath(__file__))}/../..")  # where `testing` is
 
-from calls import Row, rows, split  # noqa: E402
+from calls import Row, rows, split
+from support import RECORDER
 
 HEAD = """# Calls of the C library
 
 What the recorder records of a call, as loads and stores at the place of the call
-([RECORDER.md](RECORDER.md#what-is-recorded)). If all of it is good, that is nothing. The table is made from
+([RECORDER.md](RECORDER.md#what-is-recorded)). If all of it is good, that is nothing. Calls that [libraries
+make](RECORDER.md#plain-libraries) count as the program's own, but for those of mathematics. The table is made from
 [calls.def](../recorder/calls/calls.def), by `recorder/tests/calls_page.py`.
 
 A name that the C library at hand does not have is left out when the recorder is built. Names that begin with `__` are
 those that headers put in the place of a function: `__..._chk` with `_FORTIFY_SOURCE`, `__isoc99_` and `__isoc23_` by
-the standard of C. What is read and written after the call counts as far as the result says. What goes out is looked at
-before the call and recorded after it.
+the standard of C. At the former the C library ends the process if there is less room than a call may take: what the
+call would write is recorded before that. What is read and written after the call counts as far as the result says:
+conditions are about that. What goes out is looked at before the call and recorded after it.
 """
 
 CONDITIONS = {
-    "GOT": "if the result is above 0",
-    "DONE": "if the result is 0",
-    "result": "if there is a result",
-    "result >= 0": "if the result is not negative",
+    "GOT": "if it is above 0",
+    "DONE": "if it is 0",
+    "result": "if there is one",
+    "result >= 0": "if it is not negative",
 }
 
 # What a word with its arguments means, {0} being the first.
 MEANINGS = {
+    "APART": "the two must not overlap",
+    "APART_OR_SAME": "the two must not overlap, unless they are the same",
+    "APART_WITHIN": "the two must not overlap",
     "READS_FIRST": "reads the first byte of {0}",
     "READS_STRING": "reads the string {0}",
     "WRITES_STRING": "writes the string {0}",
@@ -47,9 +52,10 @@ MEANINGS = {
     "SENT": "has read the first {1} bytes of {0}",
     "SENT_PIECES": "has read the first {2} bytes of the pieces",
     "ALLOCATED": "what it allocates is its caller's malloc",
-    "APPENDS": "reads both strings up to their ends, {1} by at most {2} bytes, and writes from the end of {0} on",
+    "APPENDS": "reads both strings up to their ends, {1} by at most {2} bytes, and writes from the end of {0} on; "
+    "what is written must not overlap {1}",
     "WIDE_APPENDS": "reads both strings up to their ends, {1} by at most {2} letters, "
-    "and writes from the end of {0} on",
+    "and writes from the end of {0} on; what is written must not overlap {1}",
     "COMPARES": "reads both strings up to the first difference, at most {2} bytes",
     "COMPARES_FOLDED": "reads both strings up to the first difference, at most {2} bytes",
     "WIDE_COMPARES": "reads both strings up to the first difference, at most {2} letters",
@@ -58,16 +64,29 @@ MEANINGS = {
     "READS_DIGITS": "reads the number and the byte after it",
     "READS_REAL": "reads the number and the byte after it",
     "READS_MESSAGE": "reads the head of the message, its list of pieces, its address and its control data",
+    "SENT_MESSAGES": "has read the pieces of the first {1} messages, up to one with a bad byte",
     "WRITES_MESSAGE": "writes the pieces, the address and the control data of the message",
     "ROOM": "reads `*{0}`",
     "WRITES_ADDRESS": "writes {0}, as far as `*{1}` says and there was room",
     "READS_SET": "reads the set {0}",
-    "WRITES_FOUND": "writes {1}, and {0} and its name if something was found",
+    "READS_FILES": "reads what {0} asks for",
+    "WRITES_FILES": "if it is not negative, writes what {0} answers",
+    "READS_DATE": "reads the date {0}",
+    "READS_STATE": "reads `*{0}`",
+    "READS_TO": "reads `*{1}`, as far as the call has come",
+    "READS_LIST": "reads the strings {0}",
+    "WRITES_MOUNT": "writes {0} and its strings",
+    "WRITES_FOUND": "writes {1}, and {0}, its name and aliases if something was found",
+    "WRITES_GROUP": "writes {1}, and {0} and its strings if something was found",
+    "WRITES_HOST": "writes {1}, and {0}, its names and addresses if something was found",
     "WRITES_USER": "writes {1}, and {0} and its strings if something was found",
     "READS_REQUEST": "reads what the request takes, of the requests that are in calls.c",
     "WRITES_REQUEST": "writes what the request gives, of these",
 }
-SILENT = ("ALLOCATES", "SENDS", "SENDS_PIECES")
+SILENT = """
+ALLOCATES BEGINS BEGINS_LINE ENDS_LINE FITS FITS_ARRAY HAS_BEGUN NAMES_THREAD PRINTS_WITHIN SENDS SENDS_MESSAGES
+SENDS_PIECES
+""".split()
 
 
 def code(text: str) -> str:
@@ -101,14 +120,17 @@ def statement(text: str) -> str:
     text = text.strip()
     word, _, rest = text.partition("(")
     arguments = split(rest[:-1]) if rest else []
-    if word in SILENT or re.match(r"(size_t|char \*|wchar_t \*|socklen_t)", text):
+    if word in SILENT or re.match(r"(size_t|(const )?(char|wchar_t) \*|socklen_t)", text):
         return ""
+    if word == "MOVES":
+        to, start, size = arguments
+        return f"{bytes_of('reads', start, size)}; {bytes_of('writes', to, size)}"
     if word in ("READS", "WRITES"):
         return bytes_of(word.lower(), arguments[0], arguments[1])
     if word in ("READS_ARRAY", "WRITES_ARRAY") and "wcslen" in arguments[1]:
         return bytes_of(word.partition("_")[0].lower(), arguments[0], arguments[1])
     if word in MEANINGS:
-        shown = [code(it) if word != "ROOM" else it for it in arguments]
+        shown = [code(it) if word not in ("ROOM", "READS_STATE", "READS_TO") else it for it in arguments]
         if word == "WRITES_ADDRESS":
             shown[1] = arguments[1]
         said = MEANINGS[word].format(*shown)
@@ -201,4 +223,4 @@ def page(path: str) -> str:
 
 
 if __name__ == "__main__":
-    sys.stdout.write(page(os.path.join(os.path.dirname(TESTS), "calls", "calls.def")))
+    sys.stdout.write(page(f"{RECORDER}/calls/calls.def"))

@@ -104,6 +104,22 @@ TEST(load_in_the_redzone, "load 1 +39 heap-buffer-overflow", "redzones")
     LOAD(char, p + 39);
     drop(p);
 }
+
+/* Where no block ever was. */
+#define FAR(name, expected) TEST(name, expected, "class")
+FAR(far_past_the_end, "store 4 use-after-poison") { int *p = block(100 * sizeof *p); STORE(int, p + 111); }
+FAR(far_before_the_start, "store 4 use-after-poison") { int *p = block(100 * sizeof *p); STORE(int, p - 50); }
+FAR(far_past_a_large_block, "store 1 use-after-poison") { char *p = block(100000); STORE(char, p + 102000); }
+FAR(far_before_a_large_block, "load 1 use-after-poison") { char *p = block(100000); LOAD(char, p - 2000); }
+FAR(structure_in_a_small_block, "store 8 +8 heap-buffer-overflow; store 8 +16 heap-buffer-overflow; "
+    "store 8 +24 heap-buffer-overflow; store 8 +32 heap-buffer-overflow; store 8 use-after-poison")
+{
+    struct structure {
+        long words[6];
+    } *p = block(8), value = {{1}};
+    *p = *hide(&value);
+}
+
 FAULT(past_a_large_block, "store 1 +100000 heap-buffer-overflow")
 {
     char *p = block(100000);

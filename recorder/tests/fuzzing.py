@@ -5,7 +5,7 @@ import os
 import shutil
 from typing import List
 
-from support import CC, TESTS, Compiler, Suite, build, expect, limited, reports, run, write
+from support import CC, TESTS, Compiler, Suite, build, expect, leave_out, limited, reports, run, write
 
 # What ends the process, and the class of its one report.
 FAULTS = {
@@ -170,14 +170,14 @@ def has_libfuzzer(compiler: Compiler, folder: str) -> bool:
     return run([compiler.name, "-fsanitize=fuzzer", "fuzz.c", "-o", "fuzz"], folder).returncode == 0
 
 
-def tests(suite: Suite, compiler: Compiler, folder: str) -> None:
+def tests(suite: Suite, compiler: Compiler) -> None:
     for level, flags in (("-O0", []), ("-O2", []), ("-O1", ["-static"])):
-        program = f"{folder}/halts-{compiler}{level}"
-        compiler.c(folder, [f"{TESTS}/halts.c"], program, level, "-w", "-pthread", *flags)
+        words = [level, "-w", "-pthread", *flags]
+        program = suite.built(compiler.c, [f"{TESTS}/halts.c"], f"halts-{compiler}{level}", *words)
         for name, wrong in FAULTS.items():
             if not flags or name != "by_function":  # in a static program no function is wrapped
                 suite.test(f"{compiler} halt {level} {name}", check_fault, program, name, wrong)
-    program = f"{folder}/halts-{compiler}-O0"
+    program = suite.programs[f"{suite.folder}/halts-{compiler}-O0"]
     for name, check in (
         ("nothing", check_nothing),
         ("child", check_child),
@@ -189,13 +189,13 @@ def tests(suite: Suite, compiler: Compiler, folder: str) -> None:
         suite.test(f"{compiler} halt {name}", check, program)
     if compiler.name != "clang":
         return
-    if has_libfuzzer(compiler, folder):
+    if has_libfuzzer(compiler, suite.folder):
         suite.test(f"{compiler} libFuzzer", check_libfuzzer, compiler, False)
         if compiler.cxx:
             suite.test(f"{compiler} libFuzzer c++", check_libfuzzer, compiler, True)
     else:
-        print("left out: libFuzzer is not there")
+        leave_out("libFuzzer is not there")
     if shutil.which("afl-clang-fast") and shutil.which("afl-fuzz"):
         suite.test(f"{compiler} AFL++", check_afl, compiler)
     else:
-        print("left out: AFL++ is not there")
+        leave_out("AFL++ is not there")

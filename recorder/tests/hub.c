@@ -5,7 +5,10 @@
 #include <errno.h>
 #include <fcntl.h>
 #include <pthread.h>
+#include <setjmp.h>
 #include <signal.h>
+#include <stdbool.h>
+#include <stdint.h>
 #include <stdio.h>
 #include <stdlib.h>
 #include <string.h>
@@ -462,6 +465,127 @@ static void uses_up_stack(void)
     uses_up(0);
 }
 
+static void *uses_up_here(void *unused)
+{
+    (void)unused;
+    uses_up(0);
+    return NULL;
+}
+
+/* In a thread, with a stack of this size, or one that the program gives it; 0: as usual. */
+static void uses_up_in_thread(size_t size, void *stack)
+{
+    pthread_attr_t settings;
+    pthread_t thread;
+    if (pthread_attr_init(&settings) != 0
+        || (stack == NULL && size != 0 && pthread_attr_setstacksize(&settings, size) != 0)
+        || (stack != NULL && pthread_attr_setstack(&settings, stack, size) != 0)
+        || pthread_create(&thread, &settings, uses_up_here, NULL) != 0)
+        fail("a thread");
+    pthread_join(thread, NULL);
+}
+
+static void uses_up_second(void)
+{
+    uses_up_in_thread(0, NULL);
+}
+
+static void uses_up_small(void)
+{
+    uses_up_in_thread(1 << 16, NULL);
+}
+
+static void uses_up_own(void)
+{
+    enum { SIZE = 1 << 18, GUARD = 1 << 16 };
+    char *stack = mmap(NULL, GUARD + SIZE, PROT_READ | PROT_WRITE, MAP_PRIVATE | MAP_ANONYMOUS, -1, 0);
+    if (stack == MAP_FAILED || mprotect(stack, GUARD, PROT_NONE) != 0)
+        fail("a stack");
+    uses_up_in_thread(SIZE, stack + GUARD);
+}
+
+/* A handler of the program's, on the stack that it has given the thread, or on the one that the thread has. */
+
+static char own_room[1 << 16];
+
+static void ends_well(int number)
+{
+    char here;
+    bool is_on_own = (uintptr_t)&here - (uintptr_t)own_room < sizeof own_room;
+    _exit(number == SIGSEGV ? 7 + is_on_own : 6);
+}
+
+static void *gives_itself_a_stack(void *unused)
+{
+    stack_t own = {.ss_sp = own_room, .ss_size = sizeof own_room}, seen;
+    if (sigaltstack(&own, NULL) != 0 || sigaltstack(NULL, &seen) != 0 || seen.ss_sp != own_room)
+        fail("a stack for handlers");
+    return uses_up_here(unused);
+}
+
+static void handles_used_up(void *run(void *))
+{
+    struct sigaction action = {.sa_handler = ends_well, .sa_flags = SA_ONSTACK};
+    pthread_t thread;
+    if (sigaction(SIGSEGV, &action, NULL) != 0 || pthread_create(&thread, NULL, run, NULL) != 0)
+        fail("a thread");
+    pthread_join(thread, NULL);
+}
+
+static void handles_on_given(void)
+{
+    handles_used_up(uses_up_here);
+}
+
+static void handles_on_own(void)
+{
+    handles_used_up(gives_itself_a_stack);
+}
+
+/* Handlers that leave their frames, by threads of which each has the stack of the one before for its handlers. */
+
+static _Thread_local sigjmp_buf before_signal;
+
+__attribute__((noinline)) static void jumps_over(int depth)
+{
+    volatile char room[40];
+    for (size_t i = 0; i < sizeof room; i++)
+        room[i] = 1;
+    if (depth > 0)
+        jumps_over(depth - 1);
+    else
+        siglongjmp(before_signal, room[3]);
+}
+
+static void jumps_away(int number)
+{
+    volatile char room[200];
+    for (size_t i = 0; i < sizeof room; i++)
+        room[i] = 1;
+    jumps_over(number == SIGUSR1 ? 5 : 9);
+}
+
+static void *is_signalled(void *number)
+{
+    for (int i = 0; i < 3; i++)
+        if (sigsetjmp(before_signal, 1) == 0)
+            raise(*(const int *)number);
+    return NULL;
+}
+
+static void jumps_in_threads(void)
+{
+    struct sigaction action = {.sa_handler = jumps_away, .sa_flags = SA_ONSTACK};
+    static int numbers[] = {SIGUSR1, SIGUSR2};
+    if (sigaction(SIGUSR1, &action, NULL) != 0 || sigaction(SIGUSR2, &action, NULL) != 0)
+        fail("handlers");
+    for (int i = 0; i < 20; i++) {
+        pthread_t thread;
+        if (pthread_create(&thread, NULL, is_signalled, &numbers[i % 2]) != 0 || pthread_join(thread, NULL) != 0)
+            fail("a thread");
+    }
+}
+
 static void ends_by__exit(void)
 {
     put(make(8), 8);
@@ -626,6 +750,22 @@ static void changes_root(void)
     wait_for(child);
 }
 
+/* Leaves a list of what is mapped, with what of it a core has, and where two texts are; and then the core. */
+static void leaves_a_core(void)
+{
+    char text[4096], on_stack[32], *on_heap = make(32);
+    int from = open("/proc/self/smaps", O_RDONLY), to = open("mapped", O_WRONLY | O_CREAT | O_TRUNC, 0600);
+    ssize_t length;
+    put(on_heap, 32);
+    snprintf(on_heap, 32, "on-the-heap-%d", (int)getpid());
+    snprintf(on_stack, sizeof on_stack, "on-the-stack-%d", (int)getpid());
+    while ((length = read(from, text, sizeof text)) > 0)
+        if (write(to, text, (size_t)length) != length)
+            fail("mapped");
+    dprintf(to, "at %zx %zx\n", (size_t)on_heap, (size_t)on_stack);
+    abort();
+}
+
 #define NAMED(name)                                                                                                    \
     {                                                                                                                  \
         #name, name                                                                                                    \
@@ -640,12 +780,14 @@ static const struct {
     NAMED(forks_after_fault), NAMED(forks_and_closes), NAMED(vforks_and_closes), NAMED(execs),
     NAMED(execs_true), NAMED(execs_in_vain), NAMED(execs_in_vain_at_limit), NAMED(execs_at_limit),
     NAMED(terminates), NAMED(aborts), NAMED(segfaults), NAMED(segfaults_inside), NAMED(calls_nothing), NAMED(asserts),
-    NAMED(uses_up_stack), NAMED(ends_by__exit), NAMED(many), NAMED(sorts), NAMED(makes_text), NAMED(opens_stream),
+    NAMED(uses_up_stack), NAMED(uses_up_second), NAMED(uses_up_small), NAMED(uses_up_own), NAMED(handles_on_given),
+    NAMED(handles_on_own), NAMED(jumps_in_threads), NAMED(ends_by__exit), NAMED(many), NAMED(sorts), NAMED(makes_text),
+    NAMED(opens_stream),
     NAMED(handles), NAMED(handles_on_other_stack), NAMED(coroutine_of_program), NAMED(coroutine_in_block),
     NAMED(coroutine_in_mapping), NAMED(uses_most_of_stack),
     NAMED(is_killed_after_fault), NAMED(is_killed_after_a_while), NAMED(many_faults), NAMED(closes_all),
     NAMED(keeps_descriptors), NAMED(keeps_errno), NAMED(sleeps), NAMED(threads), NAMED(handlers),
-    NAMED(loads), NAMED(closes_library), NAMED(changes_root),
+    NAMED(loads), NAMED(closes_library), NAMED(changes_root), NAMED(leaves_a_core),
 };
 
 int main(int count, char **words)

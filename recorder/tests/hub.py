@@ -3,8 +3,8 @@ its modules, and its faults with the block or the variable that is nearest."""
 
 import array
 import fcntl
+import glob
 import itertools
-import mmap
 import os
 import re
 import select
@@ -14,34 +14,16 @@ import socket
 import subprocess
 import threading
 import time
+import weakref
 from typing import Dict, List, Optional, Sequence, Tuple
 
+from lives import lives_of
 from support import (
-    EXEC,
-    EXIT,
-    GLOBAL,
-    LOST,
-    NO_ENDING,
-    NO_VARIABLE,
-    OF_STACK,
-    PATIENCE,
-    SIGNAL,
-    TESTS,
-    Compiler,
-    Failure,
-    Fault,
-    Side,
-    Suite,
-    Trace,
-    environment,
-    expect,
-    limited,
-    placed,
-    reports,
-    run,
-    side_of,
+    TESTS, Compiler, Failure, Suite, Trace, environment, expect, leave_out, limited, placed, reports, run, side_of,
     write,
 )
+from testing.programs import PATIENCE
+from testing.side import EXEC, EXIT, GLOBAL, LOST, NO_ENDING, NO_VARIABLE, OF_STACK, SIGNAL, Calls, Fault, Side
 
 # No call becomes a jump, so each has its place.
 FLAGS = ("-w", "-pthread", "-fno-optimize-sibling-calls")
@@ -56,7 +38,7 @@ class Peer:
     def __init__(self, connection: socket.socket) -> None:
         self.connection = connection
         self.data = bytearray()
-        self.memory: Optional[mmap.mmap] = None
+        self.memory: Optional[int] = None
         self.reader = threading.Thread(target=self.read)
         self.reader.start()
 
@@ -66,9 +48,9 @@ class Peer:
         for level, kind, content in ancillary:
             if (level, kind) == (socket.SOL_SOCKET, socket.SCM_RIGHTS):
                 descriptor = array.array("i", content)[0]
-                self.memory = mmap.mmap(descriptor, 0, mmap.MAP_SHARED, mmap.PROT_READ)
                 self.seals = fcntl.fcntl(descriptor, F_GET_SEALS)
-                os.close(descriptor)
+                weakref.finalize(self, os.close, descriptor)
+                self.memory = descriptor
         while more := self.connection.recv(1 << 16):
             self.data += more
         self.connection.close()
@@ -76,7 +58,7 @@ class Peer:
     def side(self) -> Side:
         if self.memory is None:
             raise Failure("no side memory came with the header")
-        return Side(self.memory)
+        return Side(os.dup(self.memory))
 
     def trace(self) -> Trace:
         return Trace(data=self.data)
@@ -146,12 +128,12 @@ def check(suite: Suite, folder: str, peer: Peer) -> Tuple[int, List[str], str]:
 def faults_of(peer: Peer) -> List[Fault]:
     """The faults of all events that have one, one after the other."""
     side = peer.side()
-    return [it for it in map(side.fault, range(1, len(peer.trace().events) + 1)) if it]
+    return [it for it in map(side.fault_at, range(1, len(peer.trace().events) + 1)) if it]
 
 
 def lines_of(side: Side, fault: Fault) -> List[str]:
     """The functions in which the access was made, and its block allocated and freed."""
-    return [name for name, _ in side.lines([it for it in (fault.place, fault.allocated, fault.freed) if it])]
+    return [name for name, _ in side.lines([it[0] for it in (fault.place, fault.allocated, fault.freed) if it])]
 
 
 # Faults.
@@ -175,12 +157,12 @@ def check_blocks(suite: Suite, folder: str, program: str) -> None:
         side, trace = peer.side(), peer.trace()
         found = []
         for number, (_, address, _) in enumerate(trace.events, 1):
-            fault = side.fault(number)
+            fault = side.fault_at(number)
             if fault:
                 expect((fault.variable, fault.name), (NO_VARIABLE, ""), name)
-                found.append((address - fault.block, fault.size, lines_of(side, fault)))
+                found.append((address - fault.block, fault.block_size, lines_of(side, fault)))
         expect(found, wanted, name)
-        expect(side.fault_count, len({side.stack(it.stack) for it in faults_of(peer)}), f"faults of {name}")
+        expect(side.fault_count, len({it.place for it in faults_of(peer)}), f"faults of {name}")
         expect(len(check(suite, folder, peer)[1]), len(wanted), f"reports of {name}")
 
 
@@ -203,11 +185,11 @@ def check_variables(suite: Suite, folder: str, program: str) -> None:
         side, trace = peer.side(), peer.trace()
         found = []
         for number, (_, address, _) in enumerate(trace.events, 1):
-            fault = side.fault(number)
+            fault = side.fault_at(number)
             if not fault:
                 continue
             declared, _, where = fault.name.partition(" ")
-            found.append((fault.variable, declared, fault.size, address - fault.block))
+            found.append((fault.variable, declared, fault.block_size, address - fault.block))
             line = int(where.split(":")[-1]) if where else fault.line
             expect(declared.split(":")[-1] in text[line - 1], True, f"{name}: {declared} at {where} {fault.line}")
             expect(where.startswith(f"{source}:"), fault.variable == GLOBAL, where)
@@ -221,32 +203,31 @@ def check_cpp(suite: Suite, folder: str, compiler: Compiler, level: str) -> None
     compiler.cpp(folder, [f"{TESTS}/hub.cpp"], f"{folder}/program", level, *FLAGS)
     for name, (offset, functions) in CPP_BLOCKS.items():
         peer = one(folder, ["./program", name])
-        (fault,) = faults_of(peer)
-        _, address, _ = peer.trace().events[fault.event - 1]
-        names = [re.search("|".join(functions), it).group() for it in lines_of(peer.side(), fault)[1:]]
-        expect((address - fault.block, fault.size, names), (offset, 16, functions[1:]), name)
+        side, events = peer.side(), peer.trace().events
+        ((address, fault),) = [(at, it) for (_, at, _), it in zip(events,
+                                                                  map(side.fault_at, range(1, len(events) + 1))) if it]
+        names = [re.search("|".join(functions), it).group() for it in lines_of(side, fault)[1:]]
+        expect((address - fault.block, fault.block_size, names), (offset, 16, functions[1:]), name)
     of_namespace = faults_of(one(folder, ["./program", "of_namespace"]))
     names = [re.search(r"([a-z]+)E?$", it.name.split(" ")[0]).group(1) for it in of_namespace]
     expect(names, ["numbers", "kept"], "of a namespace, and static")
     (fault,) = faults_of(one(folder, ["./program", "on_stack"]))
-    expect((fault.variable, fault.name, fault.size), (OF_STACK, "array", 16), "on the stack")
+    expect((fault.variable, fault.name, fault.block_size), (OF_STACK, "array", 16), "on the stack")
 
 
-def fault_tests(suite: Suite, compiler: Compiler, folder: str) -> None:
+def fault_tests(suite: Suite, compiler: Compiler) -> None:
+    source = [f"{TESTS}/hub.c"]
     for level in ("-O0", "-O2"):
-        program = f"{folder}/hub-{compiler}{level}"
-        compiler.c(folder, [f"{TESTS}/hub.c"], program, level, *FLAGS)
+        program = suite.built(compiler.c, source, f"hub-{compiler}{level}", level, *FLAGS)
         suite.test(f"{compiler} {level} hub blocks", check_blocks, program)
         if level == "-O0":
             suite.test(f"{compiler} hub variables", check_variables, program)
         if compiler.cxx:
             suite.test(f"{compiler} {level} hub c++", check_cpp, compiler, level)
             suite.test(f"{compiler} {level} hub stacks of c++", check_cpp_stacks, compiler, level)
-    program = f"{folder}/hub-{compiler}-static"
-    compiler.c(folder, [f"{TESTS}/hub.c"], program, "-O0", *FLAGS, "-static")
+    program = suite.built(compiler.c, source, f"hub-{compiler}-static", "-O0", *FLAGS, "-static")
     suite.test(f"{compiler} hub static blocks", check_blocks, program)
-    program = f"{folder}/hub-{compiler}-every"
-    compiler.c(folder, [f"{TESTS}/hub.c"], program, "-O0", *FLAGS, ASANCOL_ALL="1")
+    program = suite.built(compiler.c, source, f"hub-{compiler}-every", "-O0", *FLAGS, ASANCOL_ALL="1")
     suite.test(f"{compiler} hub with each access", check_blocks, program)
 
 
@@ -258,9 +239,9 @@ def check_head(suite: Suite, folder: str, program: str) -> None:
     before = time.time()
     peer = one(folder, [program, "behind", "", "some word", "w" * 5000], ASANCOL_WHERE="0")
     side = peer.side()
-    expect((side.header, peer.seals & 7), (b"ASWH\3\0\0\0", 7), "its header and its seals")
-    expect(side.data[72:4072].startswith(f"{program}\0behind\0\0some word\0www".encode()), True, "its words")
-    expect(side.data[4069:4072], b"w\0\0", "a word that was cut")
+    expect((side.bytes_at(0, 8), peer.seals & 7), (b"ASWH\5\0\0\0", 7), "its header and its seals")
+    expect(side.bytes_at(72, 4000).startswith(f"{program}\0behind\0\0some word\0www".encode()), True, "its words")
+    expect(side.bytes_at(4069, 3), b"w\0\0", "a word that was cut")
     expect(before - 1 < side.started / 1e9 < time.time() + 1, True, "when it was started")
     expect((side.parent, side.process > 0), (os.getpid(), True), "its numbers")
     events = len(peer.trace().events)
@@ -339,7 +320,7 @@ def check_exec(suite: Suite, folder: str, program: str) -> None:
     expect((len(peers), said), (2, b""), "processes")
     first, second = (peer.side() for peer in peers)
     expect((first.ending, second.ending, first.process), (EXEC, EXIT, second.process), "endings")
-    expect(second.words[:2], [b"hub", b"behind"], "the words of the second")
+    expect(second.words()[:2], ["hub", "behind"], "the words of the second")
     expect([len(check(suite, folder, peer)[1]) for peer in peers], [1, 1], "reports")
 
 
@@ -350,7 +331,8 @@ def check_limit(suite: Suite, folder: str, program: str) -> None:
         peer = one(folder, [program, name], status, **limited(100))
         side = peer.side()
         expect((side.ending, side.is_at_limit, side.events), (ending, 1, 100), name)
-        expect(side.left_out, 300, f"left out of {name}")
+        # The program allocates and frees 200 times, and its first block comes with poison round it.
+        expect(side.left_out, 1 + 400 - 100, f"left out of {name}")
         expect(peer.trace().is_closed, False, "a close")
 
 
@@ -389,16 +371,16 @@ def check_modules(suite: Suite, folder: str, program: str, compiler: Compiler) -
         expect(builds.get(f"{folder}/{name}"), build_id(f"{folder}/{name}"), name)
     expect(any("libc" in name for name in builds), True, f"the C library's: {builds}")
     first, second = faults_of(peer)
-    expect((first.variable, first.name.split()[0], first.size), (GLOBAL, "of_the_library", 16), "its global")
+    expect((first.variable, first.name.split()[0], first.block_size), (GLOBAL, "of_the_library", 16), "its global")
     expect(lines_of(peer.side(), second), ["of_library"] * 2, "its block")
     # Of one that was closed the lines are kept, unless another one lies there now.
     peer = one(folder, ["./program", "closes_library"])
     side = peer.side()
-    if f"{folder}/libhub.so" in [words[5] for words in side.maps if len(words) == 6]:
+    if f"{folder}/libhub.so" in [it.path for it in side.maps]:
         expect(side.builds().get(f"{folder}/libhub.so"), build_id(f"{folder}/libhub.so"), "of the closed library")
         expect(lines_of(side, faults_of(peer)[1]), ["of_library"] * 2, "places in the closed library")
     else:
-        print("left out: another library took the place of the one that was closed")
+        leave_out("another library took the place of the one that was closed")
     names = [fault.name.split()[0] for fault in faults_of(peer) if fault.variable == GLOBAL]
     expect(names, ["of_the_library", "table", "letters", "middle"], "globals after the library was closed")
 
@@ -426,8 +408,8 @@ def check_root(suite: Suite, folder: str, program: str) -> None:
     peers, said = run_under(folder, [program, "changes_root"])
     expect((len(peers), said), (2, b""), "processes")
     side = peers[1].side()
-    expect((side.ending, side.words[0] != b""), (EXIT, True), "the child")
-    expect([fault.size for fault in faults_of(peers[1])], [24], "its fault")
+    expect((side.ending, side.words()[0] != ""), (EXIT, True), "the child")
+    expect([fault.block_size for fault in faults_of(peers[1])], [24], "its fault")
 
 
 def check_fallback(suite: Suite, folder: str, program: str) -> None:
@@ -451,8 +433,8 @@ def check_fallback(suite: Suite, folder: str, program: str) -> None:
 def check_stacks(suite: Suite, folder: str, program: str) -> None:
     """Each place has its callers, also through wrappers of malloc and the C library."""
     side = one(folder, [program, "calls"]).side()
-    places = [(fault.stack, fault.allocated_stack) for fault in side.faults]
-    found = [[[function for function, _ in side.lines(side.stack(it)[:-1])] for it in pair] for pair in places]
+    places = [(fault.place, fault.allocated) for fault in side.faults()]
+    found = [[[function for function, _ in side.lines(it[:-1])] for it in pair] for pair in places]
     wanted = [
         [["put", "inner", "outer", "calls", "main"], ["make", "inner", "outer", "calls", "main"]],
         [["put", "inner", "calls", "main"], ["make", "inner", "calls", "main"]],
@@ -462,9 +444,9 @@ def check_stacks(suite: Suite, folder: str, program: str) -> None:
     expect(found, wanted, "stacks")
 
 
-def own_functions(side: Side, stack: int, program: str) -> List[str]:
+def own_functions(side: Side, calls: Calls, program: str) -> List[str]:
     """The functions of the program's own that a stack has: those with a line in its source."""
-    places = [place for place in side.stack(stack) if side.path(place) == program]
+    places = [place for place in calls if side.path(place) == program]
     return [function for function, line in side.lines(places) if line.startswith("hub.c")]
 
 
@@ -488,8 +470,8 @@ def check_through_libraries(suite: Suite, folder: str, program: str, names: Sequ
     for name in names:
         wanted = THROUGH_LIBRARIES[name]
         side = one(folder, [program, name]).side()
-        found = [tuple(own_functions(side, it, program) for it in (fault.stack, fault.allocated_stack))
-                 for fault in side.faults]
+        found = [tuple(own_functions(side, it, program) for it in (fault.place, fault.allocated))
+                 for fault in side.faults()]
         expect(found, wanted, name)
 
 
@@ -506,8 +488,8 @@ def check_cpp_stacks(suite: Suite, folder: str, compiler: Compiler, level: str) 
     compiler.cpp(folder, [f"{TESTS}/hub.cpp"], f"{folder}/program", level, "-fno-inline", *FLAGS)
     for name, wanted in CPP_STACKS.items():
         side = one(folder, ["./program", name]).side()
-        (fault,) = side.faults
-        functions = own_functions(side, fault.allocated_stack, f"{folder}/program")
+        (fault,) = side.faults()
+        functions = own_functions(side, fault.allocated, f"{folder}/program")
         found = [word for it in functions for word in wanted if word in it]
         expect(found, wanted, f"{name}: {functions}")
 
@@ -516,34 +498,52 @@ def check_stacks_of_handlers(suite: Suite, folder: str, program: str) -> None:
     """A handler that interrupts anything: almost each stack leads from there to main. Not that out of the loader, where
     it looks up a function for its first call."""
     side = one(folder, [program, "handlers"]).side()
-    stacks = [own_functions(side, fault.stack, program) for fault in side.faults]
+    stacks = [own_functions(side, fault.place, program) for fault in side.faults()]
     ticks = [it for it in stacks if it[:2] == ["put", "on_tick"]]
     whole = [it for it in ticks if it[-2:] == ["handlers", "main"]]
     expect(len(whole) > 0 and len(whole) >= 0.9 * len(ticks), True, f"{len(whole)} of {len(ticks)}: {ticks}")
 
 
-# The status, the address that could not be accessed, and the functions.
-LAST: Dict[str, Tuple[int, Optional[int], List[str]]] = {
-    "segfaults": (-11, 16, ["segfaults", "main"]),
-    "segfaults_inside": (-11, 16, ["segfaults_inside", "main"]),
-    "calls_nothing": (-11, 16, ["calls_nothing", "main"]),
-    "asserts": (-6, None, ["asserts", "main"]),
-    "aborts": (-6, None, ["aborts", "main"]),
+# The status, the address that could not be accessed, how, and the functions.
+LAST: Dict[str, Tuple[int, Optional[int], str, List[str]]] = {
+    "segfaults": (-11, 16, "store", ["segfaults", "main"]),
+    "segfaults_inside": (-11, 16, "load", ["segfaults_inside", "main"]),
+    "calls_nothing": (-11, 16, "jump", ["calls_nothing", "main"]),
+    "asserts": (-6, None, "", ["asserts", "main"]),
+    "aborts": (-6, None, "", ["aborts", "main"]),
 }
 
 
 def check_last(suite: Suite, folder: str, program: str) -> None:
     """Where a signal has met a process, also on a stack that is used up."""
-    for name, (status, address, functions) in LAST.items():
+    for name, (status, address, access, functions) in LAST.items():
         side = run_under(folder, [program, name], status)[0][0].side()
-        expect((side.wrong_address, side.stack(side.last_stack)[0]), (address, side.last), name)
-        expect(own_functions(side, side.last_stack, program), functions, f"functions of {name}")
-    side = one(folder, [program, "uses_up_stack"], -11).side()
-    expect({it for it, _ in side.lines(side.stack(side.last_stack))}, {"uses_up"}, "a stack that is used up")
+        last = side.last()
+        expect((last.address, last.access, last.is_stack_used_up), (address, access, False), name)
+        expect(own_functions(side, last.calls, program), functions, f"functions of {name}")
+    for name in ("uses_up_stack", "uses_up_second", "uses_up_small", "uses_up_own"):
+        side = one(folder, [program, name], -11).side()
+        last = side.last()
+        functions = [it for it, _ in side.lines(last.calls)]
+        expect((functions[:10], last.is_stack_used_up), (["uses_up"] * 10, True), name)
     ran = run([program, "segfaults"], folder, ASANCOL_TRACE="t.trace", ASANCOL_WHERE="1")
     side = side_of(f"{folder}/t.trace")
-    expect((ran.returncode, side.wrong_address, len(side.stack(side.last_stack))), (-11, 16, 3), "in a file")
-    expect(one(folder, [program, "terminates"], -15).side().wrong_address, None, "a signal of another process")
+    last = side.last()
+    expect((ran.returncode, last.address, len(last.calls)), (-11, 16, 3), "in a file")
+    expect(one(folder, [program, "terminates"], -15).side().last().address, None, "a signal of another process")
+
+
+def check_handlers_of_threads(suite: Suite, folder: str, program: str) -> None:
+    """A thread has a stack for handlers, unless it gives itself another one. The next thread has nothing of it."""
+    for name, status in (("handles_on_given", 7), ("handles_on_own", 8), ("jumps_in_threads", 0)):
+        for settings in ({}, {"ASANCOL_TRACE": "t.trace"}):
+            if not settings and name == "handles_on_given":
+                continue
+            ran = run([program, name], folder, **settings)
+            expect((ran.returncode, ran.stderr), (status, b""), f"{name} {settings}")
+        _, texts, end = reports(suite.asancol, f"{folder}/t.trace")
+        expect((texts, end.split()[0]), ([], "closed"), name)
+        os.unlink(f"{folder}/t.trace")
 
 
 def marks(folder: str) -> List[Tuple[str, str]]:
@@ -600,7 +600,7 @@ def check_closed(suite: Suite, folder: str, program: str) -> None:
     """A process that closes all descriptors is lost, and says so."""
     peers, said = run_under(folder, [program, "closes_all"])
     expect((peers[0].side().ending, len(said.splitlines())), (LOST, 1), said)
-    expect([fault.size for fault in faults_of(peers[0])], [8], "what it had sent")
+    expect([fault.block_size for fault in faults_of(peers[0])], [8], "what it had sent")
     for name in ("keeps_descriptors", "keeps_errno"):
         one(folder, [program, name])
 
@@ -643,7 +643,7 @@ def check_many(suite: Suite, folder: str, program: str) -> None:
     expect((peer.side().fault_count, len(faults_of(peer))), (1, 100000), "faults in a loop")
     peer = one(folder, [program, "threads"])
     side = peer.side()
-    found = [(fault.size, fault.name) for fault in faults_of(peer)]
+    found = [(fault.block_size, fault.name) for fault in faults_of(peer)]
     expect((found.count((16, "")), found.count((10, "local"))), (6000, 6000), "faults of two threads")
     expect(side.fault_count <= 8, True, f"a list of {side.fault_count}")
     expect(check(suite, folder, peer)[2].split()[0], "closed", "fate")
@@ -654,14 +654,43 @@ def check_many(suite: Suite, folder: str, program: str) -> None:
     expect((end.split()[0], len(noted)), ("closed", count), "reports under a handler")
 
 
-def process_tests(suite: Suite, compiler: Compiler, folder: str) -> None:
-    """One program is where the tests of lives have built it."""
-    program = f"{folder}/hub-{compiler}-O0"
+# What a core may have, in bytes: the heap is there in steps of 16 MB.
+MAX_CORE_SIZE = 64 << 20
+
+
+def check_core(suite: Suite, folder: str, program: str) -> None:
+    """A core has the program's heap and stacks, and not the 5 GB that the recorder reserves."""
+    script = [*"sh -c".split(), f"ulimit -c unlimited; exec {program} leaves_a_core"]
+    for wanted in ({}, {"ASANCOL_TRACE": "t.trace", "ASANCOL_WHERE": "1"}, None):
+        if wanted is None:
+            one(folder, script, -signal.SIGABRT)
+        else:
+            expect(run(script, folder, **wanted).returncode, -signal.SIGABRT, f"status with {wanted}")
+        with open(f"{folder}/mapped", encoding="utf-8") as file:
+            text = file.read()
+        parts = re.findall(r"^([0-9a-f]+)-([0-9a-f]+) (\S+) .*\n(?:.*\n)*?VmFlags: (.*)\n", text, re.M)
+        spans = [(int(low, 16), int(high, 16)) for low, high, mode, flags in parts
+                 if "w" in mode and " dd" not in f" {flags}"]
+        expect(sum(high - low for low, high in spans) < MAX_CORE_SIZE, True, f"a core of {spans}, with {wanted}")
+        places = [int(it, 16) for it in text.splitlines()[-1].split()[1:]]
+        expect([any(low <= at < high for low, high in spans) for at in places], [True, True], "heap and stack")
+        for core in glob.glob(f"{folder}/core*"):  # where the system leaves it here
+            expect(os.path.getsize(core) < MAX_CORE_SIZE, True, "the size of the core")
+            with open(core, "rb") as file:
+                data = file.read()
+            expect([re.search(it, data) is None for it in (rb"on-the-heap-\d+\0", rb"on-the-stack-\d+\0")],
+                   [False, False], "the texts in the core")
+            os.unlink(core)
+
+
+def process_tests(suite: Suite, compiler: Compiler) -> None:
+    program, lives = suite.programs[f"{suite.folder}/hub-{compiler}-O0"], lives_of(suite, compiler)
     suite.test(f"{compiler} hub head", check_head, program)
     suite.test(f"{compiler} hub endings", check_endings, program)
+    suite.test(f"{compiler} hub core", check_core, program)
     suite.test(f"{compiler} hub forks", check_forks, program)
     suite.test(f"{compiler} hub closing children", check_closing_children, program)
-    suite.test(f"{compiler} hub forks in handlers", check_forks_in_handlers, f"{folder}/lives-{compiler}")
+    suite.test(f"{compiler} hub forks in handlers", check_forks_in_handlers, lives)
     suite.test(f"{compiler} hub exec", check_exec, program)
     suite.test(f"{compiler} hub limit", check_limit, program)
     suite.test(f"{compiler} hub no checks", check_no_checks, compiler)
@@ -670,12 +699,13 @@ def process_tests(suite: Suite, compiler: Compiler, folder: str) -> None:
     suite.test(f"{compiler} hub root", check_root, program)
     suite.test(f"{compiler} hub stacks", check_stacks, program)
     suite.test(f"{compiler} hub stacks through libraries", check_through_libraries, program, list(THROUGH_LIBRARIES))
-    static = f"{folder}/hub-{compiler}-static", ["sorts", "makes_text", "opens_stream", "handles"]
+    static = suite.programs[f"{suite.folder}/hub-{compiler}-static"], ["sorts", "makes_text", "opens_stream", "handles"]
     suite.test(f"{compiler} hub stacks through libraries, static", check_through_libraries, *static)
     suite.test(f"{compiler} hub stacks of handlers", check_stacks_of_handlers, program)
     suite.test(f"{compiler} hub last", check_last, program)
+    suite.test(f"{compiler} hub handlers of threads", check_handlers_of_threads, program)
     suite.test(f"{compiler} hub fallback", check_fallback, program)
-    suite.test(f"{compiler} hub word", check_word, program, f"{folder}/lives-{compiler}")
+    suite.test(f"{compiler} hub word", check_word, program, lives)
     suite.test(f"{compiler} hub files", check_files, program)
     suite.test(f"{compiler} hub small files", check_small_files, program)
     suite.test(f"{compiler} hub closed descriptors", check_closed, program)
@@ -684,6 +714,6 @@ def process_tests(suite: Suite, compiler: Compiler, folder: str) -> None:
     suite.test(f"{compiler} hub many", check_many, program)
 
 
-def tests(suite: Suite, compiler: Compiler, folder: str) -> None:
-    fault_tests(suite, compiler, folder)
-    process_tests(suite, compiler, folder)
+def tests(suite: Suite, compiler: Compiler) -> None:
+    fault_tests(suite, compiler)
+    process_tests(suite, compiler)

@@ -5,18 +5,7 @@ import os
 import re
 from typing import List, Sequence, Tuple
 
-from support import (
-    CC,
-    TESTS,
-    Compiler,
-    Suite,
-    Trace,
-    expect,
-    placed,
-    reports,
-    run,
-    write,
-)
+from support import CC, TESTS, Compiler, Suite, Trace, expect, leave_out, placed, reports, run, write
 
 # The kind of an access or free, its class, and its source line.
 Fault = Tuple[str, str, str]
@@ -42,7 +31,7 @@ def faults_of(suite: Suite, folder: str, program: str) -> Tuple[List[Fault], int
 
 
 # Programs whose faults are the same in each run.
-SAME = ("three.c", "globals.c", "stacks.c", "functions.c", "widths.c", "handlers.c", "containers.cpp")
+SAME = ("three.c", "globals.c", "named.c", "stacks.c", "functions.c", "widths.c", "handlers.c", "containers.cpp")
 
 # A hole inside a copy of a structure, of which GCC checks the first and the last byte alone, as it does for
 # AddressSanitizer: the source, and how many faults it hides.
@@ -211,29 +200,154 @@ def check_poison_after_fork(suite: Suite, folder: str, compiler: Compiler) -> No
         expect(run(["./poison"], folder).returncode, 0, "where nothing is recorded")
 
 
+BEFORE = """
+extern int first[3];
+int other[3] = {1};
+int main(void) {
+    other[1] = ((volatile int *)first)[-1];
+    return 0; }
+"""
+
+
+def check_before_globals(suite: Suite, folder: str, compiler: Compiler) -> None:
+    """Before the first global of a file lies the table that the compiler makes for the file before: a redzone too."""
+    write(folder, before_c=BEFORE, first_c="int first[3] = {1};\n")
+    for level in LEVELS:
+        compiler.c(folder, ["before.c", "first.c"], f"{folder}/before", "-w", level)
+        found = faults_of(suite, folder, f"{folder}/before")
+        expect(found, ([("load", "global-buffer-overflow", "before.c:5")], 1), level)
+
+
+LISTED = "int left_out(int *p) { return p[1]; }\nint looked_at(int *p) { return p[1]; }\n"
+
+
+def check_listed(suite: Suite, folder: str, compiler: Compiler) -> None:
+    """Functions of a list that Clang is given get no checks."""
+    write(folder, listed_c=LISTED, list_txt="[address]\nfun:left_*\n")
+    main = "#include <stdlib.h>\nint left_out(int *), looked_at(int *);\n"
+    write(folder, main_c=main + "int main(void) { int *p = malloc(4); return (left_out(p) ^ looked_at(p)) & 0; }\n")
+    for option in ("-fsanitize-ignorelist=list.txt", "-fsanitize-blacklist=list.txt"):
+        compiler.c(folder, ["listed.c", "main.c", option], f"{folder}/listed", "-w")
+        found = faults_of(suite, folder, f"{folder}/listed")
+        expect(found, ([("load", "heap-buffer-overflow", "listed.c:2")], 1), option)
+
+
+TAKEN_LIBRARY = "int both[4] = {1}, own[4] = {1};\nint in_library(int i) { return both[0] + own[i]; }\n"
+TAKEN_PROGRAM = """
+int both[4] = {1}, alone[4] = {1};
+int in_library(int i);
+volatile int sink, four = 4;
+int main(void) {
+    sink = in_library(four);
+    sink = alone[four];
+    return 0; }
+"""
+
+
+def check_taken_globals(suite: Suite, folder: str, compiler: Compiler) -> None:
+    """A global of a shared object in whose place the program's is: all others of both tables have their redzones."""
+    write(folder, library_c=TAKEN_LIBRARY, program_c=TAKEN_PROGRAM)
+    wanted = [("load", "global-buffer-overflow", line) for line in ("library.c:2", "program.c:7")]
+    compiler.c(folder, ["library.c"], f"{folder}/liblibrary.so", "-shared", "-fPIC")
+    compiler.c(folder, ["program.c", "./liblibrary.so"], f"{folder}/program")
+    expect(faults_of(suite, folder, f"{folder}/program"), (wanted, 1))
+
+
 # What a run of left.c reports: the class of each line.
 LEFT = {
     "by_vfork": [],
     "by_library": [],
     "by_mapping": [],
     "by_deep_jump": [],
-    "in_block": ["heap-buffer-overflow", "heap-use-after-free"],
+    "in_block": ["stack-buffer-overflow", "heap-buffer-overflow", "heap-use-after-free"],
     "forked": [],
+    "after_exec": ["stack-buffer-overflow"],
+    "after_exit": ["stack-buffer-overflow"],
+    "after_exec_in_vain": ["stack-buffer-overflow"],
+    "after_nested": ["stack-buffer-overflow"],
+    "after_exec_in_thread": ["stack-buffer-overflow"],
+    "after_exec_in_handler": ["stack-buffer-overflow"] * 2,
+    "after_exec_in_object": ["stack-buffer-overflow"],
 }
 
 
-def check_left(suite: Suite, folder: str, compiler: Compiler, level: str) -> None:
+def check_left(suite: Suite, folder: str, compiler: Compiler, *options: str) -> None:
     """Frames that are left without their returns make no report, and hide none of a block behind them."""
     inline = f"{TESTS}/inline"
     compiler.c(folder, [f"{inline}/library.c"], f"{folder}/liblibrary.so", "-shared", "-fPIC", native=True)
-    flags = [level, "-w", "-D_FILE_OFFSET_BITS=64"]
-    compiler.c(folder, [f"{inline}/left.c", "./liblibrary.so"], f"{folder}/left", *flags)
+    flags = [*options, "-w", "-D_FILE_OFFSET_BITS=64"]
+    compiler.c(folder, [f"{inline}/left_object.c"], f"{folder}/libobject.so", "-shared", "-fPIC", *flags)
+    sources = [f"{inline}/left.c", "./liblibrary.so", "./libobject.so"]
+    compiler.c(folder, sources, f"{folder}/left", *flags, "-pthread")
     for name, wanted in LEFT.items():
         ran = run(["./left", name], folder, ASANCOL_TRACE=f"{name}.trace")
         expect((ran.returncode, ran.stderr), (0, b""), name)
         for trace in [it for it in os.listdir(folder) if it.startswith(f"{name}.") and it.endswith("trace")]:
             _, texts, end = reports(suite.asancol, f"{folder}/{trace}")
             expect(([it.split()[-1] for it in texts], end.split()[0]), (wanted, "closed"), f"{trace}: {texts[:3]}")
+
+
+# How many reports a run of switches.c has, if any.
+SWITCHES = {
+    "fault_in_coroutine": 2,
+    "fault_in_handler": 1,
+    "fault_in_thread": 1,
+    "fault_in_chief": 1,
+    "fault_after_jump_in_coroutine": 1,
+    "fault_in_own_switch": 1,
+}
+
+
+def check_switches(suite: Suite, folder: str, compiler: Compiler, level: str) -> None:
+    """Stacks of the program's own, in arrays, blocks and mappings, which are arrays again after they were left."""
+    make(compiler, folder, "switches.c", f"{folder}/switches", level)
+    names = run(["./switches"], folder).stdout.decode().split()
+    expect([name for name in SWITCHES if name not in names], [], "runs")
+    said = {}
+    for name in names:
+        for where in "lshm":
+            ran = run(["./switches", name, where], folder, ASANCOL_TRACE="t.trace")
+            _, texts, end = reports(suite.asancol, f"{folder}/t.trace")
+            os.unlink(f"{folder}/t.trace")
+            status = (ran.returncode, ran.stderr, end.split()[0])
+            expect(status, (0, b"", "closed"), f"{name} {where}")
+            wanted = ["store 4 stack-buffer-overflow"] * SWITCHES.get(name, 0)
+            if [re.sub(r" \+\d+", "", text) for text in texts] != wanted:
+                said[f"{name} {where}"] = (len(texts), texts[:2])
+    expect(said, {}, "other reports")
+
+
+# What a run of fibers.cpp reports.
+FIBERS = {
+    "throws": ["store 4 stack-buffer-overflow"],
+    "gives": [],
+    "handler_throws": [],
+    "says_its_switches": ["store 4 stack-buffer-overflow"] * 3,
+    "generates": ["heap-use-after-free"],
+    "of_boost": ["store 4 stack-buffer-overflow"] * 4,
+}
+
+
+def check_fibers(suite: Suite, folder: str, compiler: Compiler) -> None:
+    """Exceptions on stacks of the program's own, switches that are said, coroutines of C++20, and Boost.Context."""
+    flags = ["-O0", "-std=c++20", "-fnon-call-exceptions"]
+    write(folder, header_cpp="#include <boost/context/fiber.hpp>\nint main() {}\n")
+    has_boost = run([compiler.cxx, "header.cpp", "-lboost_context"], folder).returncode == 0
+    if not has_boost:
+        leave_out("Boost.Context is not there")
+    write(folder, header_cpp="#include <coroutine>\nint main() { return !__cpp_impl_coroutine; }\n")
+    has_coroutines = run([compiler.cxx, *flags, "header.cpp"], folder).returncode == 0
+    linked = ["-DOF_BOOST", "-lboost_context"] if has_boost else []
+    make(compiler, folder, "fibers.cpp", f"{folder}/fibers", *flags, *linked)
+    for name, wanted in FIBERS.items():
+        if (name == "of_boost" and not has_boost) or (name == "generates" and not has_coroutines):
+            continue
+        ran = run(["./fibers", name], folder, ASANCOL_TRACE="t.trace")
+        _, texts, end = reports(suite.asancol, f"{folder}/t.trace")
+        os.unlink(f"{folder}/t.trace")
+        expect((ran.returncode, ran.stderr, end.split()[0]), (0, b"", "closed"), name)
+        said = [it.split()[-1] if name == "generates" else it for it in texts]
+        expect(said, wanted, name)
 
 
 def check_sizes(suite: Suite, folder: str, compiler: Compiler) -> None:
@@ -266,7 +380,60 @@ def check_seldom_calls(suite: Suite, folder: str, compiler: Compiler) -> None:
     expect(re.findall(r"push\S*\s+%r(?:bx|1[2-5])", text), [], "registers that are saved")
 
 
+ORDERS = (
+    "initialiser later_file priority_200 end_of_priority_200 object end_of_object literal constructor constructor_101"
+    " destructor destructor_101 destructor_65000 atexit"
+)
+
+# Opens a library with globals and closes it. Then its memory is somebody else's, and has no redzones.
+CLOSES = """
+#include <dlfcn.h>
+#include <string.h>
+#include <sys/mman.h>
+int main(void) {
+    for (int i = 0; i < 3; i++) {
+        void *library = dlopen("./liborder.so", RTLD_NOW);
+        char *(*find)(void) = (char *(*)(void))dlsym(library, "first_of_globals");
+        char *page = (char *)((unsigned long)find() & ~4095ul);
+        if (dlclose(library) != 0 || dlopen("./liborder.so", RTLD_NOW | RTLD_NOLOAD) != 0)
+            return 1;
+        char *mine = mmap(page, 4096, PROT_READ | PROT_WRITE, MAP_PRIVATE | MAP_ANONYMOUS | MAP_FIXED_NOREPLACE, -1, 0);
+        if (mine != page)
+            return 2;
+        for (volatile char *it = mine; it < mine + 4096; it++)
+            *it = 1;
+        munmap(mine, 4096);
+    }
+    return 0; }
+"""
+
+
+def check_order(suite: Suite, folder: str, compiler: Compiler, level: str) -> None:
+    """Globals have their redzones before the first constructor of a program or a library, and after the last destructor
+    of it. If a library was closed, they are gone."""
+    make(compiler, folder, "order.cpp", f"{folder}/later.o", level, "-c", "-fPIC", "-DLATER")
+    make(compiler, folder, "order.cpp", f"{folder}/order.o", level, "-c", "-fPIC")
+    write(folder, main_cpp="int main() { return 0; }\n", closes_c=CLOSES)
+    objects = ["order.o", "later.o"]
+    compiler.cpp(folder, ["main.cpp", *objects], "program", level)
+    compiler.cpp(folder, objects, "liborder.so", "-shared")
+    compiler.cpp(folder, ["main.cpp", "-Wl,--no-as-needed", "./liborder.so"], "user", level)
+    compiler.c(folder, ["closes.c"], "closes", level, "-w", "-D_GNU_SOURCE")
+    for program in ("program", "user"):
+        for name in ORDERS.split():
+            run([f"./{program}"], folder, ASANCOL_TRACE="t.trace", ORDER=name)
+            status, texts, _ = reports(suite.asancol, f"{folder}/t.trace")
+            expect((status, [it.split()[-1] for it in texts]), (1, ["global-buffer-overflow"]), f"{program} {name}")
+            os.unlink(f"{folder}/t.trace")
+    ran = run(["./closes"], folder, ASANCOL_TRACE="t.trace", ORDER="object")
+    _, texts, _ = reports(suite.asancol, f"{folder}/t.trace")
+    wanted = ["store 1 global-buffer-overflow"] * 3
+    expect((ran.returncode, texts), (0, wanted), "after a library was closed")
+
+
 def tests(suite: Suite, compiler: Compiler) -> None:
+    for level in ("-O0", "-O2"):
+        suite.test(f"{compiler} inline order {level}", check_order, compiler, level)
     for source in SAME:
         for level in LEVELS:
             suite.test(f"{compiler} inline {source} {level}", check_same, compiler, source, level)
@@ -274,10 +441,16 @@ def tests(suite: Suite, compiler: Compiler) -> None:
         suite.test(f"{compiler} inline count {source}", check_count, compiler, source, [])
     suite.test(f"{compiler} inline count static", check_count, compiler, "scopes.c", ["-static"])
     if compiler.has_sanitizer:
-        for source in ("three.c", "globals.c", "stacks.c", "containers.cpp"):
+        for source in ("three.c", "globals.c", "named.c", "stacks.c", "containers.cpp"):
             suite.test(f"{compiler} inline beside {source}", check_beside, compiler, source, "-O0")
     for level in ("-O0", "-O2"):
         suite.test(f"{compiler} inline left {level}", check_left, compiler, level)
+    for way in ("runtime", "always") if compiler.name == "clang" else ("runtime",):
+        option = f"-fsanitize-address-use-after-return={way}"
+        suite.test(f"{compiler} inline left, fake frames {way}", check_left, compiler, "-O1", option)
+    suite.test(f"{compiler} inline switches", check_switches, compiler, "-O1")
+    if compiler.cxx:
+        suite.test(f"{compiler} inline fibers", check_fibers, compiler)
     suite.test(f"{compiler} inline seldom calls", check_seldom_calls, compiler)
     suite.test(f"{compiler} inline sizes", check_sizes, compiler)
     suite.test(f"{compiler} inline layouts", check_layouts, compiler)
@@ -285,4 +458,8 @@ def tests(suite: Suite, compiler: Compiler) -> None:
     suite.test(f"{compiler} inline wild", check_wild, compiler)
     suite.test(f"{compiler} inline no shadow", check_no_shadow, compiler)
     suite.test(f"{compiler} inline poison", check_poison_after_fork, compiler)
+    suite.test(f"{compiler} inline before globals", check_before_globals, compiler)
+    suite.test(f"{compiler} inline taken globals", check_taken_globals, compiler)
+    if compiler.name == "clang":
+        suite.test(f"{compiler} inline ignore list", check_listed, compiler)
     suite.test(f"{compiler} inline few records", check_few_records, compiler)

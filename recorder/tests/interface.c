@@ -2,6 +2,27 @@
    answers what a program would not expect that finds nothing wrong. check.py sees that none of them is missing here. */
 #define _GNU_SOURCE
 #include <sanitizer/asan_interface.h>
+#if __has_include(<sanitizer/allocator_interface.h>)
+#include <sanitizer/allocator_interface.h>
+#include <sanitizer/coverage_interface.h>
+#else
+#include <stddef.h>
+#include <stdint.h>
+size_t __sanitizer_get_estimated_allocated_size(size_t size);
+int __sanitizer_get_ownership(const volatile void *start);
+size_t __sanitizer_get_allocated_size(const volatile void *start);
+size_t __sanitizer_get_current_allocated_bytes(void);
+size_t __sanitizer_get_heap_size(void);
+size_t __sanitizer_get_free_bytes(void);
+size_t __sanitizer_get_unmapped_bytes(void);
+void __sanitizer_malloc_hook(const volatile void *start, size_t size);
+void __sanitizer_free_hook(const volatile void *start);
+int __sanitizer_install_malloc_and_free_hooks(void (*)(const volatile void *, size_t), void (*)(const volatile void *));
+void __sanitizer_purge_allocator(void);
+void __sanitizer_cov_dump(void);
+void __sanitizer_cov_reset(void);
+void __sanitizer_dump_coverage(const uintptr_t *places, uintptr_t count);
+#endif
 #include <sanitizer/lsan_interface.h>
 #include <stdio.h>
 #include <stdlib.h>
@@ -41,6 +62,53 @@ static void poison(char *block)
     WANT(__asan_region_is_poisoned(block, 64) == NULL);
     WANT(__sanitizer_verify_contiguous_container(block, block + 64, block + 64) == 1);
     WANT(__sanitizer_contiguous_container_find_bad_address(block, block + 64, block + 64) == NULL);
+}
+
+/* The allocator. In a process without a recorder it knows nothing. */
+
+static const volatile void *last_made, *last_freed;
+
+static void after_malloc(const volatile void *start, size_t size)
+{
+    if (size == 77)
+        last_made = start;
+}
+
+static void before_free(const volatile void *start)
+{
+    last_freed = start;
+}
+
+static void allocator(void)
+{
+    size_t before = __sanitizer_get_current_allocated_bytes();
+    int added = __sanitizer_install_malloc_and_free_hooks(after_malloc, before_free);
+    char *volatile block = malloc(77);
+    if (added != 0) {
+        WANT(added == 1);
+        WANT(last_made == block);
+        WANT(__sanitizer_get_ownership(block) == 1);
+        WANT(__sanitizer_get_allocated_size(block) == 77);
+        WANT(__sanitizer_get_current_allocated_bytes() == before + 77);
+        WANT(__sanitizer_get_heap_size() >= before + 77);
+        WANT(__sanitizer_get_free_bytes() > 0);
+    }
+    WANT(__sanitizer_get_ownership(&block) == 0);
+    WANT(__sanitizer_get_allocated_size(NULL) == 0);
+    WANT(__sanitizer_get_estimated_allocated_size(77) == 77);
+    WANT(__sanitizer_get_unmapped_bytes() == 0);
+    __sanitizer_malloc_hook(block, 77);
+    __sanitizer_free_hook(block);
+    __sanitizer_purge_allocator();
+    free(block);
+    if (added != 0) {
+        WANT(last_freed == block);
+        WANT(__sanitizer_get_ownership(block) == 0);
+        WANT(__sanitizer_get_current_allocated_bytes() == before);
+    }
+    __sanitizer_cov_dump();
+    __sanitizer_cov_reset();
+    __sanitizer_dump_coverage(NULL, 0);
 }
 
 /* Accesses that are no multiple of their width. */
@@ -145,6 +213,7 @@ int interface(void)
     char *block = malloc(64);
     poison(block);
     unaligned(block);
+    allocator();
     reports(block);
     callbacks();
     places(block);

@@ -61,6 +61,29 @@ static void partial_results(void)
     fclose(stream);
 }
 
+/* With _FORTIFY_SOURCE the C library knows the room, which is less than what the call may take: the lines have room. */
+static void lines_with_room(void)
+{
+    static const char lines[] = "abc\nabcdefghij\n\nab\0cd\nabcdefghijk";
+    volatile int more = 100;
+    char some[12] = {0}, text[12] = {0}, one[1];
+    wchar_t wide[12];
+    FILE *stream = tmpfile(), *again = tmpfile(), *empty = tmpfile();
+    fwrite(lines, 1, sizeof lines - 1, stream);
+    fwrite(lines, 1, sizeof lines - 1, again);
+    rewind(stream);
+    rewind(again);
+    while (fgets(some, more, stream) != NULL)
+        printf("%.12s %d %d|", some, some[11], feof(stream));
+    while (fgetws(wide, more, again) != NULL)
+        printf("%.12ls %d|", wide, feof(again));
+    printf("%d %d\n", fgets(one, more, empty) == NULL, feof(empty));
+    printf("%d %s\n", sprintf(text, "%s %d", "abcdefgh", 12), text);
+    fclose(stream);
+    fclose(again);
+    fclose(empty);
+}
+
 static void formats(void)
 {
     char *volatile nothing = NULL; /* so that the compiler does not see it */
@@ -207,6 +230,7 @@ int main(void)
 {
     setvbuf(stdout, NULL, _IOLBF, 0);
     partial_results();
+    lines_with_room();
     formats();
     wide_formats();
     messages();

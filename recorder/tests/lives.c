@@ -726,6 +726,20 @@ static void uses_exit_handlers(void)
     fault();
 }
 
+/* More than a record of a malloc can say. */
+static void has_a_huge_block(void)
+{
+    size_t size = ((size_t)1 << 32) + 5;
+    char *block = hide(malloc(size));
+    volatile char *start = block;
+    start[0] = start[size - 1] = 1;
+    start[size] = 1;
+    start[-1] = 1;
+    free(block);
+    start[size / 2] = 1;
+    free(block);
+}
+
 static void loads_a_library(void)
 {
     void *library = dlopen("./libplugin.so", RTLD_NOW);
@@ -760,6 +774,7 @@ static const struct {
     LIFE(spawns), LIFE(closes_all),
     LIFE(counts_descriptors), LIFE(closes_errors), LIFE(writes_past_a_limit), LIFE(fills_its_memory),
     LIFE(many_events), LIFE(twenty_million_events), LIFE(many_frees), LIFE(uses_exit_handlers), LIFE(loads_a_library),
+    LIFE(has_a_huge_block),
 };
 
 /* Byte by byte: the events are then as many in each run. */

@@ -7,24 +7,12 @@ import re
 import shutil
 from typing import List, Sequence
 
+from lives import every_of
 from support import (
-    CC,
-    HELPER,
-    MARK,
-    PAST_THE_END,
-    TESTS,
-    Compiler,
-    Failure,
-    Suite,
-    Trace,
-    build,
-    expect,
-    limited,
-    one_mark,
-    reports,
-    run,
-    write,
+    CC, HELPER, MARK, PAST_THE_END, RECORDER, TESTS, Compiler, Failure, Suite, Trace, build, expect, limited, noted,
+    one_mark, reports, run, write,
 )
+from testing import traces
 
 # A free of null: the event that is one too many.
 FREE = 4
@@ -129,6 +117,11 @@ def expect_warnings(said: Sequence[str], *wanted: str) -> None:
             raise Failure(f"warned {line!r}, wanted {piece!r}")
 
 
+def expect_noted(folder: str, *wanted: str) -> None:
+    """What the program says of itself that was not compiled so."""
+    expect(noted(f"{folder}/program"), list(wanted), "what was noted")
+
+
 def expect_unseen(suite: Suite, folder: str, program: str = "./program") -> None:
     """A program without a check runs, says that nothing was seen of it, and its trace does not read as clean."""
     ran = run([program], folder, ASANCOL_TRACE="u.trace")
@@ -164,7 +157,8 @@ def check_foreign_link_time(suite: Suite, folder: str, compiler: Compiler) -> No
     write(folder, main_c=PAST_THE_END, helper_c=HELPER)
     build([compiler.name, "-O2", "-flto", "-DVALUE=1", "-c", "main.c", "helper.c"], folder)
     said = warned(folder, compiler, "-O2", "-flto", "main.o", "helper.o", "-o", "program")
-    expect_warnings(said, "main.o, helper.o")
+    expect_warnings(said)
+    expect_noted(folder, "main.o", "helper.o")
     expect_unseen(suite, folder)
     build([CC, "-O2", "-flto", "-c", "main.c"], folder, ASANCOL_CC=compiler.name)
     # Checks that are turned off at the link alone.
@@ -181,10 +175,12 @@ def check_refusals(suite: Suite, folder: str, compiler: Compiler) -> None:
     write(folder, main_c=PAST_THE_END, helper_c=HELPER)
     for flag in ("-fno-sanitize=all", "-fno-sanitize=address", "-fno-sanitize=undefined,kernel-address"):
         expect_warnings(warned(folder, compiler, flag, "-DVALUE=1", "main.c", "helper.c", "-o", "program"), flag)
+        expect_noted(folder, "main.c", "helper.c")
         expect_unseen(suite, folder)
         expect_warnings(warned(folder, compiler, flag, "-DVALUE=1", "-c", "helper.c"), flag)
         expect_warnings(warned(folder, compiler, "-c", "main.c"))
-        expect_warnings(warned(folder, compiler, "main.o", "helper.o", "-o", "program"), "helper.o")
+        expect_warnings(warned(folder, compiler, "main.o", "helper.o", "-o", "program"))
+        expect_noted(folder, "helper.o")
     for flag in ("-fsanitize=thread", "-fsanitize=address", "-m32"):
         expect_warnings(warned(folder, compiler, flag, "-DVALUE=1", "-S", "helper.c", "-o", "helper.s"), flag)
         expect("__asan_report_" in open(f"{folder}/helper.s").read(), flag == "-fsanitize=address", flag)
@@ -192,32 +188,54 @@ def check_refusals(suite: Suite, folder: str, compiler: Compiler) -> None:
 
 def check_plain_objects(suite: Suite, folder: str, compiler: Compiler) -> None:
     """Objects that the plain compiler made, all of them and some."""
-    write(folder, main_c=PAST_THE_END, helper_c=HELPER, code_s='.section .note.GNU-stack,"",@progbits\n')
+    write(folder, main_c=PAST_THE_END, helper_c=HELPER, code_s='ret\n.section .note.GNU-stack,"",@progbits\n')
     names = [f"n{i}" for i in range(6)]
     write(folder, **{f"{name}_c": f"int {name};\n" for name in names})
     build([compiler.name, "-DVALUE=1", "-c", "main.c", "helper.c", *(f"{name}.c" for name in names)], folder)
     for flags in ([], ["-no-pie"]):
-        expect_warnings(warned(folder, compiler, *flags, "main.o", "helper.o", "-o", "program"), "main.o, helper.o")
+        expect_warnings(warned(folder, compiler, *flags, "main.o", "helper.o", "-o", "program"))
+        expect_noted(folder, "main.o", "helper.o")
         expect_unseen(suite, folder)
-    said = warned(folder, compiler, "-static", "main.o", "helper.o", "-o", "program")
-    expect_warnings(said, NO_CALLS, "main.o, helper.o")
+    expect_warnings(warned(folder, compiler, "-static", "main.o", "helper.o", "-o", "program"))
+    expect_noted(folder, "main.o", "helper.o", NO_CALLS)
     expect_unseen(suite, folder)
     objects = [f"{name}.o" for name in names]
-    said = warned(folder, compiler, "-DVALUE=1", "main.c", "helper.c", *objects, "-o", "program")
-    expect_warnings(said, "n0.o, n1.o, n2.o, n3.o and 2 more")
+    expect_warnings(warned(folder, compiler, "-DVALUE=1", "main.c", "helper.c", *objects, "-o", "program"))
+    expect_noted(folder, *objects)
     one_mark(suite, folder)
     # What was assembled is not recorded either.
     expect_warnings(warned(folder, compiler, "-c", "code.s"))
-    said = warned(folder, compiler, "-DVALUE=1", "main.c", "helper.c", "code.o", "-o", "program")
-    expect_warnings(said, "code.o")
+    expect_warnings(warned(folder, compiler, "-DVALUE=1", "main.c", "helper.c", "code.o", "-o", "program"))
+    expect_noted(folder, "code.o")
     # A shared object, or a member of an archive, is enough for a program to be seen.
     expect_warnings(warned(folder, compiler, "-fPIC", "-DVALUE=1", "-c", "helper.c"))
     expect_warnings(warned(folder, compiler, "-shared", "helper.o", "-o", "libhelper.so"))
-    expect_warnings(warned(folder, compiler, "main.o", "./libhelper.so", "-o", "program"), "main.o")
+    expect_warnings(warned(folder, compiler, "main.o", "./libhelper.so", "-o", "program"))
+    expect_noted(folder, "main.o")
     one_mark(suite, folder)
     build(["ar", "rcs", "libhelper.a", "helper.o"], folder)
-    expect_warnings(warned(folder, compiler, "main.o", "libhelper.a", "-o", "program"), "main.o")
+    expect_warnings(warned(folder, compiler, "main.o", "libhelper.a", "-o", "program"))
+    expect_noted(folder, "main.o")
     one_mark(suite, folder)
+
+
+def check_quoted_switches(suite: Suite, folder: str, compiler: Compiler) -> None:
+    """Plain objects in which the wrapper's mark stands, but is no word of the noted switches."""
+    mark = "-fsanitize=kernel-address"
+    write(folder, main_c=PAST_THE_END, helper_c=HELPER, text_c=f'const char *text(void) {{ return "{mark}"; }}\n')
+    forms = [[f'-DX="{mark}"'], [f'-DX="a {mark} b"'], [f'-DX=\\ {mark} '], [f"-DX={mark}{mark}"], [f"-DX={mark}s"]]
+    kinds = [["helper.o"], ["-emit-llvm", "helper.bc"]] if compiler.name == "clang" else [["helper.o"]]
+    for form in forms:
+        for *kind, name in kinds:
+            noting = [compiler.name, "-g", "-frecord-gcc-switches", "-DVALUE=1", *form, *kind]
+            build([*noting, "-c", "helper.c", "-o", name], folder)
+            expect_warnings(warned(folder, compiler, "main.c", name, "-o", "program"))
+            expect_noted(folder, name)
+    build([compiler.name, "-g", "-frecord-gcc-switches", "-c", "main.c", "text.c"], folder)
+    build([compiler.name, "-DVALUE=1", "-c", "helper.c"], folder)
+    expect_warnings(warned(folder, compiler, "main.o", "helper.o", "text.o", "-o", "program"))
+    expect_noted(folder, "main.o", "helper.o", "text.o")
+    expect_unseen(suite, folder)
 
 
 def check_spellings(suite: Suite, folder: str, compiler: Compiler) -> None:
@@ -229,20 +247,21 @@ def check_spellings(suite: Suite, folder: str, compiler: Compiler) -> None:
     build([*plain, "-S", "helper.c", "-o", "helper.s"], folder)
     assembly = ["-x", "assembler", "helper.txt"]
     for words in (["helper.os"], ["-Wl,helper.os"], ["-Xlinker", "helper.os"], assembly, ["helper.s"]):
-        said = warned(folder, compiler, "main.c", *words, "-o", "program")
-        expect_warnings(said, words[-1].replace("-Wl,", ""))
+        expect_warnings(warned(folder, compiler, "main.c", *words, "-o", "program"))
+        expect_noted(folder, words[-1].replace("-Wl,", ""))
     if compiler.name == "clang":
         build([*plain, "-emit-llvm", "-c", "helper.c", "-o", "helper.bc"], folder)
-        expect_warnings(warned(folder, compiler, "main.c", "helper.bc", "-o", "program"), "helper.bc")
+        expect_warnings(warned(folder, compiler, "main.c", "helper.bc", "-o", "program"))
+        expect_noted(folder, "helper.bc")
     # Nothing compiled, though an empty object or the name of the output is there.
     write(folder, empty_c="int unused;\n")
     build([compiler.name, "-c", "main.c"], folder)
     expect_warnings(warned(folder, compiler, "-c", "empty.c"))
     build(["ar", "rcs", "libempty.a", "empty.o"], folder)
     for words in (["libempty.a", "-o", "program"], ["--output", "program"]):
-        expect_warnings(warned(folder, compiler, "main.o", "helper.os", *words), "main.o, helper.os")
+        expect_warnings(warned(folder, compiler, "main.o", "helper.os", *words))
+        expect_noted(folder, "main.o", "helper.os")
         expect_unseen(suite, folder)
-    expect_warnings(warned(folder, compiler, "-r", "empty.o", "helper.os", "-o", "both.o"), "helper.os")
     # What is no object is not warned of, and no flag hides what was compiled.
     flags = ["-fno-record-gcc-switches", "-DVALUE=1"]
     expect_warnings(warned(folder, compiler, *flags, "-c", "main.c", "helper.c"))
@@ -257,16 +276,16 @@ COPY = """
 #include <string.h>
 int main(void) { char *p = malloc(8); memcpy(p, "12345678", (size_t)atoi("9")); free(p); return 0; }
 """
-NO_CALLS = "calls of the C library, as memcpy and strlen, are not recorded"
+NO_CALLS = "calls of the C library (-static)"
 
 
 def check_static(suite: Suite, folder: str, compiler: Compiler) -> None:
-    """With the C library inside, calls of it are not recorded, and each link says so: a bad memcpy is missed."""
+    """With the C library inside, calls of it are not recorded, and the program says so: a bad memcpy is missed."""
     write(folder, copy_c=COPY, main_c=PAST_THE_END, helper_c=HELPER)
     both = ["-DVALUE=1", "main.c", "helper.c"]
-    for words, name in ((["-static"], "-static: "), (["-static-pie"], "-static: "), (["--static"], "-static: "),
-                        (["-no-pie", "-Wl,-Bstatic", "-static-libgcc"], "-Bstatic: ")):
-        expect_warnings(warned(folder, compiler, *both, *words, "-o", "program"), name + NO_CALLS)
+    for words in (["-static"], ["-static-pie"], ["--static"], ["-no-pie", "-Wl,-Bstatic", "-static-libgcc"]):
+        expect_warnings(warned(folder, compiler, *both, *words, "-o", "program"))
+        expect_noted(folder, NO_CALLS)
         one_mark(suite, folder)
     expect_warnings(warned(folder, compiler, "-static", "-c", "main.c"))
     expect_warnings(warned(folder, compiler, *both, "-Wl,-Bstatic", "-Wl,-Bdynamic", "-o", "program"))
@@ -284,7 +303,8 @@ def check_nothing_to_see(suite: Suite, folder: str, compiler: Compiler) -> None:
     for words in (["empty.c"], ["empty.o"], ["-static", "empty.o"], ["-O2", "-flto", "empty.c"]):
         if "-flto" in words and compiler.name == "clang":
             continue
-        expect_warnings(warned(folder, compiler, *words, "-o", "program"), *[NO_CALLS] * ("-static" in words))
+        expect_warnings(warned(folder, compiler, *words, "-o", "program"))
+        expect_noted(folder, *[NO_CALLS] * ("-static" in words))
         ran = run(["./program"], folder, ASANCOL_TRACE="t.trace")
         expect((ran.returncode, ran.stderr), (0, b""), words)
         expect(reports(suite.asancol, f"{folder}/t.trace")[0], 0, words)
@@ -328,6 +348,7 @@ def seen_tests(suite: Suite, compiler: Compiler) -> None:
     suite.test(f"{compiler} refusals", check_refusals, compiler)
     suite.test(f"{compiler} plain objects", check_plain_objects, compiler)
     suite.test(f"{compiler} spellings", check_spellings, compiler)
+    suite.test(f"{compiler} quoted switches", check_quoted_switches, compiler)
     suite.test(f"{compiler} linked with -static", check_static, compiler)
     suite.test(f"{compiler} nothing to see", check_nothing_to_see, compiler)
     suite.test(f"{compiler} plugins", check_plugins, compiler)
@@ -345,6 +366,83 @@ def check_allocation(suite: Suite, folder: str, compiler: Compiler, flags: Seque
     status, texts, end = reports(suite.asancol, f"{folder}/t.trace")
     expect((status, texts, end.split()[0]), (0, [], "closed"), "its trace")
 
+
+HOOKS = re.compile(r"^void (__sanitizer_syscall_\w+)\(", re.M)
+
+
+def check_asked_for(suite: Suite, folder: str, compiler: Compiler) -> None:
+    """The hooks of calls of the system, and the other names of what is wrapped: each is there, and can be called."""
+    header = "#include <sanitizer/linux_syscall_hooks.h>\n"
+    write(folder, asked_c=f"#if __has_include(<sanitizer/linux_syscall_hooks.h>)\n{header}#endif\n")
+    hooks = HOOKS.findall(run([compiler.name, "-E", "asked.c"], folder).stdout.decode())
+    expect(len(hooks) > 600 or compiler.name == "gcc", True, "hooks")
+    with open(f"{RECORDER}/out/calls.list", encoding="utf-8") as file:
+        others = [f"__interceptor_{name}" for name in re.findall(r"WRAP\((\w+)\)", file.read())]
+    allocator = [f"__interceptor_{name}" for name in ("malloc", "calloc", "realloc", "memalign", "free")]
+    for names, flags in ((hooks + others + allocator, []), (hooks + allocator, ["-static"])):
+        text = "".join(f"void {name}(void);\n" for name in names)
+        table = ", ".join(sorted(set(names)))
+        calls = "".join(f"    {name}();\n" for name in hooks)
+        text += f"void (*const all[])(void) = {{{table}}};\n"
+        text += "int main(void)\n{\n    for (unsigned i = 0; i < sizeof all / sizeof *all; i++)\n"
+        text += f"        if (all[i] == 0)\n            return 1;\n{calls}    return 0;\n}}\n"
+        write(folder, asked_c=text, asked_cpp=f'extern "C" {{\n{text}}}\n')
+        compiler.c(folder, ["asked.c"], "asked", "-w", *flags)
+        expect(run(["./asked"], folder, ASANCOL_TRACE="/dev/null").returncode, 0, f"{flags}")
+        if not flags:
+            compiler.cpp(folder, ["asked.cpp"], "asked", "-w")
+            expect(run(["./asked"], folder).returncode, 0, "C++")
+    write(folder, other_c=OTHER_NAMES)
+    compiler.c(folder, ["other.c"], "other")
+    run(["./other"], folder, ASANCOL_TRACE="other.trace")
+    expect(reports(suite.asancol, f"{folder}/other.trace")[1], ["load 8 +0 bad +6 heap-buffer-overflow"],
+           "what is checked")
+    write(folder, past_c=PAST_ITS_OWN)
+    for flags in (["-O2"], ["-O0", "-no-pie", "-fno-pie"]):
+        compiler.c(folder, ["past.c"], "past", "-fno-builtin", *flags)
+        expect(run(["./past"], folder, ASANCOL_TRACE="past.trace").returncode, 0, "a program with its own functions")
+        expect(reports(suite.asancol, f"{folder}/past.trace")[1], ["store 1 +6 heap-buffer-overflow"], "its block")
+        expect(run(["./past"], folder).returncode, 0, "likewise, if nothing is recorded")
+        os.unlink(f"{folder}/past.trace")
+
+
+OTHER_NAMES = """
+#include <stddef.h>
+void *__interceptor_malloc(size_t);
+void __interceptor_free(void *);
+void *__interceptor_memcpy(void *, const void *, size_t);
+int main(void)
+{
+    char copy[8], *block = __interceptor_malloc(6);
+    __interceptor_memcpy(copy, block, 8);
+    __interceptor_free(block);
+    return 0;
+}
+"""
+
+PAST_ITS_OWN = """
+#include <stddef.h>
+long strtol(const char *, char **, int), __interceptor_strtol(const char *, char **, int);
+void *malloc(size_t), *__interceptor_malloc(size_t);
+static int numbers, blocks;
+long strtol(const char *text, char **end, int base)
+{
+    numbers++;
+    return __interceptor_strtol(text, end, base);
+}
+void *malloc(size_t size)
+{
+    blocks++;
+    return __interceptor_malloc(size);
+}
+int main(void)
+{
+    blocks = 0;
+    volatile char *block = malloc(6);
+    block[6] = 1;
+    return strtol("12", NULL, 10) != 12 || numbers != 1 || blocks != 1;
+}
+"""
 
 SECOND = """
 #include <stdlib.h>
@@ -365,13 +463,20 @@ def check_second_allocator(suite: Suite, folder: str, compiler: Compiler) -> Non
         expect((made.returncode != 0, len(said) >= 1), (True, True), f"{linker}: {made.stderr.decode()}")
 
 
-HEADERS = ("asan_interface.h", "common_interface_defs.h", "lsan_interface.h")
+HEADERS = (
+    "allocator_interface.h",
+    "asan_interface.h",
+    "common_interface_defs.h",
+    "coverage_interface.h",
+    "lsan_interface.h",
+)
 DECLARED = re.compile(r"\b(__(?:asan|lsan|sanitizer)_\w+) *\(")
 
 
 def declared(folder: str, compiler: Compiler) -> List[str]:
-    """The functions of the headers as they are installed."""
-    write(folder, all_c="".join(f"#include <sanitizer/{name}>\n" for name in HEADERS))
+    """The functions of the headers as they are installed. Each compiler has some of these."""
+    parts = [f"#if __has_include(<sanitizer/{it}>)\n#include <sanitizer/{it}>\n#endif\n" for it in HEADERS]
+    write(folder, all_c="".join(parts))
     return sorted(set(DECLARED.findall(run([compiler.name, "-E", "all.c"], folder).stdout.decode())))
 
 
@@ -400,11 +505,44 @@ def check_interface(suite: Suite, folder: str, compiler: Compiler) -> None:
         expect((ran.returncode, ran.stderr), (0, b""), program)
 
 
+GROWING = """
+#include <stdlib.h>
+#include <sanitizer/common_interface_defs.h>
+enum { MOST = 8000 };
+int main(int count, char **words)
+{
+    char *block = malloc(MOST);
+    __sanitizer_annotate_contiguous_container(block, block + MOST, block + MOST, block);
+    for (int i = 0; i < MOST; i++)
+        __sanitizer_annotate_contiguous_container(block, block + MOST, block + i, block + i + 1);
+    for (int i = MOST; i > 13; i--)
+        __sanitizer_annotate_contiguous_container(block, block + MOST, block + i, block + i - 1);
+    int sum = ((volatile char *)block)[12];
+    return (sum + ((volatile char *)block)[13]) & 0;
+}
+"""
+
+
+def check_growing(suite: Suite, folder: str, compiler: Compiler) -> None:
+    """A container that grows and shrinks by one byte has few bytes in each record, however large it is."""
+    write(folder, growing_c=GROWING)
+    compiler.c(folder, ["growing.c"], f"{folder}/growing", "-w")
+    expect(run(["./growing"], folder, ASANCOL_TRACE="t.trace").returncode, 0, "status")
+    status, found = reports(suite.asancol, f"{folder}/t.trace")[:2]
+    expect((status, len(found)), (1, 1), "reports")
+    with open(f"{folder}/t.trace", "rb") as file:
+        events = traces.read(file.read()).events
+    regions = [it.size for it in events if it.code in (traces.POISON, traces.UNPOISON)]
+    expect(sum(regions) < 2 * 8000 * 16 + (2 << 20), True, "bytes of all records")
+
+
 def sound_tests(suite: Suite, compiler: Compiler) -> None:
     for flags in (["-O0"], ["-O2"], ["-O0", "-static"], ["-O2", "-static"]):
         suite.test(f"{compiler} allocation {' '.join(flags)}", check_allocation, compiler, flags)
     suite.test(f"{compiler} second allocator", check_second_allocator, compiler)
     suite.test(f"{compiler} interface", check_interface, compiler)
+    suite.test(f"{compiler} growing container", check_growing, compiler)
+    suite.test(f"{compiler} interface: hooks and other names", check_asked_for, compiler)
 
 
 # Settings, and where the recorder's lines go.
@@ -490,9 +628,8 @@ def setting_tests(suite: Suite, compiler: Compiler, program: str) -> None:
     suite.test(f"{compiler} one pipe", check_one_pipe, program)
 
 
-def tests(suite: Suite, compiler: Compiler, folder: str) -> None:
-    """Takes its program, of which each access is recorded, where the tests of lives have built it."""
-    every = f"{folder}/every-{compiler}"
+def tests(suite: Suite, compiler: Compiler) -> None:
+    every = every_of(suite, compiler)
     limit_tests(suite, compiler, every)
     seen_tests(suite, compiler)
     sound_tests(suite, compiler)

@@ -11,6 +11,9 @@
 
 extern void __asan_poison_memory_region(const volatile void *address, size_t size);
 extern void __asan_unpoison_memory_region(const volatile void *address, size_t size);
+extern void __asan_poison_intra_object_redzone(void *address, size_t size);
+extern void __sanitizer_annotate_contiguous_container(const void *start, const void *end, const void *middle,
+                                                      const void *new_middle);
 
 enum { KEPT = 16, THREADS = 4 };
 
@@ -100,7 +103,7 @@ static void poisons(int rounds, int every)
 }
 
 /* What stands from the first segment on is found in the last one: a block that is held, its second free, a block that
-   is live, and poison in it. */
+   is live, and poison in it of each code. */
 static void early(int rounds, int unused)
 {
     (void)unused;
@@ -108,6 +111,8 @@ static void early(int rounds, int unused)
     __asan_poison_memory_region(live + 8, 16);
     __asan_poison_memory_region(large + 50000, 4096);
     __asan_unpoison_memory_region(large + 51000, 8);
+    __asan_poison_intra_object_redzone(large + 60000, 16);
+    __sanitizer_annotate_contiguous_container(large + 70000, large + 70064, large + 70064, large + 70034);
     free(freed);
     poisons(rounds, rounds);
     store(freed + 3);
@@ -118,6 +123,12 @@ static void early(int rounds, int unused)
     store(live + 24);
     store(large + 50999);
     store(large + 51000);
+    store(large + 59999);
+    store(large + 60000);
+    store(large + 60016);
+    store(large + 70033);
+    store(large + 70063);
+    store(large + 70064);
     store(large + 100000);
     free(live);
     free(large);
@@ -129,6 +140,15 @@ static void many_live(int rounds, int unused)
     (void)unused;
     for (int i = 0; i < rounds; i++)
         hide(malloc(8));
+}
+
+/* So many live blocks that only a part of the freed ones can be restated with them. */
+static void live_and_held(int rounds, int live)
+{
+    for (int i = 0; i < live; i++)
+        hide(malloc(16));
+    for (int i = 0; i < rounds; i++)
+        free(hide(malloc(16)));
 }
 
 static pthread_barrier_t start;
@@ -253,7 +273,8 @@ static const struct {
     void (*run)(int rounds, int number);
 } programs[] = {
     {"blocks", blocks}, {"early", early}, {"long_ago", long_ago}, {"variables", variables}, {"poisons", poisons},
-    {"many_live", many_live}, {"threads", threads}, {"wrong_threads", wrong_threads}, {"handlers", handlers},
+    {"many_live", many_live}, {"live_and_held", live_and_held}, {"threads", threads}, {"wrong_threads", wrong_threads},
+    {"handlers", handlers},
     {"children", children}, {"is_killed", is_killed}, {"removes_hub", removes_hub},
 };
 

@@ -3,16 +3,15 @@
 import glob
 import os
 import random
-import struct
 import subprocess
 import time
-from typing import Dict, List, NamedTuple
+from typing import Dict, List, NamedTuple, Tuple
 
 import hub
-from support import EXIT, TESTS, Compiler, Suite, Trace, environment, expect, reports, run, side_of
+from support import TESTS, Compiler, Suite, Trace, environment, expect, leave_out, reports, run, side_of, traces
+from testing.side import EXIT, SEGMENT
 
-SEGMENT = 5  # an ending
-PROGRESS, NUMBERS = 7680, struct.Struct("<QQQ")
+
 
 
 class Segment(NamedTuple):
@@ -69,6 +68,11 @@ def kinds_of(segments: List[Segment]) -> Dict[str, int]:
     return {it: kinds.count(it) for it in kinds}
 
 
+def of_blocks(path: str, restated: int) -> List[Tuple[int, int, int]]:
+    """The mallocs and frees of a segment after what it restates. The allocator may need less memory with it."""
+    return [it for it in Trace(path).events[restated:] if it[0] in (traces.MALLOC, traces.FREE)]
+
+
 def check_count(suite: Suite, folder: str, program: str) -> None:
     """3, 30 and 300 segments: no report, and each event is there once."""
     for limit, least in ((8000, 2), (1000, 25), (200, 150)):
@@ -76,15 +80,13 @@ def check_count(suite: Suite, folder: str, program: str) -> None:
         expect(texts_of(suite, segments), [], f"reports with {limit}")
         expect(len(segments) >= least, True, f"{len(segments)} segments with {limit}")
         sides = [side_of(it.path) for it in segments]
-        numbers = [NUMBERS.unpack_from(it.data, PROGRESS) for it in sides]
-        expect([it[1] for it in numbers], list(range(len(segments))), "numbers of segments")
+        expect([it.segment for it in sides], list(range(1, len(segments) + 1)), "numbers of segments")
         expect(len({(it.process, it.parent, it.started) for it in sides}), 1, "processes")
         expect([it.ending for it in sides], [SEGMENT] * (len(sides) - 1) + [EXIT], "endings")
         expect({it.is_at_limit + it.left_out for it in sides}, {0}, "what was left out")
-        restated = sum(it[2] for it in numbers)
-        events = sum(it.events for it in sides) - restated
+        events = [len(of_blocks(segment.path, it.restated)) for segment, it in zip(segments, sides)]
         run([program, "blocks", "8000", "-1"], folder, ASANCOL_TRACE="whole.trace")
-        expect(events, len(Trace(f"{folder}/whole.trace").events), "events")
+        expect(sum(events), len(of_blocks(f"{folder}/whole.trace", 0)), "mallocs and frees")
         os.unlink(f"{folder}/whole.trace")
 
 
@@ -103,6 +105,8 @@ EARLY = [
     "store 1 +40 heap-buffer-overflow",
     "store 1 +8 use-after-poison",
     "store 1 +50999 use-after-poison",
+    "store 1 +60000 use-after-poison",
+    "store 1 +70063 use-after-poison",
     "store 1 +100000 heap-buffer-overflow",
 ]
 
@@ -132,6 +136,13 @@ def check_variables(suite: Suite, folder: str, program: str) -> None:
         expect(kinds_of(segments), {"store use-after-poison": 600}, f"in a block, with {limit}")
 
 
+def check_live_and_held(suite: Suite, folder: str, program: str) -> None:
+    """Live blocks nearly fill the room to restate, and of the freed ones as many are held as fit beside them."""
+    for held in ("480", "4000"):
+        segments = record(suite, folder, [program, "live_and_held", "600", "190"], 400, ASANCOL_QUARANTINE=held)
+        expect_closed(segments)
+
+
 def check_many_live(suite: Suite, folder: str, program: str) -> None:
     """If half of a segment would restate, the recording ends at the limit."""
     ran = run([program, "many_live", "5000", "0"], folder, ASANCOL_TRACE="t.trace", ASANCOL_LIMIT="1000")
@@ -151,8 +162,8 @@ def check_kept(suite: Suite, folder: str, program: str) -> None:
     expect(len(names), 5, names)
     expect("t.segment-004.trace" in names, True, names)
     sides = [side_of(f"{folder}/{it[:-6]}") for it in names if "where" in it]
-    numbers = sorted(NUMBERS.unpack_from(it.data, PROGRESS)[1] for it in sides)
-    expect((numbers[1] - numbers[0], numbers[0] > 5), (1, True), "the newest two")
+    numbers = sorted(it.segment for it in sides)
+    expect((numbers[1] - numbers[0], numbers[0] > 6), (1, True), "the newest two")
 
 
 def check_children(suite: Suite, folder: str, program: str) -> None:
@@ -206,8 +217,8 @@ def check_no_room(suite: Suite, folder: str, program: str) -> None:
 
 
 def check_full_disk(suite: Suite, folder: str, program: str) -> None:
-    """The disk is full at the first switch, and at a later one: the segments before are whole, the recording ends with a
-    line, and its last trace is not closed."""
+    """The disk is full at the first switch, and at a later one: the segments before are whole, the recording ends with
+    a line, and its last trace is not closed."""
     for room, limit, mallocs, closed in (("1200k", 1000, 8000, 0), ("4m", 60000, 400000, 1)):
         lines = (
             f"mkdir {room} && mount -t tmpfs -o size={room} none {room} || exit 9",
@@ -243,7 +254,7 @@ def check_wrong_threads(suite: Suite, folder: str, program: str) -> None:
         expect(least <= after_free <= 2000, True, f"{after_free} after a free, with {limit}")
         for segment in segments:
             side, numbers = side_of(segment.path), [int(it.split()[1][1:]) for it in segment.lines[:-1]]
-            expect([it for it in numbers if side.fault(it) is None], [], f"without a place in {segment.path}")
+            expect([it for it in numbers if side.fault_at(it) is None], [], f"without a place in {segment.path}")
 
 
 def check_handlers(suite: Suite, folder: str, program: str) -> None:
@@ -260,16 +271,15 @@ def check_hub(suite: Suite, folder: str, program: str) -> None:
         words = name.split()
         peers, said = hub.run_under(folder, [program, *words], ASANCOL_LIMIT=str(limit))
         sides = [it.side() for it in peers]
-        numbers = [NUMBERS.unpack_from(it.data, PROGRESS) for it in sides]
         expect((said, len(peers) > 5), (b"", True), f"{len(peers)} connections of {words}")
-        expect([it[1] for it in numbers], list(range(len(peers))), "numbers of segments")
+        expect([it.segment for it in sides], list(range(1, len(peers) + 1)), "numbers of segments")
         expect(len({(it.process, it.parent, it.started) for it in sides}), 1, "processes")
         expect([it.ending for it in sides], [SEGMENT] * (len(sides) - 1) + [EXIT], "endings")
         expect([it.trace().is_closed for it in peers], [True] * len(peers), "closes")
         expect([it.events for it in sides], [len(it.trace().events) for it in peers], "events")
-        faults = [fault for it in sides for fault in it.faults if fault.event]
-        expect(len(faults), 7 if words[0] == "early" else 1, "faults")
-        expect(all(it.stack and it.allocated_stack for it in faults), True, "stacks")
+        faults = [fault for it in sides for fault in it.faults()]
+        expect(len(faults), 9 if words[0] == "early" else 1, "faults")
+        expect(all(len(it.place) > 1 and len(it.allocated) > 1 for it in faults), True, "stacks")
 
 
 def check_hub_that_leaves(suite: Suite, folder: str, program: str) -> None:
@@ -283,9 +293,8 @@ def check_hub_that_leaves(suite: Suite, folder: str, program: str) -> None:
     expect((side.ending, peers[0].trace().is_closed), (SEGMENT, True), "its ending")
 
 
-def tests(suite: Suite, compiler: Compiler, folder: str) -> None:
-    program = f"{folder}/segments-{compiler}"
-    compiler.c(folder, [f"{TESTS}/segments.c"], program, "-O1", "-w", "-pthread")
+def tests(suite: Suite, compiler: Compiler) -> None:
+    program = suite.built(compiler.c, [f"{TESTS}/segments.c"], f"segments-{compiler}", "-O1", "-w", "-pthread")
     cases = [
         ("count", check_count),
         ("moments", check_moments),
@@ -293,6 +302,7 @@ def tests(suite: Suite, compiler: Compiler, folder: str) -> None:
         ("long ago", check_long_ago),
         ("variables", check_variables),
         ("many live", check_many_live),
+        ("live and held", check_live_and_held),
         ("kept", check_kept),
         ("children", check_children),
         ("killed", check_killed),
@@ -304,9 +314,9 @@ def tests(suite: Suite, compiler: Compiler, folder: str) -> None:
         ("killed anywhere", check_killed_anywhere),
         ("no room", check_no_room),
     ]
-    if run(["unshare", "-rm", "true"], folder).returncode == 0:
+    if run(["unshare", "-rm", "true"], suite.folder).returncode == 0:
         cases.append(("full disk", check_full_disk))
     else:
-        print("left out: segments on a full disk: no namespace of mounts can be made here")
+        leave_out("segments on a full disk: no namespace of mounts can be made here")
     for name, check in cases:
         suite.test(f"{compiler} segments {name}", check, program)

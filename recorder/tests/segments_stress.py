@@ -20,6 +20,8 @@ import tempfile
 import time
 from typing import List
 
+sys.path.insert(0, f"{os.path.dirname(os.path.realpath(__file__))}/../..")  # where `testing` is
+
 from support import RECORDER, TESTS, build, environment
 
 ROUNDS = 25_000_000  # a thread's: a malloc and a free each

@@ -5,38 +5,31 @@ import glob
 import os
 import re
 import subprocess
-from typing import Iterator, List, Set
+from typing import Dict, Iterator, List, Set
 
 from support import RECORDER, Compiler, Suite, build, expect, write
 
 OUT = f"{RECORDER}/out/program"
+# Where the names of headers begin.
+ROOTS = ("-iquote", RECORDER, "-iquote", os.path.dirname(RECORDER))
 
-# What compiled code may do anywhere: POSIX says so, or it only computes.
-SAFE = """
-abort clock_gettime close connect _exit fcntl fstat ftruncate geteuid getpid getppid getsockopt memchr memcmp memcpy
-memset open poll pthread_sigmask read send sendmsg sigaction sigaddset sigdelset sigemptyset sigfillset socket stat
-strcat strchr strcpy strlen strncat strncmp strncpy strrchr symlink unlink write
-"""
+# What is no function, or the program's.
+CONSTANT = set("_GLOBAL_OFFSET_TABLE_ _DYNAMIC __ehdr_start _end main asancol_checks asancol_register_early "
+               "__lsan_is_turned_off".split())
 
-# A call of the system and nothing else, in the GNU C library.
-SYSTEM = """
-fallocate flock getrlimit madvise memfd_create mmap mprotect munlock munmap process_vm_readv sched_yield sigaltstack
-sigtimedwait syscall
-"""
+# Of the C library, which is called by address: variables, what only looks something up, and a call of the system's.
+SAFE = {"__libc_single_threaded", "__libc_stack_end", "environment", "_dl_find_object", "clock_gettime", "sigaction"}
 
-# Variables, what only looks something up, and what is no function of the library.
-CONSTANT = """
-__errno_location __libc_single_threaded environ program_invocation_name strerrordesc_np __libc_current_sigrtmax
-_dl_find_object _GLOBAL_OFFSET_TABLE_ main asancol_checks
-"""
-
-# Two locks, of the stream and of the allocator: who has one is disturbed by no handler, or sends it another way. And a
-# mark of the thread that nobody cancels it.
-LOCKS = "pthread_mutex_lock pthread_mutex_trylock pthread_mutex_unlock pthread_setcancelstate"
-
-# Not in a handler: the start of the process, and the calls of the program that are wrapped or replaced.
-ELSEWHERE = ("settings.o", "threads.o", "calls/")
-AT_THE_START = {"process.o": {"at_quick_exit", "pthread_atfork"}}
+# Not in a handler: the start of the process, its threads, its end, and the calls of the program that are wrapped or
+# replaced.
+ELSEWHERE = ("process/settings.o", "process/threads.o", "calls/", "heap/allocation.o", "base/own.o")
+AT_THE_START_OR_END = {
+    "leaks/leaks.o": {"dl_iterate_phdr"},
+    "leaks/roots.o": {"dl_iterate_phdr", "_dl_get_tls_static_info", "_thread_db_sizeof_pthread"},
+    "process/process.o": {"__register_atfork"},
+    "process/start.o": {"__cxa_atexit", "__cxa_at_quick_exit", "_IO_flush_all"},
+    "process/unchecked.o": {"dlerror", "dlsym"},
+}
 
 
 def names(object_file: str, *which: str) -> Set[str]:
@@ -50,7 +43,7 @@ def own_names(object_file: str) -> Set[str]:
     for itself, nor start a thread."""
     ran = subprocess.run(["nm", "--defined-only", "--extern-only", object_file], stdout=subprocess.PIPE, check=True)
     lines = [line.split() for line in ran.stdout.decode().splitlines()]
-    return {words[-1] for words in lines if words[1] != "W" or words[-1].startswith("__asan_")}
+    return {words[-1] for words in lines if words[1] != "W" or words[-1].startswith(("__asan_", "asancol_", "__wrap_"))}
 
 
 def objects() -> List[str]:
@@ -61,34 +54,68 @@ def objects() -> List[str]:
     return [it for it in (os.path.relpath(path, OUT) for path in found) if it not in beside]
 
 
+def called_by_address(part: str) -> Set[str]:
+    """Returns what a source takes of the table of the C library's functions."""
+    with open(f"{RECORDER}/{part[:-2]}.c", encoding="utf-8") as file:
+        return set(re.findall(r"\blibrary\.(\w{2,})", file.read()))
+
+
 def unsafe_names() -> Iterator[str]:
-    allowed = set(" ".join((SAFE, SYSTEM, CONSTANT, LOCKS)).split())
+    allowed = set(CONSTANT)
     parts = objects()
     expect(len(parts) > 30, True, "the objects")
     for part in parts:
         allowed |= own_names(f"{OUT}/{part}")
     for part in parts:
         if not part.startswith(ELSEWHERE):
-            there = names(f"{OUT}/{part}", "--undefined-only") - allowed - AT_THE_START.get(part, set())
-            yield from (f"{part}: {name}" for name in sorted(there))
+            by_address = called_by_address(part) - SAFE - AT_THE_START_OR_END.get(part, set())
+            there = names(f"{OUT}/{part}", "--undefined-only") - allowed - SAFE
+            yield from (f"{part}: {name}" for name in sorted(there | by_address))
 
 
 def check_handlers(suite: Suite, folder: str) -> None:
     expect(list(unsafe_names()), [], "not to be called in a signal handler")
 
 
+def parts_with_includes() -> Dict[str, Set[str]]:
+    """Returns for each part, a header with its source, the parts that it includes."""
+    found: Dict[str, Set[str]] = {}
+    for path in glob.glob(f"{RECORDER}/*/*.[ch]"):
+        part = os.path.relpath(path, RECORDER)[:-2]
+        if not part.startswith(("tests/", "wrapper/", "out/")):
+            with open(path, encoding="utf-8") as file:
+                included = re.findall(r'^ *#include "(\w+/\w+)\.h"', file.read(), re.M)
+            found.setdefault(part, set()).update(it for it in included if it != part)
+    return found
+
+
+def check_layers(suite: Suite, folder: str) -> None:
+    """No part includes itself by others: what stands below calls what is above by a table (stream/state.h)."""
+    left = parts_with_includes()
+    expect(len(left) > 50, True, "parts")
+    while True:
+        low = [part for part, included in left.items() if not included & left.keys()]
+        if not low:
+            break
+        for part in low:
+            del left[part]
+    expect(sorted(left), [], "parts in a cycle of includes")
+
+
 def check_headers(suite: Suite, folder: str, compiler: Compiler) -> None:
     headers = [os.path.relpath(it, RECORDER) for it in glob.glob(f"{RECORDER}/**/*.h", recursive=True)]
-    headers = [it for it in headers if not it.startswith(("tests/", "cold_reports"))]
+    headers += [os.path.relpath(it, f"{RECORDER}/..") for it in glob.glob(f"{RECORDER}/../common/*.h")]
+    headers = [it for it in headers if not it.startswith(("tests/", "out/", "cold_reports", "cxx/"))]
     expect(len(headers) > 30, True, "headers")
     for header in headers:
         write(folder, alone_c=f'#define _GNU_SOURCE\n#include "{header}"\n')
-        build([compiler.name, "-std=c11", "-Wall", "-Werror", "-iquote", RECORDER, "-fsyntax-only", "alone.c"], folder)
+        build([compiler.name, "-std=c11", "-Wall", "-Werror", *ROOTS, "-fsyntax-only", "alone.c"], folder)
 
 
 def tests(suite: Suite, compiler: Compiler) -> None:
     suite.test(f"{compiler} headers", check_headers, compiler)
 
 
-def tests_of_objects(suite: Suite) -> None:
+def tests_of_all(suite: Suite) -> None:
     suite.test("signal safety", check_handlers)
+    suite.test("layers", check_layers)

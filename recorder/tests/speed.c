@@ -159,13 +159,33 @@ static long strings(long count)
     return sum;
 }
 
+/* Blocks that the process still has when it ends, and 100 MB in one. */
+static long live(long count)
+{
+    enum { LARGE_BLOCK = 100 << 20 };
+    static void **volatile first;
+    static char *volatile large;
+    for (long i = 0; i < count; i++) {
+        void **block = malloc(32);
+        if (block == NULL)
+            return 0;
+        *block = (void *)first;
+        first = block;
+    }
+    large = malloc(LARGE_BLOCK);
+    if (large != NULL)
+        memset(large, 1, LARGE_BLOCK);
+    return first != NULL;
+}
+
 int main(int count, char **words)
 {
     static const struct {
         const char *name;
         long (*run)(long);
     } programs[] = {{"array", array},   {"tree", tree},   {"sort", sort},     {"blocks", blocks},
-                    {"frames", frames}, {"calls", calls}, {"copies", copies}, {"strings", strings}};
+                    {"frames", frames}, {"calls", calls}, {"copies", copies}, {"strings", strings},
+                    {"live", live}};
     for (size_t i = 0; count == 3 && i < sizeof programs / sizeof *programs; i++) {
         if (strcmp(words[1], programs[i].name) != 0)
             continue;

@@ -23,8 +23,11 @@ import tempfile
 from concurrent.futures import ThreadPoolExecutor
 from typing import Dict, List, NamedTuple, Optional
 
-from check import LIVES
-from support import RECORDER, TESTS, Compiler, compilers, environment
+sys.path.insert(0, f"{os.path.dirname(os.path.realpath(__file__))}/../..")  # where `testing` is
+
+from lives import LIVES
+from support import RECORDER, TESTS, Compiler, compilers, environment, run
+from testing.lines import lines_of
 
 KEPT = f"{RECORDER}/out/stress"
 
@@ -68,8 +71,6 @@ WITH_THREADS = (
 )
 CASES += [Case("lives.c", ["-O1"], [name], 10, LIVES[name][0], len(LIVES[name][2]), {}) for name in WITH_THREADS]
 
-CLASS = re.compile(r"p0 #\d+ .*? ([a-z]+(?:-[a-z]+)+)(?: shadow ..)?")
-
 
 def build(case: Case, compiler: Compiler, folder: str) -> str:
     path = f"{folder}/{os.path.basename(case.source)}.{compiler}{''.join(case.flags)}"
@@ -91,12 +92,12 @@ def what_is_wrong(asancol: str, case: Case, program: str, folder: str) -> Option
         return f"more than {LONGEST} seconds"
     if ran.returncode != case.status or ran.stderr:
         return f"status {ran.returncode}: {ran.stderr.decode(errors='replace')[:300]}"
-    lines = subprocess.run([asancol, "check", trace], stdout=subprocess.PIPE, text=True, check=False).stdout.splitlines()
-    if not lines or not lines[-1].startswith("p0 end closed "):
-        return lines[-1] if lines else "no end line"
-    counts = collections.Counter(match.group(1) for match in map(CLASS.fullmatch, lines[:-1]) if match)
-    is_right = len(lines) - 1 == case.reports and all(counts[it] == case.classes[it] for it in case.classes)
-    return None if is_right else f"{len(lines) - 1} reports: {dict(counts)}"
+    reports, ends = lines_of(run([asancol, "check", trace], folder).stdout)
+    if [it.fate for it in ends] != ["closed"]:
+        return ends[0].fate if ends else "no end line"
+    counts = collections.Counter(it.class_name for it in reports)
+    is_right = len(reports) == case.reports and all(counts[it] == case.classes[it] for it in case.classes)
+    return None if is_right else f"{len(reports)} reports: {dict(counts)}"
 
 
 def run_once(asancol: str, case: Case, program: str) -> Optional[str]:

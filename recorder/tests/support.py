@@ -1,52 +1,26 @@
 """What the recorder's tests share: runs, builds, traces, and the suite."""
 
-import mmap
 import os
 import re
 import shutil
-import struct
-import subprocess
-import sys
+import tempfile
 from typing import NamedTuple
 
+import testing
+from testing import Failure, Later, compilers_there, expect, fuzzers, leave_out, traces
+from testing.lines import lines_of
+from testing.programs import CC, CXX, TOP, environment, run
+from testing.side import side_of
+
 TESTS = os.path.dirname(os.path.abspath(__file__))
-RECORDER = os.path.dirname(TESTS)
-sys.path.append(f"{os.path.dirname(RECORDER)}/tests")
-
-import traces  # noqa: E402
-from side_by_side import Failure, SideBySide, expect  # noqa: E402,F401
-
-CC = f"{RECORDER}/asancol-cc"
-CXX = f"{RECORDER}/asancol-c++"
-
-# No run may take longer, in seconds. Nothing is measured by it.
-PATIENCE = 300
+RECORDER = f"{TOP}/recorder"
 
 REDZONE = 32
-
-
-def environment(**settings):
-    """The environment without what speaks to a recorder, and with these settings."""
-    kept = {name: value for name, value in os.environ.items() if not name.startswith("ASANCOL_")}
-    kept["LC_ALL"] = "C"
-    return {**kept, **settings}
 
 
 def limited(events):
     """Settings under which a recording ends after so many events, since there is one segment."""
     return {"ASANCOL_LIMIT": str(events), "ASANCOL_SEGMENTS": "0"}
-
-
-def run(words, folder, stdin=None, **settings):
-    return subprocess.run(
-        words,
-        cwd=folder,
-        env=environment(**settings),
-        input=stdin,
-        capture_output=True,
-        timeout=PATIENCE,
-        check=False,
-    )
 
 
 def build(words, folder, **settings):
@@ -76,136 +50,29 @@ class Trace:
         return None
 
 
-# What stands beside a trace, as docs/FORMAT.md lays it out.
-HEAD = struct.Struct("<8sQQIIIIQIIII")
-LAST = struct.Struct("<QQII")
-BUILDS, BUILD, MAPS, INDEX = 4096, struct.Struct("<QB23s"), 8192, 1 << 18
-FAULTS_AT, FAULT = INDEX + (1 << 24) * 4, struct.Struct("<QQQQQQIIIIII120s")
-STACKS_AT = FAULTS_AT + (1 << 16) * FAULT.size
-NO_ENDING, EXIT, EXEC, SIGNAL, LOST = range(5)
-NO_VARIABLE, OF_STACK, GLOBAL = range(3)
-
-
-def text_of(data):
-    return data.split(b"\0")[0].decode()
-
-
-class Fault:
-    """One entry of the list of faults."""
-
-    def __init__(self, data):
-        numbers = FAULT.unpack(data)
-        self.event, self.place, self.block, self.size, self.allocated, self.freed = numbers[:6]
-        self.variable, self.line, self.stack, self.allocated_stack, self.freed_stack = numbers[6:11]
-        self.name = text_of(numbers[12])
-
-
-class Side:
-    """The side memory or the side file of a process. What a file lacks at its end is zeros."""
-
-    def __init__(self, data):
-        self.data = data
-        head = HEAD.unpack_from(data)
-        self.header, self.events, self.left_out, self.ending, self.signal, self.process, self.parent = head[:7]
-        self.started, self.has_checks, self.is_at_limit, self.fault_count, self.stack_words = head[7:]
-        self.words = data[72:4072].split(b"\0\0")[0].split(b"\0")
-        self.last, address, self.last_stack, has_address = LAST.unpack_from(data, 4072)
-        self.wrong_address = address if has_address else None
-        at = [FAULTS_AT + i * FAULT.size for i in range(self.fault_count)]
-        self.faults = [Fault(data[it : it + FAULT.size]) for it in at]
-        self.maps = [line.split(None, 5) for line in text_of(data[MAPS:INDEX]).splitlines()]
-
-    def fault(self, event):
-        """The fault of an event, or None."""
-        at = INDEX + (event - 1) * 4
-        entry = self.data[at : at + 4]
-        number = int.from_bytes(entry, "little")
-        return self.faults[number - 1] if number else None
-
-    def stack(self, number):
-        """The places of a stack, the innermost first."""
-        at = STACKS_AT + number * 8
-        (count,) = struct.unpack_from("<Q", self.data, at)
-        expect(0 < number and number + count < self.stack_words, True, f"that the stack {number} lies in its part")
-        return struct.unpack_from(f"<{count}Q", self.data, at + 8)
-
-    def builds(self):
-        """The build ids, by the file of the module."""
-        starts = {int(words[0].split("-")[0], 16): words[5] for words in self.maps if len(words) == 6}
-        found = {}
-        for i in range(112):
-            start, length, build_id = BUILD.unpack_from(self.data, BUILDS + i * BUILD.size)
-            if start == 0:
-                break
-            found[starts[start]] = build_id[:length].hex()
-        return found
-
-    def lines(self, places):
-        """Function and FILE:LINE of each place. addr2line does not know all functions that Clang has inlined, and
-        llvm-addr2line does."""
-        tool = shutil.which("llvm-addr2line") or "addr2line"
-        wanted = {}
-        for place in set(places):
-            wanted.setdefault(self.module(place), []).append(place)
-        found = {}
-        for (path, base), of_module in wanted.items():
-            addresses = "\n".join(hex(place - 1 - base) for place in of_module)
-            said = run([tool, "-f", "-e", path], ".", stdin=addresses.encode()).stdout.decode().splitlines()
-            for place, function, line in zip(of_module, said[::2], said[1::2]):
-                found[place] = (function, os.path.basename(line.split(" (")[0]))
-        return [found[place] for place in places]
-
-    def path(self, place):
-        """The file that a place is in, or an empty text."""
-        for words in self.maps:
-            start, end = (int(word, 16) for word in words[0].split("-"))
-            if start <= place < end and len(words) == 6:
-                return words[5]
-        return ""
-
-    def module(self, place):
-        """The file that a place is in, and what to take away for its own address."""
-        path = self.path(place)
-        if not path:
-            raise Failure(f"no module is at {place:x}")
-        first = min(int(it[0].split("-")[0], 16) for it in self.maps if len(it) == 6 and it[5] == path)
-        with open(path, "rb") as file:
-            is_at_fixed_place = file.read(18)[16] == 2
-        return path, 0 if is_at_fixed_place else first
-
-
-def side_of(path):
-    """The side file of a trace. It is mapped, since most of it is a hole."""
-    with open(f"{path}.where", "rb") as file:
-        return Side(mmap.mmap(file.fileno(), 0, access=mmap.ACCESS_READ))
-
-
-LINE = re.compile(
-    r"p0 #(\d+) (load|store|free|malloc)(?: (\d+))? at ([0-9a-f]+)(?: bad ([0-9a-f]+))?"
-    r" ([a-z-]+)(?: shadow ..)?"
-)
+def noted(path):
+    """The lines of the note that a link has left in a program, but for the first, which says that there is one."""
+    with open(path, "rb") as file:
+        text = file.read().partition(b"asancol\0linked\n")[2].partition(b"\0")[0]
+    return text.decode().splitlines()
 
 
 def reports(asancol, path, options=(), most=1000):
     """The status, the first reports as the tests write them, and what comes after `end`."""
     checked = run([asancol, "check", *options, path], ".")
-    lines = checked.stdout.decode().splitlines()
-    trace = Trace(path) if len(lines) > 1 else None
+    said, _ = lines_of(checked.stdout)
+    trace = Trace(path) if said else None
     texts = []
-    for line in lines[:-1][:most]:
-        number, kind, width, at, bad, wrong = LINE.fullmatch(line).groups()
-        address = int(at, 16)
-        start = trace.block(address, int(number))
-        words = [kind]
-        if width:
-            words.append(width)
+    for it in said[:most]:
+        start = trace.block(it.address, it.event)
+        words = [it.access, *([str(it.size)] if it.size is not None else [])]
         if start is not None:
-            words.append(f"{address - start:+d}")
-            if bad and bad != at:
-                words += ["bad", f"{int(bad, 16) - start:+d}"]
-        texts.append(" ".join([*words, wrong]))
-    end = lines[-1].removeprefix("p0 end ") if lines else ""
-    return checked.returncode, texts, end
+            words.append(f"{it.address - start:+d}")
+            if it.bad not in (None, it.address):
+                words += ["bad", f"{it.bad - start:+d}"]
+        texts.append(" ".join([*words, it.class_name]))
+    last = checked.stdout.decode().splitlines()[-1:]
+    return checked.returncode, texts, last[0].removeprefix("p0 end ") if last else ""
 
 
 class Placed(NamedTuple):
@@ -222,15 +89,13 @@ class Placed(NamedTuple):
 def placed(asancol, path):
     """The reports of a trace with their lines, and the status of its check."""
     checked = run([asancol, "check", path], ".")
-    said = [LINE.fullmatch(line).groups() for line in checked.stdout.decode().splitlines()[:-1]]
+    said, _ = lines_of(checked.stdout)
     side = side_of(path)
-    faults = [side.fault(int(words[0])) for words in said]
-    known = [fault.place for fault in faults if fault]
+    faults = [side.fault_at(it.event) for it in said]
+    known = [fault.place[0] for fault in faults if fault]
     lines = dict(zip(known, side.lines(known)))
-    found = []
-    for words, fault in zip(said, faults):
-        function, line = lines[fault.place] if fault else ("", "")
-        found.append(Placed(int(words[0]), words[1], words[2] or "", words[5], function, line))
+    places = [lines[fault.place[0]] if fault else ("", "") for fault in faults]
+    found = [Placed(it.event, it.access, str(it.size or ""), it.class_name, *place) for it, place in zip(said, places)]
     return found, checked.returncode
 
 
@@ -269,12 +134,39 @@ def same_as_sanitizer(text, said):
     return offset is None or not places or offset in places
 
 
-class Suite(SideBySide):
-    """The tests of the recorder, and the program that checks what is recorded."""
+class Suite(testing.Suite):
+    """The tests of the recorder, for each compiler; the program that checks what is recorded; and a folder for the
+    programs that several tests run."""
 
     def __init__(self, asancol, words):
         super().__init__(words)
         self.asancol = asancol
+        self.folder = tempfile.mkdtemp(prefix="asancol-tests-")
+        self.programs = {}
+        self.compilers = compilers()
+        for compiler in self.compilers:
+            compiler.has_sanitizer = has_sanitizer(compiler, self.folder)
+            if not compiler.has_sanitizer:
+                leave_out(f"the AddressSanitizer of {compiler} is not there")
+        self.discover(TESTS)
+        if os.environ.get("SANITIZE"):
+            fuzzers.add_tests(self, 5, ["recorder", "asancol-cc"], "fuzzers: ")
+
+    def collect(self, module):
+        """Takes the tests of each compiler, and `tests_of_all`, which need none."""
+        for compiler in self.compilers:
+            module.tests(self, compiler)
+        if hasattr(module, "tests_of_all"):
+            module.tests_of_all(self)
+
+    def built(self, make, sources, name, *flags, **settings):
+        """A program that is built when the first test needs it, and once."""
+        program = f"{self.folder}/{name}"
+        later = Later(program, make, self.folder, sources, program, *flags, **settings)
+        return self.programs.setdefault(program, later)
+
+    def clean_up(self):
+        shutil.rmtree(self.folder, ignore_errors=True)
 
 
 class Compiler:
@@ -297,15 +189,22 @@ class Compiler:
         build([*words, "-g", *flags, *sources, "-o", program], folder, ASANCOL_CXX=self.cxx, **settings)
 
 
+def has_sanitizer(compiler, folder):
+    write(folder, empty_c="int main(void) { return 0; }\n")
+    made = run([compiler.name, "-fsanitize=address", "empty.c", "-o", "empty"], folder)
+    return made.returncode == 0 and run(["./empty"], folder).returncode == 0
+
+
 def compilers():
+    """Those that are there, each with its C++ command if that is."""
     found = []
     for name, cxx in (("gcc", "g++"), ("clang", "clang++")):
-        if not shutil.which(name):
-            print(f"left out: {name} is not there")
+        if name not in compilers_there():
+            leave_out(f"{name} is not there")
             continue
         found.append(Compiler(name, cxx if shutil.which(cxx) else None))
         if not found[-1].cxx:
-            print(f"left out: {cxx} is not there")
+            leave_out(f"{cxx} is not there")
     return found
 
 

@@ -1,17 +1,14 @@
 #define _GNU_SOURCE
 #include "wrapper/linked.h"
 
-#include <elf.h>
-#include <stdio.h>
 #include <string.h>
 
-#include "wrapper/view.h"
-
-/* How the files begin: an object; what Clang makes with -flto, in two forms; an archive. */
+/* How the files begin: an object; what Clang makes with -flto, in two forms; archives. */
 #define OBJECT ELFMAG
 #define BITCODE "BC\xc0\xde"
 #define WRAPPED_BITCODE "\xde\xc0\x17\x0b"
 #define ARCHIVE "!<arch>\n"
+#define THIN_ARCHIVE "!<thin>\n"
 
 /* The section of the switches. In assembly their text may be cut anywhere. */
 #define SWITCHES ".GCC.command.line"
@@ -19,76 +16,170 @@
 /* The sections in which GCC keeps what it compiles at the link. */
 #define GCC_LTO ".gnu.lto_"
 
-static bool begins_with(struct view view, const char *front)
+/* Whether a word of noted switches begins here. Blanks are between words, and zeros around all of them. Clang writes a
+   backslash before a blank in a word, and before a backslash. */
+static bool begins_word(struct view view, const char *at)
 {
-    return view.size >= strlen(front) && memcmp(view.bytes, front, strlen(front)) == 0;
+    size_t backslashes = 0;
+    if (at == view.bytes || at[-1] == 0)
+        return true;
+    if (at[-1] != ' ')
+        return false;
+    for (const char *before = at - 1; before > view.bytes && before[-1] == '\\'; before--)
+        backslashes++;
+    return backslashes % 2 == 0;
 }
 
-static bool has(struct view view, const char *text)
+/* Whether the mark is a whole word of noted switches: it may also be a piece of another one, as of a macro. */
+static bool has_mark(struct view view)
 {
-    return memmem(view.bytes, view.size, text, strlen(text)) != NULL;
+    const size_t length = strlen(COMPILED_SO);
+    struct view rest = view;
+    while (view_has_text(rest, COMPILED_SO)) {
+        const char *found = memmem(rest.bytes, rest.size, COMPILED_SO, length), *after = found + length;
+        rest = (struct view){after, (size_t)(view.bytes + view.size - after)};
+        if (begins_word(view, found) && (rest.size == 0 || *after == 0 || *after == ' '))
+            return true;
+    }
+    return false;
 }
 
-/* The compiler's own objects, which begin and end each program. */
-static bool is_start_file(const char *path)
+static bool is_bitcode(struct view view)
 {
-    const char *slash = strrchr(path, '/');
-    const char *name = slash != NULL ? slash + 1 : path;
-    return strstr(name, "crt1.o") != NULL || strncmp(name, "crt", 3) == 0;
+    return view_begins(view, BITCODE) || view_begins(view, WRAPPED_BITCODE);
 }
 
 /* An object that is to be linked, and neither a program nor a shared object. */
 static bool is_object(struct view view)
 {
-    const Elf64_Ehdr *header = (const Elf64_Ehdr *)view.bytes;
-    if (begins_with(view, OBJECT))
-        return view.size >= sizeof *header && header->e_type == ET_REL;
-    return begins_with(view, BITCODE) || begins_with(view, WRAPPED_BITCODE);
+    Elf64_Ehdr header;
+    if (!view_begins(view, OBJECT) || view.size < sizeof header)
+        return is_bitcode(view);
+    memcpy(&header, view.bytes, sizeof header);
+    return header.e_type == ET_REL;
 }
 
 bool linked_takes(const char *path)
 {
     struct view view = view_map(path);
-    bool takes = begins_with(view, OBJECT) || is_object(view) || begins_with(view, ARCHIVE);
+    bool takes = view_begins(view, OBJECT) || is_object(view) || view_begins(view, ARCHIVE)
+                 || view_begins(view, THIN_ARCHIVE);
     view_unmap(view);
     return takes;
 }
 
-/* A member of an archive comes in only if something asks for it, and then the callbacks come in by themselves: so an
-   archive counts only for what GCC will compile. */
-static void look_at(struct linked *linked, const char *path, struct view view)
+/* What an object has of what matters here. */
+struct parts {
+    bool has_code, has_variables, has_lto;
+    bool has_assembly; /* a label in code that is no function: no compiler makes one */
+    size_t files;  /* sources that the table of symbols names */
+    size_t marked; /* those of them that were compiled so */
+};
+
+static bool is_called(struct view names, const Elf64_Shdr *section, const char *name, bool is_front)
 {
-    bool is_library = begins_with(view, ARCHIVE) || (begins_with(view, OBJECT) && !is_object(view));
-    bool is_assembly = !is_library && !is_object(view);
-    bool is_marked = has(view, is_assembly ? SWITCHES : COMPILED_SO), is_lto = has(view, GCC_LTO);
-    linked->has_marked |= is_marked && (!is_library || is_lto);
-    linked->has_lto |= is_lto;
-    if (is_library || is_marked || is_start_file(path))
-        return;
-    if (linked->unmarked < NAMES_SHOWN)
-        linked->names[linked->unmarked] = strdup(path);
-    linked->unmarked++;
-    if (is_lto && linked->unmarked_lto == NULL)
-        linked->unmarked_lto = strdup(path);
+    if (section->sh_name >= names.size)
+        return false;
+    const char *found = names.bytes + section->sh_name;
+    return is_front ? strncmp(found, name, strlen(name)) == 0 : strcmp(found, name) == 0;
 }
 
+static size_t count_marked(struct view switches)
+{
+    size_t count = 0;
+    while (switches.size > 0) {
+        size_t length = strnlen(switches.bytes, switches.size);
+        count += has_mark((struct view){switches.bytes, length});
+        length += length < switches.size;
+        switches = (struct view){switches.bytes + length, switches.size - length};
+    }
+    return count;
+}
+
+static bool is_in_code(struct view view, const Elf64_Sym *symbol)
+{
+    size_t number = symbol->st_shndx;
+    return number != SHN_UNDEF && number < SHN_LORESERVE && number < view_section_count(view)
+           && (view_section(view, number).sh_flags & SHF_EXECINSTR) != 0;
+}
+
+static void count_symbols(struct parts *parts, struct view view, const Elf64_Shdr *section)
+{
+    struct view table = view_of_section(view, section), texts = view_texts(view, section->sh_link);
+    for (size_t at = 0; texts.size != 0 && table.size - at >= sizeof(Elf64_Sym); at += sizeof(Elf64_Sym)) {
+        Elf64_Sym it;
+        memcpy(&it, table.bytes + at, sizeof it);
+        unsigned type = ELF64_ST_TYPE(it.st_info);
+        const char *name = it.st_name < texts.size ? texts.bytes + it.st_name : "";
+        parts->files += type == STT_FILE && name[0] != 0;
+        parts->has_assembly |= type == STT_NOTYPE && name[0] != 0 && strncmp(name, ".L", 2) != 0
+                               && is_in_code(view, &it);
+        parts->has_variables |= it.st_shndx != SHN_UNDEF && (type == STT_OBJECT || type == STT_TLS);
+    }
+}
+
+static struct parts parts_of(struct view view)
+{
+    struct parts parts = {0};
+    size_t count = view_section_count(view);
+    Elf64_Ehdr header;
+    memcpy(&header, view.bytes, sizeof header);
+    bool has_many = count != 0 && header.e_shstrndx == SHN_XINDEX;
+    struct view names = view_texts(view, has_many ? view_section(view, 0).sh_link : header.e_shstrndx);
+    for (size_t i = 0; i < count; i++) {
+        Elf64_Shdr section = view_section(view, i);
+        struct view bytes = view_of_section(view, &section);
+        parts.has_code |= (section.sh_flags & SHF_EXECINSTR) != 0 && section.sh_size > 0;
+        parts.has_lto |= is_called(names, &section, GCC_LTO, true);
+        if (is_called(names, &section, SWITCHES, false))
+            parts.marked += count_marked(bytes);
+        if (section.sh_type == SHT_SYMTAB)
+            count_symbols(&parts, view, &section);
+    }
+    return parts;
+}
+
+/* Whether some of it was compiled so. */
+static bool is_marked_object(struct view view)
+{
+    return is_bitcode(view) ? has_mark(view) : parts_of(view).marked != 0;
+}
+
+/* A member of an archive comes in only if something asks for it, and then the callbacks come in by themselves: so an
+   archive counts only for what GCC will compile. */
 void linked_look_at(struct linked *linked, const char *path)
 {
     struct view view = view_map(path);
-    if (view.bytes != NULL)
-        look_at(linked, path, view);
+    bool is_elf = view_begins(view, OBJECT), is_one = is_object(view);
+    bool is_library = view_begins(view, ARCHIVE) || (is_elf && !is_one);
+    bool is_marked = is_one ? is_marked_object(view) : is_library ? has_mark(view) : view_has_text(view, SWITCHES);
+    bool is_lto = view_has_text(view, GCC_LTO);
+    linked->has_marked |= is_marked && (!is_library || is_lto);
+    linked->has_lto |= is_lto;
+    if (!is_library && !is_marked && is_lto && linked->unmarked_lto == NULL)
+        linked->unmarked_lto = strdup(path);
     view_unmap(view);
 }
 
-void linked_warn(const struct linked *linked, const char *program)
+bool linked_is_marked_text(const char *path)
 {
-    if (linked->unmarked == 0)
-        return;
-    fprintf(stderr, "%s: warning: not recorded, since %s did not compile it: ", program, program);
-    unsigned shown = linked->unmarked < NAMES_SHOWN ? linked->unmarked : NAMES_SHOWN;
-    for (unsigned i = 0; i < shown; i++)
-        fprintf(stderr, "%s%s", i == 0 ? "" : ", ", linked->names[i] != NULL ? linked->names[i] : "?");
-    if (linked->unmarked > shown)
-        fprintf(stderr, " and %u more", linked->unmarked - shown);
-    fputc('\n', stderr);
+    struct view view = view_map(path);
+    bool is_marked = is_bitcode(view) ? has_mark(view) : view_has_text(view, SWITCHES);
+    view_unmap(view);
+    return is_marked;
+}
+
+/* An object that `ld -r` has made has the switches of each of its parts, and the name of each source that was compiled.
+   If that linker has kept but one of those that are the same, or no name, nobody can say whose its parts are. */
+enum origin linked_origin(struct view view)
+{
+    if (!is_object(view))
+        return ORIGIN_NONE;
+    if (is_bitcode(view))
+        return has_mark(view) ? ORIGIN_OURS : ORIGIN_OTHERS;
+    struct parts parts = parts_of(view);
+    if (!parts.has_code && !parts.has_variables && !parts.has_lto)
+        return ORIGIN_NONE;
+    bool is_ours = parts.files != 0 && parts.marked >= parts.files && !parts.has_assembly;
+    return is_ours ? ORIGIN_OURS : ORIGIN_OTHERS;
 }

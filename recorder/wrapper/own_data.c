@@ -1,22 +1,20 @@
+#define _GNU_SOURCE
 #include "wrapper/own_data.h"
 
-#include <elf.h>
 #include <string.h>
 
+#include "common/text.h"
 #include "wrapper/view.h"
 
 struct search {
     struct view view;
     const char *const *names;
     size_t count;
+    const struct names *asked_for;
     bool *is_own;
+    char **unasked;
     bool has_found;
 };
-
-static bool is_inside(struct view view, uint64_t offset, uint64_t size)
-{
-    return offset <= view.size && size <= view.size - offset;
-}
 
 static bool is_variable(const Elf64_Sym *symbol)
 {
@@ -39,49 +37,47 @@ static void look_for(struct search *search, const char *name)
             search->is_own[i] = search->has_found = true;
 }
 
-static void look_at_table(struct search *search, const Elf64_Shdr *table, const Elf64_Shdr *texts)
+/* The recorder's own are weak, but for those of the operators. mold makes all of them local, and so keeps no sign. */
+static void look_at_wrap(struct search *search, const Elf64_Sym *symbol, const char *name)
 {
-    struct view view = search->view;
-    if (!is_inside(view, table->sh_offset, table->sh_size) || !is_inside(view, texts->sh_offset, texts->sh_size))
+    static const char front[] = "__wrap_", operator_front[] = "__wrap__Z";
+    bool is_strong = symbol->st_shndx != SHN_UNDEF && ELF64_ST_BIND(symbol->st_info) == STB_GLOBAL;
+    if (*search->unasked != NULL || !is_strong || !begins_with(name, front) || begins_with(name, operator_front)
+        || names_have(search->asked_for, name + strlen(front)))
         return;
-    const char *text = view.bytes + texts->sh_offset;
-    if (texts->sh_size == 0 || text[texts->sh_size - 1] != 0)
-        return;
+    for (size_t i = 0; i < search->count && *search->unasked == NULL; i++)
+        if (strcmp(name + strlen(front), search->names[i]) == 0)
+            *search->unasked = strdup(name);
+}
+
+static void look_at_table(struct search *search, const Elf64_Shdr *section)
+{
+    struct view table = view_of_section(search->view, section);
+    struct view texts = view_texts(search->view, section->sh_link);
     bool has_file = true;
-    for (uint64_t at = 0; table->sh_size - at >= sizeof(Elf64_Sym); at += sizeof(Elf64_Sym)) {
+    for (size_t at = 0; texts.size != 0 && table.size - at >= sizeof(Elf64_Sym); at += sizeof(Elf64_Sym)) {
         Elf64_Sym it;
-        memcpy(&it, view.bytes + table->sh_offset + at, sizeof it); /* it may lie anywhere */
-        const char *name = text + (it.st_name < texts->sh_size ? it.st_name : texts->sh_size - 1);
+        memcpy(&it, table.bytes + at, sizeof it); /* it may lie anywhere */
+        const char *name = texts.bytes + (it.st_name < texts.size ? it.st_name : texts.size - 1);
         if (ELF64_ST_TYPE(it.st_info) == STT_FILE)
             has_file = name[0] != 0;
         else if (is_variable(&it) && !is_of_one_file(&it, has_file))
             look_for(search, name);
+        else
+            look_at_wrap(search, &it, name);
     }
 }
 
-/* The section header of this number. */
-static Elf64_Shdr section_at(struct view view, const Elf64_Ehdr *header, size_t number)
+bool own_data_find(const char *path, const char *const *names, size_t count, const struct names *asked_for,
+                   bool *is_own, char **unasked)
 {
-    Elf64_Shdr section;
-    memcpy(&section, view.bytes + header->e_shoff + number * sizeof section, sizeof section);
-    return section;
-}
-
-bool own_data_find(const char *path, const char *const *names, size_t count, bool *is_own)
-{
-    struct search search = {view_map(path), names, count, is_own, false};
-    struct view view = search.view;
-    const Elf64_Ehdr *header = (const Elf64_Ehdr *)view.bytes;
-    bool is_elf = view.size >= sizeof *header && memcmp(view.bytes, ELFMAG, SELFMAG) == 0
-                  && header->e_ident[EI_CLASS] == ELFCLASS64 && header->e_shentsize == sizeof(Elf64_Shdr)
-                  && is_inside(view, header->e_shoff, header->e_shnum * sizeof(Elf64_Shdr));
-    for (size_t i = 0; is_elf && i < header->e_shnum; i++) {
-        Elf64_Shdr table = section_at(view, header, i);
-        if (table.sh_type == SHT_SYMTAB && table.sh_link < header->e_shnum) {
-            Elf64_Shdr texts = section_at(view, header, table.sh_link);
-            look_at_table(&search, &table, &texts);
-        }
+    struct search search = {view_map(path), names, count, asked_for, is_own, unasked, false};
+    size_t sections = view_section_count(search.view);
+    for (size_t i = 0; i < sections; i++) {
+        Elf64_Shdr section = view_section(search.view, i);
+        if (section.sh_type == SHT_SYMTAB)
+            look_at_table(&search, &section);
     }
-    view_unmap(view);
+    view_unmap(search.view);
     return search.has_found;
 }

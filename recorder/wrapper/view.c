@@ -2,6 +2,7 @@
 #include "wrapper/view.h"
 
 #include <fcntl.h>
+#include <string.h>
 #include <sys/mman.h>
 #include <sys/stat.h>
 #include <unistd.h>
@@ -26,4 +27,60 @@ void view_unmap(struct view view)
 {
     if (view.bytes != NULL)
         munmap((void *)view.bytes, view.size);
+}
+
+bool view_begins(struct view view, const char *front)
+{
+    return view.size >= strlen(front) && memcmp(view.bytes, front, strlen(front)) == 0;
+}
+
+bool view_has_text(struct view view, const char *text)
+{
+    return view.size != 0 && memmem(view.bytes, view.size, text, strlen(text)) != NULL;
+}
+
+bool view_is_inside(struct view view, uint64_t offset, uint64_t size)
+{
+    return offset <= view.size && size <= view.size - offset;
+}
+
+/* What lies in a file may lie anywhere. */
+Elf64_Shdr view_section(struct view view, size_t number)
+{
+    Elf64_Ehdr header;
+    Elf64_Shdr section;
+    memcpy(&header, view.bytes, sizeof header);
+    memcpy(&section, view.bytes + header.e_shoff + number * sizeof section, sizeof section);
+    return section;
+}
+
+size_t view_section_count(struct view view)
+{
+    Elf64_Ehdr header;
+    if (view.size < sizeof header || memcmp(view.bytes, ELFMAG, SELFMAG) != 0)
+        return 0;
+    memcpy(&header, view.bytes, sizeof header);
+    if (header.e_ident[EI_CLASS] != ELFCLASS64 || header.e_shentsize != sizeof(Elf64_Shdr) || header.e_shoff == 0
+        || !view_is_inside(view, header.e_shoff, sizeof(Elf64_Shdr)))
+        return 0;
+    /* Where there are too many of them for the header, the first section has their number. */
+    uint64_t count = header.e_shnum != 0 ? header.e_shnum : view_section(view, 0).sh_size;
+    return count <= (view.size - header.e_shoff) / sizeof(Elf64_Shdr) ? (size_t)count : 0;
+}
+
+struct view view_of_section(struct view view, const Elf64_Shdr *section)
+{
+    if (section->sh_type == SHT_NOBITS || !view_is_inside(view, section->sh_offset, section->sh_size))
+        return (struct view){NULL, 0};
+    return (struct view){view.bytes + section->sh_offset, section->sh_size};
+}
+
+struct view view_texts(struct view view, size_t number)
+{
+    struct view texts = {NULL, 0};
+    if (number < view_section_count(view)) {
+        Elf64_Shdr section = view_section(view, number);
+        texts = view_of_section(view, &section);
+    }
+    return texts.size != 0 && texts.bytes[texts.size - 1] == 0 ? texts : (struct view){NULL, 0};
 }

@@ -2,7 +2,10 @@
 #ifndef ASANCOL_VIEW_H
 #define ASANCOL_VIEW_H
 
+#include <elf.h>
+#include <stdbool.h>
 #include <stddef.h>
+#include <stdint.h>
 
 struct view {
     const char *bytes;
@@ -12,5 +15,18 @@ struct view {
 /* No bytes if it can't be read. */
 struct view view_map(const char *path);
 void view_unmap(struct view view);
+
+bool view_begins(struct view view, const char *front);
+bool view_has_text(struct view view, const char *text);
+/* Whether these bytes lie in it. */
+bool view_is_inside(struct view view, uint64_t offset, uint64_t size);
+/* How many sections it has, as a file of ELF for 64 bits. */
+size_t view_section_count(struct view view);
+/* The header of the section with this number. */
+Elf64_Shdr view_section(struct view view, size_t number);
+/* The bytes of a section; none, if it has none in the file. */
+struct view view_of_section(struct view view, const Elf64_Shdr *section);
+/* The texts of names, which end with a zero; none, if there are no such. */
+struct view view_texts(struct view view, size_t number);
 
 #endif

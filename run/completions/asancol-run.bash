@@ -1,29 +1,25 @@
 # Completion of asancol-run for bash.
+# Made by `make options` from options/asancol-run.options.
 
 _asancol_run() {
-    local word=$2 before=$3 at
-    local options='--exitcode --error-exitcode --incomplete-exitcode --nothing-exitcode --at-least --wait --timeout
-        --log-file --live --keep --json --sarif --codequality --junit --html --suppressions --gen-suppressions
-        --baseline --source-root --quarantine --memory --limit --color --quiet --verbose --help --version --'
+    local word=$2 before=$3 ended='' others=0 at
+    COMPREPLY=()
     # After the command's name it is the command's turn.
     for ((at = 1; at < COMP_CWORD; at++)); do
-        case ${COMP_WORDS[at]} in
-        --)
-            _asancol_run_command $((at + 1))
-            return
-            ;;
-        --exitcode | --error-exitcode | --*-exitcode | --at-least | --wait | --timeout | --log-file | --keep | \
-            --json | --sarif | --codequality | --junit | --html | --suppressions | --baseline | --source-root | \
-            --quarantine | --memory | --limit | --color)
+        case $ended${COMP_WORDS[at]} in
+        --) ended=' ' ;;
+        --exitcode | --error-exitcode | --incomplete-exitcode | --nothing-exitcode | --at-least | --wait | --timeout | \
+            --json | --sarif | --junit | --codequality | --html | --keep | --log-file | --source-root | --color | \
+            --unchecked | --leaks | --suppressions | --baseline | --quarantine | --memory | --limit)
             ((at++))
-            if [[ ${COMP_WORDS[at]} == = ]]; then
-                ((at++))
-            fi
+            [[ ${COMP_WORDS[at]} == = ]] && ((at++))
             ;;
         -*) ;;
         *)
-            _asancol_run_command "$at"
-            return
+            if ((others++ == 0)); then
+                _asancol_run_command "$at"
+                return
+            fi
             ;;
         esac
     done
@@ -33,24 +29,43 @@ _asancol_run() {
         word=
     fi
     case $before in
-    --keep | --source-root) mapfile -t COMPREPLY < <(compgen -d -- "$word") ;;
-    --log-file | --json | --sarif | --codequality | --junit | --html | --suppressions | --baseline)
+    --exitcode | --error-exitcode | --incomplete-exitcode | --nothing-exitcode | --at-least | --wait | --timeout | \
+        --quarantine | --memory | --limit)
+        return
+        ;;
+    --json | --sarif | --junit | --codequality | --html | --log-file | --suppressions | --baseline)
         mapfile -t COMPREPLY < <(compgen -f -- "$word")
         compopt -o filenames 2> /dev/null
+        return
         ;;
-    --color) mapfile -t COMPREPLY < <(compgen -W 'auto always never' -- "$word") ;;
-    --*exitcode | --at-least | --wait | --timeout | --quarantine | --memory | --limit) COMPREPLY=() ;;
-    *)
-        if [[ $word == -* ]]; then
-            mapfile -t COMPREPLY < <(compgen -W "$options" -- "$word")
-        else
-            mapfile -t COMPREPLY < <(compgen -c -- "$word"; compgen -f -- "$word")
-        fi
+    --keep | --source-root)
+        mapfile -t COMPREPLY < <(compgen -d -- "$word")
+        compopt -o filenames 2> /dev/null
+        return
+        ;;
+    --color)
+        mapfile -t COMPREPLY < <(compgen -W 'auto always never' -- "$word")
+        return
+        ;;
+    --unchecked)
+        mapfile -t COMPREPLY < <(compgen -W 'list no error' -- "$word")
+        return
+        ;;
+    --leaks)
+        mapfile -t COMPREPLY < <(compgen -W 'summary no yes' -- "$word")
+        return
         ;;
     esac
+    if [[ $word == -* && -z $ended ]]; then
+        mapfile -t COMPREPLY < <(compgen -W '--exitcode --error-exitcode --incomplete-exitcode --nothing-exitcode
+            --at-least --wait --timeout --json --sarif --junit --codequality --html --keep --log-file --live --source-root
+            --color --full-stacks --shadow --unchecked --quiet --verbose --leaks --suppressions --gen-suppressions
+            --baseline --quarantine --no-mismatches --memory --limit --help --version --' -- "$word")
+    else
+        mapfile -t COMPREPLY < <(compgen -c -- "$word"; compgen -f -- "$word")
+    fi
 }
 
-# Completes a command that begins at this word, as if it stood alone.
 _asancol_run_command() {
     if declare -F _command_offset > /dev/null; then
         _command_offset "$1"

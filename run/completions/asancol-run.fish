@@ -1,62 +1,64 @@
 # Completion of asancol-run for fish.
+# Made by `make options` from options/asancol-run.options.
 
-function __asancol_run_needs_command
+# Whether an option, or the command and its own words, may stand at the cursor.
+function _asancol_run_takes -a what
     set -l words (commandline -opc)
     set -e words[1]
-    set -l takes_value exitcode error-exitcode incomplete-exitcode nothing-exitcode at-least wait timeout log-file \
-        keep json sarif codequality junit html suppressions baseline source-root quarantine memory limit color
+    set -l others 0
+    set -l ends no
     set -l skips no
     for word in $words
-        if test $skips = yes
-            set skips no
-            continue
-        end
-        switch $word
-            case --
-                return 1
-            case '--*=*'
-                continue
-            case '--*'
-                contains -- (string sub -s 3 -- $word) $takes_value; and set skips yes
-            case '-*'
-                continue
+        switch $skips$ends$word
+            case 'yes*'
+                set skips no
+            case nono--
+                set ends yes
+            case 'nono--*=*'
+            case nono--exitcode nono--error-exitcode nono--incomplete-exitcode nono--nothing-exitcode nono--at-least nono--wait nono--timeout nono--json nono--sarif nono--junit nono--codequality nono--html nono--keep nono--log-file nono--source-root nono--color nono--unchecked nono--leaks nono--suppressions nono--baseline nono--quarantine nono--memory nono--limit
+                set skips yes
+            case 'nono-*'
             case '*'
-                return 1
+                set others (math $others + 1)
         end
     end
-    return 0
+    if test $what = command
+        test $others -ge 0
+    else
+        test $ends = no -a $others -le 0
+    end
 end
 
-# The command, and its own words as if it stood alone. The options are those that take a value; a dash stands before
-# them, since the function takes a first word that begins with two for itself.
-complete -c asancol-run -x -a '(__fish_complete_subcommand - --exitcode --error-exitcode --incomplete-exitcode \
-    --nothing-exitcode --at-least --wait --timeout --log-file --keep --json --sarif --codequality --junit --html \
-    --suppressions --baseline --source-root --quarantine --memory --limit --color)'
-complete -c asancol-run -n __asancol_run_needs_command -l exitcode -x -d 'Status if a report counts'
-complete -c asancol-run -n __asancol_run_needs_command -l error-exitcode -x -d 'Status if a report counts'
-complete -c asancol-run -n __asancol_run_needs_command -l incomplete-exitcode -x -d 'Status if not everything was seen'
-complete -c asancol-run -n __asancol_run_needs_command -l nothing-exitcode -x -d 'Status if nothing was recorded'
-complete -c asancol-run -n __asancol_run_needs_command -l at-least -x -d 'How many processes have to be recorded'
-complete -c asancol-run -n __asancol_run_needs_command -l wait -x -d 'Seconds for processes that outlive the command'
-complete -c asancol-run -n __asancol_run_needs_command -l timeout -x -d 'End the command after so many seconds'
-complete -c asancol-run -n __asancol_run_needs_command -l log-file -r -F -d 'Write all lines to this file'
-complete -c asancol-run -n __asancol_run_needs_command -l live -d 'Print the reports of each process when it ends'
-complete -c asancol-run -n __asancol_run_needs_command -l keep -x -a '(__fish_complete_directories)' -d 'Keep traces'
-complete -c asancol-run -n __asancol_run_needs_command -l json -r -F -d 'Write JSON lines'
-complete -c asancol-run -n __asancol_run_needs_command -l sarif -r -F -d 'Write SARIF'
-complete -c asancol-run -n __asancol_run_needs_command -l codequality -r -F -d 'Write a Code Quality report'
-complete -c asancol-run -n __asancol_run_needs_command -l junit -r -F -d 'Write JUnit XML'
-complete -c asancol-run -n __asancol_run_needs_command -l html -r -F -d 'Write an HTML page'
-complete -c asancol-run -n __asancol_run_needs_command -l suppressions -r -F -d 'Reports that do not count'
-complete -c asancol-run -n __asancol_run_needs_command -l gen-suppressions -d 'Print a suppression with each report'
-complete -c asancol-run -n __asancol_run_needs_command -l baseline -r -F -d 'Reports of this result do not count'
-complete -c asancol-run -n __asancol_run_needs_command -l source-root -x -a '(__fish_complete_directories)' \
-    -d 'Names of source files are relative to this folder'
-complete -c asancol-run -n __asancol_run_needs_command -l quarantine -x -d 'How many bytes of freed blocks are held'
-complete -c asancol-run -n __asancol_run_needs_command -l memory -x -d 'How many bytes a checker may hold'
-complete -c asancol-run -n __asancol_run_needs_command -l limit -x -d 'How many events of a process are checked'
-complete -c asancol-run -n __asancol_run_needs_command -l color -x -a 'auto always never' -d 'Use colors'
-complete -c asancol-run -n __asancol_run_needs_command -s q -l quiet -d 'Print nothing if all is clean'
-complete -c asancol-run -n __asancol_run_needs_command -s v -l verbose -d 'Print a line for each process'
-complete -c asancol-run -n __asancol_run_needs_command -s h -l help -d 'Print a short help'
-complete -c asancol-run -n __asancol_run_needs_command -l version -d 'Print the version'
+complete -c asancol-run -n '_asancol_run_takes command' -x -a '(__fish_complete_subcommand --fcs-skip=1 - --exitcode --error-exitcode --incomplete-exitcode --nothing-exitcode --at-least --wait --timeout --json --sarif --junit --codequality --html --keep --log-file --source-root --color --unchecked --leaks --suppressions --baseline --quarantine --memory --limit)'
+complete -c asancol-run -n '_asancol_run_takes option' -l exitcode -x -d 'status if a report counts'
+complete -c asancol-run -n '_asancol_run_takes option' -l error-exitcode -x -d 'status if a report counts'
+complete -c asancol-run -n '_asancol_run_takes option' -l incomplete-exitcode -x -d 'status if not everything was seen'
+complete -c asancol-run -n '_asancol_run_takes option' -l nothing-exitcode -x -d 'status if nothing was recorded'
+complete -c asancol-run -n '_asancol_run_takes option' -l at-least -x -d 'how many processes have to be recorded'
+complete -c asancol-run -n '_asancol_run_takes option' -l wait -x -d 'seconds for processes that outlive COMMAND'
+complete -c asancol-run -n '_asancol_run_takes option' -l timeout -x -d 'ends COMMAND after so many seconds'
+complete -c asancol-run -n '_asancol_run_takes option' -l json -r -F -d 'JSON lines, which asancol-report reads'
+complete -c asancol-run -n '_asancol_run_takes option' -l sarif -r -F -d 'SARIF 2.1.0, for code scanning'
+complete -c asancol-run -n '_asancol_run_takes option' -l junit -r -F -d 'JUnit XML: a test case for each run'
+complete -c asancol-run -n '_asancol_run_takes option' -l codequality -r -F -d 'a Code Quality report of GitLab'
+complete -c asancol-run -n '_asancol_run_takes option' -l html -r -F -d 'a page that needs no other file and no network'
+complete -c asancol-run -n '_asancol_run_takes option' -l keep -x -a '(__fish_complete_directories)' -d 'keeps the traces of processes with reports'
+complete -c asancol-run -n '_asancol_run_takes option' -l log-file -r -F -d 'where all lines go, not to standard error'
+complete -c asancol-run -n '_asancol_run_takes option' -l live -d 'reports of a process when it ends, not all at the end'
+complete -c asancol-run -n '_asancol_run_takes option' -l source-root -x -a '(__fish_complete_directories)' -d 'show files under DIR by their paths from there'
+complete -c asancol-run -n '_asancol_run_takes option' -l color -x -a 'auto always never' -d 'colors: auto, always or never'
+complete -c asancol-run -n '_asancol_run_takes option' -l full-stacks -d 'print all frames of a stack, and whole names'
+complete -c asancol-run -n '_asancol_run_takes option' -l shadow -d 'print the shadow bytes round each bad byte'
+complete -c asancol-run -n '_asancol_run_takes option' -l unchecked -x -a 'list no error' -d 'what was not checked: list, no or error'
+complete -c asancol-run -n '_asancol_run_takes option' -s q -l quiet -d 'no line if all is clean'
+complete -c asancol-run -n '_asancol_run_takes option' -s v -l verbose -d 'a line for each process'
+complete -c asancol-run -n '_asancol_run_takes option' -l leaks -x -a 'summary no yes' -d 'blocks that leak: summary, no or yes'
+complete -c asancol-run -n '_asancol_run_takes option' -l suppressions -r -F -d 'reports that do not count'
+complete -c asancol-run -n '_asancol_run_takes option' -l gen-suppressions -d 'print with each report the line that suppresses it'
+complete -c asancol-run -n '_asancol_run_takes option' -l baseline -r -F -d 'reports of this result of --json do not count'
+complete -c asancol-run -n '_asancol_run_takes option' -l quarantine -x -d 'how many bytes of freed blocks are held'
+complete -c asancol-run -n '_asancol_run_takes option' -l no-mismatches -d 'malloc may be freed by delete, and so on'
+complete -c asancol-run -n '_asancol_run_takes option' -l memory -x -d 'how many bytes each checker may hold'
+complete -c asancol-run -n '_asancol_run_takes option' -l limit -x -d 'how many events of a process are checked'
+complete -c asancol-run -n '_asancol_run_takes option' -s h -l help -d 'print this help'
+complete -c asancol-run -n '_asancol_run_takes option' -l version -d 'print the name and the release'

@@ -1,33 +1,39 @@
 #compdef asancol-run
 # Completion of asancol-run for zsh.
+# Made by `make options` from options/asancol-run.options.
 
 _arguments -S \
-    '(--exitcode --error-exitcode)--exitcode=[status if a report counts]:status (99)' \
-    '(--exitcode --error-exitcode)--error-exitcode=[status if a report counts]:status (99)' \
-    '--incomplete-exitcode=[status if not everything was seen]:status (98)' \
-    '--nothing-exitcode=[status if nothing was recorded]:status (98)' \
-    '--at-least=[how many processes have to be recorded]:number' \
-    '--wait=[how long to wait for processes that outlive the command]:seconds (5)' \
-    '--timeout=[end the command after this time]:seconds' \
-    '--log-file=[write all lines to this file]:file:_files' \
-    '--live[print the reports of each process when it ends]' \
-    '--keep=[keep the traces of processes with reports]:folder:_files -/' \
-    '--json=[write JSON lines]:file:_files' \
-    '--sarif=[write SARIF]:file:_files' \
-    '--codequality=[write a Code Quality report]:file:_files' \
-    '--junit=[write JUnit XML]:file:_files' \
-    '--html=[write an HTML page]:file:_files' \
+    '(--exitcode --error-exitcode)--exitcode=[status if a report counts]:number (99)' \
+    '(--exitcode --error-exitcode)--error-exitcode=[status if a report counts]:number (99)' \
+    '--incomplete-exitcode=[status if not everything was seen]:number (98)' \
+    '--nothing-exitcode=[status if nothing was recorded]:number (98)' \
+    '--at-least=[how many processes have to be recorded]:number (0)' \
+    '--wait=[seconds for processes that outlive COMMAND]:seconds (5)' \
+    '--timeout=[ends COMMAND after so many seconds]:seconds' \
+    '--json=[JSON lines, which asancol-report reads]:file:_files' \
+    '--sarif=[SARIF 2.1.0, for code scanning]:file:_files' \
+    '--junit=[JUnit XML: a test case for each run]:file:_files' \
+    '--codequality=[a Code Quality report of GitLab]:file:_files' \
+    '--html=[a page that needs no other file and no network]:file:_files' \
+    '--keep=[keeps the traces of processes with reports]:folder:_files -/' \
+    '--log-file=[where all lines go, not to standard error]:file:_files' \
+    '--live[reports of a process when it ends, not all at the end]' \
+    '--source-root=[show files under DIR by their paths from there]:folder:_files -/' \
+    '--color=[colors: auto, always or never]:when:(auto always never)' \
+    '--full-stacks[print all frames of a stack, and whole names]' \
+    '--shadow[print the shadow bytes round each bad byte]' \
+    '--unchecked=[what was not checked: list, no or error]:how:(list no error)' \
+    '(-q --quiet)'{-q,--quiet}'[no line if all is clean]' \
+    '(-v --verbose)'{-v,--verbose}'[a line for each process]' \
+    '--leaks=[blocks that leak: summary, no or yes]:how:(summary no yes)' \
     '*--suppressions=[reports that do not count]:file:_files' \
-    '--gen-suppressions[print a suppression with each report]' \
-    '--baseline=[reports of this result do not count]:file:_files' \
-    '--source-root=[names of source files are relative to this folder]:folder:_files -/' \
-    '--quarantine=[how many bytes of freed blocks are held]:bytes' \
-    '--memory=[how many bytes a checker may hold]:bytes' \
-    '--limit=[how many events of a process are checked]:number' \
-    '--color=[use colors]:when:(auto always never)' \
-    '(-q --quiet)'{-q,--quiet}'[print nothing if all is clean]' \
-    '(-v --verbose)'{-v,--verbose}'[print a line for each process]' \
-    '(- *)'{-h,--help}'[print a short help]' \
-    '(- *)--version[print the version]' \
+    '--gen-suppressions[print with each report the line that suppresses it]' \
+    '--baseline=[reports of this result of --json do not count]:file:_files -g "*.jsonl(-.)"' \
+    '--quarantine=[how many bytes of freed blocks are held]:number (268435456)' \
+    '--no-mismatches[malloc may be freed by delete, and so on]' \
+    '--memory=[how many bytes each checker may hold]:number (no bound)' \
+    '--limit=[how many events of a process are checked]:number (16777216)' \
+    '(- *)'{-h,--help}'[print this help]' \
+    '(- *)--version[print the name and the release]' \
     '(-)1:command: _command_names -e' \
     '*::arguments: _normal'

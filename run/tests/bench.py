@@ -18,7 +18,9 @@ import tempfile
 import time
 from typing import Dict, List, NamedTuple, Optional, Tuple
 
-from support import CC, REPORT, RUN
+sys.path.insert(0, f"{os.path.dirname(os.path.realpath(__file__))}/../..")  # where `testing` is
+
+from support import CC, REPORT, RUN, environment
 
 PLACES = 2000
 
@@ -35,7 +37,8 @@ TINY = "int main(void) { volatile char *block = malloc(8); block[0] = 1; free((v
 # A loop of stores; each is an event if it is compiled with ASANCOL_ALL=1.
 STORES = (
     "int main(int count, char **words) { long most = count > 1 ? atol(words[1]) : 0;"
-    " volatile long *block = malloc(8192); for (long i = 0; i < most; i++) block[i % 1024] = i; free((void *)block); return 0; }"
+    " volatile long *block = malloc(8192); for (long i = 0; i < most; i++) block[i % 1024] = i;"
+    " free((void *)block); return 0; }"
 )
 PAST = (
     "int main(int count, char **words) { long most = count > 1 ? atol(words[1]) : 1; volatile char *block = malloc(8);"
@@ -73,25 +76,25 @@ def build(folder: str) -> None:
             subprocess.run(made, env={**os.environ, **settings}, check=True)
 
 
-def measure(words: List[str], environment: Dict[str, str]) -> Tuple[float, float]:
+def measure(words: List[str], settings: Dict[str, str]) -> Tuple[float, float]:
     """Runs once, and returns wall and processor time in milliseconds."""
     before = resource.getrusage(resource.RUSAGE_CHILDREN)
     begun = time.perf_counter()
     nothing = subprocess.DEVNULL
-    subprocess.run(words, env=environment, stdout=nothing, stderr=nothing, check=False)
+    subprocess.run(words, env=settings, stdout=nothing, stderr=nothing, check=False)
     wall = time.perf_counter() - begun
     after = resource.getrusage(resource.RUSAGE_CHILDREN)
     processor = after.ru_utime + after.ru_stime - before.ru_utime - before.ru_stime
     return wall * 1000, processor * 1000
 
 
-def table_row(row: Row, rounds: int, folder: str, environment: Dict[str, str]) -> str:
+def table_row(row: Row, rounds: int, folder: str, settings: Dict[str, str]) -> str:
     native = [it.replace("FOLDER", f"{folder}/native") for it in row.words]
     checked = [RUN, "-q", "--", *[it.replace("FOLDER", f"{folder}/recorded") for it in row.words]]
     seen: Dict[str, List[Tuple[float, float]]] = {"native": [], "checked": []}
     for _ in range(rounds):
-        seen["native"].append(measure(native, environment))
-        seen["checked"].append(measure(checked, environment))
+        seen["native"].append(measure(native, settings))
+        seen["checked"].append(measure(checked, settings))
     figures = ""
     for way in ("native", "checked"):
         figures += f"{min(it[0] for it in seen[way]):11.1f}{min(it[1] for it in seen[way]):11.1f}"
@@ -104,8 +107,7 @@ def main(words: Optional[List[str]] = None) -> int:
     parser.add_argument("asancol")
     parser.add_argument("names", nargs="*")
     options = parser.parse_args(words)
-    environment = {name: value for name, value in os.environ.items() if not name.startswith("ASANCOL")}
-    environment["ASANCOL"] = os.path.abspath(options.asancol)
+    settings = environment(ASANCOL=os.path.abspath(options.asancol))
     folder = tempfile.mkdtemp(prefix="asancol-bench-")
     try:
         build(folder)
@@ -116,7 +118,7 @@ def main(words: Optional[List[str]] = None) -> int:
             if row.needs_report and not os.access(REPORT, os.X_OK):
                 print(f"{row.name:<36}left out: {os.path.basename(REPORT)} is not there")
                 continue
-            print(table_row(row, options.rounds, folder, environment), flush=True)
+            print(table_row(row, options.rounds, folder, settings), flush=True)
         return 0
     finally:
         shutil.rmtree(folder, ignore_errors=True)

@@ -13,11 +13,10 @@ import tempfile
 import time
 from typing import Any, Callable, Dict, List, NamedTuple
 
-TESTS = os.path.dirname(os.path.abspath(__file__))
-sys.path.insert(0, TESTS)
+sys.path.insert(0, f"{os.path.dirname(os.path.realpath(__file__))}/../..")  # where `testing` is
 
-import sides  # noqa: E402
-from report import END, FREED, freed_block  # noqa: E402
+from testing import reports, side
+from testing.reports import END, FREED, freed_block
 
 MANY_LINES = 100000
 MANY_PLACES = 2000
@@ -35,7 +34,7 @@ class Measured(NamedTuple):
 
 def measure(folder: str, words: List[str], **settings: str) -> Measured:
     began = time.perf_counter()
-    child = os.posix_spawn(sides.REPORT, [sides.REPORT, *words], sides.environment(folder, **settings),
+    child = os.posix_spawn(reports.REPORT, [reports.REPORT, *words], reports.settings_in(folder, **settings),
                            file_actions=[(os.POSIX_SPAWN_OPEN, 1, os.path.join(folder, "out"),
                                           os.O_WRONLY | os.O_CREAT | os.O_TRUNC, 0o600)])
     _, status, used = os.wait4(child, 0)
@@ -45,16 +44,16 @@ def measure(folder: str, words: List[str], **settings: str) -> Measured:
 
 
 def one_report(folder: str) -> str:
-    program = sides.build(folder)
-    return sides.write_trace(folder, "one.trace", FREED + END,
-                             sides.of_program(program, [freed_block(program)], [0, 0, 0, 0, 1]))
+    program = reports.build(folder)
+    return reports.write_trace(folder, "one.trace", FREED + END,
+                             side.of_program(program, [freed_block(program)], [0, 0, 0, 0, 1]))
 
 
 def one_place(folder: str) -> str:
-    program = sides.build(folder)
+    program = reports.build(folder)
     lines = "".join(FREED.replace("#5", f"#{n}") for n in range(1, MANY_LINES + 1))
-    parts = sides.of_program(program, [freed_block(program)], [1] * MANY_LINES)
-    return sides.write_trace(folder, "loop.trace", lines + END, parts)
+    parts = side.of_program(program, [freed_block(program)], [1] * MANY_LINES)
+    return reports.write_trace(folder, "loop.trace", lines + END, parts)
 
 
 def many_places(folder: str) -> str:
@@ -62,13 +61,13 @@ def many_places(folder: str) -> str:
     body = "".join(f'__attribute__((noinline)) void f{n}(void) {{ here("f{n}"); __asm__ volatile(""); }}\n'
                    for n in range(MANY_PLACES))
     calls = "".join(f"f{n}(); " for n in range(MANY_PLACES))
-    source = sides.PLACES_C.replace("int main(void) {", body + "int main(void) { " + calls)
-    program = sides.build(folder, "wide", source)
-    faults = [sides.fault(program.places[f"f{n}"], 0x2000, 16, program.places["make"], program.places["drop"])
+    source = reports.PLACES_C.replace("int main(void) {", body + "int main(void) { " + calls)
+    program = reports.build(folder, "wide", source)
+    faults = [side.fault(program.places[f"f{n}"], 0x2000, 16, program.places["make"], program.places["drop"])
               for n in range(MANY_PLACES)]
     lines = "".join(FREED.replace("#5", f"#{n}") for n in range(1, MANY_PLACES + 1))
-    parts = sides.of_program(program, faults, list(range(1, MANY_PLACES + 1)))
-    return sides.write_trace(folder, "wide.trace", lines + END, parts)
+    parts = side.of_program(program, faults, list(range(1, MANY_PLACES + 1)))
+    return reports.write_trace(folder, "wide.trace", lines + END, parts)
 
 
 def results(folder: str) -> str:
@@ -102,7 +101,8 @@ def one_result(job: int, number: int) -> List[Dict[str, Any]]:
     run = {"type": "run", "version": 1, "run": 0, "id": f"66117cd4d81b0-{number:x}-{host}",
            "command": ["build/tests/program", f"--case={number % 5000}"], "host": host, "directory": "/home/me/project",
            "time": 1795604716.0 + number, "seconds": 0.204, "status": 0, "signal": 0, "ended": True, "nothing": False,
-           "missing": 0, "running": False, "timed_out": False, "lost": 0, "runs": 1, "processes": 1, "findings": int(has)}
+           "missing": 0, "running": False, "timed_out": False, "lost": 0, "runs": 1, "processes": 1,
+           "findings": int(has)}
     process = {**result_process(0, 0), "command": run["command"], "pid": 1000 + number % 30000}
     return [run, process, result_finding(0, 0, number // ONE_HAS % PLACES_OF_A_FARM)] if has else [run, process]
 
@@ -150,7 +150,7 @@ def main() -> int:
     is_slow = False
     with tempfile.TemporaryDirectory(prefix="asancol.") as name:
         folder = os.path.realpath(name)
-        sides.write_checker(folder)
+        reports.write_checker(folder)
         for row in ROWS:
             path = row.make(folder)
             runs = [measure(folder, [*row.words, path], ASANCOL_SYMBOLIZER=row.symbolizer)

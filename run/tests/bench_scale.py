@@ -18,12 +18,11 @@ import tempfile
 import time
 from typing import Callable, Dict, List, Optional, Sequence, Tuple
 
-TESTS = os.path.dirname(os.path.abspath(__file__))
-sys.path.insert(0, TESTS)
+sys.path.insert(0, f"{os.path.dirname(os.path.realpath(__file__))}/../..")  # where `testing` is
 
-import bench_report  # noqa: E402
-import service  # noqa: E402
-from support import REPORT, RUN, Suite, wait_until  # noqa: E402
+import bench_report
+import service
+from support import REPORT, RUN, TESTS, Suite, leave_out, wait_until
 
 MILLION = 1000000
 ROUNDS = 5
@@ -55,7 +54,7 @@ class Bench:
     def __init__(self, asancol: str, folder: str) -> None:
         self.suite, self.folder = Suite(asancol, ["no test"]), folder
         self.asancol = self.suite.asancol
-        self.suite.build()
+        self.suite.prepare()
         self.native = f"{folder}/native"
         compiler = os.environ.get("ASANCOL_CC", "cc").split()
         subprocess.run([*compiler, "-g", "-O1", f"{TESTS}/programs.c", "-o", self.native], check=True)
@@ -144,7 +143,7 @@ class Bench:
         programs = processor(connect)
         served.program.terminate()
         both = processor(lambda: served.program.wait())
-        show(1000 * both / CONNECTIONS, "ms", "a connection of serve.py, with its asancol")
+        show(1000 * both / CONNECTIONS, "ms", "a connection of asancol-listen, with its asancol")
         show(1000 * programs / CONNECTIONS, "ms", "the recorded process that has connected")
 
     def connections_of_systemd(self) -> None:
@@ -199,7 +198,7 @@ def rows(bench: Bench) -> Sequence[Tuple[str, Callable[[], None]]]:
     if shutil.which("systemd-nspawn") and bench.suite.run_words([*service.CONTAINER, "/usr/bin/true"]).status == 0:
         found.append(("systemd", bench.connections_of_systemd))
     else:
-        print("left out: systemd-nspawn is not there, or has no container")
+        leave_out("systemd-nspawn is not there, or has no container")
     return found
 
 

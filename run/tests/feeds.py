@@ -18,7 +18,7 @@ def check_packets(suite: Suite, folder: str) -> None:
     expect((run["type"], run["version"], run["command"]), ("run", 1, ["sh", "-c", line]), "run")
     expect(sorted(run), ["command", "directory", "host", "id", "time", "type", "version"], "run")
     names = ("type", "n", "fate", "events", "reports", "whole")
-    expect([sound[it] for it in names], ["process", 0, "closed", 1, 0, True], "process")
+    expect([sound[it] for it in names], ["process", 0, "closed", 2, 0, True], "process")
     expect(sound["command"], [suite.program, "sound"], "its command")
     expect([past[it] for it in ("n", "reports", "whole", "left_out", "why")], [1, 3, True, 0, ""], "process")
     expect((len(past["verdicts"]), past["side"]), (4, "ASWH"), "what came with it")
@@ -33,8 +33,9 @@ def check_second_message(suite: Suite, folder: str) -> None:
     packets = suite.packets(folder, *words, ASANCOL_LIMIT="5000", ASANCOL_SEGMENTS="0")
     of_process = [it for it in packets[1:] if it["type"] == "process"]
     last = of_process[-1]
-    expect((last["n"], last["whole"], last["left_out"]), (0, False, 15001), "the last message")
-    expect(last["why"], "reached the event limit: 15001 of 20001 events were not recorded", "why")
+    expect((last["n"], last["whole"], last["left_out"]), (0, False, 15003), "the last message")
+    why = "reached the event limit: 15003 of 20003 events were not recorded, since ASANCOL_SEGMENTS is 0"
+    expect(last["why"], why, "why")
 
 
 def check_words(suite: Suite, folder: str) -> None:
@@ -80,7 +81,7 @@ FAILING: Dict[str, List[str]] = {
 def check_failing_report(suite: Suite, folder: str, way: str, texts: List[str]) -> None:
     """What the checkers have printed is shown, and a report is a report."""
     ran = suite.run("--", suite.program, "past", "100", FAKE=way)
-    expect_ran(ran, 99, *texts, "p0 #2 store 1 at ", "and 80 more lines", "--keep DIR keeps the traces")
+    expect_ran(ran, 99, *texts, "p0 #3 store 1 at ", "and 80 more lines", "--keep DIR keeps the traces")
     expect(ran.err.count("p0 #"), 20, "lines")
     ran = suite.run("--json", f"{folder}/x", "--", suite.program, "sound", FAKE=way)
     expect_ran(ran, 98, "1 process")
@@ -89,7 +90,7 @@ def check_failing_report(suite: Suite, folder: str, way: str, texts: List[str]) 
 def check_missing_report(suite: Suite, folder: str) -> None:
     for report in ("/nonexistent/report", "/etc/passwd"):
         ran = suite.run("--", suite.program, "past", ASANCOL_REPORT=report)
-        expect_ran(ran, 99, f"asancol-run: {report}: ", "p0 #2 store 1 at ")
+        expect_ran(ran, 99, f"asancol-run: {report}: ", "p0 #3 store 1 at ")
         expect_ran(suite.run("--", suite.program, "sound", ASANCOL_REPORT=report), 0)
     line = f"i=0; while [ $i -lt 30 ]; do {suite.program} past; i=$((i+1)); done"
     ran = suite.run("--", "sh", "-c", line, ASANCOL_REPORT="/nonexistent/report")
@@ -102,7 +103,7 @@ def check_report_that_stays(suite: Suite, folder: str) -> None:
     started = suite.start("--", suite.program, "past", FAKE="stays")
     time.sleep(1)
     started.send_signal(signal.SIGTERM)
-    expect_ran(finish(started), 99, "p0 #2 store 1 at ")
+    expect_ran(finish(started), 99, "p0 #3 store 1 at ")
 
 
 def check_answers(suite: Suite, folder: str) -> None:
@@ -170,7 +171,7 @@ def check_keep(suite: Suite, folder: str) -> None:
     checked = suite.run_words([suite.asancol, "check", past])
     expect(checked.status, 1, checked.out)
     with open(past + ".where", "rb") as where:
-        expect(where.read(5), b"ASWH\3", "side memory")
+        expect(where.read(5), b"ASWH\5", "side memory")
     seen = os.stat(past + ".where")
     if seen.st_blocks * 512 > seen.st_size // 2:
         raise Failure("the side memory is no sparse file")

@@ -7,7 +7,7 @@ import subprocess
 import time
 from typing import List
 
-from support import RUN, Failure, Ran, Suite, expect, expect_ran, finish, wait_until
+from support import RUN, Failure, Ran, Suite, expect, expect_ran, finish, leave_out, wait_until
 
 
 def check_orphan(suite: Suite, folder: str, way: str) -> None:
@@ -29,6 +29,30 @@ def check_cut_process_runs_on(suite: Suite, folder: str) -> None:
     line = f"({suite.program} sleeps 1; touch {mark}) > /dev/null 2>&1 &"
     expect_ran(suite.run("--wait", "0.2", "--", "sh", "-c", line), 98, "still ran at the end")
     wait_until(lambda: os.path.exists(mark), "the end of the process")
+
+
+# What a shell starts before it becomes asancol-run: a child; one that leaves its children to their grandparent while
+# the run goes on; and what reads an output. Then the command, and the status of the run.
+INHERITED = {
+    "a child": ("sleep 9 & exec RUN -- PROGRAM sound", 0),
+    "children left to us": ("(sleep 0.2; (sleep 9 &)) & exec RUN -- sh -c 'PROGRAM sound; sleep 0.5'", 0),
+    "a reader of a pipe": ("exec 5> >(sleep 9); exec RUN --json /dev/fd/5 -- PROGRAM sound", 0),
+    "beside what the command left": ("sleep 9 & exec RUN --wait 0.5 -- sh -c 'PROGRAM sound; sleep 9 &'", 98),
+    "spared by --timeout": ("sleep 9 & exec RUN --timeout 0.2 -- sleep 9", 98),
+}
+
+
+def check_inherited(suite: Suite, folder: str, line: str, status: int, of: str) -> None:
+    """Only what the command has started is waited for, also if asancol-run has the number 1 of a namespace."""
+    begun = time.monotonic()
+    words = line.replace("RUN", RUN).replace("PROGRAM", suite.program)
+    with open(f"{folder}/err", "wb") as error:  # no pipe: what is left would keep it open
+        command = [*of.split(), "bash", "-c", f"{words} > /dev/null"]
+        ran = subprocess.run(command, env=suite.environment(), stderr=error, check=False, timeout=60)
+    with open(f"{folder}/err", encoding="utf-8") as error:
+        text = error.read()
+    expect((ran.returncode, "processes of the command still run" in text), (status, "--wait" in line), text)
+    expect(time.monotonic() - begun < 4, True, "that it does not wait for others")
 
 
 def check_hurry(suite: Suite, folder: str) -> None:
@@ -311,6 +335,13 @@ def tests(suite: Suite) -> None:
     suite.test("daemon", check_orphan, "daemon")
     suite.test("orphan for too long", check_orphan_for_too_long)
     suite.test("cut process runs on", check_cut_process_runs_on)
+    spaces = {"": "", "in a namespace": "unshare -rpf", "in a namespace with /proc": "unshare -rpf --mount-proc"}
+    for where, words in spaces.items():
+        if words and suite.run_words([*words.split(), "true"]).status != 0:
+            leave_out("unshare cannot make namespaces")
+            continue
+        for name, (line, status) in INHERITED.items():
+            suite.test(f"inherited {where}: {name}", check_inherited, line, status, words)
     suite.test("signal ends the waiting", check_hurry)
     suite.test("signal to the group too", check_group_signal)
     suite.test("kill -9 beside others", check_killed_beside_others)

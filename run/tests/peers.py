@@ -8,7 +8,7 @@ import subprocess
 import time
 from typing import List
 
-from support import Suite, expect, expect_ran, finish, wait_until
+from support import Suite, expect, expect_ran, finish, leave_out, wait_until
 
 NOBODY, OTHER = 65534, 65533
 
@@ -42,9 +42,11 @@ hub, what = sys.argv[1:]
 shrink = 0x0002
 memory = os.memfd_create("side", os.MFD_ALLOW_SEALING)
 os.ftruncate(memory, 1 << 20)
-text = b"ASWH\\3\\0\\0\\0" + bytes(56) + b"\\x1b]0;x\\x07" * 500
+text = b"ASWH\\4\\0\\0\\0" + bytes(56) + b"\\x1b]0;x\\x07" * 500
 if what in ("sealed", "garbage"):
-    os.pwrite(memory, text if what == "sealed" else text[:8] + os.urandom(8184), 0)
+    found = bytes(24)  # with findings there is a report, whose text this is not about
+    garbage = text[:8] + os.urandom(7760) + found + os.urandom(400)
+    os.pwrite(memory, text if what == "sealed" else garbage, 0)
     __import__("fcntl").fcntl(memory, 1033, shrink)
 if what == "short":
     os.ftruncate(memory, 100)
@@ -202,16 +204,16 @@ def check_descriptors(suite: Suite, folder: str) -> None:
         file.write(SENDER)
     for what in ("pipe", "device", "folder", "short", "unsealed", "many", "garbage", "sealed"):
         line = f"{suite.program} sound; python3 {sender} $ASANCOL_HUB {what}; {suite.program} sound"
-        ran = suite.run("-v", "--", "sh", "-c", line)
+        ran = suite.run("-v", "--leaks=no", "--", "sh", "-c", line)
         # Without such a memory, a trace that is closed was seen whole.
         status = 98 if what in ("garbage", "sealed") else 0
-        expect_ran(ran, status, "3 processes, 2 events", absent=["\x1b", "\x07"])
+        expect_ran(ran, status, "3 processes, 4 events", absent=["\x1b", "\x07"])
 
 
 def tests(suite: Suite) -> None:
     suite.test("peer: descriptors", check_descriptors)
     if os.geteuid() != 0 or not shutil.which("setpriv"):
-        print("left out: peers of other users: root alone can be another user, by setpriv")
+        leave_out("peers of other users: root alone can be another user, by setpriv")
         return
     os.chmod(suite.folder, 0o755)
     suite.test("peer: stranger to root", check_stranger, 0)

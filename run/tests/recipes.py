@@ -1,4 +1,5 @@
-"""Under test harnesses, what the recipes of examples/farms do not have: what hides a report, and what starts programs."""
+"""Under test harnesses, what the recipes of examples/farms do not have: what hides a report, and what starts
+programs."""
 
 import os
 import re
@@ -6,7 +7,7 @@ import shutil
 import subprocess
 from typing import List
 
-from support import CC, REPORT, RUN, TOP, Suite, expect, expect_ran
+from support import CC, REPORT, RUN, TOP, Suite, expect, expect_ran, leave_out
 
 SOURCE = """#include <stdlib.h>
 int main(void) { volatile char *block = malloc(8); block[WHERE] = 1; free((void *)block); return 0; }
@@ -95,12 +96,14 @@ def check_unittest(suite: Suite, folder: str) -> None:
 def check_make(suite: Suite, folder: str) -> None:
     """make -j, whose jobs share a pipe that the command inherits."""
     with open(f"{folder}/Makefile", "w", encoding="utf-8") as file:
-        file.write("all: $(foreach i,1 2 3 4 5 6 7 8,run-$(i))\nrun-%:\n\t@PROGRAM sound\n".replace("PROGRAM", suite.program))
+        file.write("all: $(foreach i,1 2 3 4 5 6 7 8,run-$(i))\nrun-%:\n\t@PROGRAM sound\n".replace("PROGRAM",
+                                                                                                    suite.program))
     environment = suite.environment()
     words = [RUN, "--", "make", "-s", "-j4"]
-    ran = subprocess.run(words, cwd=folder, env=environment, stderr=subprocess.PIPE, stdout=subprocess.PIPE, check=False)
+    ran = subprocess.run(words, cwd=folder, env=environment, stderr=subprocess.PIPE, stdout=subprocess.PIPE,
+                         check=False)
     expect((ran.returncode, ran.stdout.count(b"sound")), (0, 8), "make")
-    expect(b"8 processes, 8 events; all seen whole" in ran.stderr, True, ran.stderr.decode())
+    expect(b"8 processes, 16 events; all seen whole" in ran.stderr, True, ran.stderr.decode())
 
 
 def check_scale(suite: Suite, folder: str) -> None:
@@ -109,7 +112,7 @@ def check_scale(suite: Suite, folder: str) -> None:
         commands = re.findall(r"^```sh\n(.*?)^```$", page.read(), re.M | re.S)
     expect(len(commands), 1, "scripts on the page")
     shutil.copytree(f"{TOP}/examples/farms/project", f"{folder}/project")
-    path = f"{TOP}/recorder:{TOP}/run:{os.environ.get('PATH', os.defpath)}"
+    path = f"{TOP}/recorder:{TOP}/run:{TOP}/report:{os.environ.get('PATH', os.defpath)}"
     ran = suite.run_words(["sh", "-c", commands[0]], f"{folder}/project", PATH=path, ASANCOL_REPORT=REPORT)
     expect(ran.status, 1, ran.err)
     kept = [f"{name}.jsonl" for name in ("child", "join", "vendor", "wait")]
@@ -131,4 +134,4 @@ def tests(suite: Suite) -> None:
         if shutil.which(tool):
             suite.test(f"recipe: {name}", run_it)
         else:
-            print(f"left out: {tool} is not there")
+            leave_out(f"{tool} is not there")

@@ -4,7 +4,7 @@ import os
 import shutil
 from typing import List
 
-from support import REPORT, RUN, Suite, expect, expect_ran
+from support import REPORT, RUN, Suite, expect, expect_ran, leave_out
 
 
 def check_folder(suite: Suite, folder: str, kind: str) -> None:
@@ -89,7 +89,7 @@ def check_file_instead(suite: Suite, folder: str) -> None:
         text = lines.read()
     expect(text.count('"trace": "'), 2, "processes with files")
     ran = suite.run("--", "sh", "-c", f"{line} sound")
-    expect_ran(ran, 0, "1 process, 1 event; all seen whole")
+    expect_ran(ran, 0, "1 process, 2 events; all seen whole")
     ran = suite.run("--", "sh", "-c", f"{line} kills_itself 9")
     expect_ran(ran, -9, "ended abruptly, by SIGKILL: seen up to there", "all seen whole, 1 ended abruptly")
 
@@ -122,7 +122,7 @@ def check_nested_without_folder(suite: Suite, folder: str) -> None:
     """An inner run that can leave no result is a process that was not seen."""
     line = "rm -r ${ASANCOL_HUB%/*}; RUN -q -- PROGRAM sound"
     ran = suite.run(*nested(suite, line))
-    expect_ran(ran, 98, "does not get its result", "(unknown): NOT SEEN WHOLE: it was not recorded, or not by this run")
+    expect_ran(ran, 98, "does not get its result", ": NOT SEEN WHOLE: it was not recorded, or not by this run")
 
 
 def check_nested_result(suite: Suite, folder: str) -> None:
@@ -154,11 +154,11 @@ def tests(suite: Suite) -> None:
         suite.test("TMPDIR full", check_full_folder)
         suite.test("file instead of the socket", check_file_instead)
     else:
-        print("left out: unshare cannot make namespaces")
+        leave_out("unshare cannot make namespaces")
     if shutil.which("bwrap") and suite.run_words(["bwrap", "--dev-bind", "/", "/", "true"]).status == 0:
         for name, box in BOXES.items():
             suite.test(f"bubblewrap, {name}", check_box, box)
         suite.test("bubblewrap, own /tmp and network", check_closed_box)
         suite.test("no folder at all", check_no_folder_at_all)
     else:
-        print("left out: bubblewrap is not there, or cannot make a sandbox")
+        leave_out("bubblewrap is not there, or cannot make a sandbox")

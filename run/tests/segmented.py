@@ -23,7 +23,9 @@ import sys
 import time
 from typing import List
 
-import sides
+sys.path.insert(0, f"{os.path.dirname(os.path.realpath(__file__))}/../..")  # where `testing` is
+
+from testing import side
 
 BLOCK, SIZE = 0x100000001000, 8
 LOADS = 10
@@ -43,9 +45,9 @@ def ending_of(word: str) -> int:
     return EXIT if "e" in word else SEGMENT
 
 
-def side_of(word: str, number: int, started: int) -> sides.Parts:
+def side_of(word: str, number: int, started: int) -> side.Parts:
     ending = 0 if "k" in word or "t" in word else ending_of(word)
-    return sides.side(process=os.getpid(), started=started, ending=ending, segment=number, restated=int(number > 1),
+    return side.side(process=os.getpid(), started=started, ending=ending, segment=number, restated=int(number > 1),
                       events=1 + LOADS, left_out=int("l" in word), is_at_limit="l" in word, needed=1,
                       quarantine=1 << 28, words=["./segmented", *sys.argv[1:]])
 
@@ -56,14 +58,19 @@ def connect() -> socket.socket:
     return peer
 
 
-def send(word: str, number: int, started: int) -> socket.socket:
-    """Sends a segment over a new connection."""
-    memory = sides.fill(os.memfd_create("side", os.MFD_ALLOW_SEALING), side_of(word, number, started))
+def send_all(peer: socket.socket, parts: side.Parts, text: bytes) -> int:
+    """Sends side memory and a stream, and answers the memory."""
+    memory = side.fill(os.memfd_create("side", os.MFD_ALLOW_SEALING), parts)
     fcntl.fcntl(memory, F_ADD_SEALS, F_SEAL_SHRINK)
-    peer = connect()
-    text = records(word)
     peer.sendmsg([text[:8]], [(socket.SOL_SOCKET, socket.SCM_RIGHTS, array.array("i", [memory]))])
     peer.sendall(text[8:])
+    return memory
+
+
+def send(word: str, number: int, started: int) -> socket.socket:
+    """Sends a segment over a new connection."""
+    peer = connect()
+    memory = send_all(peer, side_of(word, number, started), records(word))
     if "t" in word:
         peer.shutdown(socket.SHUT_WR)
         time.sleep(LATE)
@@ -76,7 +83,7 @@ def leave(word: str, number: int, started: int) -> None:
     """Leaves a segment in a file."""
     end = f".segment-{number:03}" if number > 1 else ""
     path = f"{os.path.dirname(os.environ['ASANCOL_HUB'])}/{os.getpid()}{end}.trace"
-    sides.write_side(path + ".where", side_of(word, number, started))
+    side.write_side(path + ".where", side_of(word, number, started))
     with open(path, "wb") as file:
         file.write(records(word))
 
@@ -98,12 +105,12 @@ def main(words: List[str]) -> None:
                 leave(word, number, started)
         else:
             peer = send(word, number, started)
+            if "k" in word:
+                os.kill(os.getpid(), signal.SIGKILL)  # the system closes the connection, once there is no memory
             if "h" in word:
                 held.append(peer)
             else:
                 peer.close()
-            if "k" in word:
-                os.kill(os.getpid(), signal.SIGKILL)
 
 
 if __name__ == "__main__":

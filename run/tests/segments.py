@@ -8,13 +8,14 @@ import signal
 import subprocess
 from typing import Any, List, NamedTuple, Sequence
 
-import sides
-from abrupt import SEEN, killed
+from testing import reports, side
+from abrupt import killed
 from support import (
-    CC, REPORT, RUN, SEGMENTED, TOP, Ran, Suite, expect, expect_in, expect_not_in, expect_ran, finish, wait_until
+    CC, REPORT, RUN, SEGMENTED, TOP, Later, Ran, Suite, expect, expect_in, expect_not_in, expect_ran, finish, wait_until
 )
 
 BAD = "heap-buffer-overflow: store of 1 byte (2 times, 1 process)"
+SEEN = "all seen whole, 1 ended abruptly"
 
 
 def run_peer(suite: Suite, words: str, *options: str, **settings: str) -> Ran:
@@ -235,15 +236,15 @@ class Trace(NamedTuple):
     left_out: int = 0
 
 
-def say(folder: str, traces: Sequence[Trace], *words: str) -> sides.Ran:
+def say(folder: str, traces: Sequence[Trace], *words: str) -> Ran:
     """Writes traces, and runs asancol-report on some of them, or on all."""
-    sides.write_checker(folder)
+    reports.write_checker(folder)
     for it in traces:
-        parts = sides.side(ending=it.ending, segment=it.segment, restated=4 * (it.segment > 1), started=it.started,
+        parts = side.side(ending=it.ending, segment=it.segment, restated=4 * (it.segment > 1), started=it.started,
                            left_out=it.left_out, is_at_limit=it.left_out > 0)
         verdicts = f"p0 end {it.fate} events 9 offset 99 reports 0\n"
-        sides.write_trace(folder, it.name, verdicts, parts if it.started else None)
-    return sides.report(folder, "--trace", *(words or [it.name for it in traces]))
+        reports.write_trace(folder, it.name, verdicts, parts if it.started else None)
+    return reports.report(folder, "--trace", *(words or [it.name for it in traces]))
 
 
 FIRST, SECOND, LAST = Trace("a.trace"), Trace("a.segment-002.trace", 2), Trace("a.segment-003.trace", 3, 1)
@@ -260,7 +261,7 @@ CASES = {
     "the last is missing": ([FIRST, SECOND], [], "NOT SEEN WHOLE: its next segment did not come"),
     "the first is missing": ([SECOND, LAST], [], "NOT SEEN WHOLE: segment 2 is the first that was seen"),
     "cut": ([FIRST, SECOND._replace(fate="no-close"), LAST], [],
-            "NOT SEEN WHOLE: segment 2: its trace ends as no-close"),
+            "NOT SEEN WHOLE: segment 2: its trace ended as no-close"),
     "left out": ([FIRST, SECOND._replace(left_out=3), LAST], [],
                  "NOT SEEN WHOLE: reached the event limit: 3 of 22 events were not recorded"),
     "two": ([FIRST, LAST._replace(name="a.segment-002.trace", segment=2), FIRST._replace(name="b.trace", started=78),
@@ -280,26 +281,26 @@ CASES = {
 def check_traces(suite: Suite, folder: str, name: str) -> None:
     traces, words, said = CASES[name]
     ran = say(folder, traces, *words)
-    expect((ran.status, ran.errors), (3 if "NOT" in said else 0, ""), ran.text)
-    expect_in(ran.text, said)
+    expect((ran.status, ran.err), (3 if "NOT" in said else 0, ""), ran.out)
+    expect_in(ran.out, said)
 
 
 def check_many_traces(suite: Suite, folder: str) -> None:
     """In a folder of many, each is looked at once."""
     program = [Trace(f"a.segment-{number:03}.trace", number) for number in range(2, 400)]
     ran = say(folder, [FIRST, *program, Trace("a.segment-400.trace", 400, 1)])
-    expect_in(ran.text, "1 process, 2004 events; all seen whole")
+    expect_in(ran.out, "1 process, 2004 events; all seen whole")
 
 
 def check_lost_reports(suite: Suite, folder: str) -> None:
     """If the reports of a segment did not arrive, no later packet makes the process whole again."""
-    feed = sides.Feed(folder)
+    feed = reports.Feed(folder)
     feed.begin()
     feed.process(0, segment=1, reports=1, whole=False, why="its next segment did not come")
     feed.process(0, reports=1, segments=2)
     ran = feed.end()
-    expect(ran.status, 3, ran.text)
-    expect_in(ran.text, "NOT SEEN WHOLE: its reports did not arrive", "1 process")
+    expect(ran.status, 3, ran.out)
+    expect_in(ran.out, "NOT SEEN WHOLE: its reports did not arrive", "1 process")
 
 
 def check_older_results(suite: Suite, folder: str) -> None:
@@ -315,21 +316,19 @@ def check_older_results(suite: Suite, folder: str) -> None:
         expect_not_in(file.read(), "segment\"", "segments\"")
 
 
-def build(suite: Suite, compiler: str) -> str:
+def build(compiler: str, program: str) -> None:
     """Builds the recorder's program for this, by this compiler."""
-    program = f"{suite.folder}/{compiler}-segments"
     words = [CC, "-g", "-O1", "-pthread", f"{TOP}/recorder/tests/segments.c", "-o", program]
     subprocess.run(words, check=True, env={**os.environ, "ASANCOL_CC": compiler})
-    return program
 
 
 def check_recorded(suite: Suite, folder: str, program: str) -> None:
     """Programs with a small limit: the lines are those of one that never comes to it, but for the segments."""
     for words, status, texts in (
-        ("blocks 3000 -1", 0, ["no reports; 1 process, 6000 events; all seen whole"]),
-        ("blocks 3000 1700", 99, ["in blocks ", "1 report at 1 place; 1 process, 6001 events; all seen whole"]),
+        ("blocks 3000 -1", 0, ["no reports; 1 process, 600", " events; all seen whole"]),
+        ("blocks 3000 1700", 99, ["in blocks ", "1 report at 1 place; 1 process, 600", " events; all seen whole"]),
         ("threads 1000 400", 99, ["in blocks ", "1 report at 1 place; 1 process, ", "all seen whole"]),
-        ("early 2000 0", 99, ["in early ", "7 reports at 7 places; 1 process, ", "all seen whole"]),
+        ("early 2000 0", 99, ["in early ", "9 reports at 9 places; 1 process, ", "all seen whole"]),
         ("children 1000 -1", 99, ["4 reports at 2 places; 3 processes, ", "all seen whole"]),
         ("is_killed 1000 0", -9, ["ended abruptly, by SIGKILL: seen up to there", "1 process, ", SEEN]),
     ):
@@ -351,17 +350,18 @@ def check_recorded_kills(suite: Suite, folder: str, program: str) -> None:
 
 def check_recorded_limit(suite: Suite, folder: str, program: str) -> None:
     """Too much is live to begin a segment with it; or there are to be no segments."""
-    ran = suite.run("--", program, "many_live", "3000", "0", ASANCOL_LIMIT="500")
-    expect_ran(ran, 98, "NOT SEEN WHOLE: reached the event limit: ", " of 3000 events were not recorded", "1 process, ")
-    ran = suite.run("--", program, "blocks", "1000", "-1", ASANCOL_LIMIT="500", ASANCOL_SEGMENTS="0")
-    expect_ran(ran, 98, "NOT SEEN WHOLE: reached the event limit: ", " of 2000 events were not recorded", "1 process, ")
+    ran = suite.run("--leaks=no", "--", program, "many_live", "3000", "0", ASANCOL_LIMIT="500")
+    expect_ran(ran, 98, "NOT SEEN WHOLE: reached the event limit: ", " of 3002 events were not recorded", "1 process, ")
+    ran = suite.run("--leaks=no", "--", program, "blocks", "1000", "-1", ASANCOL_LIMIT="500",
+                    ASANCOL_SEGMENTS="0")
+    expect_ran(ran, 98, "NOT SEEN WHOLE: reached the event limit: ", " of 2002 events were not recorded", "1 process, ")
 
 
 def check_recorded_traces(suite: Suite, folder: str, program: str) -> None:
     """Traces that were kept, or that the process has left by itself, have the report that the run had."""
     settings = {"ASANCOL_REPORT": REPORT, "ASANCOL_LIMIT": "500"}
     words = [program, "blocks", "1000", "700"]
-    said = "1 report at 1 place; 1 process, 2001 events; all seen whole\n"
+    said = "1 report at 1 place; 1 process, 2003 events; all seen whole\n"
     expect_ran(suite.run("--keep", f"{folder}/kept", "--", *words, **settings), 99, said, "in blocks ")
     settings["ASANCOL_WHERE"] = "1"
     suite.run_words(words, cwd=folder, ASANCOL_TRACE="t.trace", **settings)
@@ -380,14 +380,15 @@ def check_recorded_files(suite: Suite, folder: str, program: str) -> None:
     """A process that cannot reach the socket leaves its segments in files."""
     line = f"rm $ASANCOL_HUB; exec unshare -rn {program} blocks 1000 700"
     ran = suite.run("-v", "--", "sh", "-c", line, ASANCOL_REPORT=REPORT, ASANCOL_LIMIT="500")
-    expect_ran(ran, 99, "1 report at 1 place; 1 process, 2001 events; all seen whole", "in blocks ")
+    expect_ran(ran, 99, "1 report at 1 place; 1 process, 2003 events; all seen whole", "in blocks ")
 
 
 def tests(suite: Suite) -> None:
     for compiler in ("gcc", "clang"):
         if shutil.which(compiler) is None:
             continue
-        program = build(suite, compiler)
+        path = f"{suite.folder}/{compiler}-segments"
+        program = Later(path, build, compiler, path)
         suite.test(f"{compiler} segments, recorded", check_recorded, program)
         suite.test(f"{compiler} segments, recorded kills", check_recorded_kills, program)
         suite.test(f"{compiler} segments, recorded limit", check_recorded_limit, program)

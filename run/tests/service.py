@@ -1,4 +1,4 @@
-"""An endless service: serve.py, and the units of systemd, whose command lines run here without it."""
+"""An endless service: asancol-listen, and the units of systemd, whose command lines run here without it."""
 
 import ctypes
 import os
@@ -12,10 +12,12 @@ import subprocess
 import time
 from typing import Callable, Dict, List, NamedTuple, Optional
 
-from support import PATIENCE, TESTS, TOP, Failure, Suite, expect, expect_in, wait_until
+from support import (
+    CC, PATIENCE, TESTS, TOP, Failure, Suite, expect, expect_in, leave_out, wait_until, write_text,
+)
 
 EXAMPLES = f"{TOP}/examples/service"
-SERVE = f"{EXAMPLES}/serve.py"
+LISTEN = f"{TOP}/listen/asancol-listen"
 # How much `systemd-analyze security` may find, from 0 to 10.
 MAX_EXPOSED = 0.4
 HEADER = b"ASTR\2\0\0\0"
@@ -33,12 +35,6 @@ def text_of(path: str) -> str:
         return file.read()
 
 
-def write(path: str, text: str, mode: int = 0o644) -> None:
-    with open(path, "w", encoding="utf-8") as file:
-        file.write(text)
-    os.chmod(path, mode)
-
-
 def result_of(folder: str, name: str) -> Result:
     parts = re.fullmatch(r"[\d.]+-(\d+)-(\d+)\.(open|-?\d+)", name)
     if parts is None:
@@ -47,13 +43,13 @@ def result_of(folder: str, name: str) -> Result:
 
 
 class Service:
-    """A serve.py that runs, and the folder for what its commands print."""
+    """An asancol-listen that runs, and the folder for what its commands print."""
 
     def __init__(self, suite: Suite, folder: str, *options: str, command: Optional[List[str]] = None) -> None:
         self.suite = suite
         self.socket, self.folder = f"{folder}/socket", f"{folder}/results"
         os.makedirs(self.folder, exist_ok=True)
-        words = [SERVE, *options, self.socket, self.folder, *(command or [suite.asancol, "check", "--live", "-"])]
+        words = [LISTEN, *options, self.socket, self.folder, *(command or [suite.asancol, "check", "--live", "-"])]
         before = self.made_at()
         self.program = subprocess.Popen(words, env=suite.environment(), stderr=subprocess.PIPE, text=True)
         wait_until(lambda: self.program.poll() is not None or self.made_at() not in (0, before), "the socket")
@@ -106,7 +102,7 @@ class Service:
         """Ends it, and returns what it has said."""
         self.program.terminate()
         said = self.program.communicate(timeout=PATIENCE)[1]
-        expect(self.program.returncode, 0, f"the status of serve.py: {said}")
+        expect(self.program.returncode, 0, f"the status of asancol-listen: {said}")
         return said
 
 
@@ -115,8 +111,8 @@ def check_results(suite: Suite, folder: str) -> None:
     service = Service(suite, folder)
     sound, past = (service.record(suite.program, word) for word in ("sound", "past"))
     expect(service.of_process(sound)[0:3], ("0", sound, os.getuid()), "sound")
-    expect_in(service.of_process(sound).text, "p0 end closed events 1 ")
-    expect_in(service.of_process(past).text, "p0 #2 store 1 at ", " heap-buffer-overflow ", " reports 1\n")
+    expect_in(service.of_process(sound).text, "p0 end closed events 2 ")
+    expect_in(service.of_process(past).text, "p0 #3 store 1 at ", " heap-buffer-overflow ", " reports 1\n")
     expect(service.of_process(past).status, "1", "past")
     with service.connect(b"no trace"):
         pass
@@ -134,7 +130,7 @@ def check_killed(suite: Suite, folder: str) -> None:
     program.kill()
     program.wait()
     result = service.of_process(program.pid)
-    expect_in(result.text, " heap-buffer-overflow ", "p0 end no-close events 2 ")
+    expect_in(result.text, " heap-buffer-overflow ", "p0 end no-close events 3 ")
     expect(result.status, "3", "status")
     service.end()
 
@@ -149,6 +145,20 @@ def check_children(suite: Suite, folder: str) -> None:
         expect(len(found), 1 + len(reports), f"{name}: processes")
         expect([it.status for it in found], ["0", "1"][: len(found)], f"{name}: statuses")
         expect_in(found[-1].text, "p0 end closed ", *reports)
+
+
+def check_threads(suite: Suite, folder: str) -> None:
+    """A process has a close if it ends in its last thread. What was joined may still be on its way out."""
+    program = f"{folder}/threads"
+    for flags in ((), ("-static",)):
+        subprocess.run([CC, "-g", "-pthread", *flags, f"{TESTS}/threads.c", "-o", program], check=True)
+        service = Service(suite, f"{folder}/threads{len(flags)}")
+        for name, end in (("alone", "closed"), ("joined", "closed"), ("first_has_ended", "closed"),
+                          ("detached", "no-close"), ("cloned", "no-close")):
+            for _ in range(5):
+                number = service.record(program, name, ASANCOL_HUB=service.socket)
+                expect_in(service.of_process(number).text, f"p0 end {end} ")
+        service.end()
 
 
 def check_silent(suite: Suite, folder: str) -> None:
@@ -190,11 +200,86 @@ def check_other_server(suite: Suite, folder: str) -> None:
     other = Service(suite, folder)
     said = other.program.communicate(timeout=PATIENCE)[1]
     expect((other.program.returncode, "Address already in use" in said), (1, True), said)
+    expect(service.results(), [], "what came of the other one")
     service.program.kill()
     service.program.communicate()
     again = Service(suite, folder)
     expect(again.of_process(again.record(suite.program, "sound")).status, "0", "the one after it")
     again.end()
+
+
+def check_refused(suite: Suite, folder: str) -> None:
+    """What can't be served, and why, is said at once; what another file is stays."""
+    socket_path, results, file = f"{folder}/s", f"{folder}/results", f"{folder}/file"
+    long_path = f"{folder}/{'s' * 100}"
+    os.mkdir(results)
+    write_text(file, "mine\n")
+    for words, status, said in (
+        ([], 2, "there is no SOCKET"),
+        ([socket_path, results], 2, "there is no COMMAND"),
+        (["--mod", "600", socket_path, results, "true"], 2, "there is no option --mod"),
+        (["--group", "--", socket_path, results, "true"], 2, "--group needs a value"),
+        (["--mode=888", socket_path, results, "true"], 2, "--mode is 000 to 777, and not 888"),
+        (["--connections", "0", socket_path, results, "true"], 2, "--connections is 1 to 999999999, and not 0"),
+        (["--group", "nobody's", socket_path, results, "true"], 1, "s: there is no group nobody's"),
+        ([socket_path, f"{folder}/none", "true"], 1, f"{folder}/none: No such file or directory"),
+        ([socket_path, file, "true"], 1, f"{file}: Not a directory"),
+        ([socket_path, results, "no-such-program"], 1, "no-such-program: there is no such program on the PATH"),
+        ([socket_path, results, "--", f"{folder}/none"], 1, f"{folder}/none: No such file or directory"),
+        ([socket_path, results, "--", file], 1, f"{file}: Permission denied"),
+        ([f"{folder}/none/s", results, "true"], 1, f"{folder}/none/s: No such file or directory"),
+        ([long_path, results, "true"], 1, f"at most 99 bytes here, and this has {len(long_path)}"),
+        ([file, results, "true"], 1, f"{file}: File exists"),
+        ([results, results, "true"], 1, f"{results}: File exists"),
+    ):
+        ran = suite.run_words([LISTEN, *words])
+        expect((ran.status, ran.out, ran.err.count("\n")), (status, "", 1), f"{words}: {ran.err}")
+        expect_in(ran.err, f"asancol-listen: ", said)
+    expect((sorted(os.listdir(folder)), text_of(file)), (["file", "results"], "mine\n"), "what is there")
+
+
+def check_help(suite: Suite, folder: str) -> None:
+    ran = suite.run_words([LISTEN, "--help"])
+    expect((ran.status, ran.err, "--connections" in ran.out), (0, "", True), ran.out)
+
+
+def check_strangers(suite: Suite, folder: str) -> None:
+    """Children that it did not start, and a log that takes nothing, do not end it; nobody's file has its last name."""
+    results = f"{folder}/results"
+    os.mkdir(results)
+    line = f"sleep 0.1 & exec {LISTEN} {folder}/socket {results} {suite.asancol} check -"
+    with open("/dev/full", "wb") as full:
+        program = subprocess.Popen(["sh", "-c", line], env=suite.environment(), stderr=full)
+    wait_until(lambda: os.path.exists(f"{folder}/socket"), "the socket")
+    os.rename(results, f"{folder}/moved")
+    for _ in range(2):
+        suite.run_words([suite.program, "sound"], ASANCOL_SOCKET=f"{folder}/socket")
+    time.sleep(0.2)
+    os.rename(f"{folder}/moved", results)
+    suite.run_words([suite.program, "sound"], ASANCOL_SOCKET=f"{folder}/socket")
+    wait_until(lambda: [result_of(results, it).status for it in os.listdir(results)] == ["0"], "the result")
+    os.remove(f"{folder}/socket")
+    write_text(f"{folder}/socket", "another's")
+    program.terminate()
+    expect((program.wait(PATIENCE), os.path.exists(f"{folder}/socket")), (0, True), "status, and the file of another")
+
+
+def check_closed(suite: Suite, folder: str) -> None:
+    """It may be started with no descriptor open, and as often as somebody likes at once: one of them serves."""
+    results = f"{folder}/results"
+    os.mkdir(results)
+    command = f"sh -c 'true >&2 && exec {suite.asancol} check -'"
+    line = f"exec {LISTEN} {folder}/socket {results} {command} <&- >&- 2>&-"
+    programs = [subprocess.Popen(["sh", "-c", line], env=suite.environment()) for _ in range(6)]
+    wait_until(lambda: sum(it.poll() is None for it in programs) == 1, "the end of all but one")
+    expect(sorted(it.poll() or 0 for it in programs), [0, 1, 1, 1, 1, 1], "statuses")
+    suite.run_words([suite.program, "past"], ASANCOL_SOCKET=f"{folder}/socket")
+    for program in programs:
+        program.terminate()
+        program.wait(PATIENCE)
+    found = [result_of(results, it) for it in os.listdir(results)]
+    expect(([it.status for it in found], "reports 1" in found[0].text), (["1"], True), f"{found}")
+    expect(os.listdir(folder), ["results"], "what is left")
 
 
 def check_full(suite: Suite, folder: str) -> None:
@@ -222,22 +307,29 @@ def check_mode(suite: Suite, folder: str) -> None:
         expect("PermissionError" in ran.err, refused, f"{options}: {ran.err}")
         service.end()
     expect([it.user for it in service.results()], [65534] * 2, "users")
+    service = Service(suite, folder)
+    another = ["setpriv", "--reuid=65534", "--regid=65534", "--clear-groups", LISTEN]
+    for words, said in (([service.socket], "Permission denied"),
+                        (["--group", "root", "/tmp/asancol-none"], "its group can't be root: Operation not permitted")):
+        ran = suite.run_words([*another, *words, "/tmp", "true"])
+        expect((ran.status, ran.err), (1, f"asancol-listen: {words[-1]}: {said}\n"), "another user's")
+    service.end()
 
 
 def check_script(suite: Suite, folder: str) -> None:
     """The commands of the page serve a socket, record a program and show its lines."""
-    os.symlink(f"{TOP}/examples", f"{folder}/examples")
     os.symlink(suite.asancol, f"{folder}/asancol")
-    write(f"{folder}/program", f"#!/bin/sh\nexec {suite.program} past\n", 0o755)
-    ran = suite.run_words(["sh", f"{EXAMPLES}/serve.sh"], folder, PATH=f"{folder}:{os.environ['PATH']}")
-    lines = r"results/[\d.]+-\d+-\d+\.1:p0 #2 store 1 at .*\nresults/\S+\.1:p0 end closed events 2 .* reports 1\n"
+    write_text(f"{folder}/program", f"#!/bin/sh\nexec {suite.program} past\n", 0o755)
+    path = f"{folder}:{os.path.dirname(LISTEN)}:{os.environ['PATH']}"
+    ran = suite.run_words(["sh", f"{EXAMPLES}/listen.sh"], folder, PATH=path)
+    lines = r"results/[\d.]+-\d+-\d+\.1:p0 #3 store 1 at .*\nresults/\S+\.1:p0 end closed events 3 .* reports 1\n"
     expect((ran.status, re.fullmatch(lines, ran.out) is not None, ran.err), (0, True, ""), ran.out)
 
 
 def check_page(suite: Suite, folder: str) -> None:
     """The page has the commands as they are, and how much systemd finds."""
     page = text_of(f"{TOP}/docs/SERVICE.md")
-    for name in ("systemd.sh", "group.sh", "serve.sh"):
+    for name in ("systemd.sh", "group.sh", "listen.sh"):
         commands = re.sub(r"^#.*\n", "", text_of(f"{EXAMPLES}/{name}"))
         expect_in(page, f"```sh\n{commands}```\n")
     expect_in(page, f"says {MAX_EXPOSED}, where")
@@ -289,7 +381,7 @@ def settings_of(path: str) -> Dict[str, List[str]]:
 
 
 def check_unit_command(suite: Suite, folder: str) -> None:
-    """What asancol@.service starts serves a socket, by serve.py."""
+    """What asancol@.service starts serves a socket, by asancol-listen."""
     units = install_units(suite, folder)
     unit = settings_of(f"{units}/asancol@.service")
     name, _, value = unit["Environment"][0].partition("=")
@@ -332,7 +424,7 @@ def check_socket_activate(suite: Suite, folder: str) -> None:
         return sorted(re.findall(r"^p0 end \S+ events \d+", text, re.M))
 
     try:
-        wait_until(lambda: ends() == ["p0 end closed events 1", "p0 end closed events 2"], "both end lines")
+        wait_until(lambda: ends() == ["p0 end closed events 2", "p0 end closed events 3"], "both end lines")
     finally:
         program.terminate()
         program.wait(PATIENCE)
@@ -362,7 +454,7 @@ CONTAINER = ["systemd-nspawn", "--quiet", "--directory=/", "--volatile=yes", "--
 
 def boot(folder: str, units: str) -> None:
     """Boots systemd with the units, and with one that runs the probe."""
-    write(f"{units}/probe.service", f"[Service]\nType=oneshot\nExecStart={PREFIX}/probe\n")
+    write_text(f"{units}/probe.service", f"[Service]\nType=oneshot\nExecStart={PREFIX}/probe\n")
     mounts = [f"--bind-ro={units}/{name}:/etc/systemd/system/{name}" for name in os.listdir(units)]
     words = [*CONTAINER, f"--bind={folder}{PREFIX}:{PREFIX}", *mounts, "--boot", "systemd.firstboot=no",
              "systemd.wants=probe.service"]
@@ -376,10 +468,10 @@ def check_systemd(suite: Suite, folder: str) -> None:
     top = f"{folder}{PREFIX}"
     shutil.copy(suite.program, f"{top}/programs")
     os.chmod(f"{top}/programs", 0o755)
-    write(f"{top}/program", f"#!/bin/sh\nexec {PREFIX}/programs past\n", 0o755)
+    write_text(f"{top}/program", f"#!/bin/sh\nexec {PREFIX}/programs past\n", 0o755)
     for name in ("systemd.sh", "group.sh"):
         shutil.copy(f"{EXAMPLES}/{name}", top)
-    write(f"{top}/probe", PROBE, 0o755)
+    write_text(f"{top}/probe", PROBE, 0o755)
     boot(folder, units)
     seen = {name: text_of(f"{top}/{name}") for name in ("refused", "lines", "left")}
     expect_in(seen["refused"], "nothing is recorded: /run/asancol.sock: Permission denied")
@@ -470,9 +562,14 @@ def tests(suite: Suite) -> None:
     suite.test("service: results", check_results)
     suite.test("service: killed", check_killed)
     suite.test("service: children", check_children)
+    suite.test("service: threads", check_threads)
     suite.test("service: silent", check_silent)
     suite.test("service: end", check_end)
     suite.test("service: another server", check_other_server)
+    suite.test("service: refused", check_refused)
+    suite.test("service: help", check_help)
+    suite.test("service: strangers", check_strangers)
+    suite.test("service: closed", check_closed)
     suite.test("service: full", check_full)
     suite.test("service: soak", check_soak)
     suite.test("service: script", check_script)
@@ -482,14 +579,14 @@ def tests(suite: Suite) -> None:
         suite.test("service: mode", check_mode)
         suite.test("service: mode of serve", check_mode_of_serve)
     else:
-        print("left out: service: mode: root alone can be another user")
+        leave_out("service: mode: root alone can be another user")
     for program, name, check in (("systemd-analyze", "units", check_units), ("systemd-analyze", "filter", check_filter),
                                  ("systemd-socket-activate", "socket-activate", check_socket_activate)):
         if shutil.which(program):
             suite.test(f"service: {name}", check)
         else:
-            print(f"left out: service: {name}: {program} is not there")
+            leave_out(f"service: {name}: {program} is not there")
     if shutil.which("systemd-nspawn") and suite.run_words([*CONTAINER, "/usr/bin/true"]).status == 0:
         suite.test("service: systemd", check_systemd)
     else:
-        print("left out: service: systemd: systemd-nspawn is not there, or has no container")
+        leave_out("service: systemd: systemd-nspawn is not there, or has no container")

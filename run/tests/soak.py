@@ -5,9 +5,9 @@ usage: run/tests/soak.py [--hours H] [--workers N] [--seed S] ASANCOL
 
 Programs start, fork, crash, are killed by SIGKILL, flood the service and reach their event limit; other peers say
 nothing or send garbage; and a disk is full. Each process has its verdict, with each bug that was planted in it and no
-other, or else a word that says why not. The service is serve.py with the command of asancol@.service. A line a minute
-has its figures, and the last lines have all of them: by how much its memory grows is the slope of a line that fits the
-samples best. The status is 1 if anything was not as it should be, or if memory, descriptors or processes grow.
+other, or else a word that says why not. The service is asancol-listen with the command of asancol@.service. A line a
+minute has its figures, and the last lines have all of them: by how much its memory grows is the slope of a line that
+fits the samples best. The status is 1 if anything was not as it should be, or if memory, descriptors or processes grow.
 """
 
 import argparse
@@ -25,19 +25,17 @@ import threading
 import time
 from typing import Callable, Counter, Iterator, List, NamedTuple, Optional, Sequence, Tuple
 
-TESTS = os.path.dirname(os.path.abspath(__file__))
-sys.path.insert(0, TESTS)
+sys.path.insert(0, f"{os.path.dirname(os.path.realpath(__file__))}/../..")  # where `testing` is
 
-from service import HEADER, SERVE, settings_of, text_of  # noqa: E402
-from support import CC, TOP, Failure  # noqa: E402
+from service import HEADER, LISTEN, settings_of, text_of
+from support import CC, TESTS, TOP, Failure, environment
+from testing.lines import lines_of
 
 CLASSES = {
     "past_heap": "heap-buffer-overflow", "freed": "heap-use-after-free", "freed_twice": "double-free",
     "wild_free": "bad-free", "past_stack": "stack-buffer-overflow", "past_global": "global-buffer-overflow",
     "poisoned": "use-after-poison",
 }
-REPORT = re.compile(r"^p0 #\d+ (?:load|store|free|malloc) .*?((?:[a-z]+-)+[a-z]+)(?: shadow [0-9a-f]{2})?$", re.M)
-END = re.compile(r"^p0 end ([a-z-]+(?: [a-z]+)?) (?:events|checked) (\d+).* reports (\d+)$", re.M)
 # Within so many seconds of the end of a process its verdict is there.
 PATIENCE = 120
 SAMPLES_PER_MINUTE = 12
@@ -79,13 +77,13 @@ def children_of(number: int) -> int:
 
 
 class Service:
-    """A serve.py, and what it has to say of each process."""
+    """An asancol-listen, and what it has to say of each process."""
 
     def __init__(self, folder: str, asancol: str, front: Sequence[str] = ()) -> None:
         self.socket, self.folder, self.said = f"{folder}/socket", f"{folder}/results", f"{folder}/said"
         os.makedirs(self.folder, exist_ok=True)
         unit = settings_of(f"{TOP}/packaging/systemd/asancol@.service")
-        words = [SERVE, self.socket, self.folder, *front, asancol, *unit["ExecStart"][0].split()[1:]]
+        words = [LISTEN, self.socket, self.folder, *front, asancol, *unit["ExecStart"][0].split()[1:]]
         with open(self.said, "wb") as said:
             self.program = subprocess.Popen(words, stderr=said, stdin=subprocess.DEVNULL)
         while not os.path.exists(self.socket) or not os.stat(self.socket).st_mode & 0o200:
@@ -134,11 +132,10 @@ class Soak:
     # What scenarios are made of.
 
     def start(self, *words: str, as_hub: bool, **settings: str) -> "subprocess.Popen[str]":
-        kept = {name: value for name, value in os.environ.items() if not name.startswith("ASANCOL")}
-        kept["ASANCOL_HUB" if as_hub else "ASANCOL_SOCKET"] = self.service.socket
+        where = {"ASANCOL_HUB" if as_hub else "ASANCOL_SOCKET": self.service.socket}
         self.count("processes")
         pipes = {"stdout": subprocess.PIPE, "stderr": subprocess.PIPE}
-        return subprocess.Popen([self.program, *words], env={**kept, **settings}, text=True, **pipes)
+        return subprocess.Popen([self.program, *words], env=environment(**where, **settings), text=True, **pipes)
 
     def verdict(self, process: int, service: Optional[Service] = None) -> Verdict:
         """Waits for the verdict of a process that has ended."""
@@ -155,13 +152,13 @@ class Soak:
             self.longest = max(self.longest, waited)
         self.count("verdicts")
         status, text = found
-        end = END.findall(text)
-        reports = collections.Counter(REPORT.findall(text))
+        lines, ends = lines_of(text.encode(), is_whole=False)
+        reports = collections.Counter(it.class_name for it in lines)
         if status == "4":
             return Verdict(status, "", 0, reports)
-        if len(end) != 1 or int(end[0][2]) != sum(reports.values()):
+        if len(ends) != 1 or ends[0].reports != len(lines):
             raise Failure(f"process {process}: no good end line: status {status}, {text[-300:]!r}")
-        return Verdict(status, end[0][0], int(end[0][1]), reports)
+        return Verdict(status, ends[0].fate, ends[0].events, reports)
 
     def expect(self, process: int, end: str, bug: str, number: int = 1) -> Verdict:
         """The verdict of a process has this end, and so many reports of this bug and no others."""
@@ -245,10 +242,17 @@ class Soak:
             raise Failure(f"process {program.pid} was killed, and ended as {verdict.end}, status {verdict.status}")
 
     def flood(self, draw: random.Random) -> None:
+        """Its end does not find room in the socket: if that takes too long, it says so."""
         number = draw.choice([100, 5000, 40000])
         program = self.start("flood", "past_heap", str(number), as_hub=draw.random() < 0.5)
-        program.communicate()
-        self.expect(program.pid, "closed", "past_heap", number)
+        if "the end of the recording is lost" not in program.communicate()[1]:
+            self.expect(program.pid, "closed", "past_heap", number)
+            return
+        self.count("words")
+        verdict = self.verdict(program.pid)
+        self.expect_reports(program.pid, verdict, "past_heap", min(number, sum(verdict.reports.values())))
+        if verdict.status != "3" or verdict.end == "closed":
+            raise Failure(f"process {program.pid} has lost its end, and ended as {verdict.end}")
 
     def limit(self, draw: random.Random) -> None:
         """At the event limit the trace has no close, and without a hub the program says so."""
@@ -301,8 +305,7 @@ class Soak:
         with small_disk(f"{self.folder}/disk-{threading.get_ident()}") as (disk, front):
             trace = f"{disk}/%p.trace"
             words = [*front, self.program, "works", "past_heap", "200000"]
-            kept = {name: value for name, value in os.environ.items() if not name.startswith("ASANCOL")}
-            ran = subprocess.run(words, env={**kept, "ASANCOL_TRACE": trace}, stderr=subprocess.PIPE, text=True,
+            ran = subprocess.run(words, env=environment(ASANCOL_TRACE=trace), stderr=subprocess.PIPE, text=True,
                                  check=False)
         self.count("processes")
         self.count("words")
@@ -318,9 +321,8 @@ class Soak:
         with small_disk(f"{folder}/results") as (_, front):
             service = Service(folder, self.asancol, front)
             try:
-                kept = {name: value for name, value in os.environ.items() if not name.startswith("ASANCOL")}
                 words = [self.program, "flood", "past_heap", "40000"]
-                program = subprocess.Popen(words, env={**kept, "ASANCOL_SOCKET": service.socket})
+                program = subprocess.Popen(words, env=environment(ASANCOL_SOCKET=service.socket))
                 program.wait()
                 self.count("processes")
                 self.count("full")

@@ -5,47 +5,26 @@ import json
 import os
 import shutil
 import subprocess
-import sys
 import tempfile
-import time
-from typing import Any, Callable, Dict, List, NamedTuple, Optional, Sequence
+from typing import Any, Dict, List, Optional, Sequence
+
+import testing
+from testing import (  # noqa: F401
+    TOP, Failure, Later, LeftOut, Ran, compilers_there, environment, expect, expect_in, expect_not_in, leave_out,
+    wait_until, write_text,
+)
+from testing.programs import CC, REPORT, finish, ran_of  # noqa: F401
+from testing.suite import Result
 
 TESTS = os.path.dirname(os.path.abspath(__file__))
-TOP = os.path.dirname(os.path.dirname(TESTS))
-sys.path.append(f"{TOP}/tests")
-
-from side_by_side import Failure, SideBySide, expect  # noqa: E402,F401
-
 # If SANITIZE is set, the one that is built with the compiler's sanitizers.
 SANITIZE = os.environ.get("SANITIZE", "")
-RUN = f"{TOP}/run/sanitized/asancol-run" if SANITIZE else f"{TOP}/run/asancol-run"
-CC = f"{TOP}/recorder/asancol-cc"
-REPORT = f"{TOP}/run/asancol-report"
+RUN = f"{TOP}/run/asancol-run-sanitized" if SANITIZE else f"{TOP}/run/asancol-run"
 FAKE_REPORT = f"{TESTS}/fake_report.py"
 SEGMENTED = f"{TESTS}/segmented.py"
 
 # No run may take longer, in seconds. Nothing is measured by it.
 PATIENCE = 120
-
-
-def expect_in(text: str, *parts: str) -> None:
-    for part in parts:
-        if part not in text:
-            raise Failure(f"{part!r} is not in {text!r}")
-
-
-def expect_not_in(text: str, *parts: str) -> None:
-    for part in parts:
-        if part in text:
-            raise Failure(f"{part!r} is in {text!r}")
-
-
-class Ran(NamedTuple):
-    """A run that has ended. A status below 0 is a signal."""
-
-    status: int
-    out: str
-    err: str
 
 
 def expect_ran(ran: Ran, status: int, *texts: str, absent: Sequence[str] = ()) -> None:
@@ -56,18 +35,18 @@ def expect_ran(ran: Ran, status: int, *texts: str, absent: Sequence[str] = ()) -
         raise Failure(f"status {ran.status}, wanted {status}; missing {missing}; unwanted {unwanted}; {ran.err[:2000]}")
 
 
-class Suite(SideBySide):
+class Suite(testing.Suite):
     """The tests of asancol-run, and what they run."""
 
     def __init__(self, asancol: str, words: Sequence[str]) -> None:
-        super().__init__(words, most=3)
+        super().__init__(words)
         self.asancol = asancol
         self.folder = tempfile.mkdtemp(prefix="asancol-tests-")
         self.program = f"{self.folder}/programs"
         self.unchecked = f"{self.folder}/unchecked"
         self.findings = f"{self.folder}/findings"  # of the sanitizers, one file a process
 
-    def build(self) -> None:
+    def prepare(self) -> None:
         """Builds the programs, recorded; and once more so that no code of them is checked."""
         source = f"{TESTS}/programs.c"
         plain = f"{self.folder}/plain.o"
@@ -79,12 +58,12 @@ class Suite(SideBySide):
 
     def environment(self, **settings: str) -> Dict[str, str]:
         """The environment without what speaks to asancol, and with these settings. The report is the fake one."""
-        kept = {name: value for name, value in os.environ.items() if not name.startswith("ASANCOL")}
+        ours = {"ASANCOL": self.asancol, "ASANCOL_REPORT": FAKE_REPORT}
         if SANITIZE:
             # It keeps its memory until it ends.
             sanitizers = f"detect_leaks=0:log_path={self.findings}:exitcode=111"
-            kept.update(ASAN_OPTIONS=sanitizers, UBSAN_OPTIONS=f"{sanitizers}:print_stacktrace=1")
-        return {**kept, "ASANCOL": self.asancol, "ASANCOL_REPORT": FAKE_REPORT, "LC_ALL": "C", **settings}
+            ours.update(ASAN_OPTIONS=sanitizers, UBSAN_OPTIONS=f"{sanitizers}:print_stacktrace=1")
+        return environment(**{**ours, **settings})
 
     def run(self, *words: str, cwd: Optional[str] = None, **settings: str) -> Ran:
         """Runs asancol-run."""
@@ -92,13 +71,9 @@ class Suite(SideBySide):
 
     def run_words(self, words: Sequence[str], cwd: Optional[str] = None, **settings: str) -> Ran:
         """Runs any command."""
-        environment = self.environment(**settings)
-        pipes = {"stdout": subprocess.PIPE, "stderr": subprocess.PIPE}
-        nothing = subprocess.DEVNULL
-        ran = subprocess.run(
-            words, env=environment, cwd=cwd, stdin=nothing, timeout=PATIENCE, check=False, **pipes
-        )
-        return Ran(ran.returncode, ran.stdout.decode(errors="replace"), ran.stderr.decode(errors="replace"))
+        ran = subprocess.run(words, env=self.environment(**settings), cwd=cwd, stdin=subprocess.DEVNULL,
+                             capture_output=True, timeout=PATIENCE, check=False)
+        return ran_of(ran)
 
     def start(self, *words: str, user: Optional[int] = None, **settings: str) -> "subprocess.Popen[str]":
         """Starts asancol-run, as another user if one is named."""
@@ -116,8 +91,8 @@ class Suite(SideBySide):
         """Counts what sanitizers have found as failures."""
         for path in sorted(glob.glob(f"{self.findings}.*")):
             with open(path, encoding="utf-8", errors="replace") as file:
-                print(f"FAILED sanitizers:\n{file.read()}", flush=True)
-            self.failed += 1
+                self.take(Result("sanitizers", __name__, 0, f"\n{file.read()}"))
+            os.remove(path)
 
     def clean_up(self) -> None:
         self.show_findings()
@@ -127,22 +102,3 @@ class Suite(SideBySide):
 def read_packets(path: str) -> List[Any]:
     with open(path, encoding="utf-8") as lines:
         return [json.loads(line) for line in lines]
-
-
-def finish(started: "subprocess.Popen[str]") -> Ran:
-    """Waits until a run that was started has ended."""
-    try:
-        out, err = started.communicate(timeout=PATIENCE)
-    except subprocess.TimeoutExpired:
-        started.kill()
-        raise
-    return Ran(started.returncode, out, err)
-
-
-def wait_until(is_so: Callable[[], bool], what: str) -> None:
-    """Waits for something that comes soon."""
-    end = time.monotonic() + 20
-    while not is_so():
-        if time.monotonic() > end:
-            raise Failure(f"{what} did not come")
-        time.sleep(0.02)

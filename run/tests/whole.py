@@ -8,14 +8,21 @@ import subprocess
 from typing import Any, List
 
 from lives import at_terminal
-from support import CC, REPORT, RUN, TOP, Failure, Ran, Suite, expect, expect_ran
+from support import CC, REPORT, RUN, TOP, Failure, Ran, Suite, environment, expect, expect_ran
+from testing.classes import THE_SAME, table_of_classes
 
 PAST = "heap-buffer-overflow: store of 1 byte"
+CRASHED = "ended by SIGSEGV, by a store at address 0x10"
 FREED = "heap-use-after-free: load of 1 byte"
 
 
 def run_real(suite: Suite, *words: str, **settings: str) -> Ran:
     return suite.run(*words, ASANCOL_REPORT=REPORT, **settings)
+
+
+def read(path: str) -> str:
+    with open(path, encoding="utf-8") as file:
+        return file.read()
 
 
 def read_lines(path: str) -> List[Any]:
@@ -26,7 +33,7 @@ def read_lines(path: str) -> List[Any]:
 def check_report(suite: Suite, folder: str) -> None:
     ran = run_real(suite, "--", suite.program, "past", "3")
     texts = (PAST, "in store_past", "programs.c:", "0 bytes past the end of a block of 8 bytes", "allocated at")
-    expect_ran(ran, 99, *texts, "asancol: 3 reports at 1 place; 1 process, 4 events; all seen whole")
+    expect_ran(ran, 99, *texts, "asancol: 3 reports at 1 place; 1 process, 5 events; all seen whole")
     ran = run_real(suite, "--", suite.program, "child")
     expect_ran(ran, 99, FREED, "in load_freed", "freed at", "2 processes")
 
@@ -40,24 +47,142 @@ __attribute__((noinline)) void fill(int size) {
     __asm__ volatile("" : : "r"(buffer) : "memory");
 }
 int main(int count, char **words) {
+    const char *volatile literal = "Alice";
     fill(10 + count);
     table[3 + count] = words != 0;
-    return table[0];
+    return table[0] + literal[6 + count] - literal[6 + count];
 }
 """
 
 
 def check_variables(suite: Suite, folder: str) -> None:
-    """A report has the name of the variable, and where it is declared."""
+    """By both compilers a report has the name of the variable, and where it is declared, but for a literal by GCC."""
     with open(f"{folder}/variables.c", "w", encoding="utf-8") as file:
         file.write(VARIABLES)
-    subprocess.run([CC, "-g", "variables.c", "-o", "variables"], cwd=folder, check=True)
-    ran = run_real(suite, "--json", f"{folder}/x", "--", f"{folder}/variables")
-    expect_ran(ran, 99, " in fill ", " 0 bytes past the end of 'buffer' (10 bytes) on the stack, declared in line 5\n",
-               " 0 bytes past the end of 'table' (16 bytes), a global variable, declared at variables.c:3\n")
-    blocks = [it["block"] for it in read_lines(f"{folder}/x") if it["type"] == "finding"]
-    expect(sorted((it["kind"], it["name"], it["line"]) for it in blocks),
-           [("global", "table", 3), ("stack", "buffer", 5)], "blocks")
+    for compiler in filter(shutil.which, ("gcc", "clang")):
+        words = [CC, "-g", "variables.c", "-o", compiler]
+        subprocess.run(words, cwd=folder, check=True, env={**os.environ, "ASANCOL_CC": compiler})
+        ran = run_real(suite, "--json", f"{folder}/x", "--", f"{folder}/{compiler}")
+        expect_ran(ran, 99, " in fill ",
+                   " 0 bytes past the end of 'buffer' (10 bytes) on the stack, declared in line 5",
+                   " 0 bytes past the end of 'table' (16 bytes), a global variable, declared at variables.c:3\n",
+                   " 1 byte past the end of '<string literal>' (6 bytes), a global variable")
+        blocks = [it["block"] for it in read_lines(f"{folder}/x") if it["type"] == "finding"]
+        expect(sorted((it["kind"], it["name"], it["line"]) for it in blocks if it["size"] != 6),
+               [("global", "table", 3), ("stack", "buffer", 5)], "blocks")
+
+
+# Each function has one fault. What stands behind it is its class, and the last what came of the first.
+FAULTS = """
+#include <alloca.h>
+#include <stdlib.h>
+#include <string.h>
+#define APART __attribute__((noinline)) static
+void __asan_poison_memory_region(void const volatile *, size_t), __asan_poison_intra_object_redzone(void *, size_t);
+void __sanitizer_annotate_contiguous_container(const void *, const void *, const void *, const void *);
+#define CONTAINER __sanitizer_annotate_contiguous_container
+static int table[4];
+static char of_container[16];
+APART void ended(void) { volatile int *kept; { volatile int x = 3; kept = &x; } *kept = 4; } // stack-use-after-scope
+APART void past(int n) { volatile char room[16]; room[n] = 1; } // stack-buffer-overflow
+APART void before(int n) { volatile char room[16]; room[-n] = 1; } // stack-buffer-underflow
+APART void dynamic(int n) { volatile char *room = alloca(n); room[n] = 1; } // dynamic-stack-buffer-overflow
+APART void global(int n) { table[n] = 1; } // global-buffer-overflow
+APART void heap(int n) { char *room = malloc(n); room[n] = 1; free(room); } // heap-buffer-overflow
+APART void freed(char *room) { free(room); room[1] = 1; } // heap-use-after-free
+APART void twice(char *room) { free(room); free(room); } // double-free
+APART void wild(void) { int x[4]; int *volatile at = x; free(at); } // bad-free
+APART void poisoned(char *p) { __asan_poison_memory_region(p, 8); p[7] = 1; free(p); } // use-after-poison
+APART void unused(char *p) { CONTAINER(p, p + 16, p + 16, p + 2); p[2] = 1; } // container-overflow
+APART void apart(char *p) { CONTAINER(p, p + 16, p + 16, p + 2); p[8] = 1; } // container-overflow
+APART void between(char *p) { __asan_poison_intra_object_redzone(p, 8); p[1] = 1; free(p); } // intra-object-overflow
+int main(int count, char **words) {
+    (void)words; char *first = malloc(8);
+    ended(); past(15 + count); before(count); dynamic(9 + count); global(3 + count); heap(4 + count);
+    freed(first); twice(malloc(9)); wild();
+    poisoned(malloc(8)); unused(malloc(16)); apart(of_container); between(malloc(8));
+    first[2] = 1; // also at
+    return 0;
+}
+"""
+# What report/tests/classes.py shows: a call of such a size ends the process.
+SHOWN_ELSEWHERE = {"negative-size-param"}
+ATTEMPTS = {"double-free": "attempting double-free", "bad-free": "attempting free on address which was not malloc()-ed"}
+
+
+def check_names(suite: Suite, folder: str) -> None:
+    """By both compilers a report has the name that AddressSanitizer gives it, its line with a caret, and comes in
+    order."""
+    with open(f"{folder}/faults.c", "w", encoding="utf-8") as file:
+        file.write(FAULTS)
+    lines = FAULTS.splitlines()
+    wanted = [(it.partition("// ")[2], str(at)) for at, it in enumerate(lines, 1) if it.startswith("APART")]
+    for compiler in filter(shutil.which, ("gcc", "clang")):
+        words = [CC, "-g", "-w", "faults.c", "-o", compiler + "-faults"]
+        subprocess.run(words, cwd=folder, check=True, env={**os.environ, "ASANCOL_CC": compiler})
+        words = ["--source-root", folder, "--shadow", "--", f"{folder}/{compiler}-faults"]
+        ran = run_real(suite, "--json", f"{folder}/x", *words)
+        found = re.findall(r"ERROR: asancol: (.*?)(?:: .*)?\n    #0 .* faults\.c:(\d+):\d+\n", ran.err)
+        expect(found, [(ATTEMPTS.get(name, name), line) for name, line in wanted], ran.err)
+        names = {name for name, said in table_of_classes().items() if said == THE_SAME} - SHOWN_ELSEWHERE
+        expect({name for name, _ in wanted} - {"bad-free"}, names, "classes that RECORDER.md calls the same")
+        also = next(at for at, it in enumerate(lines, 1) if "also at" in it)
+        shown = lines[int(wanted[0][1]) - 1].split("{", 1)[1].split("//")[0].strip()
+        expect_ran(ran, 99, shown, "\n  also at faults.c:%d:" % also,
+                   " in main: store of 1 byte, byte 2 of the block\n",
+                   "Shadow byte legend", "reports at 14 places; 1 process")
+        expect(re.fullmatch(rf"SUMMARY: asancol: {wanted[0][0]} faults\.c:{wanted[0][1]}:\d+ in ended",
+                            ran.err.splitlines()[-1]) is not None, True, ran.err)
+        again = suite.run_words([REPORT, f"{folder}/x", "--source-root", folder, "--shadow"])
+        expect(again.out, ran.err, "read again")
+
+
+CONTAINERS = """
+#include <algorithm>
+#include <string>
+#include <utility>
+#include <vector>
+typedef std::pair<std::string, std::vector<std::vector<std::string> > > Named;
+static int *gone;
+static bool comes_first(const Named &one, const Named &other) { return one.first.size() + *gone < other.first.size(); }
+int main(int count, char **words) {
+    std::vector<Named> named(3, Named(words[0], {}));
+    gone = new int(count);
+    delete gone;
+    std::sort(named.begin(), named.end(), comes_first);
+    return 0;
+}
+"""
+
+
+def check_short_stacks(suite: Suite, folder: str) -> None:
+    """Frames of std:: are one line, and names fit on one."""
+    with open(f"{folder}/named.cpp", "w", encoding="utf-8") as file:
+        file.write(CONTAINERS)
+    for compiler in filter(shutil.which, ("g++", "clang++")):
+        words = [os.path.join(os.path.dirname(CC), "asancol-c++"), "-g", "-w", "named.cpp", "-o", compiler + "-named"]
+        subprocess.run(words, cwd=folder, check=True, env={**os.environ, "ASANCOL_CXX": compiler})
+        ran = run_real(suite, "--", f"{folder}/{compiler}-named")
+        stack = re.findall(r"^    (?:#\d+ 0x\w+ |\.\. \d+ )(.*)", ran.err.partition("is byte 0")[0], re.M)
+        expect([it.partition("(")[0].partition(" /")[0] for it in stack],
+               ["in comes_first", "frames of std::", "in main"], ran.err)
+        expect(max(map(len, stack)) < 150 + len(folder), True, ran.err)
+        ran = run_real(suite, "--full-stacks", "--", f"{folder}/{compiler}-named")
+        expect_ran(ran, 99, "in void std::sort<", absent=("frames of",))
+
+
+def check_lowered(suite: Suite, folder: str) -> None:
+    """That a process has lowered a bound is in the text and in the result, which can be merged."""
+    line = f"ASANCOL_QUARANTINE=7 {suite.program} past; ASANCOL_HALT=1 {suite.program} past; {RUN} -q -- " \
+           f"env ASANCOL_QUARANTINE=5 {suite.program} sound"
+    ran = run_real(suite, "--json", f"{folder}/x", "--", "sh", "-c", line)
+    texts = [f"{suite.program}: held back {count} bytes of freed memory (ASANCOL_QUARANTINE)" for count in (7, 5)]
+    texts += [f"{suite.program}: ended at its first fault (ASANCOL_HALT), so what it would have done was not seen"]
+    expect_ran(ran, 99, "asancol: process ", *texts)
+    notes = [it["text"] for it in read_lines(f"{folder}/x") if it["type"] == "note"]
+    expect([sum(text in it for it in notes) for text in texts], [1, 1, 1], "notes")
+    merged = suite.run_words([REPORT, f"{folder}/x"])
+    expect([text in merged.out for text in texts], [True] * 3, merged.out)
 
 
 def check_colors(suite: Suite, folder: str) -> None:
@@ -94,6 +219,8 @@ def check_summaries_are_the_same(suite: Suite, folder: str) -> None:
         ["--at-least", "2", "--", suite.program, "sound"],
         ["--", suite.program, "kills_itself", "9"],
         ["--", suite.unchecked, "sound"],
+        ["--", "sh", "-c", f"{suite.program} crashes; {suite.unchecked} sound; true"],
+        ["--timeout", "0.5", "--", suite.program, "sleeps", "30"],
     ):
         alone = run_real(suite, *words)
         both = run_real(suite, "--json", f"{folder}/x", *words)
@@ -104,6 +231,8 @@ def check_summaries_are_the_same(suite: Suite, folder: str) -> None:
             differs += r"|\d+ events?"
         seen = [re.sub(differs, "", ran.err) for ran in (alone, both)]
         expect((both.status, seen[1]), (alone.status, seen[0]), str(words))
+        merged = suite.run_words([REPORT, f"{folder}/x"])
+        expect([it for it in merged.out.splitlines() if it not in both.err], [], f"what the result of {words} adds")
 
 
 def check_suppressed(suite: Suite, folder: str) -> None:
@@ -136,6 +265,90 @@ def check_outputs(suite: Suite, folder: str) -> None:
     expect(run_real(suite, "--log-file", "/dev/full", "--", suite.program, "past").status, 99, "full log")
 
 
+def check_outputs_to_descriptors(suite: Suite, folder: str) -> None:
+    """What a descriptor has got before stays, and what is written there after it follows."""
+    run = f"{RUN} --json NAME --log-file /dev/null -- {suite.program} past"
+    for redirected, number, name in (
+        (">> log", 1, "/dev/stdout"), ("2> log", 2, "/dev/stderr"), ("7> log", 7, "/dev/fd/7")
+    ):
+        line = f"{{ echo before >&{number}; {run.replace('NAME', name)}; echo after >&{number}; }} {redirected}"
+        suite.run_words(["sh", "-c", line], folder, ASANCOL_REPORT=REPORT)
+        with open(f"{folder}/log", encoding="utf-8") as log:
+            lines = log.read().split("\n")
+        kinds = [json.loads(it)["type"] if it.startswith("{") else it for it in lines]
+        expect(kinds, ["before", "run", "process", "finding", "after", ""], name)
+        os.unlink(f"{folder}/log")
+    line = f"echo before; {RUN} --log-file /dev/stdout -- {suite.program} past"
+    out = suite.run_words(["sh", "-c", f"({line}) > log; cat log"], folder, ASANCOL_REPORT=REPORT).out
+    expect((out.startswith("before\n"), PAST in out), (True, True), out)
+
+
+REMOVED = {
+    "library.c": """
+#include <stdlib.h>
+void of_library(void) {
+    char *volatile p = malloc(5);
+    p[5] = 1; }
+""",
+    "program.c": """
+#include <stdlib.h>
+void of_library(void);
+int main(void) {
+    of_library();
+    char *volatile p = malloc(6);
+    p[6] = 1;
+    return 0; }
+""",
+}
+
+
+def check_removed(suite: Suite, folder: str, compiler: str) -> None:
+    """A program and its shared object have their lines if they are gone, or others, at once after the process. With a
+    build id and without one."""
+    for name, text in REMOVED.items():
+        with open(f"{folder}/{name}", "w", encoding="utf-8") as file:
+            file.write(text)
+    removed = "rm program library.so"
+    renewed = "cp program.c new; mv new program; cp program.c new; mv new library.so"
+    for build_id, after in (("sha1", removed), ("sha1", renewed), ("none", removed), ("none", renewed)):
+        words = [CC, "-g", f"-Wl,--build-id={build_id}"]
+        for more in (["-shared", "-fPIC", "library.c", "-o", "library.so"],
+                     ["program.c", "./library.so", f"-Wl,-rpath,{folder}", "-o", "program"]):
+            subprocess.run([*words, *more], cwd=folder, check=True, env={**os.environ, "ASANCOL_CC": compiler})
+        ran = suite.run("--", "sh", "-c", f"./program; {after}", cwd=folder, ASANCOL_REPORT=REPORT)
+        expect_ran(ran, 99, f"in of_library {folder}/library.c:5:", f"in main {folder}/program.c:5:",
+                   f"in main {folder}/program.c:7:", absent=["no lines"])
+
+
+def check_bare(suite: Suite, folder: str, compiler: str) -> None:
+    """Why places have no lines is said once for each program, also beside one that has them; and where /proc is not."""
+    source = f"{TOP}/examples/bug.c"
+    for name, words in (("lines", ["-g"]), ("plain", []), ("stripped", ["-g", "-s"])):
+        subprocess.run([CC, *words, source, "-o", f"{folder}/{name}"], check=True,
+                       env={**os.environ, "ASANCOL_CC": compiler})
+    line = "; ".join(f"{folder}/{name} A" for name in ("lines", "plain", "plain", "stripped"))
+    ran = run_real(suite, "--json", f"{folder}/x", "--", "sh", "-c", line)
+    why = "has no lines: compile it with -g, and do not strip it"
+    expect_ran(ran, 99, "bug.c:6", *(f"asancol: {folder}/{name} {why}\n" for name in ("plain", "stripped")))
+    expect([it["text"] for it in read_lines(f"{folder}/x") if it["type"] == "note"],
+           [f"{folder}/{name} {why}" for name in ("plain", "stripped")], "notes of the result")
+    alone = run_real(suite, "--", f"{folder}/stripped", "A")
+    expect("compile" in alone.err or "compiled with -g?" in alone.err, True, alone.err)
+    expect_ran(run_real(suite, "--", f"{folder}/lines", "A"), 99, absent=["-g"])
+    if suite.run_words(["unshare", "-rm", "true"]).status == 0:
+        hidden = ["unshare", "-rm", "sh", "-c", f"mount -t tmpfs none /proc; exec {folder}/lines A"]
+        expect_ran(run_real(suite, "--", *hidden), 99, "the modules of a process are not known, as where /proc is not")
+
+
+def check_many_removed(suite: Suite, folder: str) -> None:
+    """Of many programs that are removed, with few descriptors, each is seen whole. Lines may be missing, with a
+    word."""
+    shutil.copy(suite.program, f"{folder}/program")
+    line = f"ulimit -n 64; exec {RUN} -- sh -c 'for i in $(seq 30); do cp program p$i; ./p$i past; rm p$i; done'"
+    ran = suite.run_words(["sh", "-c", line], folder, ASANCOL_REPORT=REPORT)
+    expect_ran(ran, 99, "30 processes", "all seen whole", "in store_past")
+
+
 def check_nested(suite: Suite, folder: str) -> None:
     first, second = (f"{RUN} -q -- {suite.program} {way}" for way in ("past", "sound"))
     line = f"{first} 2> {folder}/inner; {second}; {suite.program} child"
@@ -164,16 +377,44 @@ def check_bad_rules(suite: Suite, folder: str) -> None:
 
 
 def check_crash(suite: Suite, folder: str) -> None:
-    """Where a process crashed is shown. It is no report, and with --quiet there is nothing."""
+    """Where a process crashed is shown, also with --quiet. It is no report."""
     line = f"{suite.program} crashes || true"
     ran = run_real(suite, "--json", f"{folder}/x", "--", "sh", "-c", line)
-    expect_ran(ran, 0, f"{suite.program}: ended by SIGSEGV, at address 0x10\n    #0 0x", "in crashes", "no reports;")
+    expect_ran(ran, 0, f"{suite.program}: {CRASHED}\n    #0 0x", "in crashes", "no reports;",
+               "1 process, 2 events; all seen whole, 1 crashed\n")
     crashed = [it for it in read_lines(f"{folder}/x") if it["type"] == "process"]
     process = crashed[0]
-    expect((process["signal"], process["address"], process["stack"][0]["function"]), (11, "10", "crashes"), "JSON lines")
+    expect((process["signal"], process["address"], process["stack"][0]["function"]), (11, "10", "crashes"),
+           "JSON lines")
     merged = suite.run_words([REPORT, f"{folder}/x"])
-    expect((merged.status, "ended by SIGSEGV, at address 0x10" in merged.out), (0, True), merged.out)
-    expect_ran(run_real(suite, "-q", "--", "sh", "-c", line), 0, absent=["asancol"])
+    expect((merged.status, CRASHED in merged.out), (0, True), merged.out)
+    expect_ran(run_real(suite, "-q", "--", "sh", "-c", line), 0, f"{suite.program}: {CRASHED}")
+    check_crash_in_outputs(suite, folder, line)
+    # The same line also if nobody can print where it was; and one for all that have the same.
+    line = f"for i in 1 2 3 4; do {suite.program} crashes; done; true"
+    for quiet in ([], ["-q"]):
+        ran = run_real(suite, *quiet, "--", "sh", "-c", line)
+        expect_ran(ran, 0, "asancol: 4 processes (", f", ..) {suite.program}: {CRASHED}")
+        expect(ran.err.count("SIGSEGV, by a store at"), 1, "lines of crashes")
+        ran = suite.run(*quiet, "--", "sh", "-c", line, ASANCOL_REPORT="/bin/false")
+        expect_ran(ran, 98, "asancol: 4 processes (", f", ..) {suite.program}: ended by SIGSEGV")
+
+
+def check_crash_in_outputs(suite: Suite, folder: str, line: str) -> None:
+    """It has a place in each, and no line if it is suppressed. The status is the command's."""
+    outputs = [word for name in ("junit", "sarif", "codequality", "html") for word in (f"--{name}", f"{folder}/{name}")]
+    expect_ran(run_real(suite, *outputs, "--gen-suppressions", "--", "sh", "-c", line), 0,
+               "  suppression: at:SEGV:crashes@")
+    for name, text in (("junit", 'type="SEGV"'), ("sarif", '"ruleId": "SEGV"'), ("codequality", '"check_name": "SEGV"'),
+                       ("html", "SEGV")):
+        expect(text in read(f"{folder}/{name}"), True, name)
+    with open(f"{folder}/rules", "w", encoding="utf-8") as file:
+        file.write("at:SEGV:crashes\n")
+    ran = run_real(suite, "--suppressions", f"{folder}/rules", *outputs, "--", "sh", "-c", line)
+    expect_ran(ran, 0, "all seen whole, 1 crash suppressed", absent=["ended by SIGSEGV"])
+    expect("<failure" in read(f"{folder}/junit"), False, "JUnit of a crash that is suppressed")
+    ran = run_real(suite, "-q", "--suppressions", f"{folder}/rules", "--", "sh", "-c", line)
+    expect_ran(ran, 0, absent=["asancol:"])
 
 
 def check_kept(suite: Suite, folder: str) -> None:
@@ -186,12 +427,22 @@ def check_kept(suite: Suite, folder: str) -> None:
 
 def check_killed_in_a_file(suite: Suite, folder: str) -> None:
     """A trace in a file whose process was killed reads as such, and not as a damaged one."""
-    why = "NOT SEEN WHOLE: ended abruptly, as by SIGKILL or an _exit in a library, or still running\n"
+    why = "NOT SEEN WHOLE: ended abruptly, as by SIGKILL, or an _exit or exec in a library, or still running\n"
     for where in ("0", "1"):
         trace = f"{folder}/{where}.trace"
         suite.run_words([suite.program, "kills_itself", "9"], ASANCOL_TRACE=trace, ASANCOL_WHERE=where)
         ran = suite.run_words([REPORT, "--trace", trace])
         expect((ran.status, why in ran.out), (3, True), ran.out)
+
+
+def check_without_quarantine(suite: Suite, folder: str) -> None:
+    """A trace is checked with as much held as its process has held, also if that is nothing."""
+    trace = f"{folder}/t.trace"
+    suite.run_words([suite.program, "many", "9"], ASANCOL_TRACE=trace, ASANCOL_WHERE="1", ASANCOL_QUARANTINE="0")
+    ran = suite.run_words([REPORT, "--trace", trace])
+    expect((ran.status, "held back 0 bytes of freed memory (ASANCOL_QUARANTINE)" in ran.out), (0, True), ran.out)
+    ran = suite.run_words([REPORT, "--quarantine", str(1 << 28), "--trace", trace])
+    expect((ran.status, "bad-malloc" in ran.out), (1, True), ran.out)
 
 
 def check_file_instead(suite: Suite, folder: str) -> None:
@@ -214,7 +465,7 @@ def check_without_python(suite: Suite, folder: str) -> None:
     broken = f"{folder}/asancol-report"
     shutil.copy(REPORT, broken)
     ran = suite.run("--", suite.program, "past", "30", ASANCOL_REPORT=broken)
-    expect_ran(ran, 99, "p0 #2 store 1 at ", "and 10 more lines")
+    expect_ran(ran, 99, "p0 #3 store 1 at ", "and 10 more lines")
 
 
 def check_many(suite: Suite, folder: str) -> None:
@@ -222,22 +473,21 @@ def check_many(suite: Suite, folder: str) -> None:
     line = f"i=0; while [ $i -lt 100 ]; do {suite.program} past & i=$((i+1)); done; wait"
     words = ["sh", "-c", f"ulimit -n 64; exec {RUN} -- sh -c '{line}'"]
     ran = suite.run_words(words, ASANCOL_REPORT=REPORT)
-    expect_ran(ran, 99, "asancol: 100 reports at 1 place; 100 processes, 200 events; all seen whole")
+    expect_ran(ran, 99, "asancol: 100 reports at 1 place; 100 processes, 300 events; all seen whole")
 
 
 def check_first_steps(suite: Suite, folder: str) -> None:
     """From an installation: what the first page says."""
     where = f"{folder}/installed"
-    for part in ("recorder", "run"):
+    for part in ("recorder", "run", "report"):
         words = ["make", "-s", "-C", f"{TOP}/{part}", "install", f"PREFIX={where}", "DESTDIR="]
         subprocess.run(words, check=True, stdout=subprocess.DEVNULL)
     shutil.copy(suite.asancol, f"{where}/bin/asancol")
     build = [f"{where}/bin/asancol-cc", "-g", f"{TOP}/examples/bug.c", "-o", f"{folder}/bug"]
     subprocess.run(build, check=True)
-    environment = {name: it for name, it in os.environ.items() if not name.startswith("ASANCOL")}
     ran = subprocess.run(
         [f"{where}/bin/asancol-run", "--", "./bug", "Alice"],
-        cwd=folder, env=environment, capture_output=True, text=True, check=False,
+        cwd=folder, env=environment(), capture_output=True, text=True, check=False,
     )
     expect_ran(Ran(ran.returncode, ran.stdout, ran.stderr), 99, "bug.c:6", "bug.c:5")
     expect(ran.stdout, "Alice\n", "what it prints")
@@ -245,11 +495,12 @@ def check_first_steps(suite: Suite, folder: str) -> None:
         text = page.read()
         expect(source.read() in text, True, "that the page has the program")
     lines = [it for it in ran.stderr.splitlines() if not it.startswith(("==", "    #"))]
+    lines = [it.replace(TOP, "/home/me/asancol") for it in lines]
     expect([it for it in lines if it not in text], [], "what the page does not have")
     modules = f"{where}/lib/asancol/asancol_report"
     expect(os.path.isdir(f"{modules}/__pycache__"), True, "that the modules are compiled")
     shutil.rmtree(f"{modules}/__pycache__")
-    expect(subprocess.run([f"{where}/bin/asancol-report", "--version"], env=environment, check=True,
+    expect(subprocess.run([f"{where}/bin/asancol-report", "--version"], env=environment(), check=True,
                           stdout=subprocess.PIPE).stdout.split()[0], b"asancol-report", "its name")
     expect(os.path.exists(f"{modules}/__pycache__"), False, "that something was written where it is installed")
 
@@ -259,12 +510,20 @@ def tests(suite: Suite) -> None:
     for name, run_it in (
         ("report", check_report), ("colors", check_colors), ("summaries", check_summaries_are_the_same),
         ("suppressions", check_suppressed), ("variables", check_variables),
-        ("baseline", check_baseline), ("outputs", check_outputs), ("nested", check_nested), ("kept", check_kept),
+        ("lowered bounds", check_lowered), ("names of classes", check_names), ("short stacks", check_short_stacks),
+        ("baseline", check_baseline), ("outputs", check_outputs),
+        ("outputs to descriptors", check_outputs_to_descriptors), ("nested", check_nested), ("kept", check_kept),
         ("folder removed", check_folder_removed), ("crash", check_crash),
         ("bad rules", check_bad_rules), ("killed in a file", check_killed_in_a_file),
+        ("trace without a quarantine", check_without_quarantine),
         ("live", check_live), ("without Python", check_without_python), ("many", check_many),
         ("first steps", check_first_steps),
     ):
         suite.test(f"whole: {name}", run_it)
+    for compiler in ("gcc", "clang"):
+        if shutil.which(compiler):
+            suite.test(f"whole: removed, {compiler}", check_removed, compiler)
+            suite.test(f"whole: without lines, {compiler}", check_bare, compiler)
+    suite.test("whole: many removed", check_many_removed)
     if suite.run_words(["unshare", "-rn", "true"]).status == 0:
         suite.test("whole: file instead of the socket", check_file_instead)

@@ -3,10 +3,10 @@
 
 usage: tests/bench/bench.py [--rounds N] [--millions N] [--page FILE] PROGRAM [WORD..]
 
-Traces are made by traces.c, which a C compiler has to build. Each is checked on one thread, from standard input, with and
-without huge pages, at one and at N million events (16), interleaved; the least processor time of the rounds (3) counts,
-user and system. Then eight traces by `check`, and one free that lets a million blocks go. With words, only workloads
-whose names have one of them. With --page the tables of that file are replaced.
+Traces are made by traces.c, which a C compiler has to build. Each is checked on one thread, from standard input, with
+and without huge pages, at one and at N million events (16), interleaved; the least processor time of the rounds (3)
+counts, user and system. Then eight traces by `check`, and one free that lets a million blocks go. With words, only
+workloads whose names have one of them. With --page the tables of that file are replaced.
 """
 
 import argparse
@@ -129,7 +129,8 @@ def table_of_others(bench: Bench) -> List[str]:
     return [
         "| what | processor seconds | seconds |",
         "|---|---|---|",
-        f"| {FILES} traces of 4 million events one after another, on one thread | {alone.processor:.2f} | {alone.wall:.2f} |",
+        f"| {FILES} traces of 4 million events one after another, on one thread | {alone.processor:.2f} | "
+        f"{alone.wall:.2f} |",
         f"| the same by one `check` with {FILES_WORKERS} workers | {together.processor:.2f} | {together.wall:.2f} |",
         f"| one free that lets a million blocks go | {bench.release():.2f} | |",
     ]

@@ -2,10 +2,10 @@
 
        traces WORKLOAD EVENTS FILE
 
-   `local`: a stack and eight hot blocks, with 2 % mallocs and frees. `buggy`: the same, and 1 % of the accesses are bad.
-   `random`: accesses all over a million blocks. `churn`: 80 % mallocs and frees, 16,384 live blocks. `poison`: one poison
-   or unpoison of up to 2^28 bytes in 1,000 events. `release`: mallocs and frees, and then one free of a block that pushes
-   all others out of the quarantine. Every stream is of version 1 and closed. */
+   `local`: a stack and eight hot blocks, with 2 % mallocs and frees. `buggy`: the same, and 1 % of the accesses are
+   bad. `random`: accesses all over a million blocks. `churn`: 80 % mallocs and frees, 16,384 live blocks. `poison`: one
+   poison or unpoison of up to 2^28 bytes in 1,000 events. `release`: mallocs and frees, and then one free of a block
+   that pushes all others out of the quarantine. Every stream is of version 1 and closed. */
 #include <stdbool.h>
 #include <stdint.h>
 #include <stdio.h>

@@ -4,7 +4,7 @@
 #include <string.h>
 
 #include "stacks/frames.h"
-#include "memory.h"
+#include "base/memory.h"
 
 #define PLACE UINT64_C(0x10000)
 
@@ -21,8 +21,19 @@ bool memory_read(uint64_t address, void *to, size_t size)
     return true;
 }
 
+enum { MOST = 100 };
+
+static void visit(const char *text, size_t length, void *with)
+{
+    size_t *all = with;
+    *all += length;
+    if (length == 0 || memchr(text, 0, length) != NULL || *all > MOST)
+        abort();
+}
+
 int LLVMFuzzerTestOneInput(const uint8_t *data, size_t size)
 {
+    size_t all = 0;
     struct frame frame = {.start = UINT64_C(0x7fff00000000), .description = PLACE};
     struct frame_variable found;
     bytes = data;
@@ -30,5 +41,6 @@ int LLVMFuzzerTestOneInput(const uint8_t *data, size_t size)
     for (uint64_t address = frame.start; address < frame.start + 256; address += 61)
         if (frame_nearest(&frame, address, &found) && found.name - PLACE > size + 64)
             abort();
+    frame_each_part(&frame, MOST, visit, &all);
     return 0;
 }

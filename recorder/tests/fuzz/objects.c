@@ -1,5 +1,6 @@
 /* What is linked, and what was linked: objects, archives and programs, in which asancol-cc looks for its mark and for
    names of variables. */
+#define _GNU_SOURCE
 #include <stdbool.h>
 #include <stdint.h>
 #include <stdlib.h>
@@ -7,14 +8,20 @@
 
 #include "wrapper/linked.h"
 #include "wrapper/own_data.h"
-#include "wrapper/view.h"
+
+/* All of view.c but how a file comes into memory. */
+#define view_map view_map_file
+#define view_unmap view_unmap_file
+#include "wrapper/view.c"
+#undef view_map
+#undef view_unmap
 
 static const uint8_t *bytes;
 static size_t count;
 
 int LLVMFuzzerTestOneInput(const uint8_t *data, size_t size);
 
-/* In the place of view.c: with nothing readable behind its end. */
+/* With nothing readable behind its end. */
 struct view view_map(const char *path)
 {
     struct view view = {malloc(count), count};
@@ -34,13 +41,15 @@ int LLVMFuzzerTestOneInput(const uint8_t *data, size_t size)
     static const char *const names[] = {"read", "write", "environ"};
     bool is_own[3] = {false};
     struct linked linked = {0};
+    char *unasked = NULL;
     bytes = data;
     count = size;
     linked_takes("a.o");
     linked_look_at(&linked, "a.o");
-    own_data_find("a.out", names, 3, is_own);
-    for (unsigned i = 0; i < linked.unmarked && i < NAMES_SHOWN; i++)
-        free((char *)(uintptr_t)linked.names[i]);
-    free((char *)(uintptr_t)linked.unmarked_lto);
+    own_data_find("a.out", names, 3, &(struct names){0}, is_own, &unasked);
+    free(unasked);
+    linked_is_marked_text("a.s");
+    linked_origin((struct view){(const char *)data, size});
+    free(linked.unmarked_lto);
     return 0;
 }

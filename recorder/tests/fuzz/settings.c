@@ -4,10 +4,13 @@
 
 /* The names of files by patterns are made there; what it would say is taken here. */
 #define recorder_say recorder_say_line
-#include "say.c"
+#include "base/say.c"
 #undef recorder_say
-#include "format.h"
-#include "settings.h"
+#include "common/format.h"
+#include "process/beginning.h"
+#include "process/settings.h"
+
+struct beginning beginning;
 
 int LLVMFuzzerTestOneInput(const uint8_t *data, size_t size);
 
@@ -19,6 +22,11 @@ void undisturbed_begin(struct disturbance *before)
 void undisturbed_end(const struct disturbance *before)
 {
     (void)before;
+}
+
+const char *error_text(int error)
+{
+    return strerror(error);
 }
 
 void signal_take_away(int number)
@@ -57,7 +65,7 @@ static void look_at(const struct settings *settings)
 int LLVMFuzzerTestOneInput(const uint8_t *data, size_t size)
 {
     enum { MAX_ENTRIES = 64 };
-    char **before = environ, *entries[MAX_ENTRIES + 1];
+    char *entries[MAX_ENTRIES + 1];
     char *text = malloc(size + 1);
     struct settings settings = {0};
     size_t count = 0;
@@ -68,10 +76,9 @@ int LLVMFuzzerTestOneInput(const uint8_t *data, size_t size)
     for (char *at = text; at < text + size && count < MAX_ENTRIES; at += strlen(at) + 1)
         entries[count++] = at;
     entries[count] = NULL;
-    environ = entries;
+    beginning.variables = entries;
     settings_read(&settings);
     look_at(&settings);
-    environ = before;
     free(text);
     return 0;
 }

@@ -1,6 +1,5 @@
-/* Four threads write into one stream: to a file and to a socket; and, if a word is given, to files of a segment each.
-   What is written has all records of each thread in their order, and a close. Records of accesses are left out: their
-   first two bytes are stored at once, which this machine does in order, and the language need not. */
+/* Four threads write into one stream: to a file, to a socket, and to files of a segment each. What is written has all
+   records of each thread in their order, and a close. The accesses among them go the way of compiled code. */
 #define _GNU_SOURCE
 #include <pthread.h>
 #include <stdio.h>
@@ -10,41 +9,66 @@
 #include <sys/un.h>
 #include <unistd.h>
 
-#include "heap/heap.h"
-#include "say.h"
-#include "signals.h"
+#include "base/disturbance.h"
+#include "base/say.h"
+#include "base/self.h"
+#include "calls/library.h"
+#include "process/earlier.h"
+#include "process/other_threads.h"
+#include "process/unseen.h"
+#include "stream/ending.h"
 #include "stream/faults.h"
+#include "stream/left_out.h"
+#include "stream/opening.h"
 #include "stream/record.h"
+#include "stream/regions.h"
+#include "stream/sending.h"
 #include "stream/side.h"
-#include "stream/stream.h"
-#include "unseen.h"
+#include "stream/stating.h"
 
 enum { THREADS = 4, RECORDS = 40000, LIMIT = 30000 };
 
 /* What the other parts of the recorder would do. */
 
 void faults_are_cut(void) {}
-uint32_t fault_of(unsigned window, unsigned code_and_width, uint64_t address, uintptr_t caller)
+void faults_begin(unsigned char *bytes, unsigned window) { (void)bytes, (void)window; }
+uint32_t fault_of(unsigned window, struct access *access, unsigned width, uint64_t address)
 {
-    (void)window, (void)code_and_width, (void)address, (void)caller;
+    (void)window, (void)access, (void)width, (void)address;
     return 0;
 }
-void fault_note(unsigned window, uint32_t fault, uint64_t event) { (void)window, (void)fault, (void)event; }
-bool heap_is_entered(void) { return false; }
-void heap_lock(void) {}
-void heap_unlock(void) {}
-void heap_restate(uint64_t most_held, uint64_t room) { (void)most_held, (void)room; }
-void heap_set_bound(uint64_t bytes) { (void)bytes; }
+void fault_note(unsigned window, uint32_t entry, uint64_t event) { (void)window, (void)entry, (void)event; }
+static int read_clock(int clock, struct timespec *now) { return clock_gettime(clock, now); }
+static const char is_alone = 0;
+struct library library = {.clock_gettime = read_clock, .__libc_single_threaded = &is_alone};
+bool has_other_threads(void) { return false; }
+static void do_nothing(void) {}
+static bool is_not(void) { return false; }
+static void restate(uint64_t most_held, uint64_t room) { (void)most_held, (void)room; }
+static void hold(uint64_t bytes) { (void)bytes; }
+const struct above above = {
+    .lock_heap = do_nothing,
+    .unlock_heap = do_nothing,
+    .is_in_heap = is_not,
+    .restate = restate,
+    .hold = hold,
+};
 void stated_bring_up(uint64_t address, unsigned width) { (void)address, (void)width; }
-void stated_forget(void) {}
+void stated_show_frame(uint64_t address) { (void)address; }
+void stated_hide_frame(uint64_t address) { (void)address; }
 bool recorder_has_checks(void) { return true; }
+bool recorder_has_begun(void) { return true; }
 bool recorder_is_own_process(void) { return true; }
-void recorder_say_child(void) {}
-void recorder_start(void) {}
-void side_begin(unsigned char *bytes, unsigned window, uint64_t segment, uint64_t quarantine)
+void fault_begin(unsigned window) { (void)window; }
+void fault_end(unsigned window) { (void)window; }
+bool is_of_earlier_run(const char *path) { return path == NULL; }
+unsigned side_open_files(int files[SIDE_FILES]) { return files == NULL; }
+void side_begin(unsigned char *bytes, uint64_t segment, const struct settings *settings)
 {
-    (void)bytes, (void)window, (void)segment, (void)quarantine;
+    (void)bytes, (void)segment, (void)settings;
 }
+_Atomic uint64_t *side_begin_calls(bool for_start) { return for_start ? NULL : NULL; }
+void side_end_calls(_Atomic uint64_t *calls) { (void)calls; }
 void side_forget(void) {}
 void side_note_restated(uint64_t events) { (void)events; }
 uint64_t side_length(void) { return 0; }
@@ -71,19 +95,26 @@ static void expect(bool holds, const char *what)
     exit(1);
 }
 
-/* Mallocs and frees whose addresses say the thread, and which of its records it is. */
+static void write_access(uint64_t address)
+{
+    uint64_t cursor = stream_take(&STREAM->cursor, CURSOR_EVENT + ACCESS_LENGTH);
+    if (stream_is_unusual(cursor, ACCESS_LENGTH))
+        record_access_slowly(cursor, CODE_STORE | 8 << 8, address);
+    else
+        put_access(STREAM->bytes + (uint32_t)cursor, CODE_STORE | 8 << 8, address);
+}
+
+/* Mallocs, frees and accesses whose addresses say the thread, and which of its records it is. */
 static void *write_records(void *number)
 {
     uint64_t first = (uint64_t)(uintptr_t)number << 32;
     for (uint64_t i = 0; i < RECORDS; i++) {
-        bool is_malloc = i % 3 == 0;
-        unsigned char *at = stream_reserve(is_malloc ? REGION_LENGTH : FREE_LENGTH, false);
-        if (at == NULL)
-            continue;
-        put_number(at + 1, first + i);
-        if (is_malloc)
-            put_number(at + 9, 8);
-        put_code(at, is_malloc ? CODE_MALLOC : CODE_FREE);
+        if (i % 3 == 0)
+            record_region(CODE_MALLOC, first + i, 8);
+        else if (i % 3 == 1)
+            record_free(first + i);
+        else
+            write_access(first + i);
         if (i % 16 == 0)
             stream_look_at_clock(i % 64 == 0);
     }
@@ -115,7 +146,7 @@ static uint64_t look_at(const unsigned char *bytes, size_t size)
     for (; at < size && bytes[at] != CODE_CLOSE; at += record_length(bytes[at]), count++) {
         uint64_t address;
         expect(record_length(bytes[at]) != 0 && at + record_length(bytes[at]) <= size, "a record");
-        memcpy(&address, bytes + at + 1, sizeof address);
+        memcpy(&address, bytes + at + (bytes[at] == CODE_STORE ? 2 : 1), sizeof address);
         expect(address >> 32 < THREADS && (address & UINT32_MAX) == next[address >> 32], "the order of a thread");
         next[address >> 32]++;
     }
@@ -200,15 +231,12 @@ static void check_socket(void)
     close(reader.listener);
 }
 
-int main(int count, char **words)
+int main(void)
 {
-    (void)words;
     check_file();
     stream_forget();
     check_socket();
-    if (count > 1) {
-        stream_forget();
-        check_segments();
-    }
+    stream_forget();
+    check_segments();
     return 0;
 }

@@ -1,10 +1,11 @@
 /* The words of a compiler's command line, apart by zeros, as asancol-cc looks at them. The last one is also what is in
    the file `response`, which the others may name. */
-#define main wrapper_main
-#include "wrapper/asancol-cc.c"
-#undef main
-
 #include <stdint.h>
+#include <stdio.h>
+#include <stdlib.h>
+#include <string.h>
+
+#include "wrapper/arguments.h"
 
 int LLVMFuzzerTestOneInput(const uint8_t *data, size_t size);
 
@@ -15,19 +16,31 @@ static void write_response(const char *text)
         abort();
 }
 
-static void give_back(struct wish *wish)
+static void give_back_names(struct names *names)
 {
-    for (size_t i = 0; i < wish->folder_count; i++)
-        free(wish->folders[i]);
-    for (unsigned i = 0; i < wish->linked.unmarked && i < NAMES_SHOWN; i++)
-        free((char *)(uintptr_t)wish->linked.names[i]);
-    free(wish->folders);
+    for (size_t i = 0; i < names->count; i++)
+        free(names->names[i]);
+    free(names->names);
+}
+
+static void give_back(struct arguments *arguments)
+{
+    struct inputs *inputs = &arguments->request->inputs;
+    for (size_t i = 0; i < arguments->folder_count; i++)
+        free(arguments->folders[i]);
+    free(arguments->folders);
+    free(inputs->linked.unmarked_lto);
+    give_back_names(&inputs->sources);
+    give_back_names(&inputs->assembly);
+    give_back_names(&arguments->request->link.wraps);
 }
 
 int LLVMFuzzerTestOneInput(const uint8_t *data, size_t size)
 {
     char *text = malloc(size + 1), *last = text;
-    struct wish wish = {.response_files = MAX_RESPONSE_FILES - 10}; /* it may name itself, and that takes time */
+    struct request request = {0};
+    /* It may name itself, and that takes time. */
+    struct arguments arguments = {.request = &request, .response_files = MAX_RESPONSE_FILES - 10};
     if (text == NULL)
         return 0;
     memcpy(text, data, size);
@@ -36,8 +49,8 @@ int LLVMFuzzerTestOneInput(const uint8_t *data, size_t size)
         last = at;
     write_response(last);
     for (char *at = text; at < text + size; at += strlen(at) + 1)
-        look_at(&wish, at);
-    give_back(&wish);
+        arguments_take(&arguments, at);
+    give_back(&arguments);
     free(text);
     return 0;
 }

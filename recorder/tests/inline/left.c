@@ -1,8 +1,10 @@
 /* Frames that are left without their returns, in ways that no call of the compilers' announces: `left NAME`. Sound, but
-   for `in_block`, which has a fault in a frame in a block, which is not looked for, and two behind the block. */
+   for `in_block`, which has a fault in a frame in a block, and two behind the block; and for those after a vfork, which
+   have one in a frame that goes on. */
 #define _GNU_SOURCE
 #include <pthread.h>
 #include <setjmp.h>
+#include <signal.h>
 #include <stdlib.h>
 #include <string.h>
 #include <sys/mman.h>
@@ -40,6 +42,113 @@ static void by_vfork(void)
         exec_from_frames();
     use_stack();
     waitpid(child, &status, 0);
+}
+
+/* A fault in a frame that has called vfork, after the child is gone. */
+__attribute__((noinline)) static void fault_after(void leave(void))
+{
+    char text[30];
+    volatile char *letters = text;
+    int status;
+    letters[0] = 1;
+    pid_t child = vfork();
+    if (child == 0)
+        leave();
+    waitpid(child, &status, 0);
+    use_stack();
+    sink = letters[30 * (four - 3)];
+}
+
+__attribute__((noinline)) static void exit_from_frames(void)
+{
+    volatile char text[200];
+    text[0] = 1;
+    sink = text[0];
+    _exit(0);
+}
+
+/* Its frames lie below those that execs which fail have left. */
+__attribute__((noinline)) static void exec_in_vain(void)
+{
+    volatile char text[200];
+    char *words[] = {"none", NULL};
+    text[0] = 1;
+    sink = text[0];
+    execv("/none", words);
+    execl("/none", "none", (char *)NULL);
+    exit_from_frames();
+}
+
+static void vfork_again(void)
+{
+    int status;
+    pid_t child = vfork();
+    if (child == 0)
+        kill(getpid(), SIGKILL);
+    waitpid(child, &status, 0);
+    exec_from_frames();
+}
+
+static void after_exec(void)
+{
+    fault_after(exec_from_frames);
+}
+
+static void after_exit(void)
+{
+    fault_after(exit_from_frames);
+}
+
+static void after_exec_in_vain(void)
+{
+    fault_after(exec_in_vain);
+}
+
+static void after_nested(void)
+{
+    fault_after(vfork_again);
+}
+
+static void *in_thread(void *unused)
+{
+    fault_after(exec_from_frames);
+    return unused;
+}
+
+static void after_exec_in_thread(void)
+{
+    pthread_t thread;
+    if (pthread_create(&thread, NULL, in_thread, NULL) == 0)
+        pthread_join(thread, NULL);
+}
+
+static void handle(int number)
+{
+    (void)number;
+    fault_after(exec_from_frames);
+}
+
+/* On the thread's own stack, and on that of handlers. */
+static void after_exec_in_handler(void)
+{
+    static char stack[1 << 16];
+    stack_t other = {.ss_sp = stack, .ss_size = sizeof stack};
+    struct sigaction action = {.sa_handler = handle};
+    sigaction(SIGUSR1, &action, NULL);
+    raise(SIGUSR1);
+    sigaltstack(&other, NULL);
+    action.sa_flags = SA_ONSTACK;
+    sigaction(SIGUSR1, &action, NULL);
+    raise(SIGUSR1);
+}
+
+/* left_object.c: checked code in a shared object. */
+void fault_in_object(void leave(void));
+
+static void after_exec_in_object(void)
+{
+    fault_in_object(exec_from_frames);
+    use_stack();
 }
 
 /* library.c: plain code that calls back and jumps. */
@@ -167,6 +276,9 @@ int main(int count, char **words)
     } runs[] = {
         {"by_vfork", by_vfork},         {"by_library", by_library}, {"by_mapping", by_mapping},
         {"by_deep_jump", by_deep_jump}, {"in_block", in_block},     {"forked", forked},
+        {"after_exec", after_exec},     {"after_exit", after_exit}, {"after_exec_in_vain", after_exec_in_vain},
+        {"after_nested", after_nested}, {"after_exec_in_thread", after_exec_in_thread},
+        {"after_exec_in_handler", after_exec_in_handler},           {"after_exec_in_object", after_exec_in_object},
     };
     for (size_t i = 0; i < sizeof runs / sizeof *runs; i++)
         if (count > 1 && strcmp(words[1], runs[i].name) == 0)

@@ -1,6 +1,6 @@
-// Threads under load, in a tenth of a second: they pass blocks to each other, start other threads, throw and jump, while
-// a timer's handler allocates in whichever thread it finds. One of them still runs when the process ends. There are 30
-// faults: 12 past a block, 6 of a block that was freed, 6 past an array on the stack, and 6 double frees.
+// Threads under load, in a tenth of a second: they pass blocks to each other, start other threads, throw and jump,
+// while a timer's handler allocates in whichever thread it finds. One of them still runs when the process ends. There
+// are 30 faults: 12 past a block, 6 of a block that was freed, 6 past an array on the stack, and 6 double frees.
 #include <atomic>
 #include <csetjmp>
 #include <csignal>

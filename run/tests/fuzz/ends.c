@@ -1,8 +1,10 @@
 #include "ends.h"
 
 #include <stdlib.h>
+#include <unistd.h>
 
-#include "../../say.h"
+#include "children.h"
+#include "say.h"
 
 jmp_buf fuzz_end;
 
@@ -18,9 +20,12 @@ _Noreturn void fail(int status, const char *of, const char *what)
     fuzz_exit(status);
 }
 
-void *must(void *memory)
+void child_keep_for_report(int descriptor)
 {
-    if (memory == NULL)
-        abort();
-    return memory;
+    close(descriptor);
+}
+
+_Noreturn void no_memory(void)
+{
+    abort();
 }

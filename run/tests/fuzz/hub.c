@@ -11,9 +11,9 @@
 #include <sys/socket.h>
 #include <unistd.h>
 
-#include "../../json.h"
-#include "../../processes.h"
-#include "../../verdict.h"
+#include "json.h"
+#include "processes.h"
+#include "verdict.h"
 
 enum { HEAD = 160, MAX_SENT = 8, WORDS = 3 };
 
@@ -120,9 +120,11 @@ int LLVMFuzzerTestOneInput(const uint8_t *data, size_t size)
     int side = make_side(data + 2, head);
     expect(socketpair(AF_UNIX, SOCK_STREAM | SOCK_CLOEXEC, 0, ends) == 0);
     send_first(ends[0], data[0], side);
-    process.side_memory = side_receive(ends[1]);
+    modules_allow(3);
+    process.side_memory = side_receive(ends[1], &process.modules);
     take(&process, data + 2 + head, size - 2 - head);
     give_back(&process);
+    modules_let_go(&process.modules);
     close(side);
     close(ends[0]);
     close(ends[1]);

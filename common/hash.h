@@ -1,0 +1,16 @@
+/* The hash of Fowler, Noll and Vo, FNV-1a, of 32 bits. */
+#ifndef ASANCOL_HASH_H
+#define ASANCOL_HASH_H
+
+#include <stddef.h>
+#include <stdint.h>
+
+static inline uint32_t hash_of(const char *bytes, size_t length)
+{
+    uint32_t hash = 2166136261U;
+    for (size_t i = 0; i < length; i++)
+        hash = (hash ^ (unsigned char)bytes[i]) * 16777619U;
+    return hash;
+}
+
+#endif

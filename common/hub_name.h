@@ -1,0 +1,47 @@
+/* What a hub is called: the name of its socket, and the ends of the marks that processes leave beside that. The
+   recorder asks at any time: nothing of the C library is called. */
+#ifndef ASANCOL_HUB_NAME_H
+#define ASANCOL_HUB_NAME_H
+
+#include <stdbool.h>
+#include <stddef.h>
+#include <sys/socket.h>
+#include <sys/un.h>
+
+/* A mark is PROCESS.END. */
+#define MARK_UNSEEN "unseen"
+#define MARK_EXPECTED "expected"
+
+/* How many of its first bytes everybody may know: a secret follows a last dash in the folder of a run. The name of a
+   socket without a folder begins with its only slash. */
+static inline size_t hub_public_bytes(const char *hub)
+{
+    size_t length = 0, slash = 0, dash = 0;
+    for (; hub[length] != 0; length++) {
+        if (hub[length] == '/')
+            slash = length;
+        if (hub[length] == '-')
+            dash = length;
+    }
+    return slash > 0 && dash > slash ? dash : length;
+}
+
+/* The address of the hub's socket, and how long it is; 0: the name has no room. An abstract name needs no folder: it is
+   seen from a changed root, and by another user. It has nothing of the secret. */
+static inline socklen_t hub_socket(struct sockaddr_un *address, const char *hub, bool is_abstract)
+{
+    size_t length = 0;
+    if (is_abstract)
+        length = hub_public_bytes(hub);
+    else
+        while (hub[length] != 0)
+            length++;
+    *address = (struct sockaddr_un){.sun_family = AF_UNIX};
+    if (length >= sizeof address->sun_path)
+        return 0;
+    for (size_t i = 0; i < length; i++)
+        address->sun_path[i + is_abstract] = hub[i];
+    return (socklen_t)(offsetof(struct sockaddr_un, sun_path) + 1 + length); /* the zero is at one of the ends */
+}
+
+#endif

@@ -1,0 +1,16 @@
+/* Where programs are. */
+#ifndef ASANCOL_PATH_H
+#define ASANCOL_PATH_H
+
+#include <stdbool.h>
+#include <stddef.h>
+
+/* Whether it is a file that may be executed. */
+bool path_is_program(const char *path);
+/* The path of a file in a folder, of which so many bytes count; none is the current folder. The caller frees it. */
+char *path_in(const char *folder, size_t length, const char *name);
+/* A program as a shell finds it: by its path, or else the first of its name in the folders of PATH that is not `but`,
+   which has no link in it, or null. The caller frees it. Null: it is not there, or cannot be executed. */
+char *path_of_program(const char *name, const char *but);
+
+#endif

@@ -1,0 +1,27 @@
+/* How texts begin and end. */
+#ifndef ASANCOL_TEXT_H
+#define ASANCOL_TEXT_H
+
+#include <stdbool.h>
+#include <string.h>
+
+static inline bool begins_with(const char *text, const char *front)
+{
+    return strncmp(text, front, strlen(front)) == 0;
+}
+
+/* Whether the text is longer than this end, and has it. */
+static inline bool ends_with(const char *text, const char *end)
+{
+    size_t length = strlen(text), of_end = strlen(end);
+    return length > of_end && strcmp(text + length - of_end, end) == 0;
+}
+
+/* What is after the last slash. */
+static inline const char *base_name(const char *path)
+{
+    const char *slash = strrchr(path, '/');
+    return slash != NULL ? slash + 1 : path;
+}
+
+#endif

@@ -1,0 +1,109 @@
+#!/usr/bin/env python3
+"""Writes what is made of the tables of options beside it: completions, lists of manual pages, and code.
+
+usage: options/make.py [--check [ASANCOL]]
+
+With --check nothing is written: a line is printed for each file that is not what would be written, and for each option
+of ASANCOL whose help is not that of the table. The status is 1 if there is one. table.py says what a table has.
+
+What is made is committed: who builds the programs needs no Python for it, and who changes a table sees what becomes of
+it. The options of asancol are read by a proved crate, which has its help too: both are compared, and not made.
+"""
+
+from __future__ import annotations
+
+import os
+import re
+import subprocess
+import sys
+from typing import Dict, Iterator, List
+
+import completions
+import pages
+import sources
+import table
+
+OPTIONS = os.path.dirname(os.path.abspath(__file__))
+TOP = os.path.dirname(OPTIONS)
+TABLES = ("asancol", "asancol-run", "asancol-cc", "asancol-listen")
+
+
+def text_of(path: str) -> str:
+    try:
+        with open(f"{TOP}/{path}", encoding="utf-8") as file:
+            return file.read()
+    except FileNotFoundError:
+        return ""
+
+
+def files_of(name: str, programs: List[table.Program]) -> Dict[str, str]:
+    """Returns what is made of a table, by path. The page of a second program of a folder leads to that of the first."""
+    made = f"Made by `make options` from options/{name}.options."
+    files: Dict[str, str] = {}
+    firsts: Dict[str, str] = {}
+    for program in (it for it in programs if " " not in it.name):
+        commands = [it for it in programs if it.name.startswith(f"{program.name} ")]
+        folder = program.keys["Folder"]
+        for shell in completions.SHELLS:
+            path = os.path.normpath(f"{folder}/completions/{program.name}.{shell}")
+            files[path] = completions.completion_of(shell, program, commands, made)
+        path = os.path.normpath(f"{folder}/man/{program.name}.1")
+        if firsts.setdefault(folder, program.name) == program.name:
+            files[path] = pages.page_of(text_of(path), [program, *commands])
+        else:
+            files[path] = f".so man1/{firsts[folder]}.1\n"
+        if program.name == "asancol-run":
+            files["run/option_table.h"] = sources.header_of(program, made)
+        if program.name == "asancol-report":
+            files["report/asancol_report/option_table.py"] = sources.module_of(program, made)
+        if program.name == "asancol-listen":
+            path = "listen/asancol-listen"
+            files[path] = sources.part_of(text_of(path), program, made)
+    return files
+
+
+def differences(asancol: str, programs: List[table.Program]) -> Iterator[str]:
+    """Goes over the options of asancol whose help, which is not made, has not the line of the table at its start."""
+    for program in (it for it in programs if it.table == "asancol" and it.groups):
+        words = [asancol, *program.name.split()[1:], "--help"]
+        text = subprocess.run(words, stdout=subprocess.PIPE, text=True, check=True).stdout
+        said: Dict[str, str] = dict(re.findall(r"^ +(?:-\w, )?(--[\w-]+)(?: <\w+>)? {2,}(.*)$", text, re.M))
+        wanted = {it.name: it for it in program.shown}
+        for name in sorted({*said, *wanted}):
+            it = wanted.get(name)
+            front = ", ".join(filter(None, (it.of("Help"), it.range))) if it else ""
+            end = f" [default: {it.of('Default')}]" if it and it.of("Default") else ""
+            if not it or not said.get(name, "").startswith(front) or not said[name].endswith(end):
+                yield f"options/asancol.options:1: {program.name} {name}: {front}{end}; its help: {said.get(name)}"
+
+
+def main(words: List[str]) -> int:
+    if len(words) > 2 or words[:1] not in ([], ["--check"]):
+        print((__doc__ or "").split("\n\n")[1], file=sys.stderr)
+        return 2
+    programs: List[table.Program] = []
+    for name in TABLES:
+        try:
+            programs += table.read(f"{OPTIONS}/{name}.options", name, programs)
+        except table.Wrong as error:
+            raise table.Wrong(f"{name}.options: {error}") from None
+    files: Dict[str, str] = {}
+    for name in TABLES:
+        files.update(files_of(name, [it for it in programs if it.table == name]))
+    others = [path for path, text in files.items() if text != text_of(path)]
+    if not words:
+        for path in others:
+            with open(f"{TOP}/{path}", "w", encoding="utf-8") as file:
+                file.write(files[path])
+        return 0
+    found = [f"{path}:1: it is not what options/ has: `make options` writes it anew" for path in others]
+    found += [line for asancol in words[1:] for line in differences(asancol, programs)]
+    print("\n".join(found), end="\n" if found else "")
+    return 1 if found else 0
+
+
+if __name__ == "__main__":
+    try:
+        sys.exit(main(sys.argv[1:]))
+    except table.Wrong as error:
+        sys.exit(f"options/make.py: {error}")

@@ -1,0 +1,23 @@
+/* Signals and cancellation, kept away from the recorder's own work. */
+#ifndef ASANCOL_DISTURBANCE_H
+#define ASANCOL_DISTURBANCE_H
+
+#include <stdint.h>
+
+/* Two that the C library keeps for itself: by one it cancels a thread, which has to wait too, and by the other it
+   changes the user of all threads, for which it waits. */
+enum { CANCEL_SIGNAL = 32, USER_SIGNAL = 33 };
+
+/* What a thread was like before. */
+struct disturbance {
+    uint64_t mask;
+};
+
+/* Between these two no handler runs in this thread, and nobody cancels it. SIGBUS comes through: it may say that the
+   trace was cut. */
+void undisturbed_begin(struct disturbance *before);
+void undisturbed_end(const struct disturbance *before);
+/* A call that failed has raised a signal, which is blocked: takes it away again. */
+void signal_take_away(int number);
+
+#endif

@@ -1,0 +1,10 @@
+/* The system's errors in words. */
+#ifndef ASANCOL_ERRORS_H
+#define ASANCOL_ERRORS_H
+
+#include "base/platform.h"
+
+/* The C library's text for an error, as errno has it. */
+const char *error_text(int error) OWN_NAME(error_text);
+
+#endif

@@ -1,0 +1,41 @@
+/* The recorder's locks. They call nothing of the C library, so a program may have any name for itself. */
+#ifndef ASANCOL_LOCK_H
+#define ASANCOL_LOCK_H
+
+#include <linux/futex.h>
+#include <stdatomic.h>
+#include <stdbool.h>
+#include <stdint.h>
+
+#include "base/system.h"
+
+/* Zeros: it is free. */
+struct lock {
+    _Atomic uint32_t state;
+};
+
+enum { LOCK_FREE, LOCK_HELD, LOCK_AWAITED };
+
+static inline bool lock_try(struct lock *lock)
+{
+    uint32_t free = LOCK_FREE;
+    return atomic_compare_exchange_strong_explicit(&lock->state, &free, LOCK_HELD, memory_order_acquire,
+                                                   memory_order_relaxed);
+}
+
+static inline void lock_take(struct lock *lock)
+{
+    if (lock_try(lock))
+        return;
+    while (atomic_exchange_explicit(&lock->state, LOCK_AWAITED, memory_order_acquire) != LOCK_FREE)
+        system_futex(&lock->state, FUTEX_WAIT_PRIVATE, LOCK_AWAITED);
+}
+
+/* Any thread may do this, also the one that a fork leaves. */
+static inline void lock_give(struct lock *lock)
+{
+    if (atomic_exchange_explicit(&lock->state, LOCK_FREE, memory_order_release) == LOCK_AWAITED)
+        system_futex(&lock->state, FUTEX_WAKE_PRIVATE, 1);
+}
+
+#endif

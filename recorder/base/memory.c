@@ -1,0 +1,59 @@
+#define _GNU_SOURCE
+#include "base/memory.h"
+
+#include <errno.h>
+#include <string.h>
+
+#include "base/platform.h"
+#include "base/system.h"
+
+/* The system copies it, and answers where a load of our own would fault. */
+bool memory_read(uint64_t from, void *to, size_t size)
+{
+    struct iovec here = {to, size}, there = {(void *)(uintptr_t)from, size};
+    return system_process_vm_readv(system_getpid(), &here, &there) == (ssize_t)size;
+}
+
+bool memory_read_text(uint64_t from, char *to, size_t room)
+{
+    enum { PIECE = 64 };
+    size_t length = 0;
+    while (length < room - 1) {
+        /* Not across the end of what may be its last page. */
+        size_t piece = PIECE - (from + length) % PIECE;
+        if (piece > room - 1 - length)
+            piece = room - 1 - length;
+        if (!memory_read(from + length, to + length, piece)) {
+            to[0] = 0;
+            return false;
+        }
+        const char *end = memchr(to + length, 0, piece);
+        if (end != NULL) {
+            memset(to + (end - to), 0, room - (size_t)(end - to));
+            return true;
+        }
+        length += piece;
+    }
+    to[length] = 0;
+    return true;
+}
+
+/* A call that changes nothing: it reads the set of signals first, and then finds that it does not know what to do. It
+   is quick, and no sandbox refuses it. */
+static bool is_page_there(uintptr_t page)
+{
+    enum { NOTHING_TO_DO = -1 };
+    return system_sigprocmask(NOTHING_TO_DO, (const uint64_t *)page, NULL) == -EINVAL;
+}
+
+bool memory_is_there(struct known_page *known, uintptr_t address, size_t size)
+{
+    for (uintptr_t page = address / PAGE * PAGE; page < address + size; page += PAGE) {
+        if (page == known->start)
+            continue;
+        if (page == 0 || page > UINTPTR_MAX - 2 * PAGE || !is_page_there(page))
+            return false;
+        known->start = page;
+    }
+    return true;
+}

@@ -1,0 +1,3 @@
+#include "base/own_zeros.h"
+
+char own_zeros_begin[1];

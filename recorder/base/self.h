@@ -1,0 +1,19 @@
+/* Who this process is, and what it has, as far as the recorder's parts ask. */
+#ifndef ASANCOL_SELF_H
+#define ASANCOL_SELF_H
+
+#include <stdbool.h>
+
+/* Not in a child of vfork, which runs in its parent's memory, nor in one that no fork has announced. */
+bool recorder_is_own_process(void);
+/* At the start, and in a child after a fork: it is this one. */
+void self_note_process(void);
+/* Whether the program or a shared object has the calls of a compiler before its accesses. If not, the trace gets no
+   close: what the process did was not seen. */
+bool recorder_has_checks(void);
+void self_note_checks(void);
+/* Whether the constructors of the program are over. */
+bool recorder_has_begun(void);
+void self_note_main(void);
+
+#endif

@@ -1,0 +1,2 @@
+#define ASANCOL_HEADER <bits/fstream.tcc>
+#include <asancol/compiled_here.h>

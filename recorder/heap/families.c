@@ -1,0 +1,123 @@
+#define _GNU_SOURCE
+#include "heap/families.h"
+
+#include <dlfcn.h>
+#include <link.h>
+#include <stdatomic.h>
+#include <string.h>
+
+#include "base/memory.h"
+#include "calls/library.h"
+#include "heap/blocks.h"
+#include "stream/findings.h"
+
+static _Atomic bool are_checked;
+
+void heap_check_families(bool is_on)
+{
+    atomic_store_explicit(&are_checked, is_on, memory_order_relaxed);
+}
+
+/* Whether a function that calls malloc or free may be an operator of C++: who has called that was not compiled here, so
+   nobody has said so. It is not known which module an address is in before version 2.35 of the C library. */
+static bool may_be_operator(uintptr_t caller)
+{
+#if __GLIBC_PREREQ(2, 35)
+    struct dl_find_object found = {0};
+    if (library._dl_find_object != NULL && library._dl_find_object((void *)(caller - 1), &found) == 0)
+        return found.dlfo_link_map == NULL || library_is_of_cxx(found.dlfo_link_map->l_name);
+#else
+    (void)caller;
+#endif
+    return true;
+}
+
+enum { ADDRESS_CALL = 0xe8, TABLE = 0xff, TABLE_CALL = 0x15, TABLE_JUMP = 0x25, BOUNDED = 0xf2 };
+/* Of an instruction that ends with a distance to what it uses, from its own end. */
+enum { OPERATION_BYTES = 2, DISTANCE_BYTES = 4, INSTRUCTION_BYTES = OPERATION_BYTES + DISTANCE_BYTES };
+
+static uintptr_t used_by(const unsigned char *instruction, uintptr_t end)
+{
+    int32_t distance;
+    memcpy(&distance, instruction + OPERATION_BYTES, sizeof distance);
+    return end + (uintptr_t)(intptr_t)distance;
+}
+
+static uintptr_t word_at(uintptr_t address)
+{
+    uintptr_t word;
+    return memory_read(address, &word, sizeof word) ? word : 0;
+}
+
+/* Where a stub of the linker's goes on by a module's table, or 0. */
+static uintptr_t behind_stub(uintptr_t stub)
+{
+    static const unsigned char may_be_called[] = {0xf3, 0x0f, 0x1e, 0xfa};
+    unsigned char code[16];
+    size_t at = 0;
+    if (!memory_read(stub, code, sizeof code))
+        return 0;
+    if (memcmp(code, may_be_called, sizeof may_be_called) == 0)
+        at += sizeof may_be_called;
+    at += code[at] == BOUNDED;
+    bool is_jump = code[at] == TABLE && code[at + 1] == TABLE_JUMP;
+    return is_jump ? word_at(used_by(code + at, stub + at + INSTRUCTION_BYTES)) : 0;
+}
+
+/* Whether the call that returns to this address is one of this function. */
+static bool is_call_of(uintptr_t function, uintptr_t back)
+{
+    unsigned char call[INSTRUCTION_BYTES];
+    if (!memory_read(back - sizeof call, call, sizeof call))
+        return false;
+    uintptr_t used = used_by(call, back);
+    if (call[0] == TABLE && call[1] == TABLE_CALL)
+        return word_at(used) == function;
+    return call[1] == ADDRESS_CALL && (used == function || behind_stub(used) == function);
+}
+
+/* A delete of a library goes on to free by a jump, so that its caller seems to call that. So a free counts as one only
+   if the call is one of free. */
+static bool is_release(const struct release *release)
+{
+    return release->family != FAMILY_MALLOC || is_call_of((uintptr_t)&heap_own_free, release->caller)
+           || is_call_of((uintptr_t)&heap_own_realloc, release->caller);
+}
+
+static bool is_known(enum family family, uintptr_t caller)
+{
+    return family != FAMILY_ANY && (family != FAMILY_MALLOC || (caller != 0 && !may_be_operator(caller)));
+}
+
+void families_look_at(const struct block *block, const struct release *release)
+{
+    static const char *const made[] = {"malloc", "operator new", "operator new []"};
+    static const char *const freed[] = {NULL, "operator delete", "operator delete []"};
+    if (!atomic_load_explicit(&are_checked, memory_order_relaxed) || arena.places == NULL)
+        return;
+    place_word allocated = arena.places[block - arena.blocks].allocated;
+    enum family family = (enum family)block->family;
+    size_t said = release->size_and_one - 1, size = size_of(block);
+    bool is_of_other = family != release->family;
+    bool is_of_size = release->size_and_one == 0 || said == size || (said == 0 && size == 1);
+    if ((!is_of_other && is_of_size) || !is_known(family, place_address(allocated))
+        || !is_known(release->family, release->caller) || !is_release(release))
+        return;
+    finding_note(&(struct finding){
+        .kind = is_of_other ? FINDING_FAMILY : FINDING_SIZE,
+        .place = place_from(release->frame, release->caller),
+        .call = release->family == FAMILY_MALLOC ? release->call : freed[release->family],
+        .name = made[family],
+        .block = release->address,
+        .block_size = size,
+        .allocated = allocated,
+        .start = release->address,
+        .size = is_of_other ? 0 : said,
+    });
+}
+
+void families_note_too_big(size_t size, uintptr_t caller)
+{
+    if (!may_be_operator(caller))
+        finding_note_call(&(struct wrong_call){.kind = FINDING_TOO_BIG, .caller = caller, .size = size});
+}

@@ -1,0 +1,502 @@
+/* What sanitizer/asan_interface.h, allocator_interface.h, common_interface_defs.h, coverage_interface.h and
+   lsan_interface.h declare. A program that is built for
+   AddressSanitizer may call these, and has to link and run. docs/RECORDER.md says which do something here.
+
+   Poison and unpoison are recorded, and questions about them are answered by the shadow. Reports are not there: they
+   come from the collector. All are weak: a program has its own callbacks and options, and another sanitizer of the
+   program may bring its own functions. */
+#include <string.h>
+
+#include "interface/hooks.h"
+#include "interface/interface.h"
+
+#ifdef IN_SHARED_OBJECT
+#define INTERFACE __attribute__((weak)) /* hidden: each shared object calls its own */
+#else
+#define INTERFACE VISIBLE __attribute__((weak))
+#endif
+
+/* Poison. */
+
+INTERFACE void __asan_poison_memory_region(const volatile void *start, size_t size)
+{
+    note_regions(CODE_POISON, (uintptr_t)start, size);
+}
+
+INTERFACE void __asan_unpoison_memory_region(const volatile void *start, size_t size)
+{
+    note_regions(CODE_UNPOISON, (uintptr_t)start, size);
+}
+
+static bool is_poisoned(uintptr_t address)
+{
+    return shadow_first_bad(address, 1) == address;
+}
+
+/* A container owns the bytes from `start` up to `end`, and those from `new_middle` on are not in use. It may call this
+   for each element: so what lies neither between both middles nor in a granule of theirs is left as it is, as with
+   AddressSanitizer. */
+INTERFACE void __sanitizer_annotate_contiguous_container(const void *start, const void *end, const void *old_middle,
+                                                         const void *new_middle)
+{
+    uintptr_t before = (uintptr_t)old_middle, middle = (uintptr_t)new_middle;
+    uintptr_t low = (before < middle ? before : middle) / GRANULE * GRANULE;
+    uintptr_t high = ((before > middle ? before : middle) + GRANULE - 1) / GRANULE * GRANULE;
+    low = low > (uintptr_t)start ? low : (uintptr_t)start;
+    high = high < (uintptr_t)end ? high : (uintptr_t)end;
+    if (low < middle)
+        note_regions(CODE_UNPOISON, low, middle - low);
+    if (middle < high && (high - middle >= GRANULE || !is_poisoned(middle)))
+        note_poison_as(SHADE_CONTAINER, middle, high - middle);
+}
+
+/* How many bytes from each end of a container are looked at, as AddressSanitizer does. */
+enum { LOOKED_AT = 32 };
+
+/* The first byte near the ends of a part that is poisoned or not, as it should not be; or null. */
+static const void *find_wrong(uintptr_t start, uintptr_t end, bool should_be_poisoned)
+{
+    for (uintptr_t at = start; at < end; at++) {
+        if (at - start == LOOKED_AT && end - at > LOOKED_AT)
+            at = end - LOOKED_AT;
+        if (is_poisoned(at) != should_be_poisoned)
+            return (const void *)at;
+    }
+    return NULL;
+}
+
+INTERFACE const void *__sanitizer_contiguous_container_find_bad_address(const void *start, const void *middle,
+                                                                        const void *end)
+{
+    const void *wrong = find_wrong((uintptr_t)start, (uintptr_t)middle, false);
+    return wrong != NULL ? wrong : find_wrong((uintptr_t)middle, (uintptr_t)end, true);
+}
+
+INTERFACE int __sanitizer_verify_contiguous_container(const void *start, const void *middle, const void *end)
+{
+    return __sanitizer_contiguous_container_find_bad_address(start, middle, end) == NULL;
+}
+
+INTERFACE int __asan_address_is_poisoned(const volatile void *address)
+{
+    return is_poisoned((uintptr_t)address);
+}
+
+INTERFACE void *__asan_region_is_poisoned(void *start, size_t size)
+{
+    uint64_t bad = shadow_first_bad((uintptr_t)start, size);
+    return bad < (uintptr_t)start + size ? (void *)(uintptr_t)bad : NULL;
+}
+
+/* Accesses that a program makes by a call. */
+
+#define UNALIGNED(bits)                                                                                                \
+    INTERFACE uint##bits##_t __sanitizer_unaligned_load##bits(const void *at)                                          \
+    {                                                                                                                  \
+        uint##bits##_t value;                                                                                          \
+        note_range(CODE_LOAD, (uintptr_t)at, sizeof value, CALLER());                                                  \
+        __builtin_memcpy(&value, at, sizeof value);                                                                    \
+        return value;                                                                                                  \
+    }                                                                                                                  \
+    INTERFACE void __sanitizer_unaligned_store##bits(void *at, uint##bits##_t value)                                   \
+    {                                                                                                                  \
+        note_range(CODE_STORE, (uintptr_t)at, sizeof value, CALLER());                                                 \
+        __builtin_memcpy(at, &value, sizeof value);                                                                    \
+    }
+
+UNALIGNED(16)
+UNALIGNED(32)
+UNALIGNED(64)
+
+/* A bad access that the program has found: it is recorded as an access, and the checker decides. */
+INTERFACE void __asan_report_error(void *place, void *frame, void *stack, void *address, int is_store, size_t size)
+{
+    (void)frame, (void)stack;
+    note_range(is_store ? CODE_STORE : CODE_LOAD, (uintptr_t)address, size, (uintptr_t)place);
+}
+
+/* Reports: in this process there are none. */
+
+INTERFACE int __asan_report_present(void)
+{
+    return 0;
+}
+
+#define NO_REPORT(type, what, answer)                                                                                  \
+    INTERFACE type __asan_get_report_##what(void)                                                                      \
+    {                                                                                                                  \
+        return answer;                                                                                                 \
+    }
+
+NO_REPORT(void *, pc, NULL)
+NO_REPORT(void *, bp, NULL)
+NO_REPORT(void *, sp, NULL)
+NO_REPORT(void *, address, NULL)
+NO_REPORT(int, access_type, 0)
+NO_REPORT(size_t, access_size, 0)
+NO_REPORT(const char *, description, "")
+
+INTERFACE void __asan_describe_address(void *address)
+{
+    (void)address;
+}
+
+/* AddressSanitizer's word for an address that it knows nothing of. */
+INTERFACE const char *__asan_locate_address(void *address, char *name, size_t name_size, void **region, size_t *size)
+{
+    (void)address;
+    if (name != NULL && name_size != 0)
+        name[0] = 0;
+    if (region != NULL)
+        *region = NULL;
+    if (size != NULL)
+        *size = 0;
+    return "heap-invalid";
+}
+
+#define NO_STACK(what)                                                                                                 \
+    INTERFACE size_t __asan_get_##what##_stack(void *address, void **frames, size_t size, int *thread)                 \
+    {                                                                                                                  \
+        (void)address, (void)frames, (void)size;                                                                       \
+        if (thread != NULL)                                                                                            \
+            *thread = 0;                                                                                               \
+        return 0;                                                                                                      \
+    }
+
+NO_STACK(alloc)
+NO_STACK(free)
+
+INTERFACE void __asan_get_shadow_mapping(size_t *scale, size_t *offset)
+{
+    *scale = 3;
+    *offset = SHADOW_START;
+}
+
+INTERFACE int __asan_update_allocation_context(void *address)
+{
+    (void)address;
+    return 0;
+}
+
+INTERFACE void *__asan_get_current_fake_stack(void)
+{
+    return HAS_HOOK(fake_current) ? asancol_hooks.fake_current() : NULL;
+}
+
+INTERFACE void *__asan_addr_is_in_fake_stack(void *stack, void *address, void **start, void **end)
+{
+    uintptr_t first, last;
+    void *real = HAS_HOOK(fake_real_of) ? asancol_hooks.fake_real_of(stack, (uintptr_t)address, &first, &last) : NULL;
+    if (real != NULL && start != NULL)
+        *start = (void *)first;
+    if (real != NULL && end != NULL)
+        *end = (void *)last;
+    return real;
+}
+
+/* Called before the process ends by ASANCOL_HALT, as before AddressSanitizer ends it. */
+
+INTERFACE void __asan_set_death_callback(void (*callback)(void))
+{
+    note_death_callback(callback);
+}
+
+INTERFACE void __sanitizer_set_death_callback(void (*callback)(void))
+{
+    note_death_callback(callback);
+}
+
+/* Never called: a report's text is the collector's. */
+
+INTERFACE void __asan_set_error_report_callback(void (*callback)(const char *))
+{
+    (void)callback;
+}
+
+/* The first thread that asks may treat the crash. */
+INTERFACE int __sanitizer_acquire_crash_state(void)
+{
+    return is_first_crash();
+}
+
+/* What a program may define itself. */
+
+INTERFACE void __asan_on_error(void)
+{
+}
+
+#define NO_TEXT(name)                                                                                                  \
+    INTERFACE const char *name(void)                                                                                   \
+    {                                                                                                                  \
+        return "";                                                                                                     \
+    }
+
+NO_TEXT(__asan_default_options)
+NO_TEXT(__lsan_default_options)
+NO_TEXT(__lsan_default_suppressions)
+
+INTERFACE int __lsan_is_turned_off(void)
+{
+    return 0;
+}
+
+/* Output: nothing is written. */
+
+INTERFACE void __sanitizer_set_report_path(const char *path)
+{
+    (void)path;
+}
+
+INTERFACE void __sanitizer_set_report_fd(void *descriptor)
+{
+    (void)descriptor;
+}
+
+NO_TEXT(__sanitizer_get_report_path)
+
+INTERFACE void __sanitizer_report_error_summary(const char *summary)
+{
+    (void)summary;
+}
+
+INTERFACE void __sanitizer_print_stack_trace(void)
+{
+}
+
+INTERFACE void __sanitizer_print_memory_profile(size_t percent, size_t contexts)
+{
+    (void)percent, (void)contexts;
+}
+
+INTERFACE void __asan_print_accumulated_stats(void)
+{
+}
+
+INTERFACE void __sanitizer_sandbox_on_notify(void *arguments)
+{
+    (void)arguments;
+}
+
+/* Symbols: none is known. */
+
+static void no_symbol(char *text, size_t room)
+{
+    if (text != NULL && room != 0)
+        text[0] = 0;
+}
+
+INTERFACE void __sanitizer_symbolize_pc(void *place, const char *format, char *text, size_t room)
+{
+    (void)place, (void)format;
+    no_symbol(text, room);
+}
+
+INTERFACE void __sanitizer_symbolize_global(void *data, const char *format, char *text, size_t room)
+{
+    (void)data, (void)format;
+    no_symbol(text, room);
+}
+
+INTERFACE int __sanitizer_get_module_and_offset_for_pc(void *place, char *path, size_t room, void **offset)
+{
+    (void)place;
+    no_symbol(path, room);
+    if (offset != NULL)
+        *offset = NULL;
+    return 0;
+}
+
+/* Fibers: which stack a thread is on. A fake stack stays with its thread. */
+
+INTERFACE void __sanitizer_start_switch_fiber(void **save, const void *bottom, size_t size)
+{
+    uintptr_t start = (uintptr_t)bottom;
+    if (save != NULL)
+        *save = NULL;
+    note_fiber_leaves((uintptr_t)__builtin_frame_address(0), save != NULL, (struct span){start, start + size});
+}
+
+INTERFACE void __sanitizer_finish_switch_fiber(void *save, const void **bottom, size_t *size)
+{
+    struct span before = note_fiber_comes();
+    (void)save;
+    if (bottom != NULL)
+        *bottom = (const void *)before.low;
+    if (size != NULL)
+        *size = before.top - before.low;
+}
+
+/* The allocator. */
+
+static size_t live_size(const volatile void *start)
+{
+    bool is_asked = start != NULL && HAS_HOOK(live_size);
+    return is_asked ? asancol_hooks.live_size((void *)(uintptr_t)start) : SIZE_MAX;
+}
+
+static struct heap_numbers numbers(void)
+{
+    return HAS_HOOK(heap_count) ? asancol_hooks.heap_count() : (struct heap_numbers){0};
+}
+
+INTERFACE size_t __sanitizer_get_estimated_allocated_size(size_t size)
+{
+    return size;
+}
+
+INTERFACE int __sanitizer_get_ownership(const volatile void *start)
+{
+    return live_size(start) != SIZE_MAX;
+}
+
+INTERFACE size_t __sanitizer_get_allocated_size(const volatile void *start)
+{
+    size_t size = live_size(start);
+    return size != SIZE_MAX ? size : 0;
+}
+
+INTERFACE size_t __sanitizer_get_current_allocated_bytes(void)
+{
+    return numbers().live_bytes;
+}
+
+INTERFACE size_t __sanitizer_get_heap_size(void)
+{
+    return numbers().system_bytes;
+}
+
+/* With what is in quarantine. */
+INTERFACE size_t __sanitizer_get_free_bytes(void)
+{
+    struct heap_numbers now = numbers();
+    return now.system_bytes > now.live_bytes ? now.system_bytes - now.live_bytes : 0;
+}
+
+INTERFACE size_t __sanitizer_get_unmapped_bytes(void)
+{
+    return 0;
+}
+
+INTERFACE void __sanitizer_purge_allocator(void)
+{
+}
+
+INTERFACE int __sanitizer_install_malloc_and_free_hooks(void (*after_malloc)(const volatile void *, size_t),
+                                                        void (*before_free)(const volatile void *))
+{
+    return HAS_HOOK(add_hooks) ? asancol_hooks.add_hooks((struct heap_hooks){after_malloc, before_free, false}) : 0;
+}
+
+/* A program may define these two, and then they are called. */
+
+static void no_malloc_hook(const volatile void *start, size_t size)
+{
+    (void)start, (void)size;
+}
+
+static void no_free_hook(const volatile void *start)
+{
+    (void)start;
+}
+
+INTERFACE void __sanitizer_malloc_hook(const volatile void *start, size_t size)
+    __attribute__((alias("no_malloc_hook")));
+INTERFACE void __sanitizer_free_hook(const volatile void *start) __attribute__((alias("no_free_hook")));
+
+#ifndef IN_SHARED_OBJECT
+
+void interface_start(void)
+{
+    bool has_malloc = __sanitizer_malloc_hook != no_malloc_hook, has_free = __sanitizer_free_hook != no_free_hook;
+    if (has_malloc || has_free)
+        heap_add_hooks((struct heap_hooks){__sanitizer_malloc_hook, __sanitizer_free_hook, .is_by_name = true});
+}
+
+#endif
+
+/* Coverage: none is kept. */
+
+INTERFACE void __sanitizer_cov_dump(void)
+{
+}
+
+INTERFACE void __sanitizer_cov_reset(void)
+{
+}
+
+INTERFACE void __sanitizer_dump_coverage(const uintptr_t *places, uintptr_t count)
+{
+    (void)places, (void)count;
+}
+
+/* A fuzzer's hooks: the recorder's string functions call none of them. */
+
+#define HOOK(name, ...)                                                                                                \
+    INTERFACE void __sanitizer_weak_hook_##name(void *place, const void *one, __VA_ARGS__)                             \
+    {                                                                                                                  \
+        (void)place, (void)one, (void)other, (void)result;                                                             \
+    }
+
+HOOK(strcmp, const void *other, int result)
+HOOK(strcasecmp, const void *other, int result)
+HOOK(strstr, const void *other, char *result)
+HOOK(strcasestr, const void *other, char *result)
+
+#define SIZED_HOOK(name, ...)                                                                                          \
+    INTERFACE void __sanitizer_weak_hook_##name(void *place, const void *one, __VA_ARGS__)                             \
+    {                                                                                                                  \
+        (void)place, (void)one, (void)other, (void)size, (void)result;                                                 \
+    }
+
+SIZED_HOOK(memcmp, const void *other, size_t size, int result)
+SIZED_HOOK(strncmp, const void *other, size_t size, int result)
+SIZED_HOOK(strncasecmp, const void *other, size_t size, int result)
+
+INTERFACE void __sanitizer_weak_hook_memmem(void *place, const void *one, size_t one_size, const void *other,
+                                            size_t other_size, void *result)
+{
+    (void)place, (void)one, (void)one_size, (void)other, (void)other_size, (void)result;
+}
+
+/* Leaks. A process goes on, whatever is found. */
+
+INTERFACE void __lsan_disable(void)
+{
+    if (HAS_HOOK(ignore_next_blocks))
+        asancol_hooks.ignore_next_blocks(true);
+}
+
+INTERFACE void __lsan_enable(void)
+{
+    if (HAS_HOOK(ignore_next_blocks))
+        asancol_hooks.ignore_next_blocks(false);
+}
+
+INTERFACE void __lsan_ignore_object(const void *object)
+{
+    if (HAS_HOOK(ignore_block))
+        asancol_hooks.ignore_block(object);
+}
+
+INTERFACE void __lsan_register_root_region(const void *start, size_t size)
+{
+    if (HAS_HOOK(add_root_region))
+        asancol_hooks.add_root_region(start, size);
+}
+
+INTERFACE void __lsan_unregister_root_region(const void *start, size_t size)
+{
+    if (HAS_HOOK(remove_root_region))
+        asancol_hooks.remove_root_region(start, size);
+}
+
+INTERFACE void __lsan_do_leak_check(void)
+{
+    if (HAS_HOOK(look_for_leaks_once))
+        asancol_hooks.look_for_leaks_once();
+}
+
+INTERFACE int __lsan_do_recoverable_leak_check(void)
+{
+    return HAS_HOOK(look_for_leaks) && asancol_hooks.look_for_leaks();
+}

@@ -1,0 +1,184 @@
+/* Globals have their redzones from before the first constructor of their module up to its last destructor.
+
+   By -fsanitize=kernel-address GCC has the globals of a file registered by a constructor that is one of many: it comes
+   after those of the file itself. So before any of them runs, the constructors are looked at: what loads the arguments
+   for __asan_register_globals and goes there has the table in its instructions. It registers the table again when its
+   turn comes, which does nothing. Where a constructor is not understood, it is as late as GCC has it. */
+#define _GNU_SOURCE
+#include <elf.h>
+#include <stdbool.h>
+#include <string.h>
+
+#include "interface/callbacks.h"
+#include "interface/fake_frames.h"
+#include "shadow/globals.h"
+#include "interface/hooks.h"
+#include "interface/registering.h"
+#include "shadow/shadow.h"
+
+#define OF_MODULE __attribute__((visibility("hidden"), weak))
+
+/* What the linker says of the module that this is linked into. */
+extern const Elf64_Ehdr __ehdr_start OF_MODULE;
+extern const char _end OF_MODULE;
+
+struct image image_of_module(void)
+{
+    uintptr_t start = (uintptr_t)&__ehdr_start, end = (uintptr_t)&_end;
+    return start != 0 && start < end ? (struct image){start, end} : (struct image){0, 0};
+}
+
+#if defined IN_SHARED_OBJECT || defined IN_CHECKS
+
+typedef void (*constructor)(void);
+
+struct constructors {
+    const constructor *first;
+    size_t count;
+};
+
+static const Elf64_Phdr *segment(uint32_t i)
+{
+    return (const Elf64_Phdr *)((uintptr_t)&__ehdr_start + __ehdr_start.e_phoff) + i;
+}
+
+/* What is to be added to the addresses in the module's headers. */
+static uintptr_t base_of_module(void)
+{
+    for (uint32_t i = 0; i < __ehdr_start.e_phnum; i++)
+        if (segment(i)->p_type == PT_LOAD && segment(i)->p_offset == 0)
+            return (uintptr_t)&__ehdr_start - segment(i)->p_vaddr;
+    return (uintptr_t)&__ehdr_start;
+}
+
+/* The end of the code that an address is in, or 0. */
+static uintptr_t end_of_code(uintptr_t at)
+{
+    for (uint32_t i = 0; i < __ehdr_start.e_phnum; i++) {
+        uintptr_t start = base_of_module() + segment(i)->p_vaddr, end = start + segment(i)->p_filesz;
+        if (segment(i)->p_type == PT_LOAD && (segment(i)->p_flags & PF_X) != 0 && at >= start && at < end)
+            return end;
+    }
+    return 0;
+}
+
+#ifdef IN_SHARED_OBJECT
+extern const Elf64_Dyn _DYNAMIC[] OF_MODULE;
+
+static struct constructors constructors_of_module(void)
+{
+    struct constructors found = {NULL, 0};
+    for (const Elf64_Dyn *it = _DYNAMIC; it != NULL && it->d_tag != DT_NULL; it++) {
+        if (it->d_tag == DT_INIT_ARRAY)
+            found.first = (const constructor *)(base_of_module() + it->d_un.d_ptr);
+        else if (it->d_tag == DT_INIT_ARRAYSZ)
+            found.count = it->d_un.d_val / sizeof *found.first;
+    }
+    return found.first != NULL ? found : (struct constructors){NULL, 0};
+}
+#else
+extern const constructor __init_array_start[] OF_MODULE, __init_array_end[] OF_MODULE;
+
+static struct constructors constructors_of_module(void)
+{
+    return (struct constructors){__init_array_start, (size_t)(__init_array_end - __init_array_start)};
+}
+#endif
+
+/* Where the instructions stand that are looked at. */
+struct instructions {
+    const unsigned char *at, *end;
+};
+
+/* Whether an instruction begins so, and then goes past these bytes and a number of 4 bytes, if it is there. */
+static bool take(struct instructions *code, const char *bytes, size_t length, int32_t *number)
+{
+    size_t whole = length + (number != NULL ? sizeof *number : 0);
+    if ((size_t)(code->end - code->at) < whole || memcmp(code->at, bytes, length) != 0)
+        return false;
+    if (number != NULL)
+        memcpy(number, code->at + length, sizeof *number);
+    code->at += whole;
+    return true;
+}
+
+#define TAKE(code, bytes, number) take(code, bytes, sizeof bytes - 1, number)
+
+/* The address of a table, in the register of the first argument. */
+static bool take_table(struct instructions *code, uintptr_t *table)
+{
+    int32_t number;
+    if (TAKE(code, "\xbf", &number) || TAKE(code, "\x48\xc7\xc7", &number)) { /* mov $number, %edi or %rdi */
+        *table = (uintptr_t)(intptr_t)number;
+        return true;
+    }
+    if (!TAKE(code, "\x48\x8d\x3d", &number)) { /* lea number(%rip), %rdi */
+        if (!TAKE(code, "\x48\x8d\x05", &number)) /* or %rax */
+            return false;
+        *table = (uintptr_t)code->at + (uintptr_t)(intptr_t)number;
+        return TAKE(code, "\x48\x89\xc7", NULL); /* and mov %rax, %rdi */
+    }
+    *table = (uintptr_t)code->at + (uintptr_t)(intptr_t)number;
+    return true;
+}
+
+/* Where a call or a jump goes. 0: there is none. */
+static uintptr_t take_call(struct instructions *code)
+{
+    int32_t number;
+    bool leaves = TAKE(code, "\x5d", NULL) || TAKE(code, "\xc9", NULL); /* pop %rbp, leave */
+    (void)leaves;
+    if (TAKE(code, "\xe8", &number) || TAKE(code, "\xe9", &number) || TAKE(code, "\x67\xe8", &number))
+        return (uintptr_t)code->at + (uintptr_t)(intptr_t)number;
+    if (!TAKE(code, "\xff\x15", &number) && !TAKE(code, "\xff\x25", &number)) /* by way of an address in the module */
+        return 0;
+    const uintptr_t *slot = (const uintptr_t *)((uintptr_t)code->at + (uintptr_t)(intptr_t)number);
+    struct image image = image_of_module();
+    return (uintptr_t)slot >= image.start && (uintptr_t)slot + sizeof *slot <= image.end ? *slot : 0;
+}
+
+/* Registers the table of a constructor that registers one. */
+static void look_at(uintptr_t start)
+{
+    enum { SCANNED = 96 };
+    uintptr_t end = end_of_code(start);
+    if (end == 0)
+        return;
+    end = end - start > SCANNED ? start + SCANNED : end;
+    for (uintptr_t at = start; at < end; at++) {
+        struct instructions code = {(const unsigned char *)at, (const unsigned char *)end};
+        int32_t count;
+        uintptr_t table;
+        if (!TAKE(&code, "\xbe", &count) || !take_table(&code, &table)) /* mov $count, %esi */
+            continue;
+        if (take_call(&code) == (uintptr_t)__asan_register_globals) {
+            __asan_register_globals((const struct global *)table, (uint32_t)count);
+            return;
+        }
+    }
+}
+
+void asancol_register_early(void)
+{
+    struct constructors all = constructors_of_module();
+#ifdef IN_SHARED_OBJECT
+    fake_frames_begin();
+#endif
+    if (&__ehdr_start != NULL)
+        for (size_t i = 0; i < all.count; i++)
+            look_at((uintptr_t)all.first[i]);
+}
+
+#endif
+
+#ifdef IN_SHARED_OBJECT
+/* The last destructor of the module: it may be closed now, and others have its memory then. */
+static void forget_all(void)
+{
+    struct image image = image_of_module();
+    note_globals((const struct global *)image.start, (image.end - image.start) / sizeof(struct global) + 1, false);
+    shadow_clear(image.start, image.end - image.start);
+}
+
+__attribute__((section(".fini_array.00000"), used)) static void (*const last_destructor)(void) = forget_all;
+#endif

@@ -1,0 +1,174 @@
+/* The locks are taken in this order: the loader's, the allocator's. A thread that has the loader's may wait for the
+   allocator's, and no thread the other way round. Then the other threads are stopped, and from there on nothing is
+   called that takes a lock: any other one may be held by a thread that stands still. */
+#define _GNU_SOURCE
+#include "leaks/leaks.h"
+
+#include <errno.h>
+#include <link.h>
+#include <stdatomic.h>
+#include <stddef.h>
+#include <stdint.h>
+
+#include "base/disturbance.h"
+#include "base/say.h"
+#include "base/self.h"
+#include "calls/library.h"
+#include "heap/blocks.h"
+#include "heap/heap.h"
+#include "leaks/lost.h"
+#include "leaks/marking.h"
+#include "leaks/roots.h"
+#include "leaks/world.h"
+#include "process/beginning.h"
+#include "stream/findings.h"
+#include "stream/side.h"
+#include "stream/state.h"
+
+/* The process may say so by a function of this name. */
+extern int __lsan_is_turned_off(void) __attribute__((weak));
+
+static _Atomic bool is_over;
+
+struct search {
+    uintptr_t frame; /* of the running thread's stack all above is in use */
+    const char *why; /* nothing was found out; or null */
+    struct lost lost;
+};
+
+/* With the lock of the allocator. Returns why it can't be done, or null. */
+static const char *find_lost(struct search *search)
+{
+    if (!arena_is_found())
+        return NULL;
+    if (!marking_begin())
+        return "there is no memory for it";
+    const char *why = "a thread does not stop";
+    if (world_stop()) {
+        roots_mark(search->frame);
+        mark_indirect();
+        world_go_on();
+        why = lost_find(&search->lost) ? NULL : "there is no memory for it";
+    }
+    marking_end();
+    return why;
+}
+
+static void search_with_heap(struct search *search)
+{
+    heap_lock();
+    search->why = find_lost(search);
+    heap_unlock();
+}
+
+#ifdef IS_STATIC
+
+static void search_all(struct search *search)
+{
+    search_with_heap(search);
+}
+
+#else
+
+static int search_in_loader(struct dl_phdr_info *module, size_t size, void *search)
+{
+    (void)module, (void)size;
+    search_with_heap(search);
+    return 1;
+}
+
+/* While the loader goes through its modules there are no other ones, and no thread has its lock. */
+static void search_all(struct search *search)
+{
+    library.dl_iterate_phdr(search_in_loader, search);
+}
+
+#endif
+
+static void note(const struct lost *lost)
+{
+    for (size_t i = 0; i < lost->count; i++) {
+        const struct lost_group *group = &lost->groups[i];
+        finding_note(&(struct finding){.kind = group->is_indirect ? FINDING_INDIRECT_LEAK : FINDING_LEAK,
+                                       .place = group->place, .block = group->block, .block_size = group->size,
+                                       .size = group->bytes, .count = group->count});
+    }
+}
+
+static bool is_wanted(void)
+{
+    return atomic_load(&STREAM->has_side) && plan.settings->with_leaks && recorder_is_own_process()
+           && (__lsan_is_turned_off == NULL || !__lsan_is_turned_off());
+}
+
+/* Who calls it has stored the registers of its callers, from here on. */
+__attribute__((used)) static bool look_from(uintptr_t frame) OWN_NAME(look_from);
+static bool look_from(uintptr_t frame)
+{
+    struct search search = {.frame = frame};
+    struct disturbance before;
+    if (heap_is_entered()) {
+        search.why = "a signal came in the middle of an allocation";
+    } else {
+        _Atomic uint64_t *calls = side_begin_calls(false);
+        undisturbed_begin(&before);
+        search_all(&search);
+        undisturbed_end(&before);
+        side_end_calls(calls);
+    }
+    if (search.why != NULL)
+        recorder_say("leaks are not looked for: ", beginning_name(), search.why);
+    note(&search.lost);
+    bool has_found = search.lost.count != 0;
+    lost_forget(&search.lost);
+    return has_found;
+}
+
+/* Stores the registers that belong to the caller, and goes on in look_from. What lies below is the recorder's own, and
+   may lead to blocks that were freed of all else long ago. */
+bool look(void) OWN_NAME(look);
+__asm__(".pushsection .text\n"
+        ".p2align 4\n"
+        ".hidden asancol_look\n"
+        ".globl asancol_look\n"
+        ".type asancol_look,@function\n"
+        "asancol_look:\n"
+        ".cfi_startproc\n"
+        "\tpushq %rbp\n"
+        ".cfi_def_cfa_offset 16\n"
+        ".cfi_offset 6, -16\n"
+        "\tmovq %rsp, %rbp\n"
+        ".cfi_def_cfa_register 6\n"
+        "\tpushq %rbx\n"
+        "\tpushq %r12\n"
+        "\tpushq %r13\n"
+        "\tpushq %r14\n"
+        "\tpushq %r15\n"
+        "\tmovq %rsp, %rdi\n"
+        "\tpushq %rdi\n" /* the stack is at a multiple of 16 again */
+        "\tcall asancol_look_from\n"
+        "\tleave\n"
+        ".cfi_def_cfa 7, 8\n"
+        "\tret\n"
+        ".cfi_endproc\n"
+        ".size asancol_look, .-asancol_look\n"
+        ".popsection\n");
+
+bool leaks_look_now(void)
+{
+    int error = errno;
+    bool has_found = is_wanted() && look();
+    errno = error;
+    return has_found;
+}
+
+void leaks_look_once(void)
+{
+    if (!atomic_exchange(&is_over, true))
+        leaks_look_now();
+}
+
+void leaks_look_at_end(void)
+{
+    leaks_look_once();
+}

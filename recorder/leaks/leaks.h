@@ -1,0 +1,17 @@
+/* Blocks that nothing leads to any more, as LeakSanitizer finds them. What is found becomes findings beside the stream
+   (findings.h), one for each stack that has allocated some. */
+#ifndef ASANCOL_LEAKS_H
+#define ASANCOL_LEAKS_H
+
+#include <stdbool.h>
+
+#include "base/platform.h"
+
+/* Looks for them at an exit, after all that the process runs there; unless that was done by leaks_look_once. */
+void leaks_look_at_end(void);
+/* Looks now, and neither at the end nor when this is called again. */
+void leaks_look_once(void) OWN_NAME(leaks_look_once);
+/* Looks now. Returns whether there are any; false also if nobody has asked for leaks. */
+bool leaks_look_now(void) OWN_NAME(leaks_look_now);
+
+#endif

@@ -1,0 +1,32 @@
+/* Blocks that are lost, by where they were allocated. */
+#ifndef ASANCOL_LOST_H
+#define ASANCOL_LOST_H
+
+#include <stdbool.h>
+#include <stddef.h>
+#include <stdint.h>
+
+#include "stacks/stacks.h"
+
+/* All of one stack, and of one kind. */
+struct lost_group {
+    place_word place; /* with the thread of the first one */
+    bool is_indirect;
+    uintptr_t block; /* the first one, and its size */
+    uint64_t size;
+    uint64_t count, bytes;
+};
+
+struct lost {
+    struct lost_group *groups; /* by what LeakSanitizer says first: those that are lost themselves, and the largest
+                                  sum */
+    size_t count, room;
+};
+
+/* Sums up the blocks that have no mark, or that of what is lost indirectly (marking.h). The lock of the allocator is
+   held. Without memory for it there are none; false then. */
+bool lost_find(struct lost *lost);
+/* Gives its memory back. */
+void lost_forget(struct lost *lost);
+
+#endif

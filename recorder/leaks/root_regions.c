@@ -1,0 +1,110 @@
+#define _GNU_SOURCE
+#include "leaks/root_regions.h"
+
+#include <fcntl.h>
+#include <stdbool.h>
+#include <string.h>
+#include <sys/mman.h>
+
+#include "base/say.h"
+#include "base/system.h"
+#include "heap/heap.h"
+#include "stream/maps.h"
+
+/* A region without bytes is a free entry. */
+struct region {
+    uintptr_t start, size;
+};
+
+enum { MAX_REGIONS = 1 << 12 };
+static struct region regions[MAX_REGIONS];
+static size_t region_count;
+
+/* Returns the entry of a region, or null. */
+static struct region *find(uintptr_t start, uintptr_t size)
+{
+    for (size_t i = 0; i < region_count; i++)
+        if (regions[i].start == start && regions[i].size == size)
+            return &regions[i];
+    return NULL;
+}
+
+static struct region *free_entry(void)
+{
+    struct region *left = find(0, 0);
+    if (left != NULL)
+        return left;
+    return region_count < MAX_REGIONS ? &regions[region_count++] : NULL;
+}
+
+void root_region_add(const void *start, size_t size)
+{
+    heap_lock();
+    struct region *entry = size != 0 ? free_entry() : NULL;
+    if (entry != NULL)
+        *entry = (struct region){(uintptr_t)start, size};
+    heap_unlock();
+    if (entry == NULL && size != 0)
+        recorder_say("leaks may be said that are none: ", "__lsan_register_root_region", "there are too many regions");
+}
+
+void root_region_remove(const void *start, size_t size)
+{
+    heap_lock();
+    struct region *entry = size != 0 ? find((uintptr_t)start, size) : NULL;
+    if (entry != NULL)
+        *entry = (struct region){0, 0};
+    heap_unlock();
+}
+
+/* The map of modules of the process: of a region there may be much that is only reserved. */
+
+enum { MAPS_ROOM = 1 << 26 };
+
+/* Reads it into this much memory, with a zero after it. False: it can't be read. */
+static bool read_maps(char *text, size_t room)
+{
+    int file = system_open("/proc/self/maps", O_RDONLY | O_CLOEXEC, 0);
+    size_t length = 0;
+    ssize_t more = 0;
+    while (file >= 0 && length < room - 1 && (more = system_read(file, text + length, room - 1 - length)) > 0)
+        length += (size_t)more;
+    if (file >= 0)
+        system_close(file);
+    text[length] = 0;
+    return file >= 0 && more == 0;
+}
+
+static bool is_readable(const struct map_line *line)
+{
+    const char *rights = strchr(line->text, ' ');
+    return rights != NULL && rights[1] == 'r';
+}
+
+static void visit_parts(const struct map_line *line, void (*visit)(uintptr_t start, uintptr_t end))
+{
+    for (size_t i = 0; i < region_count; i++) {
+        uintptr_t start = regions[i].start, end = start + regions[i].size;
+        start = start > line->start ? start : line->start;
+        end = end < line->end ? end : line->end;
+        if (start < end)
+            visit(start, end);
+    }
+}
+
+void root_regions_visit(void (*visit)(uintptr_t start, uintptr_t end))
+{
+    int flags = MAP_PRIVATE | MAP_ANONYMOUS | MAP_NORESERVE;
+    long made = region_count != 0 ? system_mmap(NULL, MAPS_ROOM, PROT_READ | PROT_WRITE, flags, -1, 0) : -1;
+    if (made < 0)
+        return;
+    char *text = (char *)made;
+    struct map_line line;
+    bool is_read = read_maps(text, MAPS_ROOM);
+    for (const char *at = text; is_read && maps_take_line(at, &line); at = line.next)
+        if (is_readable(&line))
+            visit_parts(&line, visit);
+    for (size_t i = 0; !is_read && i < region_count; i++)
+        visit(regions[i].start, regions[i].start + regions[i].size);
+    system_munmap(text, MAPS_ROOM);
+}

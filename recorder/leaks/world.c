@@ -1,0 +1,240 @@
+/* The others are stopped by a signal, and not by tracing them: that works under a debugger and where tracing is
+   forbidden. It is the signal by which the C library changes the user of all threads: the library lets no program block
+   it, and debuggers pass it on without a word. What the library itself sends by it goes on to the library's handler. */
+#define _GNU_SOURCE
+#include "leaks/world.h"
+
+#include <asm/prctl.h>
+#include <errno.h>
+#include <linux/futex.h>
+#include <stdatomic.h>
+#include <sys/mman.h>
+
+#include "base/actions.h"
+#include "base/disturbance.h"
+#include "base/platform.h"
+#include "base/system.h"
+#include "process/other_threads.h"
+
+/* What is known of a thread that was asked to stop. `context` is released by the thread, once it has stopped. */
+struct slot {
+    pid_t thread;
+    bool is_gone;
+    _Atomic uintptr_t control;
+    const ucontext_t *_Atomic context;
+};
+
+enum { MAX_SLOTS = 1 << 16 };
+/* For how long threads are waited for. */
+enum { PATIENCE_MS = 3000 };
+
+/* Of this the allocator's lock guards all but what is atomic. */
+static struct {
+    /* Grows when threads are to stop, and when they go on: it is odd in between. */
+    _Atomic uint32_t round;
+    struct slot *_Atomic slots;
+    uint32_t first, count; /* those of this round, and up to where slots were used */
+    bool has_failed;
+    void (*_Atomic before)(int, siginfo_t *, void *); /* the handler that there was */
+} world;
+
+/* It begins with its own address. */
+uintptr_t world_own_control(void)
+{
+    uintptr_t control;
+    __asm__("movq %%fs:0, %0" : "=r"(control));
+    return control;
+}
+
+/* What the signal brings: the round, and the number of the slot. */
+static uint64_t asked_of(uint32_t round, uint32_t slot)
+{
+    return (uint64_t)round << 32 | slot;
+}
+
+static void wait_in(uint32_t round)
+{
+    while (atomic_load(&world.round) == round)
+        system_futex(&world.round, FUTEX_WAIT_PRIVATE, round);
+}
+
+/* It touches nothing that lies in a thread's own memory: a thread of `clone` may have none. */
+static void on_stop(int number, siginfo_t *info, void *context)
+{
+    uint64_t asked = (uint64_t)(uintptr_t)info->si_value.sival_ptr;
+    uint32_t round = (uint32_t)(asked >> 32);
+    void (*before)(int, siginfo_t *, void *) = atomic_load(&world.before);
+    if (info->si_code != SI_QUEUE || info->si_pid != system_getpid()) {
+        if ((uintptr_t)before > (uintptr_t)SIG_IGN)
+            before(number, info, context);
+        return;
+    }
+    if (atomic_load(&world.round) != round)
+        return;
+    struct slot *slot = &atomic_load(&world.slots)[(uint32_t)asked];
+    uintptr_t control = 0;
+    system_call3(SYS_arch_prctl, ARCH_GET_FS, (long)&control, 0);
+    atomic_store(&slot->control, control);
+    atomic_store(&slot->context, context);
+    wait_in(round);
+}
+
+static int ask(pid_t thread, uint32_t slot)
+{
+    siginfo_t info = {.si_signo = USER_SIGNAL, .si_code = SI_QUEUE};
+    info.si_pid = system_getpid();
+    info.si_value.sival_ptr = (void *)(uintptr_t)asked_of(atomic_load(&world.round), slot);
+    return (int)system_call4(SYS_rt_tgsigqueueinfo, info.si_pid, thread, USER_SIGNAL, (long)&info);
+}
+
+static struct slot *slot_at(uint32_t number)
+{
+    return &atomic_load(&world.slots)[number];
+}
+
+static bool was_asked(pid_t thread)
+{
+    for (uint32_t i = world.first; i < world.count; i++)
+        if (slot_at(i)->thread == thread)
+            return true;
+    return false;
+}
+
+/* Asks a thread to stop that was not asked yet. Signals that wait may be as many as there can be: then it is asked
+   later. */
+static void visit_running(pid_t thread, void *found)
+{
+    if (was_asked(thread))
+        return;
+    *(bool *)found = true;
+    if (world.count == MAX_SLOTS) {
+        world.has_failed = true;
+        return;
+    }
+    struct slot *slot = slot_at(world.count);
+    slot->thread = thread;
+    slot->is_gone = false;
+    atomic_store(&slot->context, NULL);
+    int error = ask(thread, world.count);
+    if (error == 0)
+        world.count++;
+    else if (error != -EAGAIN && (error != -ESRCH || other_threads_has(thread)))
+        world.has_failed = true;
+}
+
+static uint64_t milliseconds(void)
+{
+    struct timespec now = {0, 0};
+    system_clock_gettime(CLOCK_MONOTONIC, &now);
+    return (uint64_t)now.tv_sec * 1000 + (uint64_t)now.tv_nsec / 1000000;
+}
+
+static void rest(unsigned looks)
+{
+    enum { FIRST_NS = 20000, MOST_NS = 1000000, MOST_SHIFT = 6 };
+    long span = (long)FIRST_NS << (looks < MOST_SHIFT ? looks : MOST_SHIFT);
+    system_nanosleep(&(struct timespec){0, span < MOST_NS ? span : MOST_NS});
+}
+
+/* Whether a thread has stopped, or ends; one that does not come soon is looked for. */
+static bool has_stopped(struct slot *slot, unsigned looks)
+{
+    enum { SOON = 8 };
+    if (!slot->is_gone && atomic_load(&slot->context) == NULL && looks > SOON)
+        slot->is_gone = !other_threads_has(slot->thread);
+    return slot->is_gone || atomic_load(&slot->context) != NULL;
+}
+
+static bool wait_for_all(uint64_t end)
+{
+    unsigned looks = 0;
+    for (uint32_t i = world.first; i < world.count;)
+        if (has_stopped(slot_at(i), looks))
+            i++;
+        else if (milliseconds() > end)
+            return false;
+        else
+            rest(looks++);
+    return true;
+}
+
+/* Until all that were found have stopped, and then no other is there: one may have been created by one that still
+   ran. */
+static bool stop_all(void)
+{
+    uint64_t end = milliseconds() + PATIENCE_MS;
+    for (;;) {
+        bool found = false;
+        if (!other_threads_visit(visit_running, &found) || world.has_failed || !wait_for_all(end))
+            return false;
+        if (!found)
+            return true;
+        if (milliseconds() > end)
+            return false;
+    }
+}
+
+/* The slots of a round in which a thread did not stop are not used again: it may come to its slot later. */
+static bool find_slots(void)
+{
+    if (atomic_load(&world.slots) == NULL) {
+        int flags = MAP_PRIVATE | MAP_ANONYMOUS | MAP_NORESERVE;
+        long made = system_mmap(NULL, MAX_SLOTS * sizeof(struct slot), PROT_READ | PROT_WRITE, flags, -1, 0);
+        if (made < 0)
+            return false;
+        atomic_store(&world.slots, (struct slot *)made);
+    }
+    world.count = world.first;
+    return true;
+}
+
+static bool take_signal(struct system_action *old)
+{
+    if (action_handle(USER_SIGNAL, on_stop, old) != 0)
+        return false;
+    if (old->handler != on_stop)
+        atomic_store(&world.before, old->handler);
+    return true;
+}
+
+/* If there was none before, ours stays: a thread that comes late would end the process. */
+static void give_signal_back(const struct system_action *old)
+{
+    if ((uintptr_t)old->handler > (uintptr_t)SIG_IGN)
+        action_set(USER_SIGNAL, old, NULL);
+}
+
+bool world_stop(void)
+{
+    struct system_action old;
+    world.has_failed = false;
+    if (!find_slots())
+        return false;
+    atomic_fetch_add(&world.round, 1);
+    if (!has_other_threads())
+        return true;
+    bool is_stopped = take_signal(&old) && stop_all();
+    if (is_stopped) {
+        give_signal_back(&old);
+        return true;
+    }
+    world_go_on();
+    world.first = world.count;
+    return false;
+}
+
+void world_go_on(void)
+{
+    atomic_fetch_add(&world.round, 1);
+    system_futex(&world.round, FUTEX_WAKE_PRIVATE, INT32_MAX);
+}
+
+void world_visit(void (*visit)(const struct stopped_thread *thread))
+{
+    for (uint32_t i = world.first; i < world.count; i++) {
+        struct slot *slot = slot_at(i);
+        struct stopped_thread thread = {atomic_load(&slot->context), atomic_load(&slot->control)};
+        if (thread.context != NULL)
+            visit(&thread);
+    }
+}

@@ -1,0 +1,137 @@
+#define _GNU_SOURCE
+#include "process/becoming.h"
+
+#include <errno.h>
+#include <fcntl.h>
+#include <limits.h>
+#include <string.h>
+#include <sys/stat.h>
+#include <unistd.h>
+
+#include "process/built.h"
+#include "calls/library.h"
+#include "base/digits.h"
+#include "base/self.h"
+#include "process/hub_names.h"
+#include "process/process.h"
+#include "stream/side.h"
+#include "base/system.h"
+#include "process/unseen.h"
+
+/* So much of the name that a descriptor has is shown. */
+enum { SHOWN_ROOM = 256 };
+
+static const char *value_in(char *const *environment, const char *front)
+{
+    size_t length = strlen(front);
+    for (; environment != NULL && *environment != NULL; environment++)
+        if (strncmp(*environment, front, length) == 0)
+            return *environment + length;
+    return NULL;
+}
+
+/* The file in the folders of PATH that can be executed. False: none can. */
+static bool look_for(const char *name, char *path)
+{
+    const char *at = value_in(library.environment != NULL ? *library.environment : NULL, "PATH=");
+    for (at = at != NULL ? at : "/bin:/usr/bin"; *name != 0; at++) {
+        struct joined joined = {.text = path, .room = PATH_MAX};
+        size_t length = strcspn(at, ":");
+        joined_add(&joined, at, length);
+        joined_add(&joined, length > 0 ? "/" : "", 1);
+        joined_add(&joined, name, PATH_MAX);
+        if (!joined.is_cut && system_access(path, X_OK) == 0)
+            return true;
+        at += length;
+        if (*at == 0)
+            break;
+    }
+    return false;
+}
+
+/* Puts the path of the file into the room, which has PATH_MAX bytes, or answers it as it was given. Null: there is
+   none. */
+static const char *path_of(const struct target *target, char *room)
+{
+    static const char front[] = "/proc/self/fd/";
+    char digits[DIGITS_ROOM];
+    if (target->name == NULL) {
+        struct joined joined = {.text = room, .room = PATH_MAX};
+        joined_add(&joined, front, sizeof front);
+        joined_add(&joined, put_digits(digits + sizeof digits, (unsigned)target->descriptor, 1), sizeof digits);
+        return room;
+    }
+    bool is_looked_for = target->is_looked_for && strchr(target->name, '/') == NULL;
+    return !is_looked_for ? target->name : look_for(target->name, room) ? room : NULL;
+}
+
+/* Why the program may never connect. */
+static const char *why_unseen(const struct target *target, const char *path)
+{
+    struct stat seen;
+    const char *hub = value_in(target->environment, HUB_ENTRY);
+    if (hub == NULL || *hub == 0)
+        return "it was started without ASANCOL_HUB in its environment";
+    if (strcmp(hub, recorder_hub()) != 0)
+        return "it was started with another ASANCOL_HUB";
+    bool has_rights = system_stat(path, &seen) == 0
+                      && (((seen.st_mode & S_ISUID) && seen.st_uid != system_geteuid()) || (seen.st_mode & S_ISGID));
+    return has_rights ? "it is set-user-ID or set-group-ID, so it ignores its settings"
+                      : NEVER_BEGAN;
+}
+
+/* The file if it was built so, or null: with why it may never connect. */
+static const char *expected_in(const struct target *target, char *room, const char **why)
+{
+    const char *path = recorder_hub() != NULL ? path_of(target, room) : NULL;
+    enum built built = path != NULL ? built_by(path) : BUILT_BY_OTHERS;
+    *why = built == BUILT_BY_US ? why_unseen(target, path)
+                                : "nothing came of it, and no descriptor was left to see if asancol-cc built it";
+    return built != BUILT_BY_OTHERS ? path : NULL;
+}
+
+static bool note_exec(const struct target *target)
+{
+    char room[PATH_MAX], shown[SHOWN_ROOM];
+    const char *why, *path = expected_in(target, room, &why);
+    if (path == NULL)
+        return false;
+    long length = target->name == NULL ? system_readlink(path, shown, sizeof shown - 1) : 0;
+    shown[length > 0 ? length : 0] = 0;
+    int failed = unseen_expect(recorder_hub(), length > 0 ? shown : path, why);
+    /* From where the folder is not seen the side memory is. A child of vfork has none. */
+    bool is_noted = failed != 0 && failed != -EEXIST && recorder_is_own_process() && side_note_becoming(true);
+    return failed == 0 || is_noted;
+}
+
+bool becoming_note(const struct target *target)
+{
+    _Atomic uint64_t *calls = side_begin_calls(true);
+    bool is_noted = note_exec(target);
+    side_end_calls(calls);
+    return is_noted;
+}
+
+void becoming_take_back(void)
+{
+    unseen_expect_no_more(recorder_hub());
+    if (recorder_is_own_process())
+        side_note_becoming(false);
+}
+
+bool becoming_note_child(const struct target *target)
+{
+    char room[PATH_MAX];
+    _Atomic uint64_t *calls = side_begin_calls(true);
+    const char *why, *path = expected_in(target, room, &why);
+    bool is_noted = path != NULL && unseen_expect_child(recorder_hub(), target->name, why);
+    side_end_calls(calls);
+    return is_noted;
+}
+
+void becoming_note_number(int child)
+{
+    _Atomic uint64_t *calls = side_begin_calls(true);
+    unseen_expect_as(recorder_hub(), child);
+    side_end_calls(calls);
+}

@@ -1,0 +1,29 @@
+/* A program that this process becomes by an exec, or begins as a child: if asancol-cc has built it, the hub expects it
+   to connect. It may die before it does, in the dynamic linker already, or not know of the hub. */
+#ifndef ASANCOL_BECOMING_H
+#define ASANCOL_BECOMING_H
+
+#include <stdbool.h>
+#include <stddef.h>
+
+#define HUB_ENTRY "ASANCOL_HUB="
+#define NEVER_BEGAN "it ended before its recording began"
+
+/* What an exec is given: a name, which is looked for in the folders of PATH if that is so and it has no slash; or, if
+   there is none, a descriptor. */
+struct target {
+    const char *name;
+    int descriptor;
+    bool is_looked_for;
+    char *const *environment;
+};
+
+/* Before an exec. False: there is nothing to take back. */
+bool becoming_note(const struct target *target);
+/* The exec has failed. */
+void becoming_take_back(void);
+/* Before a child is begun, and once it has its number; 0: it has not begun. */
+bool becoming_note_child(const struct target *target);
+void becoming_note_number(int child);
+
+#endif

@@ -1,0 +1,16 @@
+/* Which programs asancol-cc has built. */
+#ifndef ASANCOL_BUILT_H
+#define ASANCOL_BUILT_H
+
+enum built {
+    BUILT_BY_OTHERS,
+    BUILT_BY_US,
+    BUILT_BY_UNKNOWN, /* no descriptor is left to look */
+};
+
+/* Who has built the file that an exec would run, by the note of its link (link_note.h); of a script it is its
+   interpreter. A file that can't be read is others'. Needs a descriptor for a moment, and may be called in a child of
+   vfork. */
+enum built built_by(const char *path);
+
+#endif

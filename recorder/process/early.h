@@ -1,0 +1,8 @@
+/* The first call into an object. */
+#ifndef ASANCOL_EARLY_H
+#define ASANCOL_EARLY_H
+
+/* In an object's first constructor. The link asks for it by its name. */
+extern void (*const asancol_map_early)(int count, char **words, char **variables);
+
+#endif

@@ -1,0 +1,28 @@
+/* What runs first of a program. It is linked before the program's own objects, so that its entry is the first of
+   .preinit_array, and its resolver the first of the program: the dynamic linker calls that once it has relocated all
+   libraries. A program that dies in a resolver of its own has left word by then. */
+#include "process/first.h"
+
+#include "process/early.h"
+
+typedef void start(int count, char **words, char **variables);
+
+static void begin(int count, char **words, char **variables)
+{
+    asancol_map_early(count, words, variables);
+}
+
+#ifdef IS_STATIC
+#define first begin /* before its resolvers nothing is there, such as the thread */
+#else
+__attribute__((used)) static start *resolve(void)
+{
+    first_resolver();
+    return begin;
+}
+
+static start first __attribute__((ifunc("resolve")));
+#endif
+
+extern start *const asancol_first;
+__attribute__((section(".preinit_array"), used)) start *const asancol_first = first;

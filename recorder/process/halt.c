@@ -1,0 +1,66 @@
+/* ASANCOL_HALT: the process ends at the first access or free that the shadow holds for bad, as a fuzzer wants it.
+
+   With 1 the recording ends there, with a close if it has everything. With 2 it begins there: with what stands, and
+   this one event. So only a process that fails leaves a trace, and asancol judges it without a second run. */
+#include "process/halt.h"
+
+#include <string.h>
+
+#include "base/say.h"
+#include "base/self.h"
+#include "process/process.h"
+#include "process/signals.h"
+#include "stream/record.h"
+#include "stream/state.h"
+
+static _Atomic bool is_crashing;
+static void (*_Atomic death_callback)(void);
+
+void halt_on_death(void (*callback)(void))
+{
+    atomic_store(&death_callback, callback);
+}
+
+bool halt_is_first_crash(void)
+{
+    return !atomic_exchange(&is_crashing, true);
+}
+
+static void record(enum code code, unsigned width, uint64_t address, uintptr_t caller, struct access *whole)
+{
+    if (code == CODE_FREE)
+        record_bad_free(address, caller, whole->call);
+    else
+        record_piece_of(code, width, address, caller, whole);
+}
+
+static void say_where(enum code code, uint64_t address)
+{
+    static const char *const names[] = {
+        [CODE_LOAD] = "a bad load", [CODE_STORE] = "a bad store", [CODE_FREE] = "a bad free"};
+    char digits[] = "at 000000000000";
+    for (size_t i = sizeof digits - 1; i-- > strlen("at ");) {
+        digits[i] = "0123456789abcdef"[address % 16];
+        address /= 16;
+    }
+    recorder_say("the process ends: ", names[code], digits);
+}
+
+void halt_at(enum code code, unsigned width, uint64_t address, uintptr_t caller, struct access *whole)
+{
+    /* In a child of vfork all memory is its parent's, which has not halted. */
+    if (!recorder_is_own_process())
+        signals_abort();
+    /* Another thread may be here already. This one then goes on, until that one has ended the process. */
+    if (!atomic_exchange(&halt_is_on, false))
+        return;
+    if (recorder_begins_late() && recorder_begin_late())
+        record(code, width, address, caller, whole);
+    recorder_finish(FINISH_CLOSED);
+    say_where(code, address);
+    void (*callback)(void) = atomic_load(&death_callback);
+    halt_is_first_crash();
+    if (callback != NULL)
+        callback();
+    signals_abort();
+}

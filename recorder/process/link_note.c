@@ -1,0 +1,12 @@
+/* The room for the note of a link. The wrapper of the compiler writes there once the linker has ended. */
+#include "process/link_note.h"
+
+extern const struct link_note asancol_link_note;
+
+__attribute__((section(LINK_NOTE_SECTION), aligned(4), used)) const struct link_note asancol_link_note = {
+    .owner_size = sizeof LINK_NOTE_OWNER,
+    .text_size = LINK_NOTE_ROOM,
+    .type = LINK_NOTE_TYPE,
+    .owner = LINK_NOTE_OWNER,
+    .text = LINK_NOTE_UNKNOWN,
+};

@@ -1,0 +1,22 @@
+/* The note that a link by asancol-cc leaves in a program or a shared object: what of it asancol-cc did not compile. It
+   is an ELF note, so strip leaves it there, and it is found in a file as in memory. docs/FORMAT.md says it in words. */
+#ifndef ASANCOL_LINK_NOTE_H
+#define ASANCOL_LINK_NOTE_H
+
+#include <stdint.h>
+
+#define LINK_NOTE_OWNER "asancol"
+#define LINK_NOTE_SECTION ".note.asancol"
+enum { LINK_NOTE_TYPE = 1, LINK_NOTE_ROOM = 4076 };
+
+/* The first line of its text: until the wrapper has written there, and then. */
+#define LINK_NOTE_UNKNOWN "unknown\n"
+#define LINK_NOTE_KNOWN "linked\n"
+
+struct link_note {
+    uint32_t owner_size, text_size, type;
+    char owner[sizeof LINK_NOTE_OWNER];
+    char text[LINK_NOTE_ROOM]; /* lines, and zeros after them */
+};
+
+#endif

@@ -1,0 +1,124 @@
+/* Which threads a process has, by what the system says: the recorder does not see each of them begin and end. */
+#define _GNU_SOURCE
+#include "process/other_threads.h"
+
+#include <dirent.h>
+#include <errno.h>
+#include <fcntl.h>
+#include <stdlib.h>
+#include <string.h>
+
+#include "base/digits.h"
+#include "base/system.h"
+
+static const char tasks[] = "/proc/self/task";
+
+/* Whether the system has begun to end a thread, by the text of its `stat`: it runs no code of the program any more. Who
+   joins it may go on before it is gone from the folder. */
+static bool is_ending(const char *text)
+{
+    enum { FLAGS = 7, EXITING = 4 }; /* a word after the name, which is in brackets; PF_EXITING of the kernel */
+    const char *at = strrchr(text, ')');
+    unsigned long flags = 0;
+    for (int word = 1; at != NULL && word <= FLAGS; word++)
+        at = strchr(at + 1, ' ');
+    for (at = at != NULL ? at + 1 : ""; *at >= '0' && *at <= '9'; at++)
+        flags = flags * 10 + (unsigned long)(*at - '0');
+    return (flags & EXITING) != 0;
+}
+
+/* Whether a thread of this folder runs, or may run. */
+static bool runs(int folder, const char *thread)
+{
+    char path[32], text[512];
+    if (strlen(thread) + sizeof "/stat" > sizeof path)
+        return true;
+    strcpy(path, thread);
+    strcat(path, "/stat");
+    int file = (int)system_call4(SYS_openat, folder, (long)path, O_RDONLY | O_CLOEXEC, 0);
+    if (file < 0)
+        return file != -ENOENT && file != -ESRCH;
+    ssize_t length = system_read(file, text, sizeof text - 1);
+    system_close(file);
+    text[length > 0 ? length : 0] = 0;
+    return length != -ESRCH && !is_ending(text);
+}
+
+/* Visits the threads of this folder that run, this one among them, until a visit answers true. False: nobody says which
+   there are. */
+static bool visit_running(int folder, bool (*visit)(const char *thread, void *with), void *with)
+{
+    _Alignas(struct dirent64) char entries[1024];
+    ssize_t length;
+    while ((length = system_call3(SYS_getdents64, folder, (long)entries, sizeof entries)) > 0)
+        for (ssize_t at = 0; at < length;) {
+            const struct dirent64 *entry = (const struct dirent64 *)(entries + at);
+            at += entry->d_reclen;
+            if (entry->d_name[0] != '.' && runs(folder, entry->d_name) && visit(entry->d_name, with))
+                return true;
+        }
+    return length == 0;
+}
+
+static bool visit_tasks(bool (*visit)(const char *thread, void *with), void *with)
+{
+    int folder = system_open(tasks, O_RDONLY | O_DIRECTORY | O_CLOEXEC, 0);
+    bool is_seen = folder >= 0 && visit_running(folder, visit, with);
+    if (folder >= 0)
+        system_close(folder);
+    return is_seen;
+}
+
+static bool count_up_to_two(const char *thread, void *count)
+{
+    (void)thread;
+    return ++*(int *)count > 1;
+}
+
+static bool is_alone(void)
+{
+    int count = 0;
+    return visit_tasks(count_up_to_two, &count) && count == 1;
+}
+
+bool has_other_threads(void)
+{
+    enum { LINKS_OF_ONE = 3 }; /* each thread is a folder in that one */
+    struct stat seen;
+    if (system_stat(tasks, &seen) == 0 && seen.st_nlink == LINKS_OF_ONE)
+        return false;
+    /* Twice: one that ends may have begun another one while the first look was at others. */
+    return !is_alone() || !is_alone();
+}
+
+struct visit {
+    void (*visit)(pid_t thread, void *with);
+    void *with;
+};
+
+static bool visit_other(const char *thread, void *of)
+{
+    const struct visit *visit = of;
+    pid_t number = 0;
+    for (const char *digit = thread; *digit >= '0' && *digit <= '9'; digit++)
+        number = number * 10 + (*digit - '0');
+    if (number != system_gettid())
+        visit->visit(number, visit->with);
+    return false;
+}
+
+bool other_threads_visit(void (*visit)(pid_t thread, void *with), void *with)
+{
+    struct visit all = {visit, with};
+    return visit_tasks(visit_other, &all);
+}
+
+bool other_threads_has(pid_t thread)
+{
+    char text[DIGITS_ROOM];
+    int folder = system_open(tasks, O_RDONLY | O_DIRECTORY | O_CLOEXEC, 0);
+    bool is_there = folder < 0 || runs(folder, put_digits(text + sizeof text, (uint64_t)thread, 1));
+    if (folder >= 0)
+        system_close(folder);
+    return is_there;
+}

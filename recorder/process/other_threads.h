@@ -1,0 +1,16 @@
+/* Whether a process has other threads. */
+#ifndef ASANCOL_OTHER_THREADS_H
+#define ASANCOL_OTHER_THREADS_H
+
+#include <stdbool.h>
+#include <sys/types.h>
+
+/* Whether other threads of this process run, or may run. One that has been joined does not, nor a first thread that has
+   ended before the others. If the system says nothing, there may be some. */
+bool has_other_threads(void);
+/* Visits each of them. False: the system does not say which there are. */
+bool other_threads_visit(void (*visit)(pid_t thread, void *with), void *with);
+/* Whether this one runs, or may run. */
+bool other_threads_has(pid_t thread);
+
+#endif

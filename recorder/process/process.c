@@ -1,0 +1,313 @@
+#define _GNU_SOURCE
+#include "process/process.h"
+
+#include <errno.h>
+#include <limits.h>
+#include <unistd.h>
+
+#include "base/disturbance.h"
+#include "base/say.h"
+#include "base/self.h"
+#include "base/system.h"
+#include "calls/library.h"
+#include "heap/heap.h"
+#include "process/orphan.h"
+#include "process/threads.h"
+#include "process/unseen.h"
+#include "stacks/fake_stack.h"
+#include "stacks/thread_notes.h"
+#include "stream/ending.h"
+#include "stream/left_out.h"
+#include "stream/losing.h"
+#include "stream/opening.h"
+#include "stream/sending.h"
+#include "stream/side.h"
+#include "stream/state.h"
+#include "stream/suspending.h"
+#include "stream/switching.h"
+
+/* Who we are, and what the environment says. Written at the start and in a child after a fork. */
+static struct {
+    bool begins_late; /* by its settings */
+    bool forked_inside; /* by a handler that had interrupted the allocator */
+    int error_before_fork;
+    struct settings settings;
+    const char *pattern; /* of the trace's name, or null */
+    char name[PATH_MAX];
+} process;
+
+void recorder_found_checks(void)
+{
+    self_note_checks();
+    side_note_checks();
+}
+
+/* The recorder stands after the program's own objects, so this constructor comes after theirs. */
+__attribute__((constructor)) static void note_main(void)
+{
+    self_note_main();
+    side_note_main();
+}
+
+/* At the end of a child of vfork, which is not its parent's end. The frames that it leaves lie on its parent's stack.
+   */
+static void leave_vfork(void)
+{
+    stack_frames_left((uintptr_t)__builtin_frame_address(0));
+}
+
+/* What the recorder's lines name: where the stream goes. */
+static const char *output_name(void)
+{
+    const struct settings *settings = &process.settings;
+    return settings->hub != NULL ? settings->hub : settings->trace != NULL ? settings->trace : settings->socket;
+}
+
+const char *recorder_hub(void)
+{
+    return process.settings.hub != NULL ? process.settings.hub : process.settings.passed_over;
+}
+
+static bool open_stream(void)
+{
+    if (process.pattern != NULL) {
+        process.settings.trace = process.name;
+        if (!name_of_pattern(process.pattern, process.name, sizeof process.name)) {
+            recorder_say("nothing is recorded: ", process.pattern, "the name is too long");
+            unseen_note(process.settings.hub, "the name of its trace is too long");
+            return false;
+        }
+    }
+    return stream_begin(&process.settings);
+}
+
+/* A child has the newest of the blocks that its parent holds, and no more of them. */
+enum { HELD_BY_CHILD = 4096 };
+
+static bool begin(uint64_t most_held)
+{
+    if (process.settings.with_side)
+        heap_keep_places();
+    heap_check_families(process.settings.mismatches);
+    if (!open_stream())
+        return false;
+    heap_set_bound(process.settings.quarantine);
+    heap_restate(most_held, stream_restating_room());
+    /* What comes next may be an exec, after all descriptors were closed. */
+    stream_look_at_clock(true);
+    return true;
+}
+
+/* Nothing is recorded from now on. If the process is not to end at a fault either, the shadow need not show one. */
+static void be_idle(void)
+{
+    if (process.settings.halt == HALT_NEVER) {
+        heap_set_bound(0);
+        heap_paint(false);
+        library_leave_unchecked();
+        fake_stack_stop();
+        atomic_store(&stream_page.stream.is_idle, true);
+    } else {
+        heap_set_bound(process.settings.quarantine);
+    }
+}
+
+void recorder_start(void)
+{
+    struct disturbance before;
+    if (!state_start())
+        return;
+    undisturbed_begin(&before);
+    self_note_process();
+    settings_read(&process.settings);
+    process.pattern = process.settings.trace;
+    unseen_note(process.settings.passed_over, "ASANCOL_TRACE is set for it, so its trace is there");
+    bool wanted = output_name() != NULL;
+    if (recorder_hub() == NULL)
+        orphan_note();
+    enum halt halt = process.settings.halt;
+    heap_lock();
+    process.begins_late = wanted && halt == HALT_AND_RECORD;
+    atomic_store(&halt_is_on, halt != HALT_NEVER);
+    if (!wanted || halt == HALT_AND_RECORD || !begin(UINT64_MAX)) {
+        state_forget();
+        be_idle();
+    }
+    heap_unlock();
+    if (!atomic_load(&stream_page.stream.is_idle))
+        fake_stack_start(process.settings.use_after_return);
+    unseen_expect_no_more(recorder_hub());
+    undisturbed_end(&before);
+}
+
+bool recorder_begins_late(void)
+{
+    return process.begins_late;
+}
+
+bool recorder_begin_late(void)
+{
+    if (heap_is_entered()) {
+        recorder_say("nothing is recorded: ", "a signal handler", "it came in the middle of an allocation");
+        unseen_note(process.settings.hub, "its first fault came in the middle of an allocation");
+        return false;
+    }
+    struct disturbance before;
+    undisturbed_begin(&before);
+    heap_lock();
+    bool has_begun = begin(UINT64_MAX);
+    heap_unlock();
+    undisturbed_end(&before);
+    return has_begun;
+}
+
+bool recorder_checks_libraries(void)
+{
+    return process.settings.checks_libraries;
+}
+
+void recorder_say_child(void)
+{
+    static const char why[] = "it was not made by fork, but by _Fork or clone";
+    state_forget();
+    recorder_say("a child is not recorded: ", output_name(), why);
+    unseen_note(process.settings.hub, why);
+}
+
+void recorder_finish(enum finish finish)
+{
+    if (!recorder_is_own_process()) {
+        leave_vfork();
+        return;
+    }
+    stream_end(finish, ENDING_EXIT, 0);
+    stream_say_left_out();
+}
+
+void recorder_exit(bool is_last)
+{
+    if (!recorder_is_own_process()) {
+        leave_vfork();
+        return;
+    }
+    stream_close(is_last);
+    if (is_last)
+        stream_say_left_out();
+}
+
+void recorder_finish_in_handler(int number)
+{
+    if (!recorder_is_own_process())
+        return;
+    stream_end(FINISH_OPEN, ENDING_SIGNAL, number);
+    stream_say_left_out();
+}
+
+static bool leave_for_exec(void)
+{
+    if (!recorder_is_own_process()) {
+        leave_vfork();
+        return false;
+    }
+    if (stream_state() == STATE_OFF)
+        return false;
+    /* Nobody switches to another segment from here on. */
+    heap_lock();
+    enum state state = stream_state();
+    if (state == STATE_RECORDING && stream_suspend())
+        return true;
+    heap_unlock();
+    if (state != STATE_AT_LIMIT)
+        return false;
+    stream_end(FINISH_CLOSED, ENDING_EXEC, 0);
+    stream_say_left_out();
+    return true;
+}
+
+bool recorder_before_exec(void)
+{
+    _Atomic uint64_t *calls = side_begin_calls(true);
+    bool is_left = leave_for_exec();
+    side_end_calls(calls);
+    return is_left;
+}
+
+void recorder_exec_failed(void)
+{
+    if (stream_resume())
+        heap_unlock();
+}
+
+/* Forks. The lock of the heap and that of the stream are held across. */
+
+/* Whether what is forked now is to be recorded. */
+static bool forks_recorded(void)
+{
+    enum state state = stream_state();
+    return state == STATE_RECORDING || state == STATE_AT_LIMIT;
+}
+
+/* The handlers of a fork are not given its result: but if it fails it sets errno, and nothing comes between. */
+static void before_fork(void)
+{
+    process.forked_inside = heap_is_entered();
+    heap_lock();
+    stream_lock();
+    process.error_before_fork = errno;
+    errno = 0;
+}
+
+static void after_fork_in_parent(void)
+{
+    if (errno == 0) {
+        if (forks_recorded())
+            side_note_fork();
+        errno = process.error_before_fork;
+    }
+    stream_unlock();
+    heap_unlock();
+}
+
+/* Why a child is not recorded, or null. */
+static const char *why_unrecorded(void)
+{
+    if (process.settings.socket != NULL)
+        return "each connection is one process that was counted before";
+    return process.forked_inside ? "it came in the middle of an allocation" : NULL;
+}
+
+/* A hub learns of the child by a stream that is lost. */
+static void say_unrecorded(const char *why)
+{
+    if (process.settings.hub != NULL && open_stream())
+        stream_stop(why);
+    else
+        recorder_say("a forked child is not recorded: ", output_name(), why);
+}
+
+static void after_fork_in_child(void)
+{
+    bool recorded = forks_recorded();
+    struct disturbance before;
+    errno = process.error_before_fork;
+    self_note_process();
+    thread_is_alone();
+    say_again();
+    stream_forget();
+    stream_unlock();
+    undisturbed_begin(&before);
+    if (recorded && why_unrecorded() != NULL) {
+        say_unrecorded(why_unrecorded());
+        recorded = false;
+    }
+    if (!recorded || !begin(HELD_BY_CHILD)) {
+        be_idle();
+    }
+    undisturbed_end(&before);
+    heap_unlock();
+}
+
+void recorder_watch_forks(void)
+{
+    library.__register_atfork(before_fork, after_fork_in_parent, after_fork_in_child, NULL);
+}

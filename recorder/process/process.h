@@ -1,0 +1,34 @@
+/* What becomes of the stream when the process starts, forks, and ends. */
+#ifndef ASANCOL_PROCESS_H
+#define ASANCOL_PROCESS_H
+
+#include <stdbool.h>
+
+#include "stream/tail.h"
+
+/* Begins the stream, unless that was done. */
+void recorder_start(void);
+/* Forks of the process are seen from now on. */
+void recorder_watch_forks(void);
+/* Says of a child that it is not recorded, which no fork has announced. */
+void recorder_say_child(void);
+/* Whether ASANCOL_HALT=2 has put off the recording until the first fault. */
+bool recorder_begins_late(void);
+/* Begins it. False: it can't be, and a line said why. */
+bool recorder_begin_late(void);
+/* The hub that this process has by its settings, or null; also if it does not connect there. */
+const char *recorder_hub(void);
+/* Whether calls that plain libraries make are checked, by its settings. */
+bool recorder_checks_libraries(void);
+void recorder_finish(enum finish finish);
+/* At an exit. `is_last`: none of the process's handlers and destructors is still to come. */
+void recorder_exit(bool is_last);
+/* In a handler of a signal that ends the process: without a close, and without waiting for other threads for ever. */
+void recorder_finish_in_handler(int number);
+/* Before an exec. False: there is nothing to take back. */
+bool recorder_before_exec(void);
+void recorder_exec_failed(void);
+/* A shared object, or what calls an exported callback, has the calls of a compiler before its accesses. */
+void recorder_found_checks(void);
+
+#endif

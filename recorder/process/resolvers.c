@@ -1,0 +1,84 @@
+#define _GNU_SOURCE
+#include "process/first.h"
+
+#include <elf.h>
+#include <stdbool.h>
+#include <stddef.h>
+#include <stdint.h>
+
+#include "process/becoming.h"
+#include "process/unseen.h"
+
+extern void *__libc_stack_end;
+extern const Elf64_Ehdr __ehdr_start __attribute__((visibility("hidden")));
+extern const Elf64_Dyn _DYNAMIC[] __attribute__((visibility("hidden")));
+
+/* A part of the table of relocations. The dynamic linker may have made addresses of what stands there. */
+struct part {
+    uintptr_t start;
+    size_t size;
+};
+
+static size_t count_resolvers(struct part part, size_t passed)
+{
+    uintptr_t base = (uintptr_t)&__ehdr_start;
+    const Elf64_Rela *row = (const void *)(part.start < base ? part.start + base : part.start);
+    size_t count = 0;
+    for (size_t i = passed; part.start != 0 && i < part.size / sizeof *row; i++)
+        count += ELF64_R_TYPE(row[i].r_info) == R_X86_64_IRELATIVE;
+    return count;
+}
+
+/* Whether there are others than ours. */
+static bool has_resolvers(void)
+{
+    struct part all = {0}, calls = {0};
+    size_t relative = 0;
+    for (const Elf64_Dyn *entry = _DYNAMIC; entry->d_tag != DT_NULL; entry++) {
+        if (entry->d_tag == DT_RELA)
+            all.start = entry->d_un.d_ptr;
+        else if (entry->d_tag == DT_RELASZ)
+            all.size = entry->d_un.d_val;
+        else if (entry->d_tag == DT_JMPREL)
+            calls.start = entry->d_un.d_ptr;
+        else if (entry->d_tag == DT_PLTRELSZ)
+            calls.size = entry->d_un.d_val;
+        else if (entry->d_tag == DT_RELACOUNT)
+            relative = entry->d_un.d_val;
+    }
+    return count_resolvers(all, relative) + count_resolvers(calls, 0) > 1;
+}
+
+static const char *value_after(const char *entry, const char *front)
+{
+    while (*front != 0 && *entry == *front) {
+        entry++;
+        front++;
+    }
+    return *front == 0 ? entry : NULL;
+}
+
+/* The hub, by the words, variables and numbers with which the system begins each process; or null. */
+static const char *hub_at_start(char *const **words)
+{
+    const long *at = __libc_stack_end;
+    const char *hub = NULL;
+    *words = (char *const *)(at + 1);
+    char *const *variable = *words + *at + 1;
+    for (; *variable != NULL; variable++)
+        if (hub == NULL)
+            hub = value_after(*variable, HUB_ENTRY);
+    const Elf64_auxv_t *number = (const void *)(variable + 1);
+    for (; number->a_type != AT_NULL; number++)
+        if (number->a_type == AT_SECURE && number->a_un.a_val != 0)
+            return NULL;
+    return hub != NULL && *hub != 0 ? hub : NULL;
+}
+
+void first_resolver(void)
+{
+    char *const *words;
+    const char *hub = has_resolvers() ? hub_at_start(&words) : NULL;
+    if (hub != NULL)
+        unseen_expect(hub, *words != NULL ? *words : "", NEVER_BEGAN);
+}

@@ -1,0 +1,228 @@
+#define _GNU_SOURCE
+#include "process/settings.h"
+
+#include <limits.h>
+#include <string.h>
+
+#include "process/beginning.h"
+#include "base/digits.h"
+#include "common/distance.h"
+#include "common/format.h"
+#include "base/say.h"
+#include "base/system.h"
+
+#define PREFIX "ASANCOL_"
+
+/* All that the recorder and its tools read. */
+static const char *const names[] = {
+    "ASANCOL_TRACE",    "ASANCOL_HUB",      "ASANCOL_SOCKET", "ASANCOL_WHERE", "ASANCOL_QUARANTINE",
+    "ASANCOL_LIMIT",    "ASANCOL_PATIENCE", "ASANCOL_LOG",    "ASANCOL_ALL",   "ASANCOL_HALT",
+    "ASANCOL_STOP",     "ASANCOL_REPORT",   "ASANCOL_SYMBOLIZER",              "ASANCOL_SEGMENTS",
+    "ASANCOL_LEAKS",    "ASANCOL_MISMATCHES", "ASANCOL_USE_AFTER_RETURN",     "ASANCOL_LIBRARIES",
+#define FRONT(name, end, variable, usual, has_new, links_libm) variable,
+#include "wrapper/fronts.def"
+};
+
+enum { NAMES = sizeof names / sizeof *names, MAX_NAME_LENGTH = 32 };
+
+static bool is_known(const char *name, size_t length)
+{
+    for (size_t i = 0; i < NAMES; i++)
+        if (strlen(names[i]) == length && strncmp(name, names[i], length) == 0)
+            return true;
+    return false;
+}
+
+/* The name that is meant, if one is near; or null. */
+static const char *nearest(const char *name, size_t length)
+{
+    const char *found = NULL;
+    /* Of a short name there is little that could be meant. */
+    size_t letters = length - strlen(PREFIX);
+    size_t least = letters >= 4 ? 3 : letters >= 2 ? 2 : 0;
+    for (size_t i = 0; i < NAMES; i++) {
+        size_t far = edit_distance(name, length, names[i]);
+        if (far < least) {
+            found = names[i];
+            least = far;
+        }
+    }
+    return found;
+}
+
+static void say_unknown(const char *name, size_t length)
+{
+    char shown[MAX_NAME_LENGTH + 1], why[64 + MAX_NAME_LENGTH] = "there is no such setting";
+    const char *meant = length <= MAX_NAME_LENGTH ? nearest(name, length) : NULL;
+    size_t count = length < MAX_NAME_LENGTH ? length : MAX_NAME_LENGTH;
+    memcpy(shown, name, count);
+    shown[count] = 0;
+    if (meant != NULL)
+        strcat(strcat(strcat(why, "; did you mean "), meant), "?");
+    recorder_say("ignored: ", shown, why);
+}
+
+static void look_for_unknown(void)
+{
+    for (char **entry = beginning.variables; entry != NULL && *entry != NULL; entry++) {
+        size_t length = strcspn(*entry, "=");
+        if (strncmp(*entry, PREFIX, strlen(PREFIX)) == 0 && !is_known(*entry, length))
+            say_unknown(*entry, length);
+    }
+}
+
+/* The value of a setting, or null where it has none. */
+static const char *value_of(const char *name)
+{
+    size_t length = strlen(name);
+    for (char **entry = beginning.variables; beginning.is_set_user == 0 && entry != NULL && *entry != NULL; entry++)
+        if (strncmp(*entry, name, length) == 0 && (*entry)[length] == '=')
+            return (*entry)[length + 1] != 0 ? *entry + length + 1 : NULL;
+    return NULL;
+}
+
+/* Adds to a text that has this much room. Returns false where it does not fit. */
+static bool add(char *text, size_t room, const char *more)
+{
+    size_t length = strlen(text);
+    if (length + strlen(more) >= room)
+        return false;
+    strcpy(text + length, more);
+    return true;
+}
+
+static void add_number(char *text, size_t room, uint64_t number)
+{
+    char digits[DIGITS_ROOM];
+    add(text, room, put_digits(digits + sizeof digits, number, 1));
+}
+
+/* "VALUE is no number from LEAST to MOST, and OTHERWISE holds" */
+static void say_no_number(const char *name, const char *value, uint64_t least, uint64_t most, uint64_t otherwise)
+{
+    char why[256] = "";
+    strncat(why, value, 64);
+    add(why, sizeof why, " is no number from ");
+    add_number(why, sizeof why, least);
+    add(why, sizeof why, " to ");
+    add_number(why, sizeof why, most);
+    add(why, sizeof why, ", and ");
+    if (otherwise == ALL_SEGMENTS) {
+        add(why, sizeof why, "all are kept");
+    } else {
+        add_number(why, sizeof why, otherwise);
+        add(why, sizeof why, " holds");
+    }
+    recorder_say("ignored: ", name, why);
+}
+
+/* A number of the environment, if it is one and in range. */
+static uint64_t number_of(const char *name, uint64_t least, uint64_t most, uint64_t otherwise)
+{
+    const char *text = value_of(name);
+    uint64_t value = 0;
+    if (text == NULL)
+        return otherwise;
+    for (const char *digit = text; *digit != 0; digit++) {
+        if (*digit < '0' || *digit > '9' || value > most) {
+            value = UINT64_MAX;
+            break;
+        }
+        value = value * 10 + (uint64_t)(*digit - '0');
+    }
+    if (value >= least && value <= most)
+        return value;
+    say_no_number(name, text, least, most, otherwise);
+    return otherwise;
+}
+
+/* An entry of the environment with a file's name from the root. */
+struct entry {
+    char text[PATH_MAX + MAX_NAME_LENGTH];
+};
+
+/* Adds the first bytes of a name to a pattern, in which a percent sign is doubled. */
+static bool add_name(char *text, size_t room, const char *name, size_t length)
+{
+    for (const char *from = name; from < name + length; from++) {
+        char piece[3] = {*from, *from == '%' ? '%' : 0, 0};
+        if (!add(text, room, piece))
+            return false;
+    }
+    return true;
+}
+
+/* Adds the folder of the process. */
+static bool add_folder(char *text, size_t room)
+{
+    char folder[PATH_MAX];
+    if (system_getcwd(folder, sizeof folder) < 0)
+        return false;
+    return add_name(text, room, folder, strlen(folder)) && add(text, room, "/");
+}
+
+/* Gives the name that a setting has, from the root, and puts it back into the environment so. Null: there is none. */
+static const char *name_from_root(const char *name, struct entry *entry)
+{
+    const char *value = value_of(name);
+    char *text = entry->text;
+    size_t room = sizeof entry->text;
+    if (value == NULL)
+        return NULL;
+    text[0] = 0;
+    bool is_relative = value[0] != '/';
+    if (!add(text, room, name) || !add(text, room, "=") || (is_relative && !add_folder(text, room))
+        || !add(text, room, value))
+        return value; /* it is too long for a file's name */
+    for (char **at = beginning.variables; is_relative && *at != NULL; at++)
+        if (strncmp(*at, text, strlen(name) + 1) == 0)
+            *at = text;
+    return text + strlen(name) + 1;
+}
+
+/* The pattern of traces beside a socket. Null: it is too long. */
+static const char *traces_beside(const char *path, struct entry *entry)
+{
+    const char *slash = strrchr(path, '/');
+    size_t length = slash != NULL ? (size_t)(slash - path) + 1 : 0;
+    entry->text[0] = 0;
+    bool fits = add_name(entry->text, PATH_MAX, path, length) && add(entry->text, PATH_MAX, "%p.trace");
+    return fits ? entry->text : NULL;
+}
+
+const char *settings_hub(void)
+{
+    return value_of("ASANCOL_HUB");
+}
+
+/* Where the stream goes: the trace comes first, and then the hub. */
+static void read_outputs(struct settings *settings)
+{
+    static struct entry trace, beside;
+    settings->trace = name_from_root("ASANCOL_TRACE", &trace);
+    settings->hub = settings->trace == NULL ? settings_hub() : NULL;
+    settings->passed_over = settings->trace != NULL ? settings_hub() : NULL;
+    settings->socket = settings->trace == NULL && settings->hub == NULL ? value_of("ASANCOL_SOCKET") : NULL;
+    if (settings->hub != NULL)
+        settings->trace = traces_beside(settings->hub, &beside);
+}
+
+void settings_read(struct settings *settings)
+{
+    static struct entry log;
+    say_to(name_from_root("ASANCOL_LOG", &log));
+    if (beginning.is_set_user == 0)
+        look_for_unknown();
+    read_outputs(settings);
+    settings->stop = number_of("ASANCOL_STOP", 1, EVENT_LIMIT, 0);
+    settings->limit = number_of("ASANCOL_LIMIT", 1, EVENT_LIMIT, EVENT_LIMIT);
+    settings->segments = number_of("ASANCOL_SEGMENTS", 0, MAX_SEGMENTS_KEPT, ALL_SEGMENTS);
+    settings->quarantine = number_of("ASANCOL_QUARANTINE", 0, MAX_QUARANTINE, QUARANTINE_BOUND);
+    settings->patience_ms = (int)number_of("ASANCOL_PATIENCE", 0, 86400, 60) * 1000;
+    settings->use_after_return = number_of("ASANCOL_USE_AFTER_RETURN", 0, 1, 1) == 1;
+    settings->with_side = number_of("ASANCOL_WHERE", 0, 1, 0) == 1 || settings->hub != NULL;
+    settings->mismatches = number_of("ASANCOL_MISMATCHES", 0, 1, 1) == 1;
+    settings->with_leaks = number_of("ASANCOL_LEAKS", 0, 1, 0) == 1 && settings->with_side;
+    settings->halt = (enum halt)number_of("ASANCOL_HALT", HALT_NEVER, HALT_AND_RECORD, HALT_NEVER);
+    settings->checks_libraries = number_of("ASANCOL_LIBRARIES", 0, 1, 1) == 1;
+}

@@ -1,0 +1,41 @@
+/* What the environment says. */
+#ifndef ASANCOL_SETTINGS_H
+#define ASANCOL_SETTINGS_H
+
+#include <stdbool.h>
+#include <stdint.h>
+
+/* Of so many segments the oldest can be thrown away, or of none. */
+enum { MAX_SEGMENTS_KEPT = 1000 };
+#define ALL_SEGMENTS UINT64_MAX
+
+/* Whether the process ends at its first fault; and whether nothing is recorded until then. */
+enum halt { HALT_NEVER, HALT, HALT_AND_RECORD };
+
+struct settings {
+    const char *hub;    /* its socket, or null */
+    const char *trace;  /* the name of the trace with %p, from the root, or null; with a hub, where it goes if the hub
+                           can't be reached */
+    const char *socket; /* or null */
+    uint64_t limit;    /* of events in a stream */
+    uint64_t segments; /* how many of a process are kept; 0: the limit ends the recording */
+    uint64_t stop; /* the event at which the process stops; 0: none */
+    uint64_t quarantine;
+    int patience_ms;
+    bool use_after_return; /* is looked for by what was compiled for that */
+    bool with_side; /* what stands beside a trace is wanted too, */
+    bool with_leaks; /* and with it what leaks */
+    bool mismatches; /* a free by another family of functions, or with another size, is noted */
+    enum halt halt;
+    bool checks_libraries; /* what plain libraries call, too */
+    const char *passed_over; /* the hub that the environment names beside a trace, or null */
+};
+
+/* The hub that the environment names, or null. */
+const char *settings_hub(void);
+
+/* Reads all settings, and says what is none or has a value that is none. In the environment the names of the trace
+   and of the log are from the root afterwards, so that a process that this one starts elsewhere finds them. */
+void settings_read(struct settings *settings);
+
+#endif

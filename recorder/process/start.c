@@ -1,0 +1,132 @@
+/* The recorder's start, and the ends of the process that it asks the C library for. */
+#define _GNU_SOURCE
+#include "process/start.h"
+
+#include <stddef.h>
+
+#include "base/self.h"
+#include "calls/library.h"
+#include "heap/heap.h"
+#include "interface/interface.h"
+#include "leaks/leaks.h"
+#include "process/beginning.h"
+#include "process/halt.h"
+#include "process/process.h"
+#include "process/signals.h"
+#include "process/threads.h"
+#include "process/unchecked.h"
+#include "shadow/mapping.h"
+#include "stacks/own_stack.h"
+#include "stacks/thread_notes.h"
+#include "stacks/stacks.h"
+#include "stream/ending.h"
+#include "stream/state.h"
+
+/* The end. What is registered first is called last: before any constructor of a library runs, and before the C library
+   registers the one that calls all destructors. A static program registers that before, so there the last of its own
+   destructors is later. What comes first of the two is no end for certain. */
+
+static struct {
+    bool is_registered, handlers_are_over, destructors_are_over;
+} ends;
+
+/* The C library flushes its streams after all handlers, and that may call the program (fopencookie). Leaks are looked
+   for before that, as LeakSanitizer does. */
+static void end_at_exit(bool is_last)
+{
+    if (is_last)
+        leaks_look_at_end();
+    if (is_last && recorder_is_own_process() && stream_has_one_end())
+        library._IO_flush_all();
+    recorder_exit(is_last);
+}
+
+static void after_handlers(void *unused)
+{
+    (void)unused;
+    ends.handlers_are_over = true;
+    end_at_exit(ends.destructors_are_over);
+}
+
+static void after_destructors(void)
+{
+    ends.destructors_are_over = true;
+    if (!ends.is_registered || ends.handlers_are_over)
+        end_at_exit(true);
+}
+
+static void after_quick_handlers(void *unused)
+{
+    (void)unused;
+    recorder_exit(true);
+}
+
+/* The object for which they are registered is none that is ever closed. */
+static void register_ends(void)
+{
+    ends.is_registered = library.__cxa_atexit(after_handlers, NULL, &ends) == 0;
+    library.__cxa_at_quick_exit(after_quick_handlers, &ends);
+}
+
+__attribute__((section(".fini_array.00000"), used)) static void (*last_destructor)(void) = after_destructors;
+
+/* They say who gets word. They are what the system has put on the stack. */
+static void find_words(void)
+{
+#ifdef IS_STATIC
+    beginning_note(beginning.words, *library.environment); /* the library has begun, and its stack ends elsewhere */
+#else
+    if (library.__libc_stack_end == NULL)
+        return;
+    char **words = (char **)*library.__libc_stack_end + 1;
+    size_t count = ((const size_t *)*library.__libc_stack_end)[0];
+    if (words[count] == NULL)
+        beginning_note(words, words + count + 1);
+#endif
+}
+
+void asancol_start(void)
+{
+    static bool has_begun;
+    if (has_begun)
+        return;
+    has_begun = true;
+    library_begin();
+    find_words();
+    shadow_map();
+    register_ends();
+    interface_start();
+    stack_start();
+    thread_is_first();
+    stacks_begin();
+    unchecked_start();
+    recorder_start();
+    recorder_watch_forks();
+    if (stream_state() != STATE_OFF)
+        signals_handle();
+}
+
+/* The C library may not be ready; and in the allocator the start would record a block that its malloc then records
+   again. */
+static bool start_if_ready(void)
+{
+    library_begin();
+    if ((beginning.variables == NULL && !library_is_alone()) || heap_is_entered())
+        return false;
+    asancol_start();
+    return true;
+}
+
+const struct above above = {
+    .lock_heap = heap_lock,
+    .unlock_heap = heap_unlock,
+    .is_in_heap = heap_is_entered,
+    .restate = heap_restate,
+    .hold = heap_set_bound,
+    .poisons_in_heap = heap_is_poisoned,
+    .start = start_if_ready,
+    .say_child = recorder_say_child,
+    .list_unchecked = unchecked_list,
+    .has_frame = stack_has_frame,
+    .halt_at = halt_at,
+};

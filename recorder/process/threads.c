@@ -1,0 +1,540 @@
+/* The stacks of threads. Their shadow is cleared where frames are left without their returns, and where a stack
+   becomes memory for something else: redzones that stay would be those of nobody. To clear too much misses a fault;
+   to clear too little reports one that is none. */
+#define _GNU_SOURCE
+#include "process/threads.h"
+
+#include <errno.h>
+#include <pthread.h>
+#include <signal.h>
+#include <stdatomic.h>
+#include <string.h>
+#include <sys/resource.h>
+#include <threads.h>
+#include <unwind.h>
+
+#include "process/beginning.h"
+#include "process/signal_stack.h"
+#include "calls/library.h"
+#include "heap/heap.h"
+#include "base/platform.h"
+#include "base/self.h"
+#include "shadow/shadow.h"
+#include "stacks/cfi.h"
+#include "stacks/fake_stack.h"
+#include "stacks/own_stack.h"
+#include "stacks/stacks.h"
+#include "stacks/thread_notes.h"
+#include "stream/state.h"
+#include "base/system.h"
+
+/* A stack that is not known is cleared so far upwards, or to the end of the block that it lies in. */
+enum { UNKNOWN_REACH = 8 << 20 };
+/* What a thread has above its frames, and its guard below. */
+enum { STACK_MARGIN = 4 * PAGE };
+
+/* Of a stack in a block nothing beyond the block: there are others. */
+static void clear(struct span frames)
+{
+    if (is_in_arena(frames.low)) {
+        frames.low = frames.low / GRANULE * GRANULE;
+        uintptr_t end = heap_end_around(frames.low) / GRANULE * GRANULE;
+        frames.top = frames.top < end ? frames.top : end;
+    }
+    if (frames.low < frames.top)
+        shadow_clear(frames.low, frames.top - frames.low);
+}
+
+static void clear_own_stack(void)
+{
+    if (own_stack.top != 0)
+        shadow_clear(own_stack.low, own_stack.top - own_stack.low);
+}
+
+static bool is_in(struct span span, uintptr_t address)
+{
+    return address >= span.low && address < span.top;
+}
+
+/* Other stacks, as far as the program has said where they lie: to which one this thread has switched, and from where on
+   its own stack; and in the middle of a switch of a fiber, from where to where it goes. Zeros: none, or not known. */
+static _Thread_local struct span switched, fiber_before, fiber_next;
+static _Thread_local uintptr_t left_at;
+
+static bool is_on_handlers_stack(uintptr_t frame, struct span *all)
+{
+    stack_t seen;
+    if (system_call3(SYS_sigaltstack, 0, (long)&seen, 0) != 0 || !(seen.ss_flags & SS_ONSTACK))
+        return false;
+    *all = (struct span){(uintptr_t)seen.ss_sp, (uintptr_t)seen.ss_sp + seen.ss_size};
+    return is_in(*all, frame);
+}
+
+bool stack_has_frame(uintptr_t frame, uintptr_t address)
+{
+    struct span all = {own_stack.low, own_stack.top};
+    if (!is_in_arena(frame))
+        return false;
+    if (is_in(switched, frame))
+        all = switched;
+    else if (!is_on_own_stack(frame) && !is_on_handlers_stack(frame, &all))
+        return false;
+    /* With the granule behind it: that is stated too (stated.c). */
+    return address >= frame && is_in(all, address) && heap_end_around(address) >= address + 2 * GRANULE;
+}
+
+/* As on the stack where this frame lies: that of handlers is left for the thread's own. */
+static void leave_fakes(uintptr_t frame)
+{
+    struct span all = is_in(switched, frame) ? switched : (struct span){own_stack.low, own_stack.top};
+    fake_frames_left(all.low, all.top);
+}
+
+/* The thread's last call of vfork: its stack pointer there, and the number of the child that has left frames since. A
+   child of another kind of vfork, which nobody noted, has another number. Zeros: none. */
+static _Thread_local struct {
+    uintptr_t stack;
+    pid_t child;
+} vforked;
+
+/* A child that calls it too shares the frames of its parent, whose call lies above. */
+void stack_vforks(uintptr_t stack)
+{
+    if (!recorder_is_own_process())
+        return;
+    vforked.stack = stack;
+    vforked.child = 0;
+}
+
+/* Below which place all frames are the child's, if this is a child of vfork; 0: it is none, or that is not known. */
+static uintptr_t end_of_vforked(void)
+{
+    if (vforked.stack == 0)
+        return 0;
+    if (recorder_is_own_process())
+        return vforked.stack = 0; /* the child is gone */
+    pid_t child = system_getpid();
+    if (vforked.child == 0)
+        vforked.child = child;
+    return vforked.child == child ? vforked.stack : 0;
+}
+
+/* What a child of vfork leaves on its parent's stack, whose own frames go on. False: all may be left. */
+static bool leave_vforked(uintptr_t frame)
+{
+    uintptr_t end = end_of_vforked();
+    struct span all;
+    if (frame >= end)
+        return false;
+    bool is_same = is_on_handlers_stack(frame, &all) ? is_in(all, end)
+                   : is_on_own_stack(frame)          ? is_on_own_stack(end)
+                                                     : is_in(switched, frame) && is_in(switched, end);
+    if (is_same)
+        clear((struct span){frame, end});
+    return is_same;
+}
+
+void stack_frames_left(uintptr_t frame)
+{
+    uintptr_t here = frame / PAGE * PAGE;
+    struct span all;
+    leave_fakes(frame);
+    if (leave_vforked(frame))
+        return;
+    if (is_on_handlers_stack(frame, &all)) {
+        clear(all);
+        clear(switched);
+        clear_own_stack();
+    } else if (is_on_own_stack(frame)) {
+        shadow_clear(here, own_stack.top - here);
+    } else if (is_in(switched, frame)) {
+        clear((struct span){here > switched.low ? here : switched.low, switched.top});
+    } else {
+        clear((struct span){is_in_arena(frame) ? frame : here, here + UNKNOWN_REACH});
+#ifdef IS_STATIC
+        clear_own_stack(); /* a jump, which goes there, is not seen */
+#endif
+    }
+}
+
+/* The frames below the place where a jump or a switch has come back to this thread's own stack. */
+static void come_back(uintptr_t frame, uintptr_t from, uintptr_t target)
+{
+    if ((!is_on_own_stack(frame) || frame > target) && from != 0 && from < target)
+        shadow_clear(from, target - from);
+}
+
+/* Redzones of a coroutine that waits are kept here, so that its stack is clear until it goes on: it may be left for
+   good, and its memory is an array again. By its stack pointer; whoever finds a place busy does without it. */
+
+enum { KEPT = 512, KEPT_BYTES = 1000, KEPT_BUSY = 1 };
+static struct {
+    _Atomic uintptr_t frame; /* 0: it is free */
+    uint32_t size;
+    unsigned char shades[KEPT_BYTES];
+} kept[KEPT];
+
+static size_t place_for(uintptr_t frame)
+{
+    return frame * UINT64_C(0x9e3779b97f4a7c15) >> 55;
+}
+
+_Static_assert(KEPT == 1 << (64 - 55), "as places are made");
+
+static void keep(struct span frames)
+{
+    size_t place = place_for(frames.low), size = (frames.top - frames.low) / GRANULE;
+    if (atomic_exchange(&kept[place].frame, KEPT_BUSY) == KEPT_BUSY)
+        return;
+    kept[place].size = (uint32_t)(size < KEPT_BYTES ? size : KEPT_BYTES);
+    memcpy(kept[place].shades, (const void *)shadow_of(frames.low), kept[place].size);
+    atomic_store(&kept[place].frame, frames.low);
+}
+
+static bool put_back(uintptr_t frame)
+{
+    size_t place = place_for(frame);
+    uintptr_t expected = frame;
+    if (!atomic_compare_exchange_strong(&kept[place].frame, &expected, KEPT_BUSY))
+        return false;
+    volatile unsigned char *shades = shadow_of(frame);
+    for (uint32_t i = 0; i < kept[place].size; i++)
+        if (shades[i] == 0)
+            shades[i] = kept[place].shades[i];
+    atomic_store(&kept[place].frame, 0);
+    return true;
+}
+
+/* The newest stacks that contexts were made on: a switch may not say where a stack lies. Whoever changes one makes it
+   empty first. */
+enum { MADE = 256 };
+static struct {
+    _Atomic uintptr_t low, top;
+} made[MADE];
+
+static struct span made_around(uintptr_t address)
+{
+    for (size_t i = 0; i < MADE; i++) {
+        struct span span = {atomic_load(&made[i].low), atomic_load(&made[i].top)};
+        if (is_in(span, address) && atomic_load(&made[i].low) == span.low)
+            return span;
+    }
+    return (struct span){0, 0};
+}
+
+void stack_begins(struct span all)
+{
+    static _Atomic size_t next;
+    size_t number = MADE;
+    clear(all);
+    fake_context_begins(all.low, all.top);
+    for (size_t i = 0; i < KEPT; i++) {
+        uintptr_t frame = atomic_load_explicit(&kept[i].frame, memory_order_relaxed);
+        if (is_in(all, frame))
+            atomic_compare_exchange_strong(&kept[i].frame, &frame, 0);
+    }
+    for (size_t i = 0; i < MADE; i++)
+        if (is_in(all, atomic_load(&made[i].low))) {
+            atomic_store(&made[i].top, 0);
+            number = i;
+        }
+    if (number == MADE)
+        number = atomic_fetch_add(&next, 1) % MADE;
+    atomic_store(&made[number].top, 0);
+    atomic_store(&made[number].low, all.low);
+    atomic_store(&made[number].top, all.top);
+}
+
+/* A switch that stays on its stack is a jump there, unless the caller goes on later. */
+static void jump_within(const struct stack_switch *it)
+{
+    if (!it->goes_on)
+        clear((struct span){it->frame, it->target});
+}
+
+/* What a switch keeps of a context lies below its frame, if it keeps any there. */
+static void go_on(uintptr_t target)
+{
+    enum { MOST_KEPT = 128 };
+    for (uintptr_t frame = target; frame < target + MOST_KEPT; frame += sizeof frame)
+        if (put_back(frame))
+            return;
+}
+
+static void leave(struct span stack_left, const struct stack_switch *it)
+{
+    if (it->goes_on)
+        keep((struct span){it->frame, stack_left.top});
+    clear((struct span){it->frame, stack_left.top});
+}
+
+/* Which stack it goes to. On a thread's own there may have been an array that was made one, in a frame that is gone. */
+static struct span stack_gone_to(const struct stack_switch *it)
+{
+    bool is_said = it->to.top != 0 || (it->says_stacks && is_on_own_stack(it->target));
+    return is_said ? it->to : made_around(it->target);
+}
+
+void stack_switches(const struct stack_switch *it)
+{
+    struct span from = it->from.top != 0 || !is_in(switched, it->frame) ? it->from : switched, to = stack_gone_to(it);
+    bool was_own = from.top == 0 && is_on_own_stack(it->frame);
+    if (to.top == 0 ? is_in(from, it->target) : to.low == from.low) {
+        jump_within(it);
+        switched = from;
+        return;
+    }
+    if (from.top != 0)
+        leave(from, it);
+    else if (was_own)
+        left_at = it->frame;
+    switched = to;
+    if (to.top != 0)
+        go_on(it->target);
+    else if (is_on_own_stack(it->target) && was_own)
+        jump_within(it);
+    else if (is_on_own_stack(it->target))
+        come_back(it->frame, left_at, it->target);
+}
+
+void stack_fiber_leaves(uintptr_t frame, bool goes_on, struct span next)
+{
+    struct span own = {own_stack.low, own_stack.top};
+    fiber_before = is_in(switched, frame) ? switched : own;
+    fiber_next = next;
+    if (!goes_on && is_in(switched, frame))
+        clear((struct span){frame, switched.top});
+    if (!is_in(switched, frame))
+        left_at = frame;
+}
+
+struct span stack_fiber_comes(void)
+{
+    bool is_own = fiber_next.low == own_stack.low || is_in(fiber_next, left_at);
+    switched = is_own ? (struct span){0, 0} : fiber_next;
+    return fiber_before;
+}
+
+#ifndef IS_STATIC
+
+/* What is passed on to a new thread waits in one of these until the thread has begun: a malloc here would be one that
+   the program did not make. */
+struct start {
+    _Atomic bool is_taken;
+    union {
+        void *(*of_posix)(void *);
+        int (*of_c11)(void *);
+    } routine;
+    void *argument;
+    size_t size; /* of its stack */
+    unsigned number;
+};
+
+enum { STARTS = 256 };
+static struct start starts[STARTS];
+static pthread_key_t at_end;
+static _Atomic bool has_key;
+
+static void end_thread(void *unused)
+{
+    (void)unused;
+    fake_thread_ends();
+    signal_stack_ends();
+    clear_own_stack();
+}
+
+/* In a thread that begins in this frame. Answers what it is to do. */
+static struct start begin_thread(struct start *start, void *frame)
+{
+    struct start copy = {.routine = start->routine, .argument = start->argument};
+    uintptr_t size = start->size > 2 * STACK_MARGIN ? start->size : 2 * STACK_MARGIN;
+    thread_begins(start->number);
+    own_stack.top = page_above((uintptr_t)frame);
+    own_stack.low = own_stack.top - size + STACK_MARGIN;
+    if (is_in_arena(own_stack.low) && heap_end_around(own_stack.low) < own_stack.top)
+        own_stack.top = heap_end_around(own_stack.low) / GRANULE * GRANULE;
+    atomic_store(&start->is_taken, false);
+    shadow_clear(own_stack.low, own_stack.top - own_stack.low);
+    library.pthread_setspecific(at_end, start);
+    signal_stack_begins();
+    return copy;
+}
+
+static void *run(void *of)
+{
+    IS_OWN_FRAME;
+    struct start start = begin_thread(of, __builtin_frame_address(0));
+    return start.routine.of_posix(start.argument);
+}
+
+static int run_of_c11(void *of)
+{
+    IS_OWN_FRAME;
+    struct start start = begin_thread(of, __builtin_frame_address(0));
+    return start.routine.of_c11(start.argument);
+}
+
+void threads_visit_waiting(void (*visit)(uintptr_t argument))
+{
+    for (int i = 0; i < STARTS; i++)
+        if (atomic_load(&starts[i].is_taken))
+            visit((uintptr_t)starts[i].argument);
+}
+
+static struct start *take_start(void)
+{
+    for (int i = 0; i < STARTS; i++)
+        if (!atomic_exchange(&starts[i].is_taken, true))
+            return &starts[i];
+    return NULL;
+}
+
+static size_t stack_size(const pthread_attr_t *attributes)
+{
+    size_t size = 0;
+    pthread_attr_t usual;
+    if (attributes != NULL) {
+        library.pthread_attr_getstacksize(attributes, &size);
+    } else if (library.pthread_getattr_default_np(&usual) == 0) {
+        library.pthread_attr_getstacksize(&usual, &size);
+        library.pthread_attr_destroy(&usual);
+    }
+    return size;
+}
+
+/* The library's function of this name, kept once it is found; or 0. */
+static uintptr_t find_real(_Atomic uintptr_t *real, const char *name)
+{
+    static _Atomic bool is_made;
+    uintptr_t found = atomic_load(real);
+    if (found == 0 && (found = (uintptr_t)library_next(name)) != 0) {
+        if (!atomic_exchange(&is_made, true) && library.pthread_key_create(&at_end, end_thread) == 0)
+            atomic_store(&has_key, true);
+        atomic_store(real, found);
+    }
+    return found;
+}
+
+/* What is passed on to a thread that this caller creates; or null. */
+static struct start *prepare(const pthread_attr_t *attributes, void *argument, uintptr_t caller)
+{
+    bool is_idle = atomic_load_explicit(&stream_page.stream.is_idle, memory_order_relaxed);
+    unsigned number = thread_create(is_idle ? 0 : place_of(caller));
+    struct start *start = atomic_load(&has_key) ? take_start() : NULL;
+    if (start == NULL)
+        return NULL;
+    start->argument = argument;
+    start->size = stack_size(attributes);
+    start->number = number;
+    return start;
+}
+
+typedef void *routine_of(void *);
+typedef int create(pthread_t *, const pthread_attr_t *, routine_of *, void *);
+
+REPLACES int pthread_create(pthread_t *thread, const pthread_attr_t *attributes, routine_of *routine, void *argument)
+{
+    static _Atomic uintptr_t real;
+    create *next = (create *)find_real(&real, "pthread_create");
+    if (next == NULL)
+        return EAGAIN;
+    struct start *start = prepare(attributes, argument, CALLER());
+    if (start == NULL)
+        return next(thread, attributes, routine, argument);
+    start->routine.of_posix = routine;
+    int error = next(thread, attributes, run, start);
+    if (error != 0)
+        atomic_store(&start->is_taken, false);
+    return error;
+}
+
+typedef int create_of_c11(thrd_t *, thrd_start_t, void *);
+
+REPLACES int thrd_create(thrd_t *thread, thrd_start_t routine, void *argument)
+{
+    static _Atomic uintptr_t real;
+    create_of_c11 *next = (create_of_c11 *)find_real(&real, "thrd_create");
+    if (next == NULL)
+        return thrd_error;
+    struct start *start = prepare(NULL, argument, CALLER());
+    if (start == NULL)
+        return next(thread, routine, argument);
+    start->routine.of_c11 = routine;
+    int result = next(thread, run_of_c11, start);
+    if (result != thrd_success)
+        atomic_store(&start->is_taken, false);
+    return result;
+}
+
+/* A jump. If a library makes it, no call of the compilers' comes first; and only here it is known where it goes. */
+
+/* The stack pointer of a jmp_buf, which the C library keeps turned and mixed with a secret. */
+static uintptr_t target_of(const void *to)
+{
+    enum { OF_STACK_POINTER = 6 * sizeof(uintptr_t), TURN = 17 };
+    uintptr_t mixed, secret;
+    memcpy(&mixed, (const char *)to + OF_STACK_POINTER, sizeof mixed);
+    __asm__("movq %%fs:0x30, %0" : "=r"(secret));
+    return (mixed >> TURN | mixed << (64 - TURN)) ^ secret;
+}
+
+static void frames_left_by_jump(uintptr_t frame, uintptr_t target)
+{
+    stack_frames_left(frame);
+    leave_fakes(target);
+    if (is_in(switched, target)) {
+        if (!is_in(switched, frame) || frame > target)
+            clear((struct span){switched.low, target});
+    } else if (is_on_own_stack(target)) {
+        come_back(frame, own_stack.low, target);
+        switched = (struct span){0, 0};
+    }
+}
+
+typedef void jump(void *, int);
+
+#define JUMPS(name)                                                                                                    \
+    REPLACES _Noreturn void name(void *to, int value)                                                                  \
+    {                                                                                                                  \
+        static jump *_Atomic real;                                                                                     \
+        jump *next = atomic_load(&real);                                                                               \
+        if (next == NULL)                                                                                              \
+            atomic_store(&real, next = (jump *)(uintptr_t)library_next(#name));                                        \
+        frames_left_by_jump((uintptr_t)__builtin_frame_address(0), target_of(to));                                     \
+        next(to, value);                                                                                               \
+        __builtin_unreachable();                                                                                       \
+    }
+
+JUMPS(longjmp)
+JUMPS(_longjmp)
+JUMPS(siglongjmp)
+JUMPS(__longjmp_chk)
+
+/* An exception that a library throws. */
+
+typedef _Unwind_Reason_Code raises(struct _Unwind_Exception *);
+
+#define UNWINDS(name)                                                                                                  \
+    REPLACES _Unwind_Reason_Code name(struct _Unwind_Exception *exception)                                             \
+    {                                                                                                                  \
+        static raises *_Atomic real;                                                                                   \
+        raises *next = atomic_load(&real);                                                                             \
+        if (next == NULL)                                                                                              \
+            atomic_store(&real, next = (raises *)(uintptr_t)library_next(#name));                                      \
+        if (next == NULL)                                                                                              \
+            return _URC_FATAL_PHASE1_ERROR;                                                                            \
+        stack_frames_left((uintptr_t)__builtin_frame_address(0));                                                      \
+        return next(exception);                                                                                        \
+    }
+
+UNWINDS(_Unwind_RaiseException)
+UNWINDS(_Unwind_Resume_or_Rethrow)
+
+#else
+
+void threads_visit_waiting(void (*visit)(uintptr_t argument))
+{
+    (void)visit;
+}
+
+#endif

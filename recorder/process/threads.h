@@ -1,0 +1,42 @@
+/* The stacks of threads. */
+#ifndef ASANCOL_THREADS_H
+#define ASANCOL_THREADS_H
+
+#include <stdbool.h>
+#include <stdint.h>
+
+#include "base/platform.h"
+
+/* Whether an address in a block is in this frame or above it, on a stack on which this thread is known to be. */
+bool stack_has_frame(uintptr_t frame, uintptr_t address) OWN_NAME(stack_has_frame);
+/* Frames from this one up may be left without their returns: in a child of vfork those below its parent's call. */
+void stack_frames_left(uintptr_t frame) OWN_NAME(stack_frames_left);
+/* The thread calls vfork, with this stack pointer. */
+void stack_vforks(uintptr_t stack) OWN_NAME(stack_vforks);
+
+/* Where a stack lies, up to `top`; zeros if that is not known. */
+struct span {
+    uintptr_t low, top;
+};
+
+/* A switch to another context: the frame that it is made in, and the stack pointer to which it goes, or below that what
+   the switch has kept there. */
+struct stack_switch {
+    uintptr_t frame, target;
+    struct span from, to;
+    bool goes_on;     /* where it is made, later */
+    bool says_stacks; /* contexts on a stack of their own say where that is */
+};
+
+/* What threads that were created are to be given, and have not taken yet. */
+void threads_visit_waiting(void (*visit)(uintptr_t argument));
+
+void stack_switches(const struct stack_switch *it) OWN_NAME(stack_switches);
+/* Memory becomes the stack of a new context. */
+void stack_begins(struct span all) OWN_NAME(stack_begins);
+/* A fiber switches to another one, of this stack; or the program goes there and says that the former ends. */
+void stack_fiber_leaves(uintptr_t frame, bool goes_on, struct span next) OWN_NAME(stack_fiber_leaves);
+/* It has switched. Returns the stack that it comes from. */
+struct span stack_fiber_comes(void) OWN_NAME(stack_fiber_comes);
+
+#endif

@@ -1,0 +1,99 @@
+#define _GNU_SOURCE
+#include "process/unseen.h"
+
+#include <errno.h>
+#include <fcntl.h>
+
+#include "process/beginning.h"
+#include "base/digits.h"
+#include "process/hub_names.h"
+#include "base/system.h"
+
+/* What a mark says is short. */
+enum { TEXT_ROOM = 512, MAX_PROGRAM_LENGTH = 200 };
+
+/* Makes a mark: a symbolic link, since that needs no descriptor, of which there may be none left. The text may have a
+   third line. */
+static int make_mark(const char *name, const char *program, const char *why, const char *more)
+{
+    char text[TEXT_ROOM];
+    struct joined joined = {.text = text, .room = sizeof text};
+    joined_add(&joined, program, MAX_PROGRAM_LENGTH);
+    joined_add(&joined, "\n", 1);
+    joined_add(&joined, why, sizeof text);
+    joined_add(&joined, more != NULL ? "\n" : "", 1);
+    joined_add(&joined, more != NULL ? more : "", DIGITS_ROOM);
+    return system_symlink(text, name);
+}
+
+static bool connect_to(const char *hub, bool is_abstract)
+{
+    struct sockaddr_un address;
+    socklen_t length = hub_socket(&address, hub, is_abstract);
+    int made = length > 0 ? system_socket(AF_UNIX, SOCK_STREAM | SOCK_CLOEXEC, 0) : -1;
+    if (made < 0)
+        return false;
+    bool is_there = system_connect(made, &address, length) == 0;
+    system_close(made);
+    return is_there;
+}
+
+void unseen_knock(const char *hub)
+{
+    if (hub != NULL && !connect_to(hub, false))
+        connect_to(hub, true);
+}
+
+void unseen_note(const char *hub, const char *why)
+{
+    char name[HUB_MARK_ROOM];
+    if (hub == NULL)
+        return;
+    int failed = hub_mark(name, hub, (unsigned long)system_getpid(), MARK_UNSEEN)
+                     ? make_mark(name, beginning_name(), why, NULL) : -ENOENT;
+    if (failed != 0 && failed != -EEXIST)
+        unseen_knock(hub);
+}
+
+#ifndef IN_SHARED_OBJECT
+
+/* The time says which connection comes after the mark. */
+static int expect_as(const char *hub, int number, const char *end, const char *program, const char *why)
+{
+    char name[HUB_MARK_ROOM], digits[DIGITS_ROOM];
+    struct timespec now;
+    if (hub == NULL || !hub_mark(name, hub, (unsigned long)number, end))
+        return -ENOENT;
+    system_clock_gettime(CLOCK_REALTIME, &now);
+    uint64_t time = (uint64_t)now.tv_sec * 1000000000 + (uint64_t)now.tv_nsec;
+    return make_mark(name, program, why, put_digits(digits + sizeof digits, time, 1));
+}
+
+int unseen_expect(const char *hub, const char *program, const char *why)
+{
+    return expect_as(hub, system_getpid(), MARK_EXPECTED, program, why);
+}
+
+void unseen_expect_no_more(const char *hub)
+{
+    char name[HUB_MARK_ROOM];
+    if (hub != NULL && hub_mark(name, hub, (unsigned long)system_getpid(), MARK_EXPECTED))
+        system_unlink(name);
+}
+
+/* One thread begins one child at a time. */
+bool unseen_expect_child(const char *hub, const char *program, const char *why)
+{
+    return expect_as(hub, system_gettid(), "begins", program, why) == 0;
+}
+
+void unseen_expect_as(const char *hub, int child)
+{
+    char before[HUB_MARK_ROOM], name[HUB_MARK_ROOM];
+    if (!hub_mark(before, hub, (unsigned long)system_gettid(), "begins"))
+        return;
+    if (child == 0 || !hub_mark(name, hub, (unsigned long)child, MARK_EXPECTED) || system_rename(before, name) != 0)
+        system_unlink(before);
+}
+
+#endif

@@ -1,0 +1,151 @@
+/* Where the shadow lies. This is linked into the program and into each shared object: one may be opened by a program
+   that has no recorder, and its code reads and writes the shadow all the same. */
+#define _GNU_SOURCE
+#include "shadow/mapping.h"
+
+#include <elf.h>
+#include <errno.h>
+#include <stdatomic.h>
+#include <string.h>
+#include <sys/mman.h>
+#include <unistd.h>
+
+#include "base/errors.h"
+#include "base/system.h"
+#include "shadow/shadow.h"
+
+#ifndef IN_SHARED_OBJECT
+#include "calls/library.h"
+#include "process/settings.h"
+#include "process/unseen.h"
+
+extern const struct recorder_hooks asancol_hooks;
+#endif
+
+/* Its code reads the shadow before each access, so nothing of the program can run without it. */
+static _Noreturn void fail(const char *why)
+{
+    static const char front[] = "asancol: the program cannot run without room for its shadow: ";
+    static const char advice[] = "; build it without asancol-cc to run it so\n";
+    const char *const pieces[] = {front, why, advice};
+    for (size_t i = 0; i < sizeof pieces / sizeof *pieces; i++)
+        if (system_write(STDERR_FILENO, pieces[i], strlen(pieces[i])) < 0)
+            break;
+#ifndef IN_SHARED_OBJECT
+    unseen_note(settings_hub(), why);
+#endif
+    system_exit(127);
+}
+
+static void map_at(uint64_t address, int advice)
+{
+    int flags = MAP_PRIVATE | MAP_ANONYMOUS | MAP_NORESERVE | MAP_FIXED_NOREPLACE;
+    void *at = (void *)address;
+    long start = system_mmap(at, SHADOW_BYTES, PROT_READ | PROT_WRITE, flags, -1, 0);
+    if (start < 0 && start != -EEXIST)
+        fail(start == -ENOMEM ? "address space is limited (ulimit -v, or vm.overcommit_memory=2)"
+                              : error_text((int)-start));
+    /* A system that does not know MAP_FIXED_NOREPLACE takes the address for a hint. */
+    if (start > 0 && start != (long)at)
+        fail("something else has its addresses");
+    /* Where another object of the process came first, the whole range is mapped. If anything else has a part of it, the
+       rest is a hole, of which the system says ENOMEM here. */
+    if (system_madvise(at, SHADOW_BYTES, MADV_DONTDUMP) == -ENOMEM)
+        fail("something else has its addresses");
+    system_madvise(at, SHADOW_BYTES, MADV_NOHUGEPAGE);
+    if (advice != 0)
+        system_madvise(at, SHADOW_BYTES, advice);
+}
+
+/* A wild pointer into one of the two maps faults as it would without them: in the compilers' check, which reads the
+   map's own shadow. */
+static void guard(uint64_t address)
+{
+    system_mprotect((void *)shadow_of(address), SHADOW_BYTES / GRANULE, PROT_NONE);
+}
+
+enum { MEETING_FLAGS = MAP_PRIVATE | MAP_ANONYMOUS | MAP_FIXED_NOREPLACE };
+
+/* The program writes into it before the constructors of the objects that are loaded with it. */
+static void map_meeting(void)
+{
+    void *at = (void *)MEETING_START;
+    long start = system_mmap(at, PAGE, PROT_READ | PROT_WRITE, MEETING_FLAGS, -1, 0);
+#ifdef IN_SHARED_OBJECT
+    if (start == -EEXIST)
+        return;
+#else
+    /* An object has mapped an empty one when it was relocated. */
+    if (start == -EEXIST && system_mprotect(at, PAGE, PROT_READ | PROT_WRITE) == 0)
+        start = (long)at;
+#endif
+    if (start != (long)at)
+        fail("something else has its addresses");
+#ifndef IN_SHARED_OBJECT
+    library_find(at);
+    ((struct meeting *)at)->program = own_code;
+    ((struct meeting *)at)->hooks = &asancol_hooks;
+#endif
+    system_mprotect(at, PAGE, PROT_READ);
+}
+
+/* The header of the object's own file, made by the linker. */
+extern const Elf64_Ehdr __ehdr_start __attribute__((visibility("hidden"), weak));
+
+struct code_range own_code;
+
+static void find_own_code(void)
+{
+    const Elf64_Ehdr *header = &__ehdr_start;
+    if (header == NULL)
+        return;
+    const Elf64_Phdr *segment = (const Elf64_Phdr *)((const unsigned char *)header + header->e_phoff);
+    uintptr_t start = UINTPTR_MAX, end = 0;
+    for (unsigned i = 0; i < header->e_phnum; i++) {
+        if (segment[i].p_type != PT_LOAD)
+            continue;
+        start = segment[i].p_vaddr < start ? segment[i].p_vaddr : start;
+        end = segment[i].p_vaddr + segment[i].p_memsz;
+    }
+    own_code = (struct code_range){(uintptr_t)header, end - start};
+}
+
+#ifdef IN_SHARED_OBJECT
+
+static void do_nothing(void)
+{
+}
+
+/* Code of this object may run before its constructors: libstdc++ has the same functions as each object that was made of
+   its headers, and takes those of the object that comes first. So the pages that such code reads are mapped when the
+   object is relocated, which is when the dynamic linker asks a resolver. No call of a library works yet. */
+__attribute__((used)) static void (*map_at_relocation(void))(void)
+{
+    int flags = MAP_PRIVATE | MAP_ANONYMOUS | MAP_NORESERVE | MAP_FIXED_NOREPLACE;
+    system_mmap((void *)SHADOW_START, SHADOW_BYTES, PROT_READ | PROT_WRITE, flags, -1, 0);
+    system_mmap((void *)MEETING_START, PAGE, PROT_READ, MEETING_FLAGS, -1, 0);
+    return do_nothing;
+}
+
+static void at_relocation(void) __attribute__((ifunc("map_at_relocation")));
+__attribute__((used)) static void (*const relocated)(void) = at_relocation;
+
+#endif
+
+void shadow_map(void)
+{
+    static bool is_mapped;
+    if (is_mapped)
+        return;
+    is_mapped = true;
+    find_own_code();
+#ifndef IN_SHARED_OBJECT
+    library_begin();
+#endif
+    map_at(SHADOW_START, 0);
+    /* A child's stream states nothing yet. */
+    map_at(STATED_START, MADV_WIPEONFORK);
+    map_meeting();
+    guard(SHADOW_START);
+    guard(STATED_START);
+}

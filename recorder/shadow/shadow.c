@@ -1,0 +1,106 @@
+#define _GNU_SOURCE
+#include "shadow/shadow.h"
+
+#include <stdatomic.h>
+#include <string.h>
+#include <sys/mman.h>
+
+#include "base/system.h"
+
+/* Fills the shadow of whole granules. Zeros in whole pages give the pages back. */
+static void fill(uint64_t address, uint64_t size, unsigned char shade)
+{
+    unsigned char *first = (unsigned char *)shadow_of(address), *end = (unsigned char *)shadow_of(address + size);
+    if (shade == 0 && end - first > 2 * PAGE) {
+        uintptr_t mask = ~(uintptr_t)(PAGE - 1);
+        unsigned char *pages = (unsigned char *)(((uintptr_t)first + PAGE - 1) & mask);
+        unsigned char *pages_end = (unsigned char *)((uintptr_t)end & mask);
+        if (system_madvise(pages, (size_t)(pages_end - pages), MADV_DONTNEED) == 0) {
+            memset(first, 0, (size_t)(pages - first));
+            first = pages_end;
+        }
+    }
+    memset(first, shade, (size_t)(end - first));
+}
+
+/* Cuts a region at the end of addresses. Returns whether anything is left of it. */
+static bool clip(uint64_t address, uint64_t *size)
+{
+    if (address >= ADDRESS_END)
+        return false;
+    if (*size > ADDRESS_END - address)
+        *size = ADDRESS_END - address;
+    return *size != 0;
+}
+
+void shadow_clear(uint64_t address, uint64_t size)
+{
+    if (!clip(address, &size))
+        return;
+    uint64_t first = address / GRANULE * GRANULE;
+    fill(first, (address + size - first + GRANULE - 1) / GRANULE * GRANULE, 0);
+}
+
+/* Of one granule, its bytes from `from` up to `to`. */
+static void poison_part(uint64_t granule, unsigned from, unsigned to, unsigned char code)
+{
+    volatile unsigned char *shade = shadow_of(granule);
+    unsigned count = addressable_of(*shade);
+    if (to < count || from >= count)
+        return;
+    *shade = from == 0 ? code : (unsigned char)from;
+}
+
+static void unpoison_part(uint64_t granule, unsigned to)
+{
+    volatile unsigned char *shade = shadow_of(granule);
+    if (to > addressable_of(*shade))
+        *shade = (unsigned char)to;
+}
+
+void shadow_poison(uint64_t address, uint64_t size, unsigned char code)
+{
+    if (!clip(address, &size))
+        return;
+    uint64_t end = address + size, first = address / GRANULE * GRANULE;
+    if (first != address) {
+        unsigned to = end - first < GRANULE ? (unsigned)(end - first) : GRANULE;
+        poison_part(first, (unsigned)(address - first), to, code);
+        first += GRANULE;
+    }
+    uint64_t last = end / GRANULE * GRANULE;
+    if (first < last)
+        fill(first, last - first, code);
+    if (last >= first && last < end)
+        poison_part(last, 0, (unsigned)(end - last), code);
+    atomic_thread_fence(memory_order_seq_cst);
+}
+
+void shadow_unpoison(uint64_t address, uint64_t size)
+{
+    if (!clip(address, &size))
+        return;
+    uint64_t end = address + size, first = address / GRANULE * GRANULE, last = end / GRANULE * GRANULE;
+    if (first < last)
+        fill(first, last - first, 0);
+    if (last < end)
+        unpoison_part(last, (unsigned)(end - last));
+    atomic_thread_fence(memory_order_seq_cst);
+}
+
+uint64_t shadow_first_bad(uint64_t address, uint64_t size)
+{
+    enum { STEP = 64 * GRANULE };
+    if (!clip(address, &size))
+        return address + size;
+    uint64_t at = address, end = address + size;
+    while (end - at > STEP && shadow_is_clean(at, STEP))
+        at += STEP;
+    for (; at < end; at = at / GRANULE * GRANULE + GRANULE) {
+        uint64_t good_end = at / GRANULE * GRANULE + addressable_of(*shadow_of(at));
+        uint64_t bad = at > good_end ? at : good_end;
+        if (bad / GRANULE == at / GRANULE && bad < end)
+            return bad;
+    }
+    return end;
+}

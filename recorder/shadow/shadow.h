@@ -1,0 +1,165 @@
+/* The shadow: a byte for each granule of 8 bytes, as AddressSanitizer has it. The compilers' inline checks read it
+   before each access, and their code writes the redzones of frames into it. heap.c writes the state of blocks,
+   variables.c that of globals and of scopes that end, and the process its own poison.
+
+   **The shadow decides only what is recorded; the verdict is the collector's.** An access that the check lets through
+   leaves no record. So the shadow must never be laxer than what the collector makes of the stream: what is
+   addressable here has to be addressable there, at the place that a record of the access would have. Being stricter
+   costs a record, and no verdict.
+
+   Of memory outside the allocator's the stream says nothing until an access comes that the check holds for bad. A
+   second map of the same form, `stated`, has the byte that the stream states of each granule there. Where the two
+   differ, the stream is brought up before the access is recorded (stated.c). So a frame whose redzones nobody comes
+   near costs nothing, and a stream that begins later begins with a map of zeros. */
+#ifndef ASANCOL_SHADOW_H
+#define ASANCOL_SHADOW_H
+
+#include <stdbool.h>
+#include <stddef.h>
+#include <stdint.h>
+
+#include "common/format.h"
+#include "base/platform.h"
+
+/* Where the maps lie: free in all layouts of a process on x86-64. Programs lie from 0x5555.. on, or below 2^32;
+   libraries and stacks below 2^47; with an unlimited stack libraries lie below 0x1555.., and in the old layout
+   (`setarch -L`) from 0x2aaa.. on.
+
+   The shadow begins at AddressSanitizer's own place, which fits into an instruction, and ends a little above 2^44.
+   asancol-cc gives the compilers this number. */
+#define SHADOW_START ((uint64_t)0x7fff8000)
+#define SHADOW_BYTES (ADDRESS_END / GRANULE)
+/* The allocator's memory is from 2^45 up to 5 * 2^43 (arena.h), */
+#define ARENA_SHIFT 43
+#define ARENA_NUMBER 4
+/* and `stated` is from 2^46 up to 5 * 2^44. */
+#define STATED_START ((uint64_t)1 << 46)
+
+/* After them comes a page that every object of the process finds: no symbol has to be exported or found for it. In the
+   assembly of stubs.h it is a number. */
+#define MEETING_START 0x500000000000
+_Static_assert((uint64_t)MEETING_START == STATED_START + SHADOW_BYTES, "it follows the maps");
+
+struct recorder_hooks;
+
+struct code_range {
+    uintptr_t start, size;
+};
+
+struct meeting {
+    const struct recorder_hooks *hooks; /* of the program (hooks.h), or null if it has no recorder */
+    /* The code whose functions are checked when they are called: the C library's, what the system has of it, and that
+       of its mathematics (library.c). Zeros if no call is checked. */
+    struct code_range library, system, mathematics;
+    /* The program's, whose functions may have any name. */
+    struct code_range program;
+};
+
+/* The codes of granules without an addressable byte. Which of them it is matters to nobody but for the kind of the
+   poison that the stream gets. */
+enum {
+    /* The redzones of frames have the codes from SHADE_LEFT to SHADE_RETURNED. */
+    SHADE_LEFT = 0xf1,
+    SHADE_RIGHT = 0xf3,
+    SHADE_RETURNED = 0xf5,
+    SHADE_HEAP = 0xfa,
+    SHADE_FREED = 0xfd,
+    SHADE_USER = 0xf7,
+    SHADE_SCOPE = 0xf8,
+    SHADE_GLOBAL = 0xf9,
+    SHADE_CONTAINER = 0xfc,
+    SHADE_FIELD = 0xbb, /* between the fields of a class */
+    SHADE_COOKIE = 0xac,
+    SHADE_ALLOCA_LEFT = 0xca,
+    SHADE_ALLOCA_RIGHT = 0xcb,
+};
+
+/* In `stated` alone: a thread is bringing the stream up just now, in a segment whose number ends in these four bits. */
+enum { STATED_BUSY = 0xe0, BUSY_NUMBERS = 0x10 };
+
+static inline bool is_in_arena(uint64_t address)
+{
+    return address >> ARENA_SHIFT == ARENA_NUMBER;
+}
+
+static inline volatile unsigned char *shadow_of(uint64_t address)
+{
+    return (volatile unsigned char *)(SHADOW_START + address / GRANULE);
+}
+
+static inline _Atomic unsigned char *stated_of(uint64_t address)
+{
+    return (_Atomic unsigned char *)(STATED_START + address / GRANULE);
+}
+
+/* How many of a granule's first bytes are addressable, by its shadow byte. */
+static inline unsigned addressable_of(unsigned char shade)
+{
+    return shade == 0 ? GRANULE : shade < GRANULE ? shade : 0;
+}
+
+/* The check of the compilers, which is the collector's too: the granule of the first byte decides. */
+static inline bool shadow_is_bad(uint64_t address, unsigned width)
+{
+    unsigned shade = *shadow_of(address);
+    return shade != 0 && (shade >= GRANULE || address % GRANULE + width > shade);
+}
+
+/* A redzone of a frame, or a variable whose scope has ended. */
+static inline bool is_of_frame(unsigned char shade)
+{
+    return (shade >= SHADE_LEFT && shade <= SHADE_RETURNED) || shade == SHADE_SCOPE || shade == SHADE_ALLOCA_LEFT
+           || shade == SHADE_ALLOCA_RIGHT;
+}
+
+/* Whether an access meets the redzone of a frame that lies in a block: of a coroutine, or of a thread or a handler with
+   a stack that the program has allocated. For the collector that memory is the block's. It may be used for something
+   else without a word: so the redzones there are nobody's, unless this thread is on that stack now (threads.h). */
+static inline bool is_frame_in_block(uint64_t address, unsigned width)
+{
+    if (!is_in_arena(address))
+        return false;
+    unsigned char shade = *shadow_of(address);
+    if (shade >= GRANULE)
+        return is_of_frame(shade);
+    return shade != 0 && address % GRANULE + width > shade && is_of_frame(*shadow_of(address + GRANULE));
+}
+
+/* Whether each byte of a region is addressable. */
+static inline bool shadow_is_clean(uint64_t address, uint64_t size)
+{
+    if (size == 0)
+        return true;
+    if (address >= ADDRESS_END || size > ADDRESS_END - address)
+        return false;
+    const unsigned char *at = (const unsigned char *)shadow_of(address);
+    const unsigned char *last = (const unsigned char *)shadow_of(address + size - 1);
+    for (uint64_t words[4]; last - at >= (ptrdiff_t)sizeof words; at += sizeof words) {
+        __builtin_memcpy(words, at, sizeof words);
+        if ((words[0] | words[1] | words[2] | words[3]) != 0)
+            return false;
+    }
+    uint64_t word;
+    for (; last - at >= (ptrdiff_t)sizeof word; at += sizeof word) {
+        __builtin_memcpy(&word, at, sizeof word);
+        if (word != 0)
+            return false;
+    }
+    /* Those before the last one at once, and without what lies after them. */
+    if (at < last) {
+        __builtin_memcpy(&word, at, sizeof word);
+        if (word << (sizeof word - (size_t)(last - at)) * 8 != 0)
+            return false;
+    }
+    return *last == 0 || (*last < GRANULE && (address + size - 1) % GRANULE < *last);
+}
+
+/* Makes all granules that a region touches addressable. */
+void shadow_clear(uint64_t address, uint64_t size) OWN_NAME(shadow_clear);
+/* By the rules of a poison and an unpoison (docs/MODEL.md). Other threads see them on return. */
+void shadow_poison(uint64_t address, uint64_t size, unsigned char code) OWN_NAME(shadow_poison);
+void shadow_unpoison(uint64_t address, uint64_t size) OWN_NAME(shadow_unpoison);
+/* The first byte of a region that is not addressable, or its end. */
+uint64_t shadow_first_bad(uint64_t address, uint64_t size);
+
+#endif

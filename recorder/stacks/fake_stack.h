@@ -1,0 +1,57 @@
+/* The fake stack of a thread: frames in memory apart from its stack, which is used again late. So an access to a
+   variable of a function that has returned is found. The compilers' code takes a frame when a function begins, and
+   keeps its variables on the stack if it gets none. When the function returns, that code marks the frame's shadow as
+   SHADE_RETURNED and clears a flag, whose address stands in the frame's last word. */
+#ifndef ASANCOL_FAKE_STACK_H
+#define ASANCOL_FAKE_STACK_H
+
+#include <stdbool.h>
+#include <stddef.h>
+#include <stdint.h>
+
+#include "base/platform.h"
+
+/* The compilers' frames have 64 << class bytes. */
+enum { FAKE_CLASSES = 11, FAKE_LEAST_SHIFT = 6 };
+
+/* The words of a frame's left redzone. The compilers write three, and here is the next one: where on the stack the
+   function was. When the function has returned, there is another number. */
+#define FRAME_MAGIC UINT64_C(0x41b58ab3)
+#define RETURNED_MAGIC UINT64_C(0x45e0360e)
+enum { WORD_MAGIC, WORD_DESCRIPTION, WORD_FUNCTION, WORD_REAL, WORDS };
+
+/* Whether code that was compiled with `runtime` asks for frames: it reads this first. 0 if nothing is recorded. */
+extern int __asan_option_detect_stack_use_after_return;
+
+/* From now on threads get frames; if `by_default` is false, those that are compiled with `always` alone. */
+void fake_stack_start(bool by_default);
+/* No thread gets one. In a process with one thread. */
+void fake_stack_stop(void);
+
+/* A frame of this class, for a function that is called from a frame above `real`. 0: there is none. A signal handler
+   may call this at any time. */
+uintptr_t fake_take(unsigned class, uintptr_t real) OWN_NAME(fake_take);
+/* The function returns. */
+void fake_give(uintptr_t frame, unsigned class) OWN_NAME(fake_give);
+
+/* Frames on this stack may have been left without their returns. Those below the next one that the thread takes there
+   are given back then. */
+void fake_frames_left(uintptr_t low, uintptr_t top);
+/* Memory becomes the stack of a new context: what this thread has taken there is given back. */
+void fake_context_begins(uintptr_t low, uintptr_t top);
+/* The thread ends: its frames can be another thread's, and most of the memory goes back to the system. */
+void fake_thread_ends(void);
+
+/* This thread's fake stack, as a word for those below; null: it has none. */
+void *fake_current(void);
+/* Where on the stack the function was when it took the frame that has this address, and from where to where its
+   variables lie. Null: that is no frame of this fake stack that is in use. */
+void *fake_real_of(void *stack, uintptr_t address, uintptr_t *start, uintptr_t *end);
+
+/* Calls `visit` for each frame that is taken, of any thread. No thread runs. */
+void fake_each_frame(void (*visit)(uintptr_t low, uintptr_t top));
+
+/* Where the frame starts that has this address, of any thread. 0: it is in none. */
+uint64_t fake_start_of(uint64_t address);
+
+#endif

@@ -1,0 +1,49 @@
+/* Threads, by their numbers in the order in which they were created. What is noted of one stays when it has ended, and
+   its number is not used again. At any time, and in a signal handler too. */
+#ifndef ASANCOL_THREAD_NOTES_H
+#define ASANCOL_THREAD_NOTES_H
+
+#include <stdatomic.h>
+#include <stdint.h>
+
+#include "common/format.h"
+
+/* A number has so many bits (stacks.h). Of the first thread it is 0. */
+enum { THREAD_BITS = 15, THREAD_UNKNOWN = (1 << THREAD_BITS) - 1 };
+enum { NAME_WORDS = SIDE_THREAD_NAME / sizeof(uint64_t) };
+
+/* What a thread has at a fixed distance from what stands for it with the C library. */
+struct own_notes {
+    _Atomic uint32_t number;
+    _Atomic uint64_t name[NAME_WORDS]; /* that another thread gave it before it had a number */
+};
+
+extern _Thread_local struct own_notes own_notes;
+
+/* The number of the running thread. It is not known of one that nobody saw begin. */
+static inline unsigned thread_number(void)
+{
+    return atomic_load_explicit(&own_notes.number, memory_order_relaxed);
+}
+
+struct thread_note {
+    uint64_t created;       /* the place of the call, with the thread that made it (stacks.h) */
+    uint32_t system_number; /* UINT32_MAX if the system does not say it */
+    uint64_t name[NAME_WORDS];
+};
+
+/* In the first thread, at the start. */
+void thread_is_first(void);
+/* Answers the number of the thread that a call of this place is about to create. */
+unsigned thread_create(uint64_t created);
+/* In that thread, before all that the program does there. */
+void thread_begins(unsigned number);
+/* In the child of a fork. */
+void thread_is_alone(void);
+struct thread_note thread_note(unsigned number);
+/* Answers the number of a thread by its pthread_t, or of this one by 0. If it has none yet, it will have the name when
+   it has. */
+unsigned thread_named(uintptr_t thread, const uint64_t name[NAME_WORDS]);
+void thread_set_name(unsigned number, const uint64_t name[NAME_WORDS]);
+
+#endif

@@ -1,0 +1,36 @@
+/* Findings: what the recorder knows to be wrong, and no event of the stream shows. Each is one entry in the list of
+   faults, for each place with its stack. Nobody checks it again: it is the recorder's word. */
+#ifndef ASANCOL_FINDINGS_H
+#define ASANCOL_FINDINGS_H
+
+#include <stdint.h>
+
+#include "base/platform.h"
+#include "common/format.h"
+#include "stacks/stacks.h"
+
+struct finding {
+    enum finding_kind kind;
+    place_word place;       /* of the call; of a leak, of the malloc */
+    const char *call;       /* the function that was called; null: the program itself */
+    const char *name;       /* what has allocated the block, in words; or null */
+    uint64_t block;         /* the block that it is about: its start, its size, and the place of its malloc; 0: none */
+    uint64_t block_size;
+    place_word allocated;
+    uint64_t start, size, other; /* what the call was given, as struct side_fault has it */
+    uint64_t count;         /* of a leak: how many blocks, which replaces an earlier number; else 0 */
+};
+
+/* A call with arguments that can't be meant. */
+struct wrong_call {
+    enum finding_kind kind;
+    uintptr_t caller;            /* the address after it */
+    const char *call;            /* the function */
+    uint64_t start, size, other; /* as of a finding */
+};
+
+/* Notes one, if there is anything beside the stream; at any time, and in a signal handler too. errno stays as it is. */
+void finding_note(const struct finding *finding) OWN_NAME(finding_note);
+void finding_note_call(const struct wrong_call *wrong) OWN_NAME(finding_note_call);
+
+#endif

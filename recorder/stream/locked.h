@@ -1,0 +1,31 @@
+/* What the lock of the stream guards (state.h): where it is written, and how far it was gone over. */
+#ifndef ASANCOL_LOCKED_H
+#define ASANCOL_LOCKED_H
+
+#include <stdbool.h>
+#include <stdint.h>
+
+#include "stream/output.h"
+
+extern struct locked {
+    struct output trace;
+    struct output side; /* a file, or memory */
+    bool has_side;
+    unsigned window;         /* in which both lie */
+    uint64_t segment;        /* how many came before this one */
+    uint64_t start;          /* the offset at which the stream begins */
+    uint64_t checked;        /* up to here the records were seen to be whole, */
+    uint64_t checked_events; /* so many */
+    bool is_restating;       /* what a segment begins with, just now, */
+    bool is_overfull;        /* for which there was no room */
+    bool goes_on;            /* after what is written at an exit */
+    bool said_unseen;        /* that it gets no close, since nothing was seen */
+} locked;
+
+/* How long the stream is up to an offset. */
+static inline uint64_t length_to(uint64_t offset)
+{
+    return offset - locked.start;
+}
+
+#endif

@@ -1,0 +1,33 @@
+/* The map of modules, as the system writes it: text, a line for each part. */
+#ifndef ASANCOL_MAPS_H
+#define ASANCOL_MAPS_H
+
+#include <stdbool.h>
+#include <stddef.h>
+#include <stdint.h>
+
+struct map_line {
+    const char *text, *next;
+    const char *file; /* its device, number and name; or null */
+    const char *path; /* of the file, up to the end of the line; or null */
+    uint64_t start, end;
+    bool has_file, is_first; /* and whether it is the first part of that */
+    bool is_code;
+};
+
+/* The line that begins here. False: there is no more. */
+bool maps_take_line(const char *text, struct map_line *line);
+/* Whether two lines are of one file: from the device on they have the same text. */
+bool maps_is_same_file(const struct map_line *one, const struct map_line *other);
+
+/* Where a note of this owner and type has its bytes, and how many. */
+struct note {
+    uint64_t start;
+    uint32_t size;
+};
+
+/* Finds a note of the module whose file begins at this address. Another thread may be closing it: so nothing is read
+   directly. */
+bool maps_find_note(uint64_t start, const char *owner, uint32_t type, struct note *found);
+
+#endif

@@ -1,0 +1,14 @@
+/* What lies nearest to a bad byte: a block, or a variable. Its fault gets what is known of it. */
+#ifndef ASANCOL_NEAR_H
+#define ASANCOL_NEAR_H
+
+#include "stacks/frames.h"
+#include "stream/lists.h"
+
+void near_block(struct list *list, uint64_t address, struct side_fault *fault);
+void near_global(uint64_t address, struct side_fault *fault);
+void near_variable(struct list *list, const struct frame *frame, uint64_t address, struct side_fault *fault);
+/* An array of variable length, or an alloca. False: none is there. */
+bool near_array(uint64_t address, struct side_fault *fault);
+
+#endif

@@ -1,0 +1,199 @@
+#define _GNU_SOURCE
+#include "stream/places.h"
+
+#include "base/say.h"
+#include "base/self.h"
+#include "stream/ending.h"
+#include "stream/growing.h"
+#include "stream/left_out.h"
+#include "stream/locked.h"
+#include "stream/side.h"
+#include "stream/state.h"
+#include "stream/switching.h"
+#include "stream/tail.h"
+#include "stream/windows.h"
+#include "stream/writing.h"
+
+/* A child that no fork has announced has its parent's state, and a page of zeros. A child of vfork shares the page.
+   It is asked only in a state in which there is a plan. */
+static bool is_unannounced_child(void)
+{
+    return STREAM->bytes == NULL;
+}
+
+/* Whether a stream that was off is on again. Who switches to the next segment is waited for, and another one may
+   follow. If it stays off, it has this state. */
+static bool comes_on(enum state *state)
+{
+    for (;;) {
+        unsigned window = atomic_load(&STREAM->window);
+        *state = stream_state();
+        if (*state == STATE_SWITCHING) {
+            if (is_unannounced_child())
+                return false; /* who switches is not here, and has the lock */
+            stream_lock();
+            stream_unlock();
+        }
+        if (is_on())
+            return true;
+        bool is_same = window == atomic_load(&STREAM->window) && *state == stream_state();
+        /* It may have been on and off again meanwhile, in the same window. */
+        if (is_same && *state != STATE_SWITCHING && !is_on())
+            return false;
+    }
+}
+
+/* Another thread tries an exec just now. What is noted before the exec has failed is missing at the end. */
+static bool is_missed(void)
+{
+    atomic_store(&shared.has_missed, true);
+    return stream_state() == STATE_SUSPENDED;
+}
+
+/* Whether a stream that is off, and had this state, may be on now. */
+static bool may_be_on(enum state state)
+{
+    switch (state) {
+    case STATE_UNSTARTED:
+        return above.start();
+    case STATE_RECORDING:
+    case STATE_SWITCHING:
+    case STATE_SUSPENDED:
+        if (!is_unannounced_child())
+            return state != STATE_SUSPENDED || !is_missed(); /* it was on meanwhile */
+        above.say_child();
+        return false;
+    case STATE_AT_LIMIT:
+        left_out_add();
+        return false;
+    default:
+        return false;
+    }
+}
+
+bool stream_wake(void)
+{
+    enum state state;
+    do {
+        if (comes_on(&state))
+            return true;
+    } while (may_be_on(state));
+    return false;
+}
+
+void record_too_late(bool is_bad)
+{
+    if (!is_bad || stream_state() != STATE_CLOSED || !recorder_is_own_process()
+        || atomic_exchange(&shared.is_late, true))
+        return;
+    side_note_needed(atomic_load_explicit(&shared.seen_events, memory_order_relaxed) + 1);
+    if (!is_hub())
+        recorder_say("not all is recorded: ", locked.trace.path, "a bad access came after its close");
+}
+
+/* Whether the place that was taken can be written; or whether there may be room for the record in another place. */
+enum room { NO_ROOM, ROOM_HERE, ROOM_IN_ANOTHER };
+
+/* Stops for a debugger, once, before the event is written that comes after so many others. */
+static void stop_at(uint64_t count)
+{
+    uint64_t stop = atomic_load(&shared.stop);
+    if (stop == 0 || count + 1 < stop || !atomic_compare_exchange_strong(&shared.stop, &stop, 0))
+        return;
+    state_set_events_end(0);
+    __asm__ volatile("int3"); /* also if SIGTRAP is blocked */
+}
+
+/* The cursor is past the limit. */
+static enum room pass_limit(uint64_t cursor, bool is_of_heap)
+{
+    if (has_segments()) {
+        /* A handler may have interrupted the allocator, so that the heap can't be restated just now. What a child of
+           vfork connects to is no connection of its parent's. */
+        if ((is_of_heap || !above.is_in_heap()) && (!is_hub() || recorder_is_own_process())) {
+            if (!switching_go_on())
+                stream_rest(0);
+            return ROOM_IN_ANOTHER;
+        }
+    } else if ((cursor - CURSOR_ON) >> 32 == plan.settings->limit) {
+        ending_at_limit((uint32_t)cursor);
+    }
+    left_out_add();
+    return NO_ROOM;
+}
+
+static bool is_in_stream(uint64_t cursor)
+{
+    return window_of((uint32_t)cursor) == atomic_load(&STREAM->window);
+}
+
+/* Who has the lock may be waiting for this record, and makes room for it. */
+static void wait_for_room(uint64_t cursor, uint64_t end)
+{
+    for (int looks = 0; !has_room(end) && is_in_stream(cursor); looks++) {
+        if (!is_on() && stream_state() != STATE_SWITCHING)
+            return;
+        if (!stream_lock_at_once()) {
+            stream_rest(looks);
+            continue;
+        }
+        if (is_on() && is_in_stream(cursor))
+            growing_to(end);
+        stream_unlock();
+    }
+}
+
+static enum room make_room(uint64_t cursor, unsigned length, bool is_of_heap)
+{
+    /* It was turned off just now, or went on in its next segment. */
+    if (!(cursor & CURSOR_ON) || !is_in_stream(cursor))
+        return ROOM_IN_ANOTHER;
+    bool has_close = atomic_load(&shared.has_close);
+    uint64_t end = (uint32_t)cursor + length + (has_close ? CLOSE_LENGTH : 0), count = (cursor - CURSOR_ON) >> 32;
+    if (count >= plan.settings->limit)
+        return pass_limit(cursor, is_of_heap);
+    stop_at(count);
+    wait_for_room(cursor, end);
+    if (!is_in_stream(cursor))
+        return ROOM_IN_ANOTHER;
+    if (!has_room(end))
+        return NO_ROOM;
+    if (has_close)
+        tail_follow(end - CLOSE_LENGTH);
+    return ROOM_HERE;
+}
+
+unsigned char *stream_open_place(uint64_t *cursor, unsigned length, bool is_of_heap)
+{
+    while (stream_is_unusual(*cursor, length) || !is_in_stream(*cursor)) {
+        enum room room = make_room(*cursor, length, is_of_heap);
+        if (room == ROOM_IN_ANOTHER && stream_wake())
+            *cursor = stream_take(&STREAM->cursor, CURSOR_EVENT + length);
+        else if (room != ROOM_HERE)
+            return NULL;
+        else
+            break;
+    }
+    return STREAM->bytes + (uint32_t)*cursor;
+}
+
+unsigned char *stream_reserve(unsigned length, bool is_of_heap)
+{
+    if (!is_on()) {
+        if (switching_restates())
+            return switching_reserve(length);
+        if (!stream_wake())
+            return NULL;
+    }
+    uint64_t cursor = stream_take(&STREAM->cursor, CURSOR_EVENT + length);
+    if (LIKELY(!stream_is_unusual(cursor, length)))
+        return STREAM->bytes + (uint32_t)cursor;
+    return stream_open_place(&cursor, length, is_of_heap);
+}
+
+void record_access_slowly(uint64_t cursor, unsigned code_and_width, uint64_t address)
+{
+    unsigned char *at = stream_open_place(&cursor, ACCESS_LENGTH, false);
+    if (at != NULL)
+        put_access(at, code_and_width, address);
+}

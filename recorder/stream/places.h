@@ -1,0 +1,24 @@
+/* The places of records: what remains to be done where the fast path (record.h) finds something unusual. Any thread
+   calls these, at any time, also in a signal handler. */
+#ifndef ASANCOL_PLACES_H
+#define ASANCOL_PLACES_H
+
+#include <stdbool.h>
+#include <stdint.h>
+
+#include "base/platform.h"
+
+/* Whether a stream that is off is on by now: nothing had started it, or another thread was switching. */
+bool stream_wake(void) OWN_NAME(stream_wake);
+/* What is not recorded, since the stream is off: if it has its close, and this is bad, something says so. */
+void record_too_late(bool is_bad) OWN_NAME(record_too_late);
+/* An access that has taken its place by this cursor. */
+void record_access_slowly(uint64_t cursor, unsigned code_and_width, uint64_t address) OWN_NAME(record_access_slowly);
+/* The place of a record of so many bytes, or null if none is recorded. `is_of_heap`: the allocator records it, and is
+   in order, so that the stream may go on in its next segment here. */
+unsigned char *stream_reserve(unsigned length, bool is_of_heap);
+/* Likewise, of a record that has taken its place by this cursor. If the stream goes on in its next segment, it is
+   another cursor. */
+unsigned char *stream_open_place(uint64_t *cursor, unsigned length, bool is_of_heap);
+
+#endif

@@ -1,0 +1,19 @@
+/* Records of regions: blocks, and poison. */
+#ifndef ASANCOL_REGIONS_H
+#define ASANCOL_REGIONS_H
+
+#include <stdint.h>
+
+#include "common/format.h"
+
+/* A malloc or an unpoison, and a poison. A region that can't be spelled is left out. Mallocs and frees are recorded in
+   the allocator, when it is in order. */
+void record_region(enum code code, uint64_t address, uint64_t size);
+void record_poison(enum kind kind, uint64_t address, uint64_t size);
+/* Memory of the allocator that is poison, of any size. */
+void record_unused(uint64_t address, uint64_t size);
+void record_free(uint64_t address);
+/* How many bytes of a region come before the next multiple of the largest one. */
+uint64_t region_piece(uint64_t address, uint64_t size);
+
+#endif

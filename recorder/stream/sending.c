@@ -1,0 +1,79 @@
+#define _GNU_SOURCE
+#include "stream/sending.h"
+
+#include <sys/mman.h>
+#include <sys/socket.h>
+#include <sys/stat.h>
+#include <time.h>
+
+#include "base/self.h"
+#include "base/system.h"
+#include "calls/library.h"
+#include "stream/holes.h"
+#include "stream/locked.h"
+#include "stream/losing.h"
+#include "stream/side.h"
+#include "stream/state.h"
+
+/* After so many nanoseconds a socket gets what there is; and at once, as after a fault, so often in this time. */
+enum { SEND_AFTER = 4000000, MAX_AT_ONCE = 4 };
+
+/* In nanoseconds, as often as the system looks at it. */
+static uint64_t coarse_clock(void)
+{
+    struct timespec now;
+    library.clock_gettime(CLOCK_MONOTONIC_COARSE, &now);
+    return (uint64_t)now.tv_sec * 1000000000 + (uint64_t)now.tv_nsec;
+}
+
+void sending_begin(void)
+{
+    atomic_store(&shared.sent_at, coarse_clock());
+    atomic_store(&shared.sent_at_once, 0);
+}
+
+const char *sending_push(bool all)
+{
+    uint64_t reserved = (uint32_t)atomic_load(&STREAM->cursor), ready = atomic_load(&STREAM->ready);
+    holes_check(reserved < ready ? reserved : ready, EVENT_LIMIT, NONE);
+    return output_send(&locked.trace, length_to(locked.checked), all, plan.settings->patience_ms);
+}
+
+/* They do nothing, and take no time: a process that is ended from elsewhere is hardly ever in one of them. */
+void sending_try(void)
+{
+    struct stat seen;
+    _Atomic uint64_t *calls = side_begin_calls(false);
+    system_getpid();
+    system_fstat(-1, &seen);
+    system_send(-1, NULL, 0, MSG_NOSIGNAL | MSG_DONTWAIT);
+    system_madvise(NULL, 0, MADV_DONTNEED);
+    side_end_calls(calls);
+}
+
+static void send_now(bool is_closing)
+{
+    /* A child of vfork may have closed the descriptor for itself. */
+    if (!recorder_is_own_process() || !(is_closing ? stream_lock_within(LONG) : stream_lock_at_once()))
+        return;
+    const char *why = is_on() ? sending_push(is_closing) : NULL;
+    if (why != NULL)
+        losing_give_up(why);
+    stream_unlock();
+}
+
+void stream_look_at_clock(bool at_once)
+{
+    if (plan.way != WAY_SOCKET && plan.way != WAY_HUB)
+        return;
+    uint64_t now = coarse_clock();
+    bool is_closing = atomic_load_explicit(&shared.is_closing, memory_order_relaxed);
+    if (is_closing || now - atomic_load_explicit(&shared.sent_at, memory_order_relaxed) >= SEND_AFTER) {
+        atomic_store_explicit(&shared.sent_at, now, memory_order_relaxed);
+        atomic_store_explicit(&shared.sent_at_once, 0, memory_order_relaxed);
+    } else if (!at_once || atomic_fetch_add(&shared.sent_at_once, 1) >= MAX_AT_ONCE) {
+        return;
+    }
+    sending_try();
+    send_now(is_closing);
+}

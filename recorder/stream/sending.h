@@ -1,0 +1,17 @@
+/* What a socket or a pipe is given, before the end. */
+#ifndef ASANCOL_SENDING_H
+#define ASANCOL_SENDING_H
+
+#include <stdbool.h>
+
+/* A stream begins, of which nothing was sent but its header. */
+void sending_begin(void);
+/* Gives it what is whole, as far as it takes it, or all. Answers null, or what went wrong. The lock is held. */
+const char *sending_push(bool all);
+/* Makes the calls that a send makes, with nothing to do: a sandbox may end the process at one of them, and then it is
+   known that the recorder made it. */
+void sending_try(void);
+/* After a record: gives a socket what there is, if it is time for it; or at once, but only so often. */
+void stream_look_at_clock(bool at_once);
+
+#endif

@@ -1,0 +1,182 @@
+/* The state of the stream, its cursor, and its lock. Nothing else changes these; state.c has the diagram.
+
+   There are three kinds of data, by who may touch them:
+   - `STREAM` and `shared`: any thread, at any time, also in a signal handler. All of it is atomic.
+   - `plan`: written before the state is RECORDING for the first time, and not afterwards. Who has seen that state, or a
+     later one, reads it without the lock.
+   - `locked` (locked.h): only who has the lock of the stream.
+
+   Locks are taken in this order: that of the allocator (heap.h), then that of the stream. No other lock is taken while
+   the stream's is held. A thread that holds it has all signals blocked, but for SIGBUS, and is not cancelled. */
+#ifndef ASANCOL_STATE_H
+#define ASANCOL_STATE_H
+
+#include <stdatomic.h>
+#include <stdbool.h>
+#include <stddef.h>
+#include <stdint.h>
+
+#include "base/platform.h"
+#include "common/format.h"
+#include "process/settings.h"
+#include "stream/access.h"
+
+enum state {
+    STATE_UNSTARTED,
+    STATE_STARTING,
+    STATE_RECORDING,
+    STATE_SWITCHING,
+    STATE_SUSPENDED,
+    STATE_AT_LIMIT,
+    STATE_OFF,
+    STATE_CLOSED
+};
+
+#define CURSOR_ON ((uint64_t)1 << 63)
+#define CURSOR_EVENT ((uint64_t)1 << 32)
+
+/* What each access reads: a page that shared objects know too. */
+struct stream {
+    /* CURSOR_ON, the number of events, the offset of the next record; without CURSOR_ON the stream is off. Who adds to
+       it has taken the place of a record, and the order of these additions is that of the stream: so they are
+       sequentially consistent. They also acquire what the stream was turned on with. */
+    _Atomic uint64_t cursor;
+    /* The next event that is unusual, as a part of the cursor: mostly that at the limit. Relaxed: who sees an old one
+       looks at the cursor again in open_place, or is as many events before it as the other threads have written. */
+    _Atomic uint64_t events_end;
+    /* Below this offset bytes can be stored. Released once the file or the memory is there, acquired before a store. */
+    _Atomic uint64_t ready;
+    unsigned char *bytes; /* where offsets count from: the windows of streams (windows.h). A part of the plan. */
+    uint64_t unused;      /* shared objects know where the next one lies */
+    /* Relaxed: hints, by which a bad access of a stream that is off is looked at or not. */
+    _Atomic bool is_idle;    /* nothing is recorded, and nothing will be */
+    _Atomic bool is_watched; /* each access is looked at for a fault, or by the clock */
+    _Atomic bool has_side;   /* faults are noted */
+    _Atomic unsigned window; /* in which the stream lies: another one from segment to segment */
+    _Atomic unsigned segment; /* grows before the window changes, of which there are few */
+};
+
+_Static_assert(offsetof(struct stream, is_idle) == 40, "shared objects of older recorders find it");
+
+/* Alone in its page, which is all zeros in a child after any kind of fork: there it is off. */
+extern union stream_page {
+    struct stream stream;
+    unsigned char page[PAGE];
+} stream_page OWN_NAME(stream_page);
+
+#define STREAM (&stream_page.stream)
+
+/* Where the trace goes. */
+enum way {
+    WAY_FILE,   /* mapped: it goes on in other files, and can be cut */
+    WAY_PIECES, /* a pipe, or a file that can't be mapped */
+    WAY_SOCKET, /* of one process */
+    WAY_HUB     /* which has a connection of each segment */
+};
+
+extern struct plan {
+    const struct settings *settings;
+    enum way way;
+} plan;
+
+static inline bool is_file(void)
+{
+    return plan.way == WAY_FILE;
+}
+
+static inline bool is_hub(void)
+{
+    return plan.way == WAY_HUB;
+}
+
+/* Whether it goes on in another stream at its limit: in another file, or in another connection to the hub. */
+static inline bool has_segments(void)
+{
+    return plan.settings->segments != 0 && (is_file() || is_hub());
+}
+
+/* Sequentially consistent where nothing else is said: each is a flag that is rarely written. */
+extern struct shared {
+    _Atomic bool is_side_full;
+    _Atomic uint64_t sent_at;      /* nanoseconds of the coarse clock: when a socket got what there was; relaxed */
+    _Atomic unsigned sent_at_once; /* how often, since then; relaxed */
+    _Atomic uint64_t stop;         /* the event to stop at; 0: none, or no more */
+    _Atomic uint64_t seen_events;  /* of this segment, that were seen to be whole; relaxed */
+    _Atomic uint64_t left_out;     /* events past the limit, not said yet; relaxed */
+    _Atomic bool is_cut;           /* some of it from this segment */
+    _Atomic bool has_missed;       /* events of other threads, while an exec was tried */
+    _Atomic bool is_closing;       /* an exit has begun: the stream may end after any record from now on, */
+    _Atomic bool has_close;        /* so each has the close after it, in a file */
+    _Atomic bool is_late;          /* something bad came after the close */
+} shared;
+
+/* What the stream needs of what stands on it: the allocator, and the process. */
+struct above {
+    void (*lock_heap)(void);
+    void (*unlock_heap)(void);
+    bool (*is_in_heap)(void); /* this thread */
+    /* Records what the heap has, in at most so many events. It is locked. */
+    void (*restate)(uint64_t most_held, uint64_t room);
+    /* How many bytes of freed blocks are held from now on; at any time. */
+    void (*hold)(uint64_t bytes);
+    /* The process poisons a part of a block. */
+    void (*poisons_in_heap)(void);
+    /* Starts the recorder. False: not here, or not yet. */
+    bool (*start)(void);
+    /* Says that a child is not recorded, which no fork has announced. */
+    void (*say_child)(void);
+    /* Adds to a list what this map of modules has that was not checked. The lock is held. */
+    void (*list_unchecked)(char *list, const char *maps);
+    /* Whether an address in a block is in this frame or above it, on a stack on which this thread is known to be. */
+    bool (*has_frame)(uintptr_t frame, uintptr_t address);
+    /* Ends the recording and the process, unless another thread is doing so: then it returns. */
+    void (*halt_at)(enum code code, unsigned width, uint64_t address, uintptr_t caller, struct access *whole);
+};
+
+extern const struct above above OWN_NAME(above); /* start.c */
+
+/* Whether the process ends at the first access or free that the shadow holds for bad. */
+extern _Atomic bool halt_is_on OWN_NAME(halt_is_on);
+
+/* The state. */
+
+enum state stream_state(void);
+
+static inline bool is_on(void)
+{
+    return (atomic_load_explicit(&STREAM->cursor, memory_order_relaxed) & CURSOR_ON) != 0;
+}
+
+/* UNSTARTED to STARTING. False: that was done. */
+bool state_start(void);
+/* From this state to RECORDING, with so many events up to `checked`. False: the stream was lost meanwhile. The lock is
+   held, or there is no other thread yet. */
+bool state_record(enum state from);
+/* From RECORDING to another state. Answers the cursor that it had; 0: it was in another one. The lock is held, or this
+   thread is undisturbed. */
+uint64_t state_leave(enum state to);
+/* From SWITCHING or SUSPENDED to another state, unless the stream was lost meanwhile. The lock is held. */
+void state_go(enum state to);
+/* To OFF, from any state. Answers the cursor that it had. At any time. */
+uint64_t state_lose(void);
+/* In a child after a fork, which has its parent's state and a cursor of zeros. */
+void state_forget(void);
+
+/* The fast path looks at one number: that of the event to stop at, as long as the process has not come there. */
+void state_set_events_end(uint64_t stop);
+
+/* The lock. Who has it is undisturbed. */
+
+void stream_lock(void);
+void stream_unlock(void);
+/* How long to wait for another thread. */
+enum patience { NONE, SHORT, LONG };
+/* Takes the lock if it is free, or if it comes free by then. */
+bool stream_lock_at_once(void);
+bool stream_lock_within(enum patience patience);
+/* Waits a little, the longer the more often this thread has looked. Nobody is cancelled here. */
+void stream_rest(int looks);
+/* Likewise, if there was not enough of it. */
+bool stream_waits_again(int looks, enum patience patience);
+
+#endif

@@ -1,0 +1,108 @@
+/* What the stream states of memory outside the allocator's: brought up to the shadow when an access comes to it. */
+#include "stream/stating.h"
+
+#include "shadow/shadow.h"
+#include "stream/regions.h"
+#include "stream/state.h"
+
+/* How often to look again at a granule that another thread is bringing up. A signal handler that has interrupted that
+   thread goes on after so many. */
+enum { LOOKS = 10000 };
+
+static enum kind kind_of(unsigned char code)
+{
+    switch (code) {
+    case SHADE_GLOBAL:
+        return KIND_GLOBAL;
+    case SHADE_USER:
+    case SHADE_CONTAINER:
+    case SHADE_FIELD:
+        return KIND_USER;
+    default:
+        return KIND_STACK;
+    }
+}
+
+/* What a granule has while a thread brings it up: another byte from segment to segment. A thread that has slept since
+   the segment before does not take the byte of one that is at it now for its own. */
+static unsigned char busy_in(unsigned segment)
+{
+    return (unsigned char)(STATED_BUSY + segment % BUSY_NUMBERS);
+}
+
+static bool is_busy(unsigned char stated)
+{
+    return stated >= STATED_BUSY && stated < STATED_BUSY + BUSY_NUMBERS;
+}
+
+/* Records what gives a granule its new byte. One record is enough from any state; where the state is not known, since
+   a thread was interrupted here, three. The class of a bad access to the last bytes of a granule is read from the
+   next one, so those get its kind. */
+static void state(uint64_t granule, unsigned char before, unsigned char now)
+{
+    unsigned had = addressable_of(before), has = addressable_of(now);
+    bool is_unknown = is_busy(before);
+    if (has == 0) {
+        if (had != 0 || is_unknown || kind_of(before) != kind_of(now))
+            record_poison(kind_of(now), granule, GRANULE);
+    } else if (has < GRANULE && (had > has || is_unknown)) {
+        unsigned char next = *shadow_of(granule + GRANULE);
+        enum kind kind = addressable_of(next) == 0 ? kind_of(next) : KIND_USER;
+        if (is_unknown)
+            record_region(CODE_UNPOISON, granule, GRANULE);
+        record_poison(kind, granule + has, GRANULE - has);
+    } else {
+        record_region(CODE_UNPOISON, granule, has);
+    }
+}
+
+/* Makes the stream state of a granule what its shadow byte says, and returns that byte. The record has its place in the
+   stream before `stated` has the byte. */
+static unsigned char bring_up(uint64_t granule)
+{
+    _Atomic unsigned char *stated = stated_of(granule);
+    bool is_unknown = false;
+    for (int looks = 0;; looks++) {
+        unsigned segment = atomic_load(&STREAM->segment);
+        unsigned char before = atomic_load_explicit(stated, memory_order_acquire), now = *shadow_of(granule);
+        if (before == now && !is_unknown)
+            return now;
+        if (is_busy(before) && looks < LOOKS)
+            continue;
+        unsigned char busy = busy_in(segment);
+        if (!atomic_compare_exchange_strong(stated, &before, busy))
+            continue;
+        now = *shadow_of(granule);
+        if (before != now || is_unknown)
+            state(granule, is_unknown ? busy : before, now);
+        /* The record may stand in the next segment, of which nothing was stated just now, or not. */
+        is_unknown = atomic_load(&STREAM->segment) != segment;
+        if (is_unknown)
+            continue;
+        /* Unless another thread has gone on in the place of this one. */
+        atomic_compare_exchange_strong(stated, &busy, now);
+        return now;
+    }
+}
+
+void stated_bring_up(uint64_t address, unsigned width)
+{
+    uint64_t granule = address / GRANULE * GRANULE, next = granule + GRANULE;
+    unsigned has = addressable_of(bring_up(granule));
+    bool is_bad = address % GRANULE + width > has;
+    if (has != 0 && has < GRANULE && is_bad && next < ADDRESS_END && !is_in_arena(next))
+        bring_up(next);
+}
+
+/* What is bad of an access's granule, and if it is the end of it, the next one, which says the class. */
+void stated_show_frame(uint64_t address)
+{
+    uint64_t granule = address / GRANULE * GRANULE;
+    unsigned has = addressable_of(*shadow_of(granule));
+    record_poison(KIND_STACK, granule + has, has == 0 ? GRANULE : 2 * GRANULE - has);
+}
+
+void stated_hide_frame(uint64_t address)
+{
+    record_region(CODE_UNPOISON, address / GRANULE * GRANULE, 2 * GRANULE);
+}

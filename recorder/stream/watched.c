@@ -1,0 +1,149 @@
+#define _GNU_SOURCE
+#include "stream/watched.h"
+
+#include "shadow/shadow.h"
+#include "stream/faults.h"
+#include "stream/holes.h"
+#include "stream/places.h"
+#include "stream/sending.h"
+#include "stream/side.h"
+#include "stream/stated.h"
+#include "stream/stating.h"
+#include "stream/state.h"
+#include "stream/windows.h"
+#include "stream/writing.h"
+
+/* The segment in which something is looked at. A window alone comes again after some others. */
+struct moment {
+    unsigned segment, window;
+};
+
+static struct moment moment_now(void)
+{
+    struct moment now = {.segment = atomic_load(&STREAM->segment)};
+    now.window = atomic_load(&STREAM->window);
+    return now;
+}
+
+/* Takes the place of a record in a segment, with this in the index, or nothing (0). It is noted before the record is
+   written: who reads the record finds it. False: the stream has gone on in its next segment. What was looked at may not
+   stand there, so a record that says nothing has that place. */
+static bool reserve_with(uint32_t entry, struct moment moment, unsigned length, bool is_of_heap, unsigned char **at)
+{
+    uint64_t cursor = stream_take(&STREAM->cursor, CURSOR_EVENT + length);
+    *at = stream_open_place(&cursor, length, is_of_heap);
+    if (*at == NULL)
+        return true;
+    uint64_t event = ((cursor - CURSOR_ON) >> 32) + 1; /* only now is it known to be this one */
+    if (window_of((uint32_t)cursor) != moment.window || atomic_load(&STREAM->segment) != moment.segment) {
+        holes_fill(*at, length);
+        return false;
+    }
+    side_note_needed(event);
+    if (entry != 0)
+        fault_note(moment.window, entry, event);
+    return true;
+}
+
+/* Whether the place is still this thread's. If not, it has slept for so long that another one has put a record there
+   that says nothing: the bytes of that stay as they are. */
+static bool is_in_time(unsigned char *at)
+{
+    unsigned char seen = atomic_load((_Atomic unsigned char *)at);
+    return seen == CODE_NONE || seen == CODE_CLOSE;
+}
+
+/* Writes the code of a record whose other bytes are there, likewise. */
+static bool put_code_in_time(unsigned char *at, enum code code)
+{
+    unsigned char seen = CODE_NONE;
+    _Atomic unsigned char *place = (_Atomic unsigned char *)at;
+    return atomic_compare_exchange_strong(place, &seen, (unsigned char)code)
+           || (seen == CODE_CLOSE && atomic_compare_exchange_strong(place, &seen, (unsigned char)code));
+}
+
+static bool put_access_in_time(unsigned char *at, unsigned code_and_width, uint64_t address)
+{
+    if (!is_in_time(at))
+        return false;
+    at[1] = (unsigned char)(code_and_width >> 8);
+    put_number(at + 2, address);
+    return put_code_in_time(at, code_and_width & 0xff);
+}
+
+static bool put_free_in_time(unsigned char *at, uint64_t address)
+{
+    if (!is_in_time(at))
+        return false;
+    put_number(at + 1, address);
+    return put_code_in_time(at, CODE_FREE);
+}
+
+static bool has_side(void)
+{
+    return atomic_load_explicit(&STREAM->has_side, memory_order_relaxed);
+}
+
+void record_watched_access(unsigned code_and_width, uint64_t address, uintptr_t caller, struct access *whole)
+{
+    unsigned width = code_and_width >> 8;
+    struct access itself;
+    unsigned char *at;
+    bool is_bad, is_done, is_in_frame = is_frame_in_block(address, width);
+    do {
+        struct moment now = moment_now();
+        is_bad = has_side() && shadow_is_bad(address, width);
+        /* What comes next may be refused by a filter of system calls, and end the process. */
+        if (is_bad) {
+            fault_begin(now.window);
+            if (whole == NULL) {
+                itself = access_of(code_and_width & 0xff, address, width, caller, NULL);
+                whole = &itself;
+            }
+        }
+        if (is_in_frame)
+            stated_show_frame(address);
+        else if (!is_in_arena(address) && !is_stated(address, width))
+            stated_bring_up(address, width);
+        uint32_t entry = is_bad ? fault_of(now.window, whole, width, address) : 0;
+        is_done = reserve_with(entry, now, ACCESS_LENGTH, false, &at);
+        if (is_done && at != NULL)
+            is_done = put_access_in_time(at, code_and_width, address);
+        if (is_bad)
+            fault_end(now.window);
+    } while (!is_done);
+    if (at == NULL)
+        return;
+    if (is_bad)
+        whole->is_noted = true;
+    if (is_in_frame)
+        stated_hide_frame(address);
+    stream_look_at_clock(is_bad);
+}
+
+void record_bad_free(uint64_t address, uintptr_t caller, const char *call)
+{
+    struct access access = access_of(CODE_FREE, address, 0, caller, call);
+    if (address >= ADDRESS_END)
+        return;
+    if (!is_on() && !stream_wake()) {
+        record_too_late(true);
+        return;
+    }
+    unsigned char *at;
+    bool is_noted, is_done;
+    do {
+        struct moment now = moment_now();
+        is_noted = has_side();
+        if (is_noted)
+            fault_begin(now.window);
+        uint32_t entry = is_noted ? fault_of(now.window, &access, 0, address) : 0;
+        is_done = reserve_with(entry, now, FREE_LENGTH, true, &at);
+        if (is_done && at != NULL)
+            is_done = put_free_in_time(at, address);
+        if (is_noted)
+            fault_end(now.window);
+    } while (!is_done);
+    if (at != NULL)
+        stream_look_at_clock(true);
+}

@@ -1,0 +1,17 @@
+/* Records that are bad, or may be: with a fault beside the stream. Any thread calls these, at any time, also in a
+   signal handler. */
+#ifndef ASANCOL_WATCHED_H
+#define ASANCOL_WATCHED_H
+
+#include <stdint.h>
+
+#include "base/platform.h"
+#include "stream/access.h"
+
+/* An access, or a piece of `whole`, to a stream that is watched, or where that does not state what the shadow says. */
+void record_watched_access(unsigned code_and_width, uint64_t address, uintptr_t caller, struct access *whole)
+    OWN_NAME(record_watched_access);
+/* By this function of the library. */
+void record_bad_free(uint64_t address, uintptr_t caller, const char *call);
+
+#endif

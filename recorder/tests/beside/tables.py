@@ -1,0 +1,80 @@
+"""What AddressSanitizer's tests are about and asancol does not claim, and what is known of the others."""
+
+from typing import List, NamedTuple
+
+
+class Row(NamedTuple):
+    """Tests of a suite by a pattern of their names."""
+
+    suite: str
+    name: str
+    why: str
+
+
+# How AddressSanitizer calls what asancol-run says by the signal.
+CRASHES = {
+    "SEGV": "SIGSEGV", "stack-overflow": "SIGSEGV", "BUS": "SIGBUS", "FPE": "SIGFPE", "ILL": "SIGILL",
+    "ABRT": "SIGABRT",
+}
+
+# Classes that are not claimed.
+UNCLAIMED = {
+    "CHECK": "the runtime's own checks",
+    "does not build": "does not build here",
+    "bad-__sanitizer_annotate_contiguous_container": "bad annotations of containers",
+    "bad-__sanitizer_get_allocated_size": "the size of what was not allocated",
+    "initialization-order-fiasco": "order of initialisation",
+    "invalid-pointer-pair": "pairs of pointers",
+    "memmove-param-overlap": "ranges that may overlap",
+    "odr-violation": "second definitions",
+    "out-of-memory": "limits of the allocator",
+    "rss-limit-exceeded": "limits of the allocator",
+}
+
+# Tests that are not run.
+OUTSIDE = [
+    Row("compiler-rt", "Android/*", "for other systems"),
+    Row("compiler-rt", "Darwin/*", "for other systems"),
+    Row("compiler-rt", "Windows/*", "for other systems"),
+    Row("compiler-rt", "Linux/allocator_oom_test.cpp", "limits of the allocator"),
+    Row("compiler-rt", "Linux/asan_default_suppressions.cpp", "options of the runtime"),
+    Row("compiler-rt", "Linux/asan_prelink_test.cpp", "libraries at the addresses of the shadow"),
+    Row("compiler-rt", "Linux/nohugepage_test.cpp", "the runtime's own memory"),
+    Row("compiler-rt", "Linux/ptrace.cpp", "calls that are not in the list"),
+    Row("compiler-rt", "Linux/rlimit_mmap_test.cpp", "limits of the allocator"),
+    Row("compiler-rt", "Linux/syscalls.cpp", "hooks of calls of the system"),
+    Row("compiler-rt", "Posix/mmap_limit_mb.cpp", "limits of the allocator"),
+    Row("gcc", "*/rlimit-mmap-test-1.c*", "limits of the allocator"),
+    Row("compiler-rt", "asan_update_allocation.cpp", "interface: debugging"),
+    Row("compiler-rt", "debug_*.cpp", "interface: debugging"),
+    Row("compiler-rt", "error_report_callback.cpp", "interface: callbacks"),
+    Row("compiler-rt", "replaceable_new_delete.cpp", "the runtime as a shared library"),
+    Row("compiler-rt", "set_shadow_test.c", "interface: debugging"),
+    Row("compiler-rt", "strcmp_strict.c", "what the runtime's own strcmp answers"),
+    Row("units", "*_DISABLED_*", "is not run"),
+    Row("units", "*_MlockTest by *", "the runtime's own memory"),
+    Row("units", "*_SignalTest by *", "options of the runtime"),
+]
+
+PIECES = "AddressSanitizer names the class by the first byte, which is good; here it is that of the bad byte"
+
+# Tests with executions that are not the same.
+KNOWN: List[Row] = [
+    Row("compiler-rt", "Linux/aligned_delete_test.cpp", "alignments of new and delete are not compared"),
+    Row("compiler-rt", "Linux/interception_test.cpp", "what lies below a program's own function is not checked"),
+    Row("compiler-rt", "Linux/printf-fortify-5.c",
+        "AddressSanitizer fills a new block with bytes that are no end of a format; here its first byte is one"),
+    Row("compiler-rt", "Linux/stack-trace-dlclose.cpp",
+        "AddressSanitizer loses the lines of a library that was closed"),
+    Row("compiler-rt", "Posix/coverage.cpp",
+        "for its coverage Clang links the runtime of UBSan, which takes the signal"),
+    Row("compiler-rt", "Posix/ioctl.cpp", "a bug, which AddressSanitizer looks for with handle_ioctl=1"),
+    Row("compiler-rt", "Posix/new_array_cookie_uaf_test.cpp",
+        "AddressSanitizer ends in a check before it has named the free"),
+    Row("compiler-rt", "wild_pointer.cpp",
+        "AddressSanitizer looks at the end of the range first, which no process has; here the first bad byte counts"),
+    Row("gcc", "c-c++-common/asan/misalign-*", PIECES),
+    Row("gcc", "g++.dg/asan/interception-test-1.C", "what lies below a program's own function is not checked"),
+    Row("units", "AddressSanitizer_StrArgsOverlapTest by *",
+        "the process goes on, and what the recorder finds between the same two events is not in the order of time"),
+]

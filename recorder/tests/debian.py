@@ -1,0 +1,49 @@
+"""Sources of Debian's packages, fetched with `apt-get source` without a change to the system's settings of apt."""
+
+import os
+import subprocess
+
+from support import Failure
+
+PARTS = """Types: deb-src
+URIs: http://deb.debian.org/debian
+Suites: bookworm
+Components: main
+Signed-By: /usr/share/keyrings/debian-archive-keyring.gpg
+"""
+
+
+def run_in(folder: str, *words: str) -> None:
+    ran = subprocess.run(words, cwd=folder, capture_output=True, text=True, check=False)
+    if ran.returncode != 0:
+        raise Failure(f"{' '.join(words)}: {ran.stderr.strip()}")
+
+
+class Archive:
+    """An archive of sources, whose lists, settings and packages are below a folder."""
+
+    def __init__(self, folder: str) -> None:
+        self.state, self.sources = f"{folder}/apt", f"{folder}/sources"
+
+    def apt(self, *words: str) -> None:
+        settings = {
+            "Dir::Etc::SourceList": "/dev/null",
+            "Dir::Etc::SourceParts": f"{self.state}/parts",
+            "Dir::State::Lists": f"{self.state}/lists",
+            "Dir::Cache": f"{self.state}/cache",
+            "APT::Update::Error-Mode": "any",
+        }
+        options = [piece for name, value in settings.items() for piece in ("-o", f"{name}={value}")]
+        run_in(self.sources, "apt-get", "-qq", *options, *words)
+
+    def update(self) -> None:
+        below = ("parts", "lists/partial", "cache/archives/partial")
+        for folder in (self.sources, *(f"{self.state}/{it}" for it in below)):
+            os.makedirs(folder, exist_ok=True)
+        with open(f"{self.state}/parts/debian.sources", "w", encoding="utf-8") as file:
+            file.write(PARTS)
+        self.apt("update")
+
+    def download(self, package: str, *options: str) -> None:
+        """Puts what a source package consists of into `sources`."""
+        self.apt("source", "--download-only", *options, package)

@@ -1,0 +1,141 @@
+// What the recorder finds by itself, one a run: `findings NAME`. The line of each is the one that ends with its name.
+#include <cstdio>
+#include <cstdlib>
+#include <cstring>
+#include <cwchar>
+#include <malloc.h>
+#include <map>
+#include <memory>
+#include <new>
+#include <regex>
+#include <sstream>
+#include <string>
+#include <vector>
+
+template <class T> static T *hide(T *pointer)
+{
+    __asm__ volatile("" : "+r"(pointer) : : "memory");
+    return pointer;
+}
+
+static size_t large(size_t size)
+{
+    __asm__ volatile("" : "+r"(size));
+    return size;
+}
+
+struct Base {
+    ~Base() {}
+    int number = 1;
+};
+struct Derived : Base {
+    long numbers[4] = {};
+};
+struct alignas(64) Aligned {
+    char bytes[64];
+};
+static char text[64];
+static wchar_t wide[64];
+static void *volatile kept;
+
+static void fill()
+{
+    strcpy(text, "abcdefghijklmnopqrstuvwxyz");
+    wcscpy(wide, L"abcdefghijklmnopqrstuvwxyz");
+}
+
+static void clean()
+{
+    std::string letters(100, 'x');
+    std::ostringstream out;
+    out << letters << 3.5;
+    std::map<std::string, std::vector<int>> lists;
+    for (int i = 0; i < 100; i++)
+        lists[std::to_string(i) + out.str()].push_back(i);
+    std::regex expression("a+b*");
+    printf("%d\n", std::regex_search("xaab", expression));
+    std::unique_ptr<int[]> array(new int[5]);
+    auto shared = std::make_shared<Derived>();
+    auto room = std::get_temporary_buffer<int>(100);
+    std::return_temporary_buffer(room.first);
+    delete hide(new Aligned);
+    delete[] hide(new Aligned[3]);
+    ::operator delete(hide(::operator new(0)));
+    ::operator delete(hide(::operator new(10, std::align_val_t(64))), std::align_val_t(64));
+    ::operator delete[](hide(::operator new[](10, std::nothrow)), std::nothrow);
+    kept = realloc(malloc(3), 5);
+    free(kept);
+    free(strdup("x"));
+    free(aligned_alloc(64, 128));
+    delete hide(static_cast<Base *>(nullptr));
+    free(nullptr);
+    memcpy(hide(text), text, large(8));
+    memcpy(hide(text), text + 8, large(8));
+    memmove(hide(text), text + 1, large(8));
+    kept = nullptr;
+    printf("%zu\n", malloc_usable_size(kept));
+}
+
+static void refused()
+{
+    try {
+        kept = new char[large((size_t)1 << 46)];
+    } catch (std::bad_alloc &) {
+        puts("bad_alloc");
+    }
+    kept = new (std::nothrow) char[large((size_t)1 << 46)];
+}
+
+static const struct {
+    const char *name;
+    void (*run)();
+} cases[] = {
+    {"clean", clean},
+    {"refused", refused},
+    {"malloc_delete", [] { delete hide((char *)malloc(10)); }},        // malloc_delete
+    {"malloc_delete_array", [] { delete[] hide((char *)malloc(10)); }}, // malloc_delete_array
+    {"calloc_delete", [] { delete hide((char *)calloc(1, 10)); }},      // calloc_delete
+    {"strdup_delete", [] { delete hide(strdup("x")); }},                // strdup_delete
+    {"new_free", [] { free(hide(new char)); }},                         // new_free
+    {"new_delete_array", [] { delete[] hide(new char); }},              // new_delete_array
+    {"array_delete", [] { delete hide(new char[10]); }},                // array_delete
+    {"array_free", [] { free(hide(new char[10])); }},                   // array_free
+    {"array_realloc", [] { kept = realloc(hide(new char[10]), 20); }},  // array_realloc
+    {"aligned_free", [] { free(hide(new Aligned)); }},                  // aligned_free
+    {"nothrow_free", [] { free(hide(new (std::nothrow) int)); }},       // nothrow_free
+    {"sized", [] { ::operator delete(hide(new Derived), sizeof(Base)); }}, // sized
+    {"sized_aligned", [] { ::operator delete(hide(new Aligned), 32, std::align_val_t(64)); }}, // sized_aligned
+    {"memcpy", [] { memcpy(hide(text) + 2, text, large(10)); }},        // memcpy
+    {"mempcpy", [] { kept = mempcpy(hide(text) + 2, text, large(10)); }}, // mempcpy
+    {"strcpy", [] { strcpy(hide(text), hide(text) + 3); }},             // strcpy
+    {"stpcpy", [] { kept = stpcpy(hide(text), hide(text) + 3); }},      // stpcpy
+    {"strcat", [] { strcat(hide(text), hide(text) + 3); }},             // strcat
+    {"strncpy", [] { strncpy(hide(text), hide(text) + 3, large(10)); }}, // strncpy
+    {"strncat", [] { strncat(hide(text), hide(text) + 20, large(9)); }}, // strncat
+    {"strncat_before", [] { strncat(hide(text), hide(text) + 1, large(3)); }}, // strncat_before
+    {"strcat_nothing", [] { strcat(hide(text), hide(text) + 26); }},
+    {"strncat_none", [] { strncat(hide(text), hide(text) + 1, large(0)); }},
+    {"strcat_beside", [] { strcat(hide(text) + 10, (char *)memcpy(hide(text) + 40, "xyz", 4)); }},
+    {"wcsncat_before", [] { wcsncat(hide(wide), hide(wide) + 1, large(3)); }}, // wcsncat_before
+    {"wcscat_nothing", [] { wcscat(hide(wide), hide(wide) + 26); }},
+    {"wcscpy", [] { wcscpy(hide(wide), hide(wide) + 3); }},             // wcscpy
+    {"wmemcpy", [] { wmemcpy(hide(wide), hide(wide) + 3, large(10)); }}, // wmemcpy
+    {"calloc_overflow", [] { kept = calloc(large(-1) / 2, large(3)); }}, // calloc_overflow
+    {"array_overflow", [] { kept = reallocarray(nullptr, large(-1) / 2, large(3)); }}, // array_overflow
+    {"pvalloc_overflow", [] { kept = pvalloc(large(-5)); }},            // pvalloc_overflow
+    {"aligned_alloc", [] { kept = aligned_alloc(large(7), 14); }},      // aligned_alloc
+    {"posix_memalign",
+     [] { kept = nullptr; if (posix_memalign((void **)&kept, large(2), 16) == 0) abort(); }}, // posix_memalign
+    {"memalign", [] { kept = memalign(large(7), 16); }},                // memalign
+    {"too_big", [] { kept = malloc(large((size_t)1 << 60)); }},         // too_big
+    {"usable_of_freed",
+     [] { kept = malloc(4); free(kept); printf("%zu\n", malloc_usable_size(kept)); }}, // usable_of_freed
+};
+
+int main(int, char **words)
+{
+    fill();
+    for (auto &it : cases)
+        if (strcmp(it.name, words[1]) == 0)
+            it.run();
+}

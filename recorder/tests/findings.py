@@ -1,0 +1,201 @@
+"""What the recorder finds by itself: of families of functions that allocate, and of calls with wrong arguments. Each
+has the class and the line that AddressSanitizer says."""
+
+import re
+
+from asancol_report.by_recorder import FORMS
+from support import TESTS, expect, run, side_of
+
+SOURCE = f"{TESTS}/findings.cpp"
+FAMILY = "alloc-dealloc-mismatch"
+# What is found.
+CLASSES = {
+    "malloc_delete": FAMILY, "malloc_delete_array": FAMILY, "calloc_delete": FAMILY, "strdup_delete": FAMILY,
+    "new_free": FAMILY, "new_delete_array": FAMILY, "array_delete": FAMILY, "array_free": FAMILY,
+    "array_realloc": FAMILY, "aligned_free": FAMILY, "nothrow_free": FAMILY,
+    "sized": "new-delete-type-mismatch", "sized_aligned": "new-delete-type-mismatch",
+    "memcpy": "memcpy-param-overlap", "mempcpy": "mempcpy-param-overlap", "strcpy": "strcpy-param-overlap",
+    "stpcpy": "stpcpy-param-overlap", "strcat": "strcat-param-overlap", "strncpy": "strncpy-param-overlap",
+    "strncat": "strncat-param-overlap", "strncat_before": "strncat-param-overlap", "strcat_nothing": None,
+    "strncat_none": None, "strcat_beside": None, "wcsncat_before": "wcsncat-param-overlap", "wcscat_nothing": None,
+    "wcscpy": "wcscpy-param-overlap", "wmemcpy": "wmemcpy-param-overlap",
+    "calloc_overflow": "calloc-overflow", "array_overflow": "reallocarray-overflow",
+    "pvalloc_overflow": "pvalloc-overflow", "aligned_alloc": "invalid-aligned-alloc-alignment",
+    "posix_memalign": "invalid-posix-memalign-alignment", "memalign": "invalid-allocation-alignment",
+    "too_big": "allocation-size-too-big", "usable_of_freed": "bad-malloc_usable_size",
+    "clean": None, "refused": None,
+}
+# AddressSanitizer does not look at these, or ends where memory is refused.
+ALONE = ("wcscpy", "wmemcpy", "wcsncat_before", "wcscat_nothing", "stpcpy", "mempcpy", "refused")
+
+
+def line_of(name):
+    with open(SOURCE, encoding="utf-8") as file:
+        lines = [number for number, line in enumerate(file, 1) if line.rstrip().endswith(f"// {name}")]
+    return lines[0] if lines else 0
+
+
+def found_in(trace):
+    """The class of each finding, and the line of the test that it is in."""
+    side = side_of(trace)
+    found = []
+    for it in side.findings():
+        lines = [line for _, line in side.lines(it.place) if line.startswith("findings.cpp:")]
+        found.append((FORMS[it.kind].class_of(it), int(lines[0].split(":")[1])))
+    return found
+
+
+def check_case(suite, folder, program, sanitized, name, wanted):
+    trace = f"{folder}/t.trace"
+    run([program, name], folder, ASANCOL_TRACE=trace, ASANCOL_WHERE="1")
+    expect(found_in(trace), [(wanted, line_of(name))] if wanted else [], name)
+    if name in ALONE:
+        return
+    ran = run([sanitized, name], folder, ASAN_OPTIONS="detect_leaks=0:allocator_may_return_null=0")
+    said = re.search(r"SUMMARY: AddressSanitizer: ([\w-]+)", ran.stderr.decode())
+    line = re.search(r"findings\.cpp:(\d+)", ran.stderr.decode())
+    expect(said and said[1], wanted, "the class that AddressSanitizer says")
+    expect(int(line[1]) if line else 0, line_of(name) if wanted else 0, "and its line")
+
+
+def check_switch(suite, folder, program):
+    trace = f"{folder}/t.trace"
+    run([program, "array_free"], folder, ASANCOL_TRACE=trace, ASANCOL_WHERE="1", ASANCOL_MISMATCHES="0")
+    expect(found_in(trace), [], "with ASANCOL_MISMATCHES=0")
+
+
+# A program that replaces some operators, and uses what the library compiled and what it did not.
+REPLACES = r"""
+#include <cstdio>
+#include <cstdlib>
+#include <new>
+#include <sstream>
+#include <string>
+#include <vector>
+#ifdef NEW
+void *operator new(size_t size) { if (void *p = malloc(size ? size : 1)) return p; throw std::bad_alloc(); }
+#endif
+#ifdef DELETE
+void operator delete(void *p) noexcept { free(p); }
+#endif
+#ifdef NEW_ARRAY
+void *operator new[](size_t size) { return malloc(size); }
+#endif
+struct Item { ~Item() {} int numbers[3]; };
+int main(int count, char **) {
+    std::ostringstream out;
+    for (int i = 0; i < 1000; i++) out << "x" << i << "\n";
+    std::string text = out.str() + "y";
+    text.resize(text.size() * 2);
+    std::vector<std::string> lines;
+    std::istringstream in(text);
+    for (std::string line; std::getline(in, line);) lines.push_back(line);
+    Item *items = new Item[count + 3];
+    delete[] items;
+    delete new Item;
+    delete new std::string(text);
+    try { throw std::string("a"); } catch (std::string &it) { lines.push_back(it); }
+    return lines.empty();
+}
+"""
+FLAGS = ([], ["-DNEW"], ["-DDELETE"], ["-DNEW_ARRAY"], ["-DNEW", "-DDELETE"], ["-static-libstdc++"],
+         ["-static-libstdc++", "-DNEW"], ["-static-libstdc++", "-DDELETE"], ["-O2", "-std=c++20"])
+
+
+def check_replaced(suite, folder, compiler, flags):
+    with open(f"{folder}/r.cpp", "w", encoding="utf-8") as file:
+        file.write(REPLACES)
+    compiler.cpp(folder, ["r.cpp"], "r", "-w", *flags)
+    ran = run([f"{folder}/r"], folder, ASANCOL_TRACE="t.trace", ASANCOL_WHERE="1")
+    expect(ran.returncode, 0, f"the status with {flags}")
+    expect(found_in(f"{folder}/t.trace"), [], f"findings with {flags}")
+
+
+LIBRARY = r"""
+#include <string>
+#include <cstdlib>
+#include <cstring>
+extern "C" char *make_letters() {
+    std::string s(40, 'a');
+    s += "b";
+    auto *kept = new std::string(s);
+    delete kept;
+    return strdup(s.c_str());
+}
+extern "C" void *make_number() { return new int(1); }
+extern "C" void drop_number(void *it) { delete (int *)it; }
+"""
+OPENS = r"""
+#include <dlfcn.h>
+#include <stdio.h>
+#include <stdlib.h>
+int main(int count, char **words) {
+    void *library = dlopen(words[1], RTLD_NOW);
+    if (library == NULL) return puts(dlerror()), count;
+    free(((char *(*)(void))dlsym(library, "make_letters"))());
+    ((void (*)(void *))dlsym(library, "drop_number"))(((void *(*)(void))dlsym(library, "make_number"))());
+    return 0;
+}
+"""
+
+
+def check_opened(suite, folder, compiler, is_native, flags):
+    """A program in C that opens a library in C++, which is built with the recorder or without."""
+    for name, text in (("l.cpp", LIBRARY), ("c.c", OPENS)):
+        with open(f"{folder}/{name}", "w", encoding="utf-8") as file:
+            file.write(text)
+    compiler.c(folder, ["c.c", "-ldl"], "c", "-w")
+    compiler.cpp(folder, ["l.cpp"], "l.so", "-shared", "-fPIC", "-w", *flags, native=is_native)
+    ran = run([f"{folder}/c", "./l.so"], folder, ASANCOL_TRACE="t.trace", ASANCOL_WHERE="1")
+    expect((ran.returncode, ran.stdout), (0, b""), "the program")
+    expect([FORMS[it.kind].class_of(it) for it in side_of(f"{folder}/t.trace").findings()], [], "findings")
+
+
+HANDS_OVER = r"""
+#include <cstdlib>
+#include <string>
+extern "C" void drop_number(void *it);
+extern "C" void drop_text(std::string *it);
+int main(int count, char **) {
+    drop_number(new int(count));
+    drop_text(new std::string(40, 'a'));
+    if (count > 1) free(new int(count));
+}
+"""
+TAKES_OVER = r"""
+#include <string>
+extern "C" void drop_number(void *it) { delete (int *)it; }
+extern "C" void drop_text(std::string *it) { *it += "b"; delete it; }
+"""
+
+
+def check_handed_over(suite, folder, compiler):
+    """A library that was not built with the recorder deletes what the program has made: libstdc++'s operator jumps to
+    free, which the library then seems to call. What the program itself does wrong is still found."""
+    for name, text in (("l.cpp", TAKES_OVER), ("p.cpp", HANDS_OVER)):
+        with open(f"{folder}/{name}", "w", encoding="utf-8") as file:
+            file.write(text)
+    compiler.cpp(folder, ["l.cpp"], "l.so", "-O2", "-shared", "-fPIC", native=True)
+    compiler.cpp(folder, ["p.cpp", "./l.so"], "p", "-w", "-fno-builtin")
+    for words, wanted in ((["./p"], []), (["./p", "wrong"], [FAMILY])):
+        run(words, folder, ASANCOL_TRACE=f"{len(words)}.trace", ASANCOL_WHERE="1")
+        found = side_of(f"{folder}/{len(words)}.trace").findings()
+        expect([FORMS[it.kind].class_of(it) for it in found], wanted, " ".join(words))
+
+
+def tests(suite, compiler):
+    if not compiler.cxx or not compiler.has_sanitizer:
+        return
+    flags = ["-w", "-g", "-O0", "-std=c++17", "-fno-builtin", "-fsized-deallocation"]
+    program = suite.built(compiler.cpp, [SOURCE], f"findings-{compiler}", *flags)
+    sanitized = suite.built(compiler.cpp, [SOURCE], f"findings-{compiler}-sanitized", *flags, "-fsanitize=address",
+                            native=True)
+    for name, wanted in CLASSES.items():
+        suite.test(f"{compiler} by the recorder: {name}", check_case, program, sanitized, name, wanted)
+    suite.test(f"{compiler} by the recorder: the switch", check_switch, program)
+    for some in FLAGS:
+        suite.test(f"{compiler} by the recorder: replaced operators {' '.join(some)}", check_replaced, compiler, some)
+    suite.test(f"{compiler} by the recorder: handed over", check_handed_over, compiler)
+    for is_native, some in ((False, []), (True, []), (True, ["-static-libstdc++"])):
+        name = " ".join(["plain"] * is_native + some)
+        suite.test(f"{compiler} by the recorder: an opened library {name}", check_opened, compiler, is_native, some)

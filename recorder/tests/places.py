@@ -1,0 +1,143 @@
+"""Where a report is: its line, those of its block, and the event at which a debugger stands."""
+
+import os
+import re
+import shutil
+import signal
+
+from lives import lives_of
+from support import CC, RECORDER, Trace, build, expect, leave_out, placed, reports, run, side_of, write
+from testing.side import EXIT
+
+
+def check_stop(suite, folder, program):
+    """The process gets SIGTRAP before an event, once. What it has recorded stands, and the event's place is filled."""
+    ran = run([program, "ends_normally"], folder, ASANCOL_TRACE="t.trace")
+    count = len(Trace(f"{folder}/t.trace").events)
+    for stop in (1, count, count + 1):
+        ran = run([program, "ends_normally"], folder, ASANCOL_TRACE=f"{stop}.trace", ASANCOL_STOP=str(stop))
+        trace = Trace(f"{folder}/{stop}.trace")
+        if stop > count:
+            expect((ran.returncode, len(trace.events), trace.is_closed), (0, count, True), "past the end")
+        else:
+            expect((ran.returncode, len(trace.events)), (-signal.SIGTRAP, stop), f"stop at {stop}")
+    ran = run(["sh", "-c", f"trap '' TRAP; exec {program} ends_normally"], folder, ASANCOL_TRACE="i.trace",
+              ASANCOL_STOP="2")
+    expect(ran.returncode, -signal.SIGTRAP, "if it is ignored")
+
+
+def check_debugger(suite, folder, compiler):
+    """The commands of docs/RECORDER.md: a debugger stands at the access of the report."""
+    build([CC, "-g", f"{RECORDER}/../examples/bug.c", "-o", "bug"], folder, ASANCOL_CC=compiler.name)
+    words = ["gdb", "-nx", "-batch", "-ex", "run", "-ex", "backtrace", "-ex", "continue", "--args", "./bug", "Alice"]
+    text = run(words, folder, ASANCOL_TRACE="/dev/null", ASANCOL_STOP="3").stdout.decode()
+    expect(re.search(r"received signal SIGTRAP", text) is not None, True, text)
+    expect(re.search(r"in main .*bug\.c:6\n", text) is not None, True, text)
+    expect("exited normally" in text, True, text)
+
+
+def check_where(suite, folder, compiler, level):
+    """The report has the line of its place, and those where the block was made and freed."""
+    source = [
+        "#include <stdlib.h>",
+        "#include <string.h>",
+        "static char *make(void) {",
+        "    return strdup(\"Alice\"); }",
+        "static void give_back(char *p) {",
+        "    free(p); }",
+        "int main(void) {",
+        "    char *volatile p = make();",
+        "    give_back(p);",
+        "    ((volatile char *)p)[2] = 1;",
+        "    return 0; }",
+    ]
+    with open(f"{folder}/w.c", "w") as file:
+        file.write("\n".join(source) + "\n")
+    compiler.c(folder, ["w.c"], f"{folder}/w", level, "-w")
+    # What a trace that is gone has left.
+    write(folder, w_trace_where="of another trace")
+    ran = run(["./w"], folder, ASANCOL_TRACE="w.trace", ASANCOL_WHERE="1")
+    expect((ran.returncode, ran.stderr), (0, b""))
+    said, _ = placed(suite.asancol, f"{folder}/w.trace")
+    expect([(it.kind, it.line) for it in said], [("store", "w.c:10")], "the access")
+    side = side_of(f"{folder}/w.trace")
+    fault = side.fault_at(said[0].number)
+    expect((side.is_good, side.words(), side.ending), (True, ["./w"], EXIT), "the head")
+    events = len(Trace(f"{folder}/w.trace").events)
+    expect((side.events, side.fault_count, fault.block_size), (events, 1, 6), "events, faults, and the block")
+    places = side.lines([fault.allocated[0], fault.freed[0]])
+    expect([line for _, line in places], ["w.c:4", "w.c:6"], "where the block was made and freed")
+    expect(os.stat(f"{folder}/w.trace.where").st_blocks * 512 < 1 << 20, True, "that the file is sparse")
+
+
+def check_many_places(suite, folder, compiler):
+    """Many reports of one place are one fault."""
+    source = """
+#include <stdlib.h>
+int main(void)
+{
+    char *blocks[300];
+    for (int i = 0; i < 300; i++)
+        blocks[i] = malloc(i % 10 + 1);
+    for (int i = 0; i < 300; i++)
+        ((volatile char *)blocks[i])[i % 10 + 1] = 1;
+    for (int i = 0; i < 300; i++)
+        free(blocks[i]);
+    return 0;
+}
+"""
+    write(folder, m_c=source)
+    compiler.c(folder, ["m.c"], f"{folder}/m", "-w")
+    run(["./m"], folder, ASANCOL_TRACE="m.trace", ASANCOL_WHERE="1")
+    said, _ = placed(suite.asancol, f"{folder}/m.trace")
+    side = side_of(f"{folder}/m.trace")
+    expect((len(said), side.fault_count), (300, 1), "reports, and faults")
+    first = min(it.number for it in said)
+    expect([side.event_of(side.fault_of(it.number)) for it in said], [first] * 300, "the first event of their fault")
+    expect(side.lines(side.faults()[0].allocated[:1])[0][0], "main", "where they were allocated")
+
+
+# Blocks that are freed before one of a size is allocated, the size, and where a load is from its start.
+FAR = [(0, 10, 100), (0, 10, 5000), (0, 10, 60000), (0, 10, 150000), (0, 1000, 9999), (0, 10, -3000), (0, 10, -60000),
+       (0, 100000, 105000), (0, 100000, -5000), (0, 1 << 20, -4000), (0, 1 << 20, 1 << 20 | 5000), (3, 10, 150000),
+       (3, 10, 250000), (3, 200000, 250000), (3, 200000, 500000)]
+
+
+def check_far(suite, folder, compiler):
+    """However far from a block an access is, that is named, if none is nearer; also in memory of freed blocks."""
+    source = """
+#include <stdlib.h>
+int main(int count, char **words)
+{
+    int others = atoi(words[1]);
+    char *other[3], *volatile p;
+    for (int i = 0; i < others; i++)
+        other[i] = malloc(200000);
+    for (int i = 0; i < others; i++)
+        free(other[i]);
+    p = malloc(atol(words[2]));
+    return ((volatile char *)p)[atol(words[3])] & 0;
+}
+"""
+    write(folder, f_c=source)
+    compiler.c(folder, ["f.c"], f"{folder}/f", "-w")
+    for others, size, at in FAR:
+        words = [str(others), str(size), str(at)]
+        settings = {"ASANCOL_TRACE": "f.trace", "ASANCOL_WHERE": "1", "ASANCOL_QUARANTINE": "0"}
+        expect(run(["./f", *words], folder, **settings).returncode, 0, words)
+        side = side_of(f"{folder}/f.trace")
+        blocks = [(it.block_size, side.lines(it.allocated[:1])[0][1]) for it in side.faults()]
+        expect(blocks, [(size, "f.c:11")], words)
+        os.unlink(f"{folder}/f.trace")
+
+
+def tests(suite, compiler):
+    suite.test(f"{compiler} stop", check_stop, lives_of(suite, compiler))
+    if shutil.which("gdb"):
+        suite.test(f"{compiler} debugger", check_debugger, compiler)
+    else:
+        leave_out("gdb is not there")
+    for level in ("-O0", "-O2"):
+        suite.test(f"{compiler} where {level}", check_where, compiler, level)
+    suite.test(f"{compiler} where, many", check_many_places, compiler)
+    suite.test(f"{compiler} where, far from a block", check_far, compiler)

@@ -1,0 +1,160 @@
+"""The library of C++: strings and streams are compiled with the program, and so they have checks. Programs and shared
+objects that were built so work beside others, whatever they take from the library."""
+
+import os
+
+from support import (
+    CXX, TESTS, Compiler, Failure, Suite, build, by_sanitizer, expect, leave_out, one_mark, reports, run, write,
+)
+from unchecked import LINKERS
+
+# By the library: the flags, and a header of it.
+LIBRARIES = {
+    "libstdc++": (["-O0"], "bits/c++config.h"),
+    "libc++": (["-O1", "-stdlib=libc++"], "__config"),
+}
+
+
+def has(compiler: Compiler, library: str) -> bool:
+    flags, header = LIBRARIES[library]
+    words = [compiler.cxx, *flags, "-fsyntax-only", "-x", "c++", "-include", header, "/dev/null"]
+    return run(words, "/").returncode == 0
+
+
+def check_faults(suite: Suite, folder: str, compiler: Compiler, library: str) -> None:
+    """Each has a report, of the same class as AddressSanitizer's if that names one."""
+    flags = [*LIBRARIES[library][0], "-w", "-std=c++17"]
+    compiler.cpp(folder, [f"{TESTS}/strings.cpp"], "strings", *flags)
+    if compiler.has_sanitizer:
+        compiler.cpp(folder, [f"{TESTS}/strings.cpp"], "sanitized", *flags, "-fsanitize=address", native=True)
+    names = run(["./strings", "--list"], folder).stdout.decode().split()
+    expect(len(names) > 20, True, "tests")
+    for name in names:
+        ran = run(["./strings", name], folder, ASANCOL_TRACE=f"{name}.trace")
+        expect(ran.returncode, 0, name)
+        status, texts, _ = reports(suite.asancol, f"{folder}/{name}.trace")
+        expect(status, 1, f"{name}: {texts}")
+        if compiler.has_sanitizer:
+            said = by_sanitizer(run(["./sanitized", name], folder).stderr.decode(errors="replace"))
+            if said is not None and said[0] not in ["SEGV", *(it.split()[-1] for it in texts)]:
+                raise Failure(f"{name}: AddressSanitizer says {said}, the trace {texts}")
+
+
+MAIN = """
+#include <stdlib.h>
+int main(void)
+{
+    char *volatile block = (char *)malloc(8);
+    block[8] = 1;
+    free((void *)block);
+    return 0;
+}
+"""
+
+# An object that uses what the library has only once: the identities of facets, the empty string, cout.
+OBJECT = """
+#include <iostream>
+#include <locale>
+#include <sstream>
+#include <stdexcept>
+#include <string>
+struct Mine : std::runtime_error { using std::runtime_error::runtime_error; };
+std::string made_early = "a string that is made by a constructor";
+int object(const std::string &text) {
+    std::ostringstream out;
+    out << text << 1.5 << std::hex << 255 << std::string();
+    std::use_facet<std::num_put<char> >(std::locale());
+    std::use_facet<std::collate<char> >(std::cout.getloc());
+    int number;
+    std::string word;
+    std::istringstream("12 word") >> number >> word;
+    if (text.empty()) throw Mine(out.str() + word);
+    std::cout << out.str() << " " << number << std::endl;
+    return number; }
+"""
+HOST = """
+#include <iostream>
+#include <sstream>
+#include <string>
+template class std::basic_string<char>;
+int object(const std::string &text);
+static std::string text() { std::ostringstream out; out << 1.25; return out.str(); }
+static std::string early = text();
+int main() {
+    int number = object(early);
+    try { object(std::string()); } catch (std::runtime_error &error) { std::cout << error.what() << std::endl; }
+    return number - 12; }
+"""
+SAID = "1.251.5ff 12\n1.5ffword\n"
+
+
+def check_objects(suite: Suite, folder: str, compiler: Compiler, flags: "list[str]") -> None:
+    """In a host that was built so and in one that was not, where the library's own constructors take what the object
+    has of it; with no name shown but one; and with nothing undefined."""
+    write(folder, object_cpp=OBJECT, host_cpp=HOST, one_map="{ global: *6object*; local: *; };\n")
+    link = ["-L.", "-lobject", "-Wl,-rpath,$ORIGIN"]
+    for name, words in (("recorded", [CXX]), ("plain", [compiler.cxx])):
+        build([compiler.cxx, *flags, "-shared", "-fPIC", "object.cpp", "-o", "libobject.so"], folder)
+        build([*words, *flags, "host.cpp", *link, "-o", name], folder, ASANCOL_CXX=compiler.cxx)
+    for more in ([], ["-Wl,--version-script=one.map"], ["-Wl,-Bsymbolic"]):
+        shared = ["-shared", "-fPIC", "-fvisibility-inlines-hidden", "-Wl,-z,defs", "object.cpp"]
+        build([CXX, *flags, *shared, *more, "-o", "libobject.so"], folder, ASANCOL_CXX=compiler.cxx)
+        for name in ("recorded", "plain"):
+            ran = run([f"./{name}"], folder, ASANCOL_TRACE="t.trace")
+            expect((ran.returncode, ran.stdout.decode(), ran.stderr), (0, SAID, b""), f"{name} {more}")
+        expect(reports(suite.asancol, f"{folder}/t.trace")[:2], (0, []), f"{more}")
+        os.unlink(f"{folder}/t.trace")
+
+
+INSTANTIATED = "_ZNSt7__cxx1112basic_stringIcSt11char_traitsIcESaIcEE9_M_appendEPKcm"
+SMALL = "#include <string>\nint main(int n, char **words) { return (std::string(words[0]) += words[n - 1]).empty(); }\n"
+
+
+def check_texts(suite: Suite, folder: str, compiler: Compiler) -> None:
+    """Precompiled headers, texts that were preprocessed, dependencies, and a caller who says where the headers are."""
+    write(folder, main_cpp=SMALL, first_h="#include <string>\n")
+
+    def make(*words: str) -> None:
+        made = run([CXX, *words], folder, ASANCOL_CXX=compiler.cxx)
+        expect((made.returncode, made.stderr), (0, b""), f"{words}")
+
+    def make_instantiated(*words: str) -> None:
+        make(*words, "-o", "made")
+        expect(INSTANTIATED in run(["nm", "--defined-only", "made"], folder).stdout.decode(), True, f"{words}")
+
+    make("-E", "main.cpp", "-o", "main.ii")
+    make_instantiated("-c", "main.ii")
+    make("-x", "c++-header", "first.h", "-o", "first.h.pch" if compiler.name == "clang" else "first.h.gch")
+    make_instantiated("-Winvalid-pch", "-Werror", "-include", "first.h", "main.cpp")
+    make_instantiated("-Wall", "-Wextra", "-Wundef", "-pedantic-errors", "-Werror", "-std=c++98", "main.cpp")
+    make("-MD", "-MP", "-MF", "deps", "-fsyntax-only", "main.cpp")
+    with open(f"{folder}/deps", encoding="utf-8") as file:
+        expect([it for it in file.read().split() if "/" in it and not os.path.exists(it.rstrip(":"))], [], "deps")
+    said = run([compiler.cxx, "-E", "-v", "-x", "c++", "/dev/null"], folder).stderr.decode()
+    places = said.split("starts here:")[-1].split("End of")[0].split()
+    makes = [f"-I{it}" for it in places if "c++" in it]
+    make_instantiated("-nostdinc++", *makes, "main.cpp")
+    build([CXX.replace("c++", "cc"), "-c", "main.cpp", "-o", "made"], folder, ASANCOL_CC=compiler.name)
+    expect(INSTANTIATED in run(["nm", "--defined-only", "made"], folder).stdout.decode(), True, "asancol-cc")
+
+
+def check_least(suite: Suite, folder: str, compiler: Compiler, library: str) -> None:
+    """A program links that has nothing of the library, or a stream alone, by each linker."""
+    write(folder, none_cpp=MAIN, stream_cpp=f"#include <iostream>\nstatic std::ostream &out = std::cout << 1;\n{MAIN}")
+    for linker in LINKERS:
+        for name in ("none", "stream"):
+            compiler.cpp(folder, [f"{name}.cpp"], name, *LIBRARIES[library][0], f"-fuse-ld={linker}")
+        one_mark(suite, folder, "./none")
+        expect(run(["./stream"], folder).stdout, b"1", linker)
+
+
+def tests(suite: Suite, compiler: Compiler) -> None:
+    for library in LIBRARIES:
+        if has(compiler, library):
+            suite.test(f"{compiler} strings links {library}", check_least, compiler, library)
+            suite.test(f"{compiler} strings {library}", check_faults, compiler, library)
+        else:
+            leave_out(f"{library} is not there for {compiler}")
+    suite.test(f"{compiler} strings objects", check_objects, compiler, ["-O0"])
+    suite.test(f"{compiler} strings old objects", check_objects, compiler, ["-O1", "-D_GLIBCXX_USE_CXX11_ABI=0"])
+    suite.test(f"{compiler} strings texts", check_texts, compiler)

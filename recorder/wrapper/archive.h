@@ -1,0 +1,10 @@
+/* The members of an archive. */
+#ifndef ASANCOL_ARCHIVE_H
+#define ASANCOL_ARCHIVE_H
+
+#include "wrapper/linked.h"
+
+/* What the members of this name are: others' if one of them is. None, if there is none. */
+enum origin archive_origin(struct view archive, const char *path, const char *member);
+
+#endif

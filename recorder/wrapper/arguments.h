@@ -1,0 +1,32 @@
+/* Reads the words of a command line, and those of its response files, as a compiler reads them. It changes none. */
+#ifndef ASANCOL_ARGUMENTS_H
+#define ASANCOL_ARGUMENTS_H
+
+#include <stddef.h>
+
+#include "wrapper/inputs.h"
+
+struct option;
+
+/* What the next word for the linker is. */
+enum linker_value { VALUE_NONE, VALUE_OUTPUT, VALUE_WRAP };
+
+/* How far the words were read. */
+struct arguments {
+    struct request *request;
+    const struct option *option; /* whose value is the next word, or null */
+    struct language language;    /* of the next inputs */
+    enum linker_value linker_value;
+    char **folders;              /* in which libraries are looked for */
+    size_t folder_count;
+    unsigned response_files, nested; /* how many were looked into, and in how many of them this is */
+};
+
+/* One may name itself. GCC takes no more of them either. */
+enum { MAX_RESPONSE_FILES = 2000, MAX_NESTED = 64 };
+
+void arguments_take(struct arguments *arguments, const char *word);
+/* Whether a word is for a sanitizer. */
+bool is_sanitizer(const char *word);
+
+#endif

@@ -1,0 +1,57 @@
+#define _GNU_SOURCE
+#include "wrapper/command.h"
+
+#include <limits.h>
+#include <stdlib.h>
+#include <string.h>
+
+#include "common/must.h"
+#include "common/path.h"
+#include "common/text.h"
+#include "wrapper/say.h"
+#include "wrapper/self.h"
+
+struct own_options own_options_take(char **words, const struct front *front)
+{
+    static const char all[] = "--asancol-all", compiler[] = "--asancol-compiler=";
+    const char *setting = getenv("ASANCOL_ALL");
+    struct own_options own = {getenv(front->variable), setting != NULL && strcmp(setting, "1") == 0};
+    char **kept = words + 1;
+    for (char **word = words + 1; *word != NULL; word++) {
+        if (strcmp(*word, all) == 0)
+            own.is_all = true;
+        else if (begins_with(*word, compiler))
+            own.compiler = *word + strlen(compiler);
+        else
+            *kept++ = *word;
+    }
+    *kept = NULL;
+    return own;
+}
+
+static const char *program_of(const char *word)
+{
+    char real[PATH_MAX];
+    if (strchr(word, '/') == NULL) {
+        const char *found = path_of_program(word, self_path());
+        if (found == NULL)
+            fail(word, "there is no such compiler");
+        return found;
+    }
+    if (realpath(word, real) != NULL && strcmp(real, self_path()) == 0)
+        fail(word, "this is the wrapper itself");
+    return word;
+}
+
+struct words command_of(const char *text, const struct front *front)
+{
+    struct words command = {0};
+    char *rest = must(strdup(text != NULL ? text : "")), *word;
+    while ((word = strsep(&rest, " \t\n")) != NULL)
+        if (*word != 0)
+            words_add(&command, word);
+    if (command.count == 0)
+        words_add(&command, front->usual);
+    command.words[0] = program_of(command.words[0]);
+    return command;
+}

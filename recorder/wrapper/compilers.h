@@ -1,0 +1,37 @@
+/* The compilers that are known, and what each of them is given so that it puts in its checks. */
+#ifndef ASANCOL_COMPILERS_H
+#define ASANCOL_COMPILERS_H
+
+#include <stdbool.h>
+#include <stddef.h>
+
+#include "wrapper/use_after_return.h"
+
+struct flags {
+    const char *const *words;
+    size_t count;
+};
+
+/* A row of the table in compilers.c. All that differs from compiler to compiler is in it. */
+struct compiler {
+    const char *says;       /* what it prints if it is asked for its version */
+    const char *made_of;    /* the library of which most programs of it are made: such a one is not asked. Or null */
+    struct flags flags;     /* before the caller's words: its own check, inline, and a call if an access is bad by it */
+    struct flags all_flags; /* or a call before each access */
+    struct flags use_after_return[USES_AFTER_RETURN]; /* with these */
+    struct flags after;     /* after the caller's words, with inline checks */
+    struct flags last;      /* after them in any case, for what is compiled: none of them takes these back */
+    const char *header;     /* a file of the recorder's that it includes after the caller's, likewise; or null */
+    const char *own_number; /* before a number that makes the noted switches of each object its own, or null */
+    bool has_driver;        /* a program that runs it, and hands it words after -Xclang without a look at them */
+    bool compiles_at_link;  /* what it made with -flto is compiled with the settings that are given to the link */
+};
+
+/* What is said of another one. */
+#define UNKNOWN_COMPILER "neither GCC nor Clang by its --version: what it compiles is not recorded"
+
+/* The compiler that a command runs, of which the first word is a path. It asks the compiler: a name says little, as
+   that of a script, of ccache, or of a link. Null: it is none of these. */
+const struct compiler *compiler_of(const char *const *command, size_t count);
+
+#endif

@@ -1,0 +1,20 @@
+/* One run of the wrapper: what it was called as, what it was asked for, and the compiler that does it. */
+#ifndef ASANCOL_JOB_H
+#define ASANCOL_JOB_H
+
+#include "common/words.h"
+#include "wrapper/compilers.h"
+#include "wrapper/fronts.h"
+#include "wrapper/request.h"
+
+struct job {
+    const struct front *front;
+    struct words command;            /* of the compiler */
+    const struct compiler *compiler; /* null: it was not asked which it is, or it is not known */
+    struct request request;
+    char **arguments; /* of the caller's, with a null at the end */
+    bool takes_part;  /* something is compiled or linked that can be recorded */
+    bool links;
+};
+
+#endif

@@ -1,0 +1,166 @@
+#define _GNU_SOURCE
+#include "wrapper/linking.h"
+
+#include <stdlib.h>
+#include <string.h>
+#include <unistd.h>
+
+#include "common/array.h"
+#include "common/must.h"
+#include "wrapper/own_data.h"
+#include "wrapper/say.h"
+#include "wrapper/self.h"
+#include "wrapper/taken.h"
+
+/* The functions that the linker wraps, and after them the operators new and delete. */
+#define WRAP(name) #name,
+static const char *const wraps[] = {
+#include "calls/wrapped.def"
+#include "out/calls.list"
+#include "calls/new.def"
+};
+#undef WRAP
+#define WRAP(name) +1
+enum {
+    OPERATORS =
+#include "calls/new.def"
+};
+#undef WRAP
+
+/* Which of them are left alone. */
+static bool is_own[COUNT(wraps)];
+
+/* The recorder comes in by the first of these, and shared objects find the others. */
+static const char *const program_flags[] = {
+    "-Wl,--undefined=asancol_start",
+    "-Wl,--export-dynamic-symbol=__asan_*",
+    "-Wl,--export-dynamic-symbol=pthread_create",
+    "-Wl,--export-dynamic-symbol=thrd_create",
+    "-Wl,--export-dynamic-symbol=*longjmp*",
+    "-Wl,--export-dynamic-symbol=_Unwind_RaiseException",
+    "-Wl,--export-dynamic-symbol=_Unwind_Resume_or_Rethrow",
+};
+
+/* What stands before and behind the recorder. */
+#define LIBM "-Wl,--push-state,--as-needed,-lm,--pop-state"
+
+static size_t wrap_count(const struct front *front)
+{
+    return front->has_new ? COUNT(wraps) : COUNT(wraps) - OPERATORS;
+}
+
+bool linking_find_own(const struct job *job, const char *output)
+{
+    char *unasked = NULL;
+    bool has_own = own_data_find(output, wraps, wrap_count(job->front), &job->request.link.wraps, is_own, &unasked);
+    if (unasked == NULL)
+        return has_own;
+    unlink(output);
+    fail(unasked, "it would be called: the program has this function, and does not ask for it by --wrap");
+}
+
+bool linking_is_static(const struct link_request *link)
+{
+    return (link->is_static || link->finds_static) && !link->is_shared;
+}
+
+/* Whether it is a program that begins as programs do. */
+static bool has_start(const struct link_request *link)
+{
+    return !link->is_shared && (!link->is_bare || link->has_libc);
+}
+
+static void add_file(struct words *line, const char *name)
+{
+    static const char front[] = "-Wl,";
+    const char *path = self_file(name);
+    char *word = must(malloc(sizeof front + strlen(path)));
+    stpcpy(stpcpy(word, front), path);
+    words_add(line, word);
+}
+
+/* One word for all of them. What calls a function that is left alone by its other name still finds it. */
+static void add_wraps(struct words *line, size_t count)
+{
+    static const char front[] = "-Wl", wrap[] = ",--wrap=", other[] = ",--defsym=__real_";
+    size_t length = sizeof front;
+    for (size_t i = 0; i < count; i++)
+        length += sizeof other + 2 * strlen(wraps[i]) + 1;
+    char *word = must(malloc(length)), *end = stpcpy(word, front);
+    for (size_t i = 0; i < count; i++) {
+        end = stpcpy(stpcpy(end, is_own[i] ? other : wrap), wraps[i]);
+        if (is_own[i])
+            end = stpcpy(stpcpy(end, "="), wraps[i]);
+    }
+    words_add(line, word);
+}
+
+void linking_add_before(struct words *line, const struct job *job)
+{
+    const struct link_request *link = &job->request.link;
+    if (!has_start(link))
+        return;
+    words_add(line, "-Wl,--undefined=asancol_first");
+    add_file(line, linking_is_static(link) ? "libasancol_first_static.a" : "libasancol_first.a");
+}
+
+/* What was compiled here, or so before, has checks, also if it has no access. */
+static bool has_checks(const struct request *request)
+{
+    const struct linked *linked = &request->inputs.linked;
+    bool is_refused = request->refusal != NULL;
+    return (linked->has_marked && !(is_refused && linked->has_lto)) || (request->inputs.has_compiled && !is_refused);
+}
+
+static void add_static(struct words *line)
+{
+    words_add(line, "-Wl,--eh-frame-hdr"); /* by which stacks lead through the C library */
+    words_add_all(line, program_flags, COUNT(program_flags));
+    add_file(line, "libasancol_static.a");
+    add_file(line, "no-second-allocator.ld");
+}
+
+static void add_to_shared_object(struct words *line)
+{
+    words_add(line, "-Wl,--undefined=asancol_map_early");
+    words_add(line, "-Wl,--undefined=asancol_link_note");
+    add_file(line, "libasancol_shared.a");
+}
+
+static void add_to_program(struct words *line, const struct job *job)
+{
+    const struct link_request *link = &job->request.link;
+    /* Linkers wrap the operators that LLVM's library calls too, and see that once they have read the recorder. */
+    if (job->request.is_libcxx)
+        words_add(line, "-Wl,--undefined=__wrap__Znwm");
+    if (has_start(link))
+        words_add_all(line, program_flags, COUNT(program_flags));
+    add_file(line, "libasancol_record.a");
+    if (link->has_libc)
+        words_add(line, "-lc"); /* for what the recorder calls */
+}
+
+void linking_add_after(struct words *line, const struct job *job)
+{
+    const struct link_request *link = &job->request.link;
+    words_add(line, TAKEN_FLAGS);
+    if (has_checks(&job->request))
+        words_add(line, "-Wl,--undefined=asancol_checks");
+    if (linking_is_static(link)) {
+        add_static(line);
+        return;
+    }
+    bool has_libm = link->has_libm || (job->front->links_libm && !link->is_bare);
+    add_wraps(line, wrap_count(job->front));
+    /* gold wraps what shared objects call too, as libmvec, which comes with it: it must see that before
+       the recorder. */
+    if (has_libm)
+        words_add(line, LIBM);
+    if (link->is_shared)
+        add_to_shared_object(line);
+    else
+        add_to_program(line, job);
+    /* What was called of it is called by the recorder now, which stands behind it. */
+    if (has_libm)
+        words_add(line, LIBM);
+}

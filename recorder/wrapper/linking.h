@@ -1,0 +1,18 @@
+/* What a compiler is given for a link: the recorder, and the functions that the linker wraps. */
+#ifndef ASANCOL_LINKING_H
+#define ASANCOL_LINKING_H
+
+#include "wrapper/job.h"
+
+/* Before the caller's words: what comes first in the program. */
+void linking_add_before(struct words *line, const struct job *job);
+/* After them. */
+void linking_add_after(struct words *line, const struct job *job);
+/* Whether a program gets the C library into itself. Then no function is wrapped. */
+bool linking_is_static(const struct link_request *link);
+/* Looks into what was linked: a function is left alone if the program has a variable of its name, whose uses would
+   be wrapped too. True: there is one. Fails if a function of the program's would be called that is not in a plain
+   build. */
+bool linking_find_own(const struct job *job, const char *output);
+
+#endif

@@ -1,0 +1,17 @@
+/* Names, each once. */
+#ifndef ASANCOL_WRAPPER_NAMES_H
+#define ASANCOL_WRAPPER_NAMES_H
+
+#include <stdbool.h>
+#include <stddef.h>
+
+/* There may be more of them. */
+struct names {
+    char **names;
+    size_t count, room, more;
+};
+
+void names_add(struct names *names, const char *name);
+bool names_have(const struct names *names, const char *name);
+
+#endif

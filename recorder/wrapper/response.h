@@ -1,0 +1,8 @@
+/* Response files, which compilers take as @FILE. */
+#ifndef ASANCOL_RESPONSE_H
+#define ASANCOL_RESPONSE_H
+
+/* Gives each word of the file to a function: they are apart by blanks, with quotes and backslashes. */
+void response_read(const char *path, void (*take)(void *to, const char *word), void *to);
+
+#endif

@@ -1,0 +1,187 @@
+#define _GNU_SOURCE
+#include "wrapper/running.h"
+
+#include <errno.h>
+#include <fcntl.h>
+#include <signal.h>
+#include <stdbool.h>
+#include <stdio.h>
+#include <stdlib.h>
+#include <string.h>
+#include <sys/mman.h>
+#include <sys/types.h>
+#include <sys/wait.h>
+#include <unistd.h>
+
+#include "common/must.h"
+#include "wrapper/compiling.h"
+#include "wrapper/linking.h"
+#include "wrapper/say.h"
+#include "wrapper/taken.h"
+
+/* Whether the compiler gets this word when the link is only tried. */
+static bool keeps_symbols(const char *word)
+{
+    return strcmp(word, "-s") != 0 && strcmp(word, "-Wl,-s") != 0 && strcmp(word, "-Wl,--strip-all") != 0;
+}
+
+/* What is run: the compiler with its caller's words and ours. */
+static struct words make_line(const struct job *job, bool is_try)
+{
+    struct words line = {0};
+    words_add_all(&line, job->command.words, job->command.count);
+    if (job->takes_part)
+        compiling_add_before(&line, job);
+    if (job->takes_part && job->links)
+        linking_add_before(&line, job);
+    for (char **word = job->arguments; *word != NULL; word++)
+        if (!is_try || keeps_symbols(*word))
+            words_add(&line, *word);
+    if (job->takes_part)
+        compiling_add_after(&line, job);
+    else
+        compiling_add_note(&line, job);
+    if (job->takes_part && job->links)
+        linking_add_after(&line, job);
+    /* BFD and LLD heed the last: one may stand among other words, or in a response file. */
+    if (is_try && job->request.link.is_stripped)
+        words_add(&line, "-Wl,-S");
+    return line;
+}
+
+void running_become(const struct job *job)
+{
+    struct words line = make_line(job, false);
+    execv(line.words[0], (char *const *)line.words);
+    fail(line.words[0], strerror(errno));
+}
+
+/* What a link has said, and what it has taken in. */
+struct link {
+    off_t start; /* of the source in standard input */
+    struct taken taken;
+    char *said; /* what --trace has not written */
+    size_t length;
+};
+
+/* All that the compiler and the linker print, with a zero after it. */
+static char *read_all(int from)
+{
+    char *text = must(malloc(1));
+    size_t length = 0, room = 1;
+    for (ssize_t count = 1; count > 0;) {
+        if (room - length < BUFSIZ)
+            text = must(realloc(text, room += room + BUFSIZ));
+        count = read(from, text + length, room - length - 1);
+        length += count > 0 ? (size_t)count : 0;
+    }
+    close(from);
+    text[length] = 0;
+    return text;
+}
+
+/* Takes the lines of a link that has ended: the objects that the compiler has made for it are gone. */
+static void take_lines(struct link *link, bool is_traced, char *text)
+{
+    FILE *said = must(open_memstream(&link->said, &link->length));
+    for (char *line = text, *end; *line != 0; line = end) {
+        end = strchrnul(line, '\n');
+        bool has_end = *end != 0;
+        *end = 0;
+        if (!taken_line(&link->taken, line) || is_traced)
+            fprintf(said, has_end ? "%s\n" : "%s", line);
+        end += has_end;
+    }
+    fclose(said);
+    taken_end(&link->taken);
+}
+
+/* A link may be done more than once, and each reads what comes from standard input. What can be read but once, as from
+   a pipe, is kept. Returns where it begins. */
+static off_t keep_standard_input(void)
+{
+    char bytes[BUFSIZ];
+    off_t start = lseek(STDIN_FILENO, 0, SEEK_CUR);
+    if (start >= 0)
+        return start;
+    int kept = memfd_create("source", MFD_CLOEXEC);
+    for (ssize_t count; (count = read(STDIN_FILENO, bytes, sizeof bytes)) != 0;)
+        if (count < 0 || write(kept, bytes, (size_t)count) != count)
+            fail("-", strerror(errno));
+    dup2(kept, STDIN_FILENO);
+    close(kept);
+    return 0;
+}
+
+/* In the child. */
+static _Noreturn void run(const struct words *line, int ends[2], bool is_silent)
+{
+    dup2(ends[1], STDOUT_FILENO);
+    close(ends[0]);
+    if (ends[1] != STDOUT_FILENO)
+        close(ends[1]);
+    if (is_silent)
+        dup2(open("/dev/null", O_WRONLY), STDERR_FILENO);
+    execv(line->words[0], (char *const *)line->words);
+    fail(line->words[0], strerror(errno));
+}
+
+/* Links, and returns the status, or ends as the compiler has ended. */
+static int link_once(const struct job *job, bool is_try, struct link *link, bool is_silent)
+{
+    int status = 0, ends[2];
+    struct words line = make_line(job, is_try);
+    if (job->request.inputs.has_standard)
+        lseek(STDIN_FILENO, link->start, SEEK_SET);
+    if (pipe(ends) != 0)
+        fail(line.words[0], strerror(errno));
+    pid_t child = fork();
+    if (child == 0)
+        run(&line, ends, is_silent);
+    close(ends[1]);
+    char *text = read_all(ends[0]);
+    if (child < 0 || waitpid(child, &status, 0) != child)
+        fail(line.words[0], strerror(errno));
+    take_lines(link, job->request.link.is_traced, text);
+    free(text);
+    if (WIFSIGNALED(status))
+        raise(WTERMSIG(status));
+    return WIFEXITED(status) ? WEXITSTATUS(status) : 1;
+}
+
+/* Ends with what the last link has said. What it has made gets its note. */
+static int end_link(const struct job *job, struct link *link, int status, const char *output)
+{
+    const struct request *request = &job->request;
+    const struct names *assembly = &request->inputs.assembly, *sources = &request->inputs.sources;
+    if (linking_is_static(&request->link) && !request->link.is_bare)
+        names_add(&link->taken.own, "calls of the C library (-static)");
+    for (size_t i = 0; i < assembly->count; i++)
+        names_add(&link->taken.own, assembly->names[i]);
+    for (size_t i = 0; request->refusal != NULL && i < sources->count; i++)
+        names_add(&link->taken.own, sources->names[i]);
+    if (status == 0)
+        taken_write(&link->taken, output);
+    fwrite(link->said, 1, link->length, stdout);
+    return fflush(stdout) == 0 || status != 0 ? status : 1;
+}
+
+/* Few programs have names of their own. Warnings come once: with the first link, or with the second if there is one in
+   any case. */
+int running_link(const struct job *job)
+{
+    const struct link_request *request = &job->request.link;
+    const char *output = request->output != NULL ? request->output : "a.out";
+    bool is_static = linking_is_static(request), is_twice = request->is_stripped && !is_static;
+    off_t start = job->request.inputs.has_standard ? keep_standard_input() : 0;
+    struct link first = {.start = start}, second = first, third = first;
+    int status = link_once(job, !is_static, &first, is_twice);
+    bool has_own = status == 0 && !is_static && linking_find_own(job, output);
+    if (!is_twice && !has_own)
+        return end_link(job, &first, status, output);
+    status = link_once(job, false, &second, !is_twice);
+    if (status == 0 || is_twice)
+        return end_link(job, &second, status, output);
+    status = link_once(job, false, &third, false);
+    return end_link(job, &third, status, output);
+}

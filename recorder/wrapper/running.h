@@ -1,0 +1,13 @@
+/* Runs the compiler. */
+#ifndef ASANCOL_RUNNING_H
+#define ASANCOL_RUNNING_H
+
+#include "wrapper/job.h"
+
+/* Links, and returns the status to end with. What was linked shows which names the program has for itself: then it is
+   linked again. What was not compiled by the wrapper is noted in the program. */
+int running_link(const struct job *job);
+/* Becomes the compiler. */
+_Noreturn void running_become(const struct job *job);
+
+#endif

@@ -1,0 +1,12 @@
+/* What the wrapper has to say, on standard error. */
+#ifndef ASANCOL_WRAPPER_SAY_H
+#define ASANCOL_WRAPPER_SAY_H
+
+/* The name with which each line begins. */
+void say_as(const char *name);
+/* "NAME: warning: OF: WHAT" */
+void warn(const char *of, const char *what);
+/* "NAME: error: OF: WHAT", and ends. */
+_Noreturn void fail(const char *of, const char *what);
+
+#endif

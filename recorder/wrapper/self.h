@@ -1,0 +1,10 @@
+/* Where the wrapper is, and what lies beside it. */
+#ifndef ASANCOL_SELF_H
+#define ASANCOL_SELF_H
+
+/* Its path, without links. */
+const char *self_path(void);
+/* A file of the recorder's: beside the wrapper, or in ../lib/asancol if it is installed. Fails if it is not there. */
+char *self_file(const char *name);
+
+#endif

@@ -1,0 +1,238 @@
+#define _GNU_SOURCE
+#include "wrapper/taken.h"
+
+#include <fcntl.h>
+#include <limits.h>
+#include <stdio.h>
+#include <stdlib.h>
+#include <string.h>
+#include <sys/stat.h>
+#include <unistd.h>
+
+#include "common/array.h"
+#include "common/text.h"
+#include "process/link_note.h"
+#include "wrapper/archive.h"
+#include "wrapper/say.h"
+
+struct taken_archive {
+    struct taken_archive *next;
+    char *path;
+    struct view view;
+    bool has_ours, is_system;
+    struct names others; /* members */
+};
+
+/* Whether a file is the system's, or the compiler's. */
+static bool is_of_system(const char *path)
+{
+    static const char *const folders[] = {"/lib/", "/lib32/", "/lib64/", "/libx32/",
+                                          "/usr/lib/", "/usr/lib32/", "/usr/lib64/", "/usr/libx32/"};
+    char real[PATH_MAX];
+    if (realpath(path, real) == NULL)
+        return false;
+    for (size_t i = 0; i < COUNT(folders); i++)
+        if (begins_with(real, folders[i]))
+            return true;
+    return strstr(real, "/lib/gcc/") != NULL || strstr(real, "/lib/clang/") != NULL;
+}
+
+/* What the compiler adds to each link: how a program begins and ends, and its own helpers; and the C library, which the
+   note has in other words if it comes into a static program. The recorder's archives too. */
+static bool is_of_each_link(const char *path)
+{
+    static const char *const fronts[] = {"crt", "libgcc", "libc.a", "libc_nonshared.a", "libm.a", "libm-", "libmvec",
+                                         "libpthread", "libdl.a", "librt.a", "libutil.a", "libssp_nonshared.a",
+                                         "libclang_rt.builtins", "clang_rt.crt"};
+    const char *name = base_name(path);
+    if (begins_with(name, "libasancol_"))
+        return true;
+    bool is_one = strstr(name, "crt1.o") != NULL;
+    for (size_t i = 0; i < COUNT(fronts); i++)
+        is_one |= begins_with(name, fronts[i]);
+    return is_one && is_of_system(path);
+}
+
+static bool is_file(const char *path)
+{
+    struct stat seen;
+    return stat(path, &seen) == 0 && S_ISREG(seen.st_mode);
+}
+
+static void take_file(struct taken *taken, const char *path)
+{
+    if (is_of_each_link(path))
+        return;
+    struct view view = view_map(path);
+    if (linked_origin(view) == ORIGIN_OTHERS)
+        names_add(is_of_system(path) ? &taken->system : &taken->own, base_name(path));
+    view_unmap(view);
+}
+
+static struct taken_archive *archive_of(struct taken *taken, const char *path)
+{
+    struct taken_archive **at = &taken->archives;
+    for (; *at != NULL; at = &(*at)->next)
+        if (strcmp((*at)->path, path) == 0)
+            return *at;
+    struct taken_archive *made = calloc(1, sizeof *made);
+    if (made == NULL || (made->path = strdup(path)) == NULL)
+        return NULL;
+    made->view = view_map(path);
+    made->is_system = is_of_system(path);
+    return *at = made;
+}
+
+static void take_member(struct taken *taken, const char *path, const char *name)
+{
+    struct taken_archive *archive = is_of_each_link(path) ? NULL : archive_of(taken, path);
+    if (archive == NULL)
+        return;
+    enum origin origin = archive_origin(archive->view, path, name);
+    archive->has_ours |= origin == ORIGIN_OURS;
+    if (origin == ORIGIN_OTHERS)
+        names_add(&archive->others, name);
+}
+
+/* "(ARCHIVE)MEMBER", or "ARCHIVE(MEMBER)". Either may have such signs too, and the archive is there. */
+static bool take_named_member(struct taken *taken, char *line, size_t length)
+{
+    bool is_first = line[0] == '(', is_taken = false;
+    char between = is_first ? ')' : '(';
+    if (!is_first && (length == 0 || line[length - 1] != ')'))
+        return false;
+    for (char *at = line; !is_taken && (at = strchr(at + 1, between)) != NULL;) {
+        *at = 0;
+        char *path = is_first ? line + 1 : line;
+        if (is_file(path)) {
+            if (!is_first)
+                line[length - 1] = 0;
+            take_member(taken, path, at + 1);
+            is_taken = true;
+        }
+        *at = between;
+    }
+    return is_taken;
+}
+
+/* An object that the compiler has made for this link, and removed. */
+static bool is_passing(const char *line, size_t length)
+{
+    return line[0] == '/' && length > 2 && strcmp(line + length - 2, ".o") == 0 && strchr(line, ' ') == NULL;
+}
+
+bool taken_line(struct taken *taken, const char *line)
+{
+    static const char mold[] = "trace: "; /* which mold writes before each */
+    if (begins_with(line, mold))
+        line += sizeof mold - 1;
+    char *copy = strdup(line);
+    bool is_taken = copy != NULL;
+    size_t length = strlen(line);
+    if (copy != NULL && is_file(line))
+        take_file(taken, line);
+    else if (copy != NULL)
+        is_taken = take_named_member(taken, copy, length) || is_passing(line, length);
+    free(copy);
+    return is_taken;
+}
+
+static void end_archive(struct taken *taken, const struct taken_archive *archive)
+{
+    char text[2 * PATH_MAX];
+    const char *name = base_name(archive->path);
+    if (archive->others.count == 0)
+        return;
+    if (archive->is_system || !archive->has_ours) {
+        names_add(archive->is_system ? &taken->system : &taken->own, name);
+        return;
+    }
+    for (size_t i = 0; i < archive->others.count; i++) {
+        snprintf(text, sizeof text, "%s(%s)", name, archive->others.names[i]);
+        names_add(&taken->own, text);
+    }
+    taken->own.more += archive->others.more;
+}
+
+void taken_end(struct taken *taken)
+{
+    for (struct taken_archive *archive = taken->archives; archive != NULL; archive = archive->next) {
+        end_archive(taken, archive);
+        view_unmap(archive->view);
+    }
+    taken->archives = NULL;
+}
+
+/* The note. */
+
+/* Room for the line that says how many more there are. */
+enum { MORE_LENGTH = 24 };
+
+struct text {
+    char bytes[LINK_NOTE_ROOM];
+    size_t length, more;
+};
+
+/* Adds a line, with the sign of its kind. What would end the line is replaced. */
+static void put_line(struct text *text, const char *sign, const char *name)
+{
+    size_t length = strlen(sign) + strlen(name) + 1;
+    if (text->length + length + MORE_LENGTH > sizeof text->bytes) {
+        text->more += sign[0] == 0;
+        return;
+    }
+    char *at = stpcpy(text->bytes + text->length, sign), *end = stpcpy(at, name);
+    for (; at < end; at++)
+        if ((unsigned char)*at < ' ')
+            *at = '?';
+    *end = '\n';
+    text->length += length;
+}
+
+/* Where the text of a note of ours begins in a section of notes; 0: there is none. */
+static size_t find_text(struct view notes)
+{
+    const struct link_note *note;
+    char front[offsetof(struct link_note, text)];
+    const uint32_t head[] = {sizeof note->owner, sizeof note->text, LINK_NOTE_TYPE};
+    memcpy(front, head, sizeof head);
+    memcpy(front + sizeof head, LINK_NOTE_OWNER, sizeof note->owner);
+    const char *found = notes.size != 0 ? memmem(notes.bytes, notes.size, front, sizeof front) : NULL;
+    if (found == NULL || (size_t)(notes.bytes + notes.size - found) < sizeof *note)
+        return 0;
+    return (size_t)(found - notes.bytes) + sizeof front;
+}
+
+/* Where it is in the file, or 0. */
+static size_t find_note(const char *path)
+{
+    struct view view = view_map(path);
+    size_t found = 0;
+    for (size_t i = view_section_count(view); found == 0 && i-- > 0;) {
+        Elf64_Shdr section = view_section(view, i);
+        if (section.sh_type == SHT_NOTE && (found = find_text(view_of_section(view, &section))) != 0)
+            found += section.sh_offset;
+    }
+    view_unmap(view);
+    return found;
+}
+
+void taken_write(const struct taken *taken, const char *output)
+{
+    struct text *text = calloc(1, sizeof *text);
+    size_t at = text != NULL ? find_note(output) : 0;
+    int file = at != 0 ? open(output, O_WRONLY | O_CLOEXEC) : -1;
+    if (file >= 0) {
+        text->length = (size_t)(stpcpy(text->bytes, LINK_NOTE_KNOWN) - text->bytes);
+        for (size_t i = 0; i < taken->own.count; i++)
+            put_line(text, "", taken->own.names[i]);
+        for (size_t i = 0; i < taken->system.count; i++)
+            put_line(text, "/", taken->system.names[i]);
+        if (text->more + taken->own.more != 0)
+            snprintf(text->bytes + text->length, MORE_LENGTH, "+%zu\n", text->more + taken->own.more);
+        if (pwrite(file, text->bytes, sizeof text->bytes, (off_t)at) < 0)
+            warn(output, "what was not compiled by asancol-cc could not be noted");
+        close(file);
+    }
+    free(text);
+}

@@ -1,0 +1,28 @@
+/* What a link has taken in, by the word of the linker, which names it with --trace; and what of it asancol-cc did not
+   compile. */
+#ifndef ASANCOL_TAKEN_H
+#define ASANCOL_TAKEN_H
+
+#include <stdbool.h>
+
+#include "wrapper/names.h"
+
+/* For the compiler: twice, since the linker of the binutils names members of archives only then. */
+#define TAKEN_FLAGS "-Wl,--trace,--trace"
+
+struct taken_archive;
+
+struct taken {
+    struct names own;    /* what asancol-cc did not compile */
+    struct names system; /* archives of the system: it could not have compiled them */
+    struct taken_archive *archives;
+};
+
+/* Takes a line of the linker's output. False: it is none that --trace has written. */
+bool taken_line(struct taken *taken, const char *line);
+/* All lines were taken. */
+void taken_end(struct taken *taken);
+/* Writes it into the note of what was linked, if there is one. */
+void taken_write(const struct taken *taken, const char *output);
+
+#endif

@@ -1,0 +1,78 @@
+"""Findings of the recorder: what it knows to be wrong, and no event of the trace shows. No checker has judged them, and
+each output says so. docs/FORMAT.md lists their kinds."""
+
+from __future__ import annotations
+
+from typing import Callable, Dict, NamedTuple
+
+from .class_names import (
+    ALIGNMENTS, CLASSES, INDIRECT_LEAK, LEAK, MISMATCH, NEGATIVE_SIZE, NOT_OWNED, SIZE_MISMATCH, TOO_BIG,
+)
+from .side import (
+    Fault, FINDING_ALIGNMENT, FINDING_FAMILY, FINDING_INDIRECT_LEAK, FINDING_LEAK, FINDING_NEGATIVE_SIZE,
+    FINDING_NOT_OWNED, FINDING_OVERFLOW, FINDING_OVERLAP, FINDING_SIZE, FINDING_TOO_BIG,
+)
+from .words import plural
+
+# What an access is called that is none: a call with wrong arguments.
+CALL = "call"
+# A size as a program sees it.
+SIZE_END = 1 << 64
+NEGATIVE = 1 << 63
+
+
+class Form(NamedTuple):
+    """What the findings of a kind are."""
+
+    class_of: Callable[[Fault], str]
+    access: str
+    words: Callable[[Fault], str]  # what the recorder says
+    has_address: bool = True  # the start of what the call was given is one, or there is a block
+    has_size: bool = True
+
+
+def leak_text(class_name: str, size: int, blocks: int) -> str:
+    """Returns LeakSanitizer's words."""
+    kind = "Direct" if class_name == LEAK else "Indirect"
+    return f"{kind} leak of {size} byte(s) in {blocks} object(s)"
+
+
+def ranges(fault: Fault) -> str:
+    """Returns the two ranges of a call. Their first bytes are those of its first two arguments."""
+    one, other = ("[0x{:x}, 0x{:x})".format(it, it + fault.size) for it in (fault.start, fault.other))
+    return f"memory ranges {one} and {other} overlap"
+
+
+def product(fault: Fault) -> str:
+    if fault.other:
+        return f"{fault.other} * {fault.size} bytes are more than a size can say"
+    return f"{plural(fault.size, 'byte')}, rounded up to a page, are more than a size can say"
+
+
+def of_call(suffix: str) -> Callable[[Fault], str]:
+    """Returns what names a class by the call. One that nobody knows has the name of the first function of its kind."""
+    first = {"param-overlap": "memcpy", "overflow": "calloc"}[suffix]
+    return lambda fault: f"{fault.call}-{suffix}" if f"{fault.call}-{suffix}" in CLASSES else f"{first}-{suffix}"
+
+
+def signed(size: int) -> int:
+    return size - SIZE_END if size >= NEGATIVE else size
+
+
+FORMS: Dict[int, Form] = {
+    FINDING_LEAK: Form(lambda _: LEAK, "malloc", lambda it: leak_text(LEAK, it.size, it.count), False),
+    FINDING_INDIRECT_LEAK: Form(lambda _: INDIRECT_LEAK, "malloc",
+                                lambda it: leak_text(INDIRECT_LEAK, it.size, it.count), False),
+    FINDING_FAMILY: Form(lambda _: MISMATCH, "free", lambda it: f"{it.name} vs {it.call}", has_size=False),
+    FINDING_SIZE: Form(lambda _: SIZE_MISMATCH, "free", lambda it: (
+        f"{it.call} of {plural(it.size, 'byte')}, and {plural(it.block_size, 'byte')} were allocated")),
+    FINDING_OVERLAP: Form(of_call("param-overlap"), CALL, ranges),
+    FINDING_NEGATIVE_SIZE: Form(lambda _: NEGATIVE_SIZE, CALL, lambda it: f"(size={signed(it.size)}) in {it.call}"),
+    FINDING_OVERFLOW: Form(of_call("overflow"), "malloc", product, False),
+    FINDING_ALIGNMENT: Form(lambda it: ALIGNMENTS.get(it.call, ALIGNMENTS["memalign"]), "malloc", lambda it: (
+        f"alignment {it.start} of {plural(it.size, 'byte')} in {it.call}"), False),
+    FINDING_TOO_BIG: Form(lambda _: TOO_BIG, "malloc", lambda it: f"request for {plural(it.size, 'byte')}", False),
+    FINDING_NOT_OWNED: Form(lambda _: NOT_OWNED, CALL, lambda it: (
+        f"{it.call} of a pointer to no block"), has_size=False),
+}
+assert set(FORMS) == set(range(FINDING_LEAK, FINDING_NOT_OWNED + 1))

@@ -1,0 +1,118 @@
+"""Names of classes. asancol has the coarse ones of its model; what the shadow was at the bad byte tells which of
+AddressSanitizer's it is."""
+
+from __future__ import annotations
+
+from .side import Fault, GRANULE, VARIABLE_NONE
+
+# What asancol prints, and what each name means.
+OF_ASANCOL = {
+    "heap-buffer-overflow": "Access outside a heap block",
+    "heap-use-after-free": "Access to a freed heap block",
+    "use-after-poison": "Access to memory that the program has poisoned",
+    "stack-buffer-overflow": "Access outside a variable on the stack",
+    "global-buffer-overflow": "Access outside a global variable",
+    "unknown-crash": "Access to memory that is not addressable",
+    "double-free": "Block freed twice",
+    "bad-free": "Free of an address where no block begins",
+    "bad-malloc": "Block where none can be",
+}
+NEGATIVE_SIZE = "negative-size-param"
+
+# Findings of the recorder. Functions whose two ranges must not overlap, by the names in AddressSanitizer's classes, and
+# those that multiply or round up what they are to allocate.
+OVERLAPPING = ("memcpy", "mempcpy", "strcpy", "stpcpy", "strcat", "strncpy", "stpncpy", "strncat", "wcscpy", "wcpcpy",
+               "wcscat", "wcsncpy", "wcpncpy", "wcsncat", "wmemcpy", "wmempcpy")
+OVERFLOWING = ("calloc", "reallocarray", "pvalloc")
+# What each function's wrong alignment is called.
+ALIGNMENTS = {
+    "aligned_alloc": "invalid-aligned-alloc-alignment", "posix_memalign": "invalid-posix-memalign-alignment",
+    "memalign": "invalid-allocation-alignment",
+}
+LEAK, INDIRECT_LEAK = "leak", "indirect-leak"
+MISMATCH, SIZE_MISMATCH = "alloc-dealloc-mismatch", "new-delete-type-mismatch"
+# What a report begins with, if that is not its class.
+TITLES = {LEAK: "detected memory leaks", INDIRECT_LEAK: "detected memory leaks"}
+TOO_BIG, NOT_OWNED = "allocation-size-too-big", "bad-malloc_usable_size"
+CLASSES = {
+    **OF_ASANCOL,
+    "stack-buffer-underflow": "Access before the first variable of a frame",
+    "stack-use-after-scope": "Access to a variable whose scope has ended",
+    "stack-use-after-return": "Access to a variable whose function has returned",
+    "dynamic-stack-buffer-overflow": "Access outside a block of alloca, or an array of variable length",
+    "container-overflow": "Access to memory of a container past its elements",
+    "intra-object-overflow": "Access outside a field of an object",
+    NEGATIVE_SIZE: "Call with a negative size",
+    LEAK: "Block that nothing leads to any more, and that was not freed",
+    INDIRECT_LEAK: "Block that only lost blocks lead to, and that was not freed",
+    MISMATCH: "Block freed by a function of another family than that which has allocated it",
+    SIZE_MISMATCH: "Object deleted with another size than that which was allocated",
+    TOO_BIG: "Request for more memory than a block can have",
+    NOT_OWNED: "Question for the size of a block where none begins",
+    **{f"{call}-param-overlap": f"Call of {call} on ranges that overlap" for call in OVERLAPPING},
+    **{f"{call}-overflow": f"Call of {call} for more bytes than a size can say" for call in OVERFLOWING},
+    **{name: "Alignment that there is not" for name in ALIGNMENTS.values()},
+}
+
+STACK, POISON = "stack-buffer-overflow", "use-after-poison"
+# AddressSanitizer's name for each shadow byte, and the class of asancol that it makes finer.
+BY_SHADOW = {
+    0xF1: ("stack-buffer-underflow", STACK),
+    0xF2: (STACK, STACK),
+    0xF3: (STACK, STACK),
+    0xF5: ("stack-use-after-return", STACK),
+    0xF8: ("stack-use-after-scope", STACK),
+    0xCA: ("dynamic-stack-buffer-overflow", STACK),
+    0xCB: ("dynamic-stack-buffer-overflow", STACK),
+    0xF9: ("global-buffer-overflow", "global-buffer-overflow"),
+    0xFA: ("heap-buffer-overflow", "heap-buffer-overflow"),
+    0xAC: ("heap-buffer-overflow", "heap-buffer-overflow"),
+    0xFD: ("heap-use-after-free", "heap-use-after-free"),
+    0xFC: ("container-overflow", POISON),
+    0xBB: ("intra-object-overflow", POISON),
+    0xF7: (POISON, POISON),
+}
+# A recorder has poison for all that is no block. What has another class of asancol's is never only poisoned.
+NOT_POISONED = {"heap-use-after-free"}
+
+NEGATIVE = 1 << 63
+
+# What a report of a free says, as AddressSanitizer does.
+ATTEMPTS = {
+    "double-free": "attempting double-free",
+    "bad-free": "attempting free on address which was not malloc()-ed",
+}
+
+
+def has_negative_size(fault: Fault) -> bool:
+    """Whether an access was a call with a size that is negative, seen as a signed number."""
+    return bool(fault.call) and fault.size >= NEGATIVE
+
+
+def class_of(verdict: str, access: str, bad: int, fault: Fault) -> str:
+    """Returns the name of a bad event. The verdict is the checker's: a shadow byte that is against it, as after a race,
+    changes nothing."""
+    if has_negative_size(fault):
+        return NEGATIVE_SIZE
+    if access not in ("load", "store"):
+        return verdict
+    if verdict == POISON and is_past_block(fault, bad):
+        return "heap-buffer-overflow"
+    name, coarse = BY_SHADOW.get(shadow_byte(fault, bad), (verdict, verdict))
+    agrees = verdict == coarse or (verdict == POISON and name not in NOT_POISONED)
+    return name if agrees else verdict
+
+
+def is_past_block(fault: Fault, bad: int) -> bool:
+    """Whether a byte is in memory of the allocator that is in no block: a program poisons parts of its blocks."""
+    is_heap = fault.block > 0 and fault.variable == VARIABLE_NONE
+    return is_heap and not fault.block <= bad < fault.block + fault.block_size
+
+
+def shadow_byte(fault: Fault, bad: int) -> int:
+    """Returns what the shadow was at a byte; or at the next granule, if a part of its own is addressable. 0 if it was
+    not kept."""
+    at = (bad - fault.shadow_start) // GRANULE
+    if not 0 <= at < len(fault.shadow) - 1:
+        return 0
+    return fault.shadow[at + 1] if 0 < fault.shadow[at] < GRANULE else fault.shadow[at]

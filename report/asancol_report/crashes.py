@@ -1,0 +1,84 @@
+"""A crash: where processes were when a signal that stands for a mistake ended them. It has a place as a finding has."""
+
+from __future__ import annotations
+
+import re
+import signal
+from typing import Dict, Optional
+
+from .findings import Finding, Frame, own_frames, Stack, SYSTEM_LIBRARY
+from .stacks import RECORDER
+from .words import signal_name
+
+# Signals that a process raises itself, by a mistake, and what AddressSanitizer calls it.
+CRASHES: Dict[int, str] = {
+    signal.SIGSEGV: "SEGV", signal.SIGBUS: "BUS", signal.SIGILL: "ILL", signal.SIGFPE: "FPE", signal.SIGABRT: "ABRT",
+    signal.SIGSYS: "SYS",
+}
+STACK_OVERFLOW = "stack-overflow"
+CRASH_CLASSES = {
+    "SEGV": "Access to an address where nothing is, or where this access is not allowed",
+    "BUS": "Access to memory that has nothing behind it, as past the end of a mapped file",
+    "ILL": "Instruction that the processor does not know, as where a compiler found that none can come",
+    "FPE": "Arithmetic that has no result, as an integer division by zero",
+    "ABRT": "The program has ended itself, as a failed assertion does",
+    "SYS": "System call that a filter does not allow",
+    STACK_OVERFLOW: "The stack is used up, as by a recursion without an end",
+}
+NO_PLACE = "its place was not recorded"
+
+
+class Crash(Finding):
+    """Crashes of one or more runs at one place. What differs from one to the other is that of the first one."""
+
+    __slots__ = ("signal", "end", "program", "reports")
+
+    def __init__(self, class_name: str, number: int, address: Optional[int], end: str, program: str,
+                 stack: Stack) -> None:
+        super().__init__(class_name, "", None, address or 0, None)
+        self.raw_class = CRASHES[number]
+        self.signal = number
+        self.end = end
+        self.program = program
+        self.reports = 0  # of the first process, before it crashed
+        self.stack = stack or (Frame(module=program, note=NO_PLACE),)
+
+    @property
+    def own_stack(self) -> Stack:
+        return own_calls(self.stack)
+
+    @property
+    def what(self) -> str:
+        return self.end
+
+    @property
+    def where(self) -> str:
+        return "after a report of the same process" if self.is_consequence else ""
+
+    @property
+    def is_consequence(self) -> bool:
+        return self.reports > 0
+
+
+def end_text(number: int, crash: str, address: Optional[int], access: str) -> str:
+    """Returns which signal has ended a process, and how that came."""
+    ended = f"ended by {signal_name(number)}"
+    if crash == STACK_OVERFLOW:
+        return f"{ended}, since its stack is used up"
+    if address is None:
+        return ended
+    how = f"by a {access} " if access else ""
+    return f"{ended}, {how}{'to' if access == 'jump' else 'at'} address 0x{address:x}"
+
+
+def own_calls(stack: Stack) -> Stack:
+    """Returns the frames that stand for a crash: as for an access, but none of a library of the system or the recorder,
+    if a later one has a line."""
+    for at, frame in enumerate(stack):
+        if frame.line and not SYSTEM_LIBRARY.match(frame.module) and not RECORDER.search(frame.file):
+            return own_frames(stack[at:])
+    return own_frames(stack)
+
+
+def line_of_crash(stack: Stack) -> int:
+    return next((frame.line for frame in own_calls(stack)), 0)

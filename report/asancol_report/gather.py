@@ -1,0 +1,369 @@
+"""From the verdicts and the side memory of processes to findings.
+
+What comes of one process is grouped, and groups that are the same in several processes of a run are put together before
+any symbol is looked up. So what is held grows with the places in the program, and not with the lines.
+"""
+
+from __future__ import annotations
+
+from typing import Callable, cast, Dict, Hashable, List, NamedTuple, Optional, Tuple
+
+from .by_recorder import FORMS, leak_text
+from .class_names import class_of, INDIRECT_LEAK, LEAK
+from .crashes import STACK_OVERFLOW
+from .findings import (Block, DYNAMIC, Finding, Frame, GLOBAL, HEAP, Rows, STACK, Stack, Tally, Thread,
+                       Threads, UNKNOWN_THREAD)
+from .leaks import Leaks, Sum, SUMMARY, total, YES
+from .modules import CodeAddress, Modules
+from .results import Results
+from .side import (
+    ENDING_SIGNAL, Fault, FINDING_INDIRECT_LEAK, FINDING_LEAK, Last, Side, Thread as SideThread, VARIABLE_DYNAMIC,
+    VARIABLE_NONE, VARIABLE_STACK,
+)
+from .sources import Sources
+from .symbols import Symbols
+from .variables import declaration_of, variables_of
+from .verdicts import Report, Verdicts
+
+NO_PLACE = "its place was not recorded"
+NO_ALLOCATION = "before the trace began"
+NO_MODULES = "the modules of a process are not known, as where /proc is not there: its places are addresses"
+
+LEAK_KINDS = (FINDING_LEAK, FINDING_INDIRECT_LEAK)
+
+# So many threads of a finding are shown. The recorder names no more.
+MAX_THREADS = 100
+
+# The places of calls, the innermost first; none, if nothing is known.
+Calls = Tuple[CodeAddress, ...]
+Key = Tuple[str, str, Optional[int], str, Calls, Calls, Calls, str]
+
+
+class Sighting:
+    """Groups of one run that are the same."""
+
+    __slots__ = ("finding", "place", "allocated", "freed", "function", "created", "count", "processes", "first", "lost")
+
+    def __init__(self, finding: Finding, places: Places, first: Tally) -> None:
+        self.finding = finding
+        self.place, self.allocated, self.freed, self.function = places
+        self.created: List[Calls] = []  # of each thread of the finding
+        self.count = 0
+        self.processes = 0  # a bit for each, since there may be many
+        self.first = first
+        self.lost = Leaks()
+
+
+class Places(NamedTuple):
+    """The places of a fault: of the access, the malloc and the free, with their callers; and the function of the frame
+    that it lies in."""
+
+    place: Calls = ()
+    allocated: Calls = ()
+    freed: Calls = ()
+    function: Calls = ()
+
+
+class Crashed(NamedTuple):
+    """Where a signal has met a process, in which thread, and which calls have created its threads."""
+
+    last: Last
+    calls: Calls
+    threads: Threads
+    created: List[Calls]
+
+
+class Gatherer:
+    """Takes in the processes of one run."""
+
+    def __init__(self, results: Results, run: int, modules: Modules, symbols: Symbols, sources: Sources,
+                 leaks: str = YES, counts: Optional[Callable[[Finding], bool]] = None) -> None:
+        self.results = results
+        self.leaks = leaks  # what becomes of them
+        self.counts = counts  # which leaks count that are summed up; None: all
+        self.sum = Sum()
+        self.run = run
+        self.modules = modules
+        self.symbols = symbols
+        self.sources = sources
+        self.sightings: Dict[Key, Sighting] = {}
+        self.frames: Dict[CodeAddress, Stack] = {}
+        # Where each process was that a signal has ended, by its number.
+        self.last: Dict[int, Crashed] = {}
+        # The processes of each finding that was seen, by its identity.
+        self.seen_in: Dict[int, int] = {}
+
+    def take(self, process: int, pid: int, verdicts: int, side: Optional[Side], segment: int = 1) -> None:
+        """Takes in the lines of a process, or of a segment of it, behind the descriptor `verdicts`."""
+        lines = Verdicts(verdicts, side.look_up if side else lambda event: (0, False))
+        for group in lines.groups.values():
+            fault = side.fault(group.fault) if side and group.fault else None
+            first = Tally(0, 0, process, pid, group.first.event, segment)
+            finding = finding_of(group.first, fault)
+            sighting = self.sight(finding, group.count, fault, self.places_of(side, fault), first)
+            if side and fault and sighting.first is first:
+                sighting.finding.threads, created = threads_of(side, *fault.threads)
+                sighting.created = [self.calls(side, it) for it in created]
+            if self.modules.is_full():
+                self.symbols.look_up()
+        found = self.take_findings(process, pid, side, segment) if side else 0
+        if side is not None and side.is_good and not side.maps and (lines.groups or found):
+            self.results.notes[NO_MODULES] = None
+        if side is not None and side.ending == ENDING_SIGNAL:
+            last = side.last()
+            threads, created = threads_of(side, last.thread)
+            self.last[process] = Crashed(last, self.calls(side, last.calls), threads,
+                                         [self.calls(side, it) for it in created])
+        if lines.strange:
+            self.results.notes[f"process {pid}: {lines.strange} lines of asancol were not understood"] = None
+
+    def take_findings(self, process: int, pid: int, side: Side, segment: int) -> int:
+        """Takes in what the recorder of a process has found by itself. Returns how many places there are."""
+        count = 0
+        for count, fault in enumerate(side.findings(), 1):
+            if fault.kind in LEAK_KINDS and self.leaks != YES:
+                self.sum_up(process, side, fault)
+                continue
+            first = Tally(0, 0, process, pid, 0, segment, fault.after)
+            finding, times = finding_by_recorder(fault), times_of(fault)
+            sighting = self.sight(finding, times, fault, self.places_of(side, fault), first)
+            if fault.kind in LEAK_KINDS:
+                sighting.lost = total([sighting.lost, Leaks(1, fault.count, fault.size)])
+            if sighting.first is first:
+                sighting.finding.threads, created = threads_of(side, *fault.threads)
+                sighting.created = [self.calls(side, it) for it in created]
+            if self.modules.is_full():
+                self.symbols.look_up()
+        return count
+
+    def sum_up(self, process: int, side: Side, fault: Fault) -> None:
+        """Adds a leak to the sum. Its symbols are looked up only if somebody may say that it does not count."""
+        if self.leaks != SUMMARY:
+            return
+        calls = self.calls(side, fault.place, self.counts is not None)
+        self.sum.take(FORMS[fault.kind].class_of(fault), calls, process, fault.count, fault.size)
+
+    def finish_leaks(self) -> None:
+        """Gives the run the sum of its leaks, once all was taken in."""
+        def is_counted(class_name: str, calls: Hashable) -> bool:
+            if self.counts is None:
+                return True
+            finding = Finding(class_name, "malloc", None, 0, None)
+            finding.by_recorder, finding.raw_class = True, LEAK
+            finding.stack = self.stack(cast("Calls", calls), NO_PLACE)
+            finding.set_fingerprint(self.sources)
+            return self.counts(finding)
+
+        if self.sum.lost:
+            self.symbols.look_up()
+            self.results.runs[self.run].leaks = self.sum.total(is_counted)
+
+    def places_of(self, side: Optional[Side], fault: Optional[Fault]) -> Places:
+        if side is None or fault is None:
+            return Places()
+        function = (self.place(side, fault.function + 1),) if fault.function else ()
+        return Places(*(self.calls(side, it) for it in (fault.place, fault.allocated, fault.freed)), function)
+
+    def calls(self, side: Side, after_calls: Tuple[int, ...], has_names: bool = True) -> Calls:
+        """Returns the places of calls, from the addresses after them. What is no call is no caller, and ends them: code
+        without frame pointers may have led there."""
+        places: List[CodeAddress] = []
+        for address in after_calls:
+            place = self.place(side, address, has_names)
+            if places and (place.module is None or not place.module.is_after_call(place.in_file)):
+                break
+            places.append(place)
+        return tuple(places)
+
+    def place(self, side: Side, after_call: int, has_names: bool = True) -> CodeAddress:
+        """Returns the place of a call, from the address after it. If somebody wants its names, they are looked up."""
+        address = after_call - 1
+        mapping = side.mapping(address)
+        if mapping is None:
+            return CodeAddress(None, address, address)
+        module = self.modules.find(mapping, side.started)
+        in_file = address - mapping.low + mapping.offset
+        if has_names and module.elf is not None and not module.trouble:
+            linked = module.elf.address(in_file)
+            if linked not in module.names:
+                module.wanted[linked] = None
+        return CodeAddress(module, in_file, address - mapping.base)
+
+    def sight(self, finding: Finding, count: int, fault: Optional[Fault], places: Places, tally: Tally) -> Sighting:
+        size = None if finding.access == "malloc" or finding.by_recorder else finding.size
+        key = (finding.class_name, finding.access, size, finding.call, *places[:3], fault.name if fault else "")
+        sighting = self.sightings.get(key)
+        if sighting is None:
+            sighting = self.sightings[key] = Sighting(finding, places, tally)
+        elif time_of(tally) < time_of(sighting.first):
+            # A later process may end before an earlier one, and a later segment be checked before.
+            sighting.finding, sighting.first = finding, tally
+        sighting.count += count
+        sighting.processes |= 1 << tally.process
+        return sighting
+
+    def finish(self) -> List[Finding]:
+        """Looks up the symbols of all that was taken in, adds it to the results, and returns what is new there."""
+        self.symbols.look_up()
+        new = []
+        for sighting in sorted(self.sightings.values(), key=lambda it: time_of(it.first)):
+            finding = self.complete(sighting)
+            known = self.results.places.get(finding.place)
+            if known is None:
+                new.append(finding)
+            finding = known or finding
+            if sighting.lost.blocks:
+                add_lost(finding, sighting.lost, known is not None)
+            before = self.seen_in.get(id(finding), 0)
+            self.seen_in[id(finding)] = before | sighting.processes
+            added = bits_of(sighting.processes & ~before)
+            times = sighting.count or int(known is None)  # pieces alone are none, if they are pieces of what is known
+            first = sighting.first._replace(times=times, processes=added)
+            self.results.add(finding, self.run, first)
+        self.sightings.clear()
+        self.note_last()
+        return new
+
+    def note_last(self) -> None:
+        """Gives the processes that a signal has ended their stacks."""
+        processes = self.results.runs[self.run].processes
+        for number, (last, calls, threads, created) in self.last.items():
+            if calls and number in processes:
+                crash = STACK_OVERFLOW if last.is_stack_used_up else ""
+                processes[number] = processes[number]._replace(
+                    stack=self.stack(calls, ""), address=last.address, access=last.access, crash=crash,
+                    threads=self.with_stacks(threads, created))
+        self.last.clear()
+
+    def complete(self, sighting: Sighting) -> Finding:
+        """Gives a finding its stacks and its fingerprint."""
+        finding = sighting.finding
+        finding.stack = self.stack(sighting.place, NO_PLACE)
+        if finding.block is not None and finding.block.kind == HEAP:
+            finding.allocated = self.stack(sighting.allocated, NO_ALLOCATION)
+            if sighting.freed:
+                finding.freed = self.stack(sighting.freed, "")
+        if finding.block is not None and sighting.function:
+            finding.block = finding.block._replace(function=self.stack(sighting.function, "")[-1])
+        finding.threads = self.with_stacks(finding.threads, sighting.created)
+        finding.set_fingerprint(self.sources)
+        return finding
+
+    def with_stacks(self, threads: Threads, created: List[Calls]) -> Threads:
+        """Gives threads the stacks of the calls that have created them. The first one has none, and is the last."""
+        stacks = [self.stack(calls, NO_PLACE) for calls in created]
+        named = [it._replace(created=stack) for it, stack in zip(threads.all, stacks)]
+        return threads._replace(all=(*named, *threads.all[len(named):]))
+
+    def stack(self, calls: Calls, note: str) -> Stack:
+        """Returns the frames of calls. What has called `main` is of no use to a reader."""
+        if not calls:
+            return (Frame(note=note),)
+        frames: List[Frame] = []
+        end = 0
+        for place in calls:
+            if place not in self.frames:
+                self.frames[place] = self.read_frames(place)
+            frames += self.frames[place]
+            if frames[-1].function == "main":
+                end = len(frames)
+        return tuple(frames[:end] if end else frames)
+
+    def read_frames(self, place: CodeAddress) -> Stack:
+        """Returns the frame of a place, and before it those that the compiler has inlined there."""
+        module = place.module
+        if module is None:
+            return (Frame(offset=place.offset),)
+        names = module.names.get(module.elf.address(place.in_file)) if module.elf else None
+        base = Frame(module=module.path, offset=place.offset, build=module.build)
+        if not names:
+            return (base,)
+        return tuple(
+            base._replace(function=it.function, file=it.file, line=it.line, column=it.column,
+                          is_inlined=number < len(names) - 1, text=self.sources.line(it.file, it.line),
+                          caret=self.sources.caret(it.file, it.line, it.column, module.built))
+            for number, it in enumerate(names)
+        )
+
+
+def finding_of(report: Report, fault: Optional[Fault]) -> Finding:
+    finding = Finding(report.class_name, report.access, report.size, report.address, report.bad)
+    finding.shadow = report.shadow
+    finding.block = block_of(fault)
+    if fault is not None:
+        finding.class_name = class_of(report.class_name, report.access, finding.bad_byte, fault)
+        finding.call = fault.call
+        finding.rows = Rows(fault.shadow_start, fault.shadow)
+        if fault.size and report.access in ("load", "store"):
+            finding.size = fault.size
+            if fault.start <= report.address < fault.start + fault.size:
+                finding.address, finding.bad = fault.start, finding.bad_byte
+    return finding
+
+
+def finding_by_recorder(fault: Fault) -> Finding:
+    """Returns a finding of the recorder. Of a leak the first block is of no use: there may be many."""
+    form = FORMS[fault.kind]
+    address = (fault.start or fault.block) if form.has_address else 0
+    finding = Finding(form.class_of(fault), form.access, fault.size if form.has_size else None, address, None)
+    finding.by_recorder = True
+    finding.raw_class = LEAK if finding.class_name == INDIRECT_LEAK else finding.class_name
+    finding.said = form.words(fault)
+    finding.call = fault.call
+    finding.block = Block(fault.block, fault.block_size) if form.has_address and fault.block else None
+    return finding
+
+
+def add_lost(finding: Finding, lost: Leaks, is_known: bool) -> None:
+    """Gives a leak what all processes have lost there."""
+    finding.size = lost.bytes + (finding.size or 0 if is_known else 0)
+    finding.blocks += lost.blocks
+    finding.said = leak_text(finding.class_name, finding.size, finding.blocks)
+
+
+def times_of(fault: Fault) -> int:
+    """Returns how often a finding of the recorder came up in its segment."""
+    return 1 if fault.kind in LEAK_KINDS else fault.count
+
+
+def threads_of(side: Side, access: int, allocated: int = 0, freed: int = 0) -> Tuple[Threads, List[Tuple[int, ...]]]:
+    """Returns the threads that a fault names, and the calls that have created them."""
+    found: Dict[int, SideThread] = {}
+    for number in (access, freed, allocated):
+        thread = side.thread(number)
+        while thread is not None and number not in found and len(found) < MAX_THREADS:
+            found[number] = thread
+            number = thread.creator
+            thread = side.thread(number)
+
+    def order(number: int) -> int:
+        return found[number].number if number in found else UNKNOWN_THREAD if number else 0
+
+    named = [Thread(it.number, order(it.creator), it.name, it.known_number) for it in found.values()]
+    first = side.beside_threads()[1]
+    if first:
+        named.append(Thread(0, name=first))
+    return Threads(order(access), order(allocated), order(freed), tuple(named)), [it.created for it in found.values()]
+
+
+def time_of(first: Tally) -> Tuple[int, ...]:
+    """Returns when something came up, among all that a run has."""
+    return (first.process, *first.moment)
+
+
+def bits_of(number: int) -> int:
+    return bin(number).count("1")
+
+
+def block_of(fault: Optional[Fault]) -> Optional[Block]:
+    """Returns what a fault lies beside."""
+    if fault is None or fault.block == 0:
+        return None
+    if fault.variable == VARIABLE_NONE:
+        return Block(fault.block, fault.block_size)
+    if fault.variable == VARIABLE_DYNAMIC:
+        return Block(fault.block, fault.block_size, DYNAMIC)
+    kind = STACK if fault.variable == VARIABLE_STACK else GLOBAL
+    name, file, line = declaration_of(fault.name)
+    return Block(fault.block, fault.block_size, kind, name, file, line or fault.line, fault.frame,
+                 variables=variables_of(fault.variables) if kind == STACK else ())

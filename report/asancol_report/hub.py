@@ -1,0 +1,215 @@
+"""Reads a run that goes on, as asancol-run gives it: packets on standard input, one JSON object each. Traces in files
+are such runs too: asancol-run is started for each process of them."""
+
+from __future__ import annotations
+
+import json
+import os
+import socket
+from typing import Callable, Dict, List, Optional, Set
+
+from .errors import Broken, reason
+from .gather import Gatherer
+from .json_lines import Commands, end_run, number_of, process_of, run_of, take_notes, text_of, VERSION
+from .results import Process, Results, Run
+from .running import start, wait
+from .segments import identity_of, look_at_sides, number_in, Segment
+from .side import Side
+from .symbols import on_path
+
+MAX_PACKET_SIZE = 1 << 16
+MAX_DESCRIPTORS = 16
+# No program that this one starts gets what came.
+FLAGS = socket.MSG_CMSG_CLOEXEC
+# What asancol-run ends with if it can't begin.
+OWN_FAILURE = 125
+# How a trace ends that was not read to its end.
+UNREAD = ("not-checked", "read-failed")
+# A number of a process that can't be meant.
+MAX_PROCESSES = 1 << 24
+
+
+class Hub:
+    """The run whose packets come on a socket."""
+
+    def __init__(self, results: Results, new_gatherer: Callable[[int], Gatherer],
+                 come: Callable[[Gatherer], None]) -> None:
+        self.results = results
+        self.new_gatherer = new_gatherer
+        self.come = come  # is called when a process with reports was taken in
+        self.gatherer: Optional[Gatherer] = None
+        self.number = 0
+        self.lost: Set[int] = set()  # processes whose reports did not arrive
+        self.commands: Commands = {}
+
+    def read(self, descriptor: int) -> None:
+        """Reads all packets. If the hub goes away before its last one, the run counts as not seen whole."""
+        try:
+            packets = socket.socket(fileno=os.dup(descriptor))
+        except OSError:
+            raise Broken("--run: standard input is no socket: asancol-run gives one") from None
+        self.read_packets(packets)
+        if self.gatherer is None:
+            raise Broken("--run: no run came on standard input")
+        self.gatherer.finish()
+        self.gatherer.finish_leaks()
+
+    def read_packets(self, packets: socket.socket) -> None:
+        with packets:
+            while True:
+                text, descriptors, _, _ = socket.recv_fds(packets, MAX_PACKET_SIZE, MAX_DESCRIPTORS, FLAGS)
+                try:
+                    if not text or self.take(text, list(descriptors)) == "end":
+                        break
+                finally:
+                    for each in descriptors:
+                        os.close(each)
+
+    def take(self, text: bytes, descriptors: List[int]) -> str:
+        """Takes in a packet and returns its type. One that can't be read is named, and nothing else."""
+        try:
+            entry = json.loads(text)
+            kind = text_of(entry["type"])
+            if kind != "run" and self.gatherer is None:
+                raise ValueError
+        except (ValueError, KeyError, TypeError, RecursionError):
+            self.results.notes["a message of asancol-run was not understood"] = None
+            return ""
+        if kind == "run":
+            self.begin(entry)
+        elif kind == "process":
+            self.take_process(entry, descriptors)
+        elif kind == "end":
+            self.end(entry)
+            take_notes(entry, self.results)
+        return kind
+
+    def end(self, entry: Dict[str, object]) -> None:
+        end_run(self.results.runs[self.number], entry)
+
+    def begin(self, entry: Dict[str, object]) -> None:
+        if number_of(entry.get("version")) > VERSION:
+            raise Broken("--run: this asancol-run is newer than this asancol-report")
+        if self.gatherer is not None:
+            return
+        run = run_of(entry)
+        run.has_ended = False
+        self.number = self.results.add_run(run) or 0
+        self.gatherer = self.new_gatherer(self.number)
+
+    def take_process(self, entry: Dict[str, object], descriptors: List[int]) -> None:
+        """Takes in what is known of a process by now. A later packet replaces what an earlier one says, and may bring
+        the reports of another segment."""
+        process = self.known(process_of(entry, self.commands))
+        segment = number_of(entry.get("segment"))
+        processes = self.results.runs[self.number].processes
+        before = processes.get(process.number)
+        if not descriptors and (segment or ((process.reports or process.findings) and before is None)):
+            self.lost.add(process.number)
+        if before is not None:
+            process = process._replace(address=before.address, access=before.access, crash=before.crash,
+                                       stack=before.stack, threads=before.threads)
+        if process.number in self.lost:
+            process = process._replace(is_whole=False, is_abrupt=False, why="its reports did not arrive")
+        processes[process.number] = process
+        if not descriptors or self.gatherer is None or process.number >= MAX_PROCESSES:
+            return
+        files = min(number_of(entry.get("files")), len(descriptors) - 1)
+        end = len(descriptors) - files
+        for each in descriptors[end:]:
+            self.gatherer.modules.give(each)
+        side = self.side_of(text_of(entry.get("trace")), descriptors[1:end])
+        try:
+            self.gatherer.take(process.number, process.pid, descriptors[0], side, segment or 1)
+        finally:
+            if side is not None:
+                side.close()
+        self.come(self.gatherer)
+
+    def known(self, process: Process) -> Process:
+        """Returns a process with what else is known of it."""
+        return process
+
+    def side_of(self, trace: str, descriptors: List[int]) -> Optional[Side]:
+        """Returns the side memory that came with a process, or that lies beside its trace."""
+        try:
+            return Side(os.dup(descriptors[0])) if descriptors else Side.open(trace + ".where") if trace else None
+        except (OSError, ValueError):
+            return None
+
+
+def find_run(beside: str) -> str:
+    """Returns asancol-run: beside this program, in the tree, or on PATH."""
+    for folder in (beside, os.path.join(os.path.dirname(beside), "run")):
+        path = os.path.join(folder, "asancol-run")
+        if os.path.isfile(path) and os.access(path, os.X_OK):
+            return path
+    found = on_path("asancol-run")
+    if found is None:
+        raise CannotCheck("asancol-run is not there, which checks traces")
+    return found
+
+
+class CannotCheck(Broken):
+    """No trace can be checked."""
+
+
+class Files(Hub):
+    """A process whose traces lie in files, as a run of its own."""
+
+    def __init__(self, results: Results, new_gatherer: Callable[[int], Gatherer], come: Callable[[Gatherer], None],
+                 segments: List[Segment]) -> None:
+        super().__init__(results, new_gatherer, come)
+        self.segments = segments
+        self.trace = segments[0].path
+
+    def open(self) -> Optional[Gatherer]:
+        """Begins the run, and returns what gathers it. None, if it was given before."""
+        try:
+            run = Run([self.trace], identity_of(self.segments))
+            run.time = float(int(os.stat(self.trace).st_mtime))
+        except OSError as error:
+            raise Broken(f"{error.filename}: {reason(error)}") from None
+        run.host = os.uname().nodename
+        run.directory = os.getcwd()
+        number = self.results.add_run(run)
+        if number is None:
+            return None
+        self.number = number
+        self.gatherer = self.new_gatherer(number)
+        return self.gatherer
+
+    def check(self, asancol_run: str, options: List[str]) -> None:
+        """Has the traces checked. Broken, if one was not read to its end."""
+        look_at_sides(self.segments, self.results.notes)
+        words = [asancol_run, "--files", *options, "--", *(f"{it.number}:{it.path}" for it in self.segments)]
+        ours, theirs = socket.socketpair(socket.AF_UNIX, socket.SOCK_SEQPACKET)
+        try:
+            with theirs, open(os.devnull, "rb") as nothing:
+                child = start(words, nothing.fileno(), theirs.fileno())
+        except OSError as error:
+            ours.close()
+            raise CannotCheck(f"{asancol_run} can't be run: {reason(error)}") from None
+        self.read_packets(ours)
+        status = wait(child)
+        if status:
+            ended = CannotCheck if status == OWN_FAILURE else Broken
+            raise ended(f"{asancol_run} ended with status {status}")
+        run = self.results.runs[self.number]
+        for process in list(run.processes.values()):
+            run.signal = process.signal
+            if process.fate in UNREAD:
+                run.processes.clear()
+                raise Broken(f"{self.trace}: {process.why}")
+
+    def end(self, entry: Dict[str, object]) -> None:
+        """Takes in what was not checked. What else a run says at its end is not known of files."""
+        ended = run_of(entry)
+        run = self.results.runs[self.number]
+        run.unchecked, run.unchecked_more, run.system = ended.unchecked, ended.unchecked_more, ended.system
+
+    def known(self, process: Process) -> Process:
+        """Returns a process with what the names of its files say."""
+        command = process.command if process.pid and process.command else (self.trace,)
+        return process._replace(command=command, pid=process.pid or number_in(self.trace),
+                                kept=os.path.abspath(self.trace))

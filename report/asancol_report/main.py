@@ -1,0 +1,311 @@
+"""What asancol-report does: reads, decides what counts, writes."""
+
+from __future__ import annotations
+
+import os
+import signal
+import sys
+from typing import Callable, List, Optional, TextIO, Tuple
+
+from . import options as command_line
+from . import option_table, RELEASE
+from .errors import Broken, CLEAN, COUNTS, FAILED, NOT_WHOLE, reason, REFUSED, Refused
+from .files import write_file
+from .findings import Finding
+from .gather import Gatherer
+from .json_lines import read_whole
+from .modules import Modules
+from .options import Options
+from .results import Results
+from .sources import Sources
+from .suppressions import Suppressions
+from .symbols import Symbols
+from .text import Colors, Text
+
+TYPE_CHECKING = False
+if TYPE_CHECKING:
+    from .baseline import Baseline
+    from .hub import Files
+
+Writer = Callable[[Results, TextIO, Options, Sources], None]
+
+
+def say(text: object) -> None:
+    try:
+        print(f"asancol-report: {text}", file=sys.stderr, flush=True)
+    except OSError:
+        pass
+
+
+class Report:
+    """One run of this program. It loads what it needs when it needs it, since it is to start fast."""
+
+    def __init__(self, options: Options, beside: str) -> None:
+        self.options = options
+        self.beside = beside
+        root = options.value("--source-root")
+        self.root = os.path.realpath(root) if root else ""
+        self.results = Results()
+        self.results.lists_unchecked = options.value("--unchecked") != "no"
+        self.results.demands_checked = options.value("--unchecked") == "error"
+        self.modules = Modules()
+        self.symbols = Symbols(self.modules)
+        self.sources = Sources(self.root)
+        self.suppressions = Suppressions()
+        self.baseline: Optional[Baseline] = None
+        self.has_failed = False
+        self.unread: List[Tuple[str, str]] = []  # files that could not be read to their end, and why
+        self.text = text_of(options, self.root)
+
+    @property
+    def is_live(self) -> bool:
+        return self.options.switches["--live"] and self.options.has_text
+
+    def fail(self, error: object) -> None:
+        say(error)
+        self.has_failed = True
+
+    def run(self) -> int:
+        self.read_rules()
+        self.read_input()
+        if self.unread and not self.results.runs:
+            return FAILED
+        for path, why in self.unread:
+            if all(run.cut != why for run in self.results.runs):
+                self.results.add_cut(path, why)
+        self.judge()
+        self.results.unused = self.suppressions.unused()
+        self.results.gone = self.baseline.gone() if self.baseline else None
+        for trouble in self.symbols.troubles():
+            self.results.notes[trouble] = None
+        self.write()
+        return self.status()
+
+    def read_rules(self) -> None:
+        """Reads what does not count. In a run that goes on, a mistake there must not lose its reports: what is wrong is
+        said at once, and after the summary what was not used."""
+        for path in self.options.suppressions:
+            self.read_rule(self.suppressions.read, path)
+        if self.options.value("--baseline"):
+            self.read_rule(self.read_baseline, self.options.value("--baseline"))
+
+    def read_rule(self, read_it: Callable[[str], None], path: str) -> None:
+        try:
+            read_it(path)
+        except (OSError, Broken, Refused) as error:
+            if not self.options.switches["--run"]:
+                raise
+            text = f"{path}: {reason(error)}" if isinstance(error, OSError) else str(error)
+            self.fail(text)
+            text += "; the rest of the file was not used" if isinstance(error, Refused) else "; it was not used"
+            self.results.notes[text] = None
+            unused = f"the rest of {path}" if isinstance(error, Refused) else path
+            self.text.short[text] = f"{unused} was not used"
+
+    def read_baseline(self, path: str) -> None:
+        from .baseline import Baseline
+        self.baseline = Baseline(path)
+
+    def read_input(self) -> None:
+        switches, files = self.options.switches, self.options.files
+        if switches["--run"]:
+            from .hub import Hub
+            Hub(self.results, self.new_gatherer, self.come).read(0)
+            self.read_nested(self.options.value("--nested"))
+        if switches["--trace"]:
+            self.check_traces(files)
+        else:
+            for path in files:
+                for each in results_at(path):
+                    self.read_result(each)
+        if switches["--no-machines"]:
+            self.results.forget_machines()
+
+    def read_result(self, path: str) -> None:
+        """Reads a result. If that fails, what came before is in the report, and the others are."""
+        try:
+            read_whole(path, self.results)
+        except Broken as error:
+            self.fail_to_read(path, error)
+
+    def fail_to_read(self, path: str, error: Broken) -> None:
+        self.fail(error)
+        self.unread.append((path, str(error)))
+
+    def read_nested(self, folder: str) -> None:
+        """Reads what runs inside this one have left in its folder; asancol-run says if that is gone."""
+        for name in sorted(os.listdir(folder)) if os.path.isdir(folder) else ():
+            if name.startswith("nested.") and name.endswith(".jsonl"):
+                self.read_result(os.path.join(folder, name))
+
+    def new_gatherer(self, run: int) -> Gatherer:
+        has_rules = self.suppressions.rules or self.baseline
+        return Gatherer(self.results, run, self.modules, self.symbols, self.sources, self.options.value("--leaks"),
+                        self.counts if has_rules else None)
+
+    def counts(self, finding: Finding) -> bool:
+        """Returns whether a finding counts that is none of the results."""
+        self.suppressions.apply([finding])
+        if self.baseline:
+            self.baseline.apply([finding])
+        return finding.counts
+
+    def check_traces(self, files: List[str]) -> None:
+        from .hub import Files, find_run
+        from .segments import processes_in
+        self.results.are_traces = True
+        asancol_run = find_run(self.beside)
+        gatherers = []
+        for segments in processes_in(files):
+            traces = Files(self.results, self.new_gatherer, self.come, segments)
+            try:
+                gatherer = traces.open()
+            except Broken as error:
+                self.fail_to_read(segments[0].path, error)
+                continue
+            if gatherer is not None:
+                gatherers.append(gatherer)
+                self.check_trace(traces, asancol_run, gatherer)
+        for gatherer in gatherers:
+            gatherer.finish()
+            gatherer.finish_leaks()
+
+    def check_trace(self, traces: Files, asancol_run: str, gatherer: Gatherer) -> None:
+        from .hub import CannotCheck
+        try:
+            traces.check(asancol_run, self.options.check_words)
+        except CannotCheck:
+            raise
+        except Broken as error:
+            self.fail(error)
+            self.results.runs[gatherer.run].cut = str(error)
+
+    def come(self, gatherer: Gatherer) -> None:
+        """Prints what is new, if it is to be printed at once."""
+        if not self.is_live:
+            return
+        new = gatherer.finish()
+        self.suppressions.apply(new)
+        if self.baseline:
+            self.baseline.apply(new)
+        self.results.fold()
+        at_once = set(new)
+        for finding in sorted(new, key=lambda it: it.order):
+            if finding.counts and finding.follows not in at_once:
+                self.text.place(finding, times=False)
+        self.flush()
+
+    def judge(self) -> None:
+        self.results.place_crashes(self.sources)
+        findings = self.results.all_places()
+        self.suppressions.apply(findings)
+        if self.baseline:
+            self.baseline.apply(findings)
+        self.results.fold()
+
+    def write(self) -> None:
+        results = self.results
+        says_unchecked = results.lists_unchecked and results.unchecked_count() > 0
+        is_clean = not results.counted() and results.is_whole() and not results.has_crash() and not says_unchecked
+        if self.options.has_text and not (self.options.switches["--quiet"] and is_clean):
+            try:
+                self.text.report(self.results, self.is_live)
+            except OSError as error:
+                self.fail_to_print(error)
+        self.flush()
+        for name, path in self.options.outputs:
+            self.write_output(writer_of(name), path)
+
+    def write_output(self, form: Writer, path: str) -> None:
+        try:
+            write_file(path, lambda out: form(self.results, out, self.options, self.sources))
+        except Broken as error:
+            self.fail(error)
+
+    def flush(self) -> None:
+        try:
+            sys.stdout.flush()
+        except OSError as error:
+            self.fail_to_print(error)
+
+    def fail_to_print(self, error: OSError) -> None:
+        if not isinstance(error, BrokenPipeError):
+            say(f"standard output: {reason(error)}")
+        self.has_failed = True
+        # What could not be written must not be tried again at the end of this program.
+        os.dup2(os.open(os.devnull, os.O_WRONLY), 1)
+
+    def status(self) -> int:
+        if self.has_failed:
+            return FAILED
+        if self.results.counted():
+            return COUNTS
+        return CLEAN if self.results.is_whole() else NOT_WHOLE
+
+
+def results_at(path: str) -> List[str]:
+    """Returns the results that a name stands for: of a folder those in it and below, in the order of their names."""
+    if not os.path.isdir(path):
+        return [path]
+    return sorted(os.path.join(folder, name) for folder, _, names in os.walk(path) for name in names
+                  if name.endswith(".jsonl") and not name.startswith("."))
+
+
+def writer_of(name: str) -> Writer:
+    """Returns what writes an output. Each is loaded only if it is asked for."""
+    import importlib
+
+    writer: Writer = importlib.import_module(f".{option_table.OUTPUTS[name]}", __package__).write
+    return writer
+
+
+def text_of(options: Options, root: str) -> Text:
+    """Returns what writes the text."""
+    switches = options.switches
+    whole = [path for name, path in options.outputs if name in ("--json", "--html")]
+    return Text(sys.stdout, Colors(has_colors(options)), root, switches["--gen-suppressions"],
+                switches["--full-stacks"],
+                switches["--shadow"], " and ".join(whole))
+
+
+def has_colors(options: Options) -> bool:
+    when = options.value("--color")
+    if when != "auto":
+        return when == "always"
+    return sys.stdout.isatty() and not os.environ.get("NO_COLOR") and os.environ.get("TERM") != "dumb"
+
+
+def set_signals(is_fed: bool) -> None:
+    """Ctrl-C ends this program without a word. While asancol-run feeds it, signals to the process group or the session
+    are for the command: it goes on until its input ends, so that no report is lost."""
+    if is_fed:
+        for number in (signal.SIGINT, signal.SIGTERM, signal.SIGHUP, signal.SIGQUIT):
+            signal.signal(number, signal.SIG_IGN)
+    else:
+        signal.signal(signal.SIGINT, signal.SIG_DFL)
+
+
+def main(words: List[str], beside: str) -> int:
+    """Runs the program with the words of its command line, and returns its status."""
+    set_signals("--run" in words)
+    sys.stdout = open(1, "w", encoding="utf-8", errors="surrogateescape", newline="\n", closefd=False)
+    try:
+        options = command_line.read(words)
+        if options.switches["--help"]:
+            sys.stdout.write(option_table.HELP)
+        elif options.switches["--version"]:
+            sys.stdout.write(f"asancol-report {RELEASE}\n")
+        else:
+            return Report(options, beside).run()
+        sys.stdout.flush()
+        return CLEAN
+    except Refused as error:
+        say(error)
+        return REFUSED
+    except Broken as error:
+        say(error)
+    except OSError as error:
+        say(f"{error.filename}: {reason(error)}" if error.filename else reason(error))
+    except MemoryError:
+        say("no memory")
+    return FAILED

@@ -1,0 +1,95 @@
+"""Made by `make options` from options/asancol-run.options."""
+
+HELP = """\
+usage: asancol-report [options] RESULT.jsonl...
+           merges results of asancol-run --json; of a folder, all that are in it
+       asancol-report [options] --trace A.trace...
+           checks traces, and reads A.trace.where
+Output files:
+  --json FILE          JSON lines, which asancol-report reads
+  --sarif FILE         SARIF 2.1.0, for code scanning
+  --junit FILE         JUnit XML: a test case for each run
+  --codequality FILE   a Code Quality report of GitLab
+  --html FILE          a page that needs no other file and no network
+Text:
+  --live               print the first report of each place when it comes
+  --source-root DIR    show files under DIR by their paths from there
+  --color WHEN         colors: auto, always or never (auto)
+  --full-stacks        print all frames of a stack, and whole names
+  --shadow             print the shadow bytes round each bad byte
+  --unchecked HOW      what was not checked: list, no or error (list)
+  --no-machines        leave out names of machines, and when runs were
+  -q, --quiet          no line if all is clean
+Which reports count:
+  --leaks HOW          blocks that leak: summary, no or yes (summary)
+  --suppressions FILE  reports that do not count; may be repeated
+  --gen-suppressions   print with each report the line that suppresses it
+  --baseline FILE      reports of this result of --json do not count
+Traces:
+  --trace              the files are traces
+  --quarantine B       how many bytes of freed blocks are held (as recorded)
+  --memory B           how many bytes each checker may hold (no bound)
+  --limit N            how many events of a trace are checked (16777216)
+Others:
+  --run                read from asancol-run on standard input
+  -h, --help           print this help
+  --version            print the name and the release
+A FILE - is standard output; the text is left out then.
+Status: 0 no report counts; 1 a report counts; 2 the command line was refused;
+        3 not everything was seen; 4 a file was not read to its end, or written
+"""
+OUTPUTS = {
+    "--json": "json_lines",
+    "--sarif": "sarif",
+    "--junit": "junit",
+    "--codequality": "code_quality",
+    "--html": "html",
+}
+SHORT = {
+    "-q": "--quiet",
+    "-h": "--help",
+}
+WORDS = {
+    "--color": ("auto", "always", "never"),
+    "--leaks": ("summary", "no", "yes"),
+    "--unchecked": ("list", "no", "error"),
+}
+DEFAULTS = {
+    "--color": "auto",
+    "--leaks": "summary",
+    "--unchecked": "list",
+}
+OF_CHECK = (
+    "--quarantine",
+    "--memory",
+    "--limit",
+)
+WITH_VALUE = (
+    "--json",
+    "--sarif",
+    "--junit",
+    "--codequality",
+    "--html",
+    "--source-root",
+    "--color",
+    "--leaks",
+    "--unchecked",
+    "--suppressions",
+    "--baseline",
+    "--quarantine",
+    "--memory",
+    "--limit",
+    "--nested",
+)
+SWITCHES = (
+    "--live",
+    "--full-stacks",
+    "--shadow",
+    "--no-machines",
+    "--quiet",
+    "--gen-suppressions",
+    "--trace",
+    "--run",
+    "--help",
+    "--version",
+)

@@ -1,0 +1,311 @@
+"""The report as text. Its lines are like AddressSanitizer's, because tools know those."""
+
+from __future__ import annotations
+
+from typing import Callable, Dict, Iterable, Iterator, List, Optional, TextIO
+
+from . import shadow_rows
+from .class_names import TITLES
+from .crashes import own_calls
+from .findings import Block, BY_RECORDER, Finding, Frame, place_text, Stack, Threads
+from .functions import brief
+from .results import Process, Results, Run
+from .stacks import folded, rows_of, window
+from .suppressions import suppression_of
+from .variables import Variable
+from .words import date_and_time, plural, printable, shown_path
+
+# So many names of what was not checked are in the summary.
+MAX_UNCHECKED_SAID = 5
+# So many places are named under the first one of a block.
+MAX_ALSO = 10
+# So many places have a report in the text, and so many variables of a frame are named.
+MAX_PLACES = 50
+MAX_VARIABLES = 16
+
+
+class Colors:
+    """What turns colors on and off; nothing, if there are none."""
+
+    def __init__(self, are_on: bool) -> None:
+        self.red, self.green, self.bold, self.dim, self.off = (
+            ("\033[1;31m", "\033[1;32m", "\033[1m", "\033[2m", "\033[0m") if are_on else [""] * 5)
+
+
+class Text:
+    """Writes a report, all at once or finding by finding."""
+
+    def __init__(self, out: TextIO, colors: Colors, root: str, has_suppressions: bool, has_all_frames: bool = False,
+                 has_shadow: bool = False, elsewhere: str = "") -> None:
+        self.out = out
+        self.colors = colors
+        self.root = root
+        self.has_suppressions = has_suppressions  # print what suppresses each finding
+        self.has_all_frames = has_all_frames
+        self.has_shadow = has_shadow
+        self.elsewhere = elsewhere  # the files that have all places
+        self.places = 0  # that were printed
+        self.short: Dict[str, str] = {}  # notes that were printed before, and how they are printed again
+
+    def write(self, lines: Iterator[str]) -> None:
+        self.out.write("".join(line + "\n" for line in lines))
+
+    def report(self, results: Results, is_live: bool) -> None:
+        """Writes all findings that count, and the summary. Those of a live report were written before: their counts
+        follow."""
+        counted = results.counted()
+        for finding in counted if not is_live else ():
+            if finding.follows is None:
+                self.place(finding, seen=seen_text(results, finding))
+        for finding in counted[:MAX_PLACES] if is_live else ():
+            if finding.count > 1:
+                self.write(iter([self.count_line(finding)]))
+        self.write(self.left_out(sum(finding.follows is None for finding in counted)))
+        self.write(self.summary(results))
+
+    def place(self, finding: Finding, times: bool = True, seen: str = "") -> None:
+        """Writes a finding, if there were not too many before."""
+        self.places += 1
+        if self.places <= MAX_PLACES:
+            self.write(self.finding(finding, times, seen))
+
+    def left_out(self, places: int) -> Iterator[str]:
+        if self.has_shadow and self.places:
+            yield shadow_rows.LEGEND + "\n"
+        if places > MAX_PLACES:
+            where = f"in {self.elsewhere}" if self.elsewhere else "not shown: --json FILE and --html FILE have them all"
+            are = "is" if places == MAX_PLACES + 1 else "are"
+            yield f"asancol: {plural(places - MAX_PLACES, 'more place')} {are} {where}"
+
+    def finding(self, finding: Finding, times: bool = True, seen: str = "") -> Iterator[str]:
+        colors = self.colors
+        notes = [BY_RECORDER] if finding.by_recorder else []
+        if times and finding.count > 1:
+            notes += [f"{finding.count} times", plural(finding.processes, "process")]
+        count = f" ({', '.join(notes)})" if notes else ""
+        threads = finding.threads
+        thread = printable(threads.where(threads.access))
+        title = TITLES[finding.class_name] if finding.is_leak else finding.title
+        yield f"{colors.red}=={finding.first.pid}==ERROR: asancol: {printable(title)}{colors.off}{thread}{count}"
+        if finding.is_leak:
+            yield f"{finding.what} allocated from:"
+        yield from self.stack(finding.stack, finding.top)
+        bad = f"0x{finding.bad_byte:x}"
+        if finding.where:
+            yield f"  {bad} is {printable(finding.where)}{self.frame_file(finding)}"
+        elif finding.has_address:
+            yield f"  address {bad}"
+        yield from variables_text(finding.block, finding.bad_byte)
+        for title, number, stack in (("allocated", threads.allocated, finding.allocated),
+                                     ("freed", threads.freed, finding.freed)):
+            if stack:
+                yield f"  {title}{printable(threads.where(number, stack))} at"
+                yield from self.stack(stack)
+        yield from self.threads(threads)
+        if self.has_shadow and finding.rows.shadow:
+            yield from shadow_rows.lines(finding.rows, finding.bad_byte)
+        yield from self.also(finding)
+        if seen:
+            yield f"  {printable(seen)}"
+        if self.has_suppressions:
+            line = suppression_of(finding, self.root)
+            yield f"  suppression: {printable(line)}" if line else "  suppression: none, since its place is not known"
+        yield ""
+
+    def threads(self, threads: Threads) -> Iterator[str]:
+        for title, stack in threads.titles():
+            yield f"  {printable(title)}"
+            yield from self.stack(stack)
+
+    def also(self, finding: Finding) -> Iterator[str]:
+        """Where else there were reports of this class on the same block or variable."""
+        # A call that reads and writes has two.
+        others = [it for it in finding.also if (it.top, it.what) != (finding.top, finding.what)]
+        for other in others[:MAX_ALSO]:
+            times = f" ({other.count} times)" if other.count > 1 else ""
+            where = f", {printable(other.where_again)}" if other.block else ""
+            yield f"  also at {self.place_of(other.top)}: {printable(other.what)}{where}{times}"
+        if len(others) > MAX_ALSO:
+            yield f"  also at {plural(len(others) - MAX_ALSO, 'more place')}"
+
+    def frame_file(self, finding: Finding) -> str:
+        """Returns where the function is whose frame has the variable."""
+        function = finding.block.function if finding.block else None
+        is_known = function is not None and function.function and function.file
+        return f", {printable(shown_path(place_text(function._replace(column=0)), self.root))}" if is_known else ""
+
+    def place_of(self, top: Frame) -> str:
+        function = f" in {brief(top.function)}" if top.function else ""
+        return printable(shown_path(place_text(top), self.root) + function)
+
+    def stack(self, stack: Stack, top: Optional[Frame] = None) -> Iterator[str]:
+        """A stack, with the line of source of the frame that stands for the place."""
+        own = next((at for at, frame in enumerate(stack) if frame is top), -1)
+        for first, count, owners in rows_of(stack, own):
+            if count > 1 and not self.has_all_frames:
+                yield f"    .. {folded(count, owners)}"
+                continue
+            for at in range(first, first + count):
+                yield f"    #{at} {self.frame(stack[at])}"
+                if at == own:
+                    yield from self.source(stack[at])
+
+    def source(self, frame: Frame) -> Iterator[str]:
+        """The line of a frame, with a caret under its column. Without it, if the file may have changed since."""
+        if frame.text and frame.caret is not None:
+            line, before = window(frame.text, frame.caret)
+            yield f"{frame.line:9} | {printable(line)}"
+            if frame.caret:
+                yield f"{'':9} | {' ' * len(printable(before))}{self.colors.green}^{self.colors.off}"
+
+    def frame(self, frame: Frame) -> str:
+        if frame.note:
+            return frame.note
+        colors = self.colors
+        name = frame.function if self.has_all_frames else brief(frame.function)
+        function = f"in {colors.bold}{printable(name)}{colors.off} " if name else ""
+        where = "" if not frame.file and not frame.module else printable(shown_path(place_text(frame), self.root))
+        return f"0x{frame.offset:x} {function}{where}".rstrip() + (" (inlined)" if frame.is_inlined else "")
+
+    def count_line(self, finding: Finding) -> str:
+        place = shown_path(place_text(finding.top), self.root)
+        function = f" in {brief(finding.top.function)}" if finding.top.function else ""
+        times = f"{finding.count} times, {plural(finding.processes, 'process')}"
+        return f"asancol: {finding.class_name}{printable(function)} {printable(place)}: {times}"
+
+    def summary(self, results: Results) -> Iterator[str]:
+        yield from self.crashes(results, results.crashes())
+        yield from abrupt_lines(results.abrupt())
+        yield from not_whole_lines([process for _, process in results.not_whole()])
+        for run in results.runs:
+            for trouble in run.troubles:
+                yield f"asancol: {self.run_name(run, results)}{printable(trouble)}"
+        yield f"{self.colors.bold}{totals_line(results)}{self.colors.off}"
+        leaks = results.totals().leaks
+        if leaks.places:
+            yield f"asancol: {leaks}; --leaks=yes shows them"
+        for rule in results.unused:
+            yield f"asancol: a suppression matched nothing: {printable(rule)}"
+        if results.gone:
+            yield f"asancol: {plural(results.gone, 'place')} of the baseline did not come up"
+        for note in results.notes:
+            yield f"asancol: {printable(self.short.get(note, note))}"
+        for finding in (*results.counted(), *results.counted_crashes())[:1]:
+            yield f"SUMMARY: asancol: {finding.class_name} {self.place_of(finding.top)}"
+
+    def crashes(self, results: Results, processes: Iterable[Process]) -> Iterator[str]:
+        """Where processes were when signals ended them. It is no report."""
+        stacks: Dict[Stack, List[Process]] = {}
+        for process in processes:
+            stacks.setdefault(process.stack, []).append(process)
+        for stack, those in stacks.items():
+            yield from lines_of(those, lambda it: it.end + printable(it.threads.where(it.threads.access)))
+            yield from self.stack(stack, next(iter(own_calls(stack)), None))
+            yield from self.threads(those[0].threads)
+            named = {id(it): it for it in map(results.crash_of, those) if it} if self.has_suppressions else {}
+            yield from (f"  suppression: {printable(suppression_of(it, self.root))}" for it in named.values())
+
+    @staticmethod
+    def run_name(run: Run, results: Results) -> str:
+        return f"{printable(run.command[0])}: " if len(results.runs) > 1 and run.command else ""
+
+
+def variables_text(block: Optional[Block], bad: int) -> Iterator[str]:
+    """What is in the frame of a variable, and where the bad byte is in it: as AddressSanitizer has it."""
+    if block is None or not block.variables or not block.frame:
+        return
+    offset, meant = bad - block.frame, block.address - block.frame
+    first = next((at for at, it in enumerate(block.variables) if it.offset == meant), 0)
+    first = max(0, min(first - MAX_VARIABLES // 2, len(block.variables) - MAX_VARIABLES))
+    yield f"  This frame has {plural(len(block.variables), 'object')}:"
+    for it in block.variables[first:first + MAX_VARIABLES]:
+        line = f" (line {it.line})" if it.line else ""
+        mark = f" <== the access at offset {offset} {relation(offset, it)} this variable" if it.offset == meant else ""
+        yield f"    [{it.offset}, {it.end}) '{printable(it.name)}'{line}{mark}"
+    if len(block.variables) > MAX_VARIABLES:
+        yield f"    and {len(block.variables) - MAX_VARIABLES} more"
+
+
+def relation(offset: int, variable: Variable) -> str:
+    if offset < variable.offset:
+        return "underflows"
+    return "is inside" if offset < variable.end else "overflows"
+
+
+def abrupt_lines(processes: Iterable[Process]) -> Iterator[str]:
+    return lines_of(processes, lambda it: f"{printable(it.why)}: seen up to there")
+
+
+def not_whole_lines(processes: Iterable[Process]) -> Iterator[str]:
+    return lines_of(processes, lambda it: f"NOT SEEN WHOLE: {printable(it.why)}")
+
+
+def lines_of(processes: Iterable[Process], text_of: Callable[[Process], str]) -> Iterator[str]:
+    """Yields a line for each program and text, with the numbers of the first processes that have it."""
+    kinds: Dict[str, List[int]] = {}
+    for process in processes:
+        command = printable(process.command[0]) + ": " if process.command else ""
+        kinds.setdefault(command + text_of(process), []).append(process.pid)
+    for text, numbers in kinds.items():
+        first = ", ".join(map(str, numbers[:3])) + (", .." if len(numbers) > 3 else "")
+        who = f"process {first}" if len(numbers) == 1 else f"{len(numbers)} processes ({first})"
+        yield f"asancol: {who} {text}"
+
+
+def seen_text(results: Results, finding: Finding) -> str:
+    """Returns in how many runs, on which machines and when a finding was seen; nothing, if there is one run alone, or
+    if each run is a trace."""
+    if len(results.runs) < 2 or results.are_traces:
+        return ""
+    seen = results.sightings(finding)
+    text = f"seen in {plural(seen.runs, 'run')}"
+    if seen.machines:
+        text += f" on {plural(len(seen.machines), 'machine')}"
+    if seen.first:
+        text += f", first {date_and_time(seen.first)}" + (f" on {seen.first_machine}" if seen.first_machine else "")
+    return text
+
+
+def totals_line(results: Results) -> str:
+    """Returns the summary. asancol-run says the same of one run (`put_whole`), and prints it if it needs no report."""
+    totals = results.totals()
+    reports = "no reports"
+    if totals.places:
+        reports = f"{plural(totals.reports, 'report')} at {plural(totals.places, 'place')}"
+    if totals.by_recorder:
+        reports += f" ({totals.by_recorder} {BY_RECORDER})"
+    if totals.suppressed:
+        reports += f", {totals.suppressed} suppressed"
+    if totals.known:
+        reports += f", {plural(totals.known, 'place')} known from the baseline"
+    processes = plural(totals.processes, "process")
+    if results.run_count > 1 and not results.are_traces:
+        processes += f" in {plural(results.run_count, 'run')}"
+    words = [f"asancol: {reports}", f"{processes}, {plural(totals.events, 'event')}"]
+    seen = []
+    if totals.not_whole:
+        seen.append(f"{totals.not_whole} NOT SEEN WHOLE")
+    elif totals.troubles or not results.runs:
+        seen.append("NOT SEEN WHOLE")
+    elif not totals.unchecked:
+        seen.append("all seen whole")
+    if totals.abrupt:
+        seen.append(f"{totals.abrupt} ended abruptly")
+    if totals.crashed:
+        seen.append(f"{totals.crashed} crashed")
+    if totals.crashes_suppressed:
+        seen.append(f"{plural(totals.crashes_suppressed, 'crash')} suppressed")
+    if totals.crashes_known:
+        seen.append(f"{plural(totals.crashes_known, 'crash')} known from the baseline")
+    if seen:
+        words.append(", ".join(seen))
+    if totals.unchecked and results.lists_unchecked:
+        words.append(f"not checked: {unchecked_text(results)}")
+    return "; ".join(words)
+
+
+def unchecked_text(results: Results, most: int = MAX_UNCHECKED_SAID) -> str:
+    """Returns the first names of what was not checked, and how many more there are."""
+    names = results.unchecked()[:most]
+    more = results.unchecked_count() - len(names)
+    return printable(", ".join(names) + (f" and {more} more" if more else ""))

@@ -1,0 +1,51 @@
+# Completion of asancol-report for bash.
+# Made by `make options` from options/asancol-run.options.
+
+_asancol_report() {
+    local word=$2 before=$3
+    COMPREPLY=()
+    if [[ $before == = ]]; then
+        before=${COMP_WORDS[COMP_CWORD - 2]}
+    elif [[ $word == = ]]; then
+        word=
+    fi
+    case $before in
+    --json | --sarif | --junit | --codequality | --html | --suppressions | --baseline)
+        mapfile -t COMPREPLY < <(compgen -f -- "$word")
+        compopt -o filenames 2> /dev/null
+        return
+        ;;
+    --source-root)
+        mapfile -t COMPREPLY < <(compgen -d -- "$word")
+        compopt -o filenames 2> /dev/null
+        return
+        ;;
+    --color)
+        mapfile -t COMPREPLY < <(compgen -W 'auto always never' -- "$word")
+        return
+        ;;
+    --unchecked)
+        mapfile -t COMPREPLY < <(compgen -W 'list no error' -- "$word")
+        return
+        ;;
+    --leaks)
+        mapfile -t COMPREPLY < <(compgen -W 'summary no yes' -- "$word")
+        return
+        ;;
+    --quarantine | --memory | --limit)
+        return
+        ;;
+    esac
+    if [[ $word == -* ]]; then
+        mapfile -t COMPREPLY < <(compgen -W '--json --sarif --junit --codequality --html --live --source-root --color
+            --full-stacks --shadow --unchecked --no-machines --quiet --leaks --suppressions --gen-suppressions --baseline
+            --trace --quarantine --memory --limit --run --help --version' -- "$word")
+    else
+        local end='*.jsonl'
+        [[ " ${COMP_WORDS[*]} " == *' --trace '* ]] && end='*.trace'
+        mapfile -t COMPREPLY < <(compgen -d -- "$word"; compgen -f -X "!$end" -- "$word")
+        compopt -o filenames 2> /dev/null
+    fi
+}
+
+complete -F _asancol_report asancol-report

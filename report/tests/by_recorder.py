@@ -1,0 +1,219 @@
+"""Findings of the recorder, which have no event: in each output, beside reports of the checker."""
+
+import json
+import re
+import xml.dom.minidom
+from typing import Any, Dict, List
+
+from testing import expect, expect_in, expect_not_in
+from testing.reports import END, FREED, OVERFLOW, Feed, build, freed_block, report, report_test, write_trace
+from testing.side import finding, of_program
+from asancol_report import side as layout
+from asancol_report.class_names import CLASSES
+
+LEAK, INDIRECT, FAMILY, SIZE, OVERLAP, NEGATIVE, PRODUCT, ALIGNMENT, TOO_BIG, NOT_OWNED = range(1, 11)
+CLEAN = END.replace("reports 1", "reports 0")
+MINUS_FIVE = (1 << 64) - 5
+
+
+def parts_of(folder: str, *found: bytes, **more: Any) -> Any:
+    return of_program(build(folder), found, (), findings=len(found), **more)
+
+
+def mismatch(places: Dict[str, int], **more: Any) -> bytes:
+    return finding(FAMILY, places["drop"], 0x2000, 40, places["make"], "operator delete", "malloc", **more)
+
+
+def one_of_each(places: Dict[str, int]) -> List[bytes]:
+    here, made = places["use"], places["make"]
+    return [
+        finding(LEAK, made, given=(0, 24), count=3, after=11), finding(INDIRECT, made, given=(0, 8), after=12),
+        mismatch(places, after=1),
+        finding(SIZE, here, 0x2000, 40, made, "operator delete", "operator new", (0, 4), after=2),
+        finding(OVERLAP, here, 0x2000, 16, made, "memcpy", given=(0x2004, 8), other=0x2000, after=3),
+        finding(NEGATIVE, here, 0x2000, 16, made, "memmove", given=(0x2000, MINUS_FIVE), after=4),
+        finding(PRODUCT, here, call="calloc", given=(0, 1 << 62), other=5, after=5),
+        finding(PRODUCT, here, call="pvalloc", given=(0, MINUS_FIVE), after=6),
+        finding(ALIGNMENT, here, call="aligned_alloc", given=(7, 16), after=7),
+        finding(ALIGNMENT, here, call="posix_memalign", given=(2, 16), after=8),
+        finding(TOO_BIG, here, given=(0, 1 << 60), count=2, after=9),
+        finding(NOT_OWNED, here, 0x2000, 16, made, "malloc_usable_size", given=(0x2000, 0), freed=places["drop"],
+                after=10),
+    ]
+
+
+TITLES = (
+    "alloc-dealloc-mismatch: malloc vs operator delete (by the recorder)",
+    "new-delete-type-mismatch: operator delete of 4 bytes, and 40 bytes were allocated (by the recorder)",
+    "memcpy-param-overlap: memory ranges [0x2004, 0x200c) and [0x2000, 0x2008) overlap (by the recorder)",
+    "negative-size-param: (size=-5) in memmove (by the recorder)",
+    "calloc-overflow: 5 * 4611686018427387904 bytes are more than a size can say (by the recorder)",
+    "pvalloc-overflow: 18446744073709551611 bytes, rounded up to a page, are more than a size can say "
+    "(by the recorder)",
+    "invalid-aligned-alloc-alignment: alignment 7 of 16 bytes in aligned_alloc (by the recorder)",
+    "invalid-posix-memalign-alignment: alignment 2 of 16 bytes in posix_memalign (by the recorder)",
+    "allocation-size-too-big: request for 1152921504606846976 bytes (by the recorder, 2 times, 1 process)",
+    "bad-malloc_usable_size: malloc_usable_size of a pointer to no block (by the recorder)",
+    "detected memory leaks (by the recorder)",
+    "detected memory leaks (by the recorder)",
+)
+
+
+@report_test
+def each_kind(folder: str) -> None:
+    program = build(folder)
+    each = one_of_each(program.places)
+    write_trace(folder, "a.trace", CLEAN, of_program(program, each, (), findings=len(each)))
+    names = ("sarif", "junit", "codequality", "html", "json")
+    ran = report(folder, "--trace", "a.trace", "--leaks=yes", *(f"--{name}=a.{name}" for name in names))
+    expect(ran.status, 1, ran.err)
+    titles = re.findall(r"^==7==ERROR: asancol: (.*)$", ran.out, re.M)
+    expect(titles, list(TITLES), "titles, in the order of what came before")
+    expect_in(ran.out, "asancol: 13 reports at 12 places (13 by the recorder); 1 process, 9 events; all seen whole\n",
+              "0x2000 is byte 0 of a block of 40 bytes\n  allocated at\n", "in make ",
+              "0x2004 is byte 4 of a block of 16", "0x2000 is byte 0 of a freed block of 16 bytes",
+              "\nDirect leak of 24 byte(s) in 3 object(s) allocated from:\n    #0 ",
+              "\nIndirect leak of 8 byte(s) in 1 object(s) allocated from:\n    #0 ")
+    expect_not_in(ran.out, "address 0x0", "0x0 is")
+    with open(f"{folder}/a.json", encoding="utf-8") as file:
+        found = [it for it in map(json.loads, file) if it["type"] == "finding"]
+    expect({it["by"] for it in found}, {"recorder"}, "who has judged")
+    expect({it["event"] for it in found}, {0}, "events")
+    expect({it["class"] for it in found} - set(CLASSES), set(), "classes that can be suppressed")
+    expect([it["size"] for it in found if it["class"].endswith("leak")], [24, 8], "bytes that are lost")
+    again = report(folder, "a.json", "a.json", "--json", "b.json")
+    expect((again.status, again.out), (1, ran.out), "read again")
+    with open(f"{folder}/a.json", encoding="utf-8") as one, open(f"{folder}/b.json", encoding="utf-8") as other:
+        expect(one.read(), other.read(), "both results")
+
+
+def write_two(folder: str) -> None:
+    """Leaves a result with a report of the checker and a wrong delete."""
+    program = build(folder)
+    parts = of_program(program, [freed_block(program), mismatch(program.places, count=2, after=9)], [0, 0, 0, 0, 1],
+                       findings=1)
+    write_trace(folder, "a.trace", FREED + END, parts)
+    names = ("sarif", "junit", "codequality", "html", "json")
+    ran = report(folder, "--trace", "a.trace", "--gen-suppressions", *(f"--{name}=a.{name}" for name in names))
+    expect_in(ran.out, "3 reports at 2 places (2 by the recorder); 1 process",
+              "ERROR: asancol: heap-use-after-free: load of 4 bytes\n", "(by the recorder, 2 times, 1 process)\n",
+              "suppression: at:alloc-dealloc-mismatch:drop@")
+
+
+def text_of(folder: str, name: str) -> str:
+    with open(f"{folder}/{name}", encoding="utf-8") as file:
+        return file.read()
+
+
+@report_test
+def each_output(folder: str) -> None:
+    write_two(folder)
+    sarif = json.loads(text_of(folder, "a.sarif"))["runs"][0]
+    expect([it["properties"].get("by") for it in sarif["results"]], [None, "recorder"], "SARIF")
+    expect_in(sarif["results"][1]["message"]["text"], "malloc vs operator delete, byte 0 of a block of 40",
+              "(by the recorder)")
+    expect_in(str(sarif["tool"]["driver"]["rules"]), "alloc-dealloc-mismatch", "of another family")
+    entries = json.loads(text_of(folder, "a.codequality"))
+    expect([it["description"].endswith("(by the recorder)") for it in entries], [False, True], "Code Quality")
+    (case,) = xml.dom.minidom.parse(f"{folder}/a.junit").getElementsByTagName("failure")
+    expect_in(case.getAttribute("message"),
+              "alloc-dealloc-mismatch: malloc vs operator delete (by the recorder) in drop")
+    expect_in(case.firstChild.data, "(by the recorder, 2 times, 1 process)")  # type: ignore[union-attr]
+    page = text_of(folder, "a.html")
+    expect(page.count("(by the recorder)</span>"), 1, "the page's titles")
+    expect(page.count("the checker has not judged it"), 1, "the page's sentences")
+    expect_in(page, "What is by the recorder")
+    process = next(it for it in map(json.loads, text_of(folder, "a.json").splitlines()) if it["type"] == "process")
+    expect((process["reports"], process["findings"]), (1, 1), "a process")
+
+
+@report_test
+def rules(folder: str) -> None:
+    write_two(folder)
+    program = build(folder)
+    leaks = [finding(LEAK, program.places["make"], given=(0, 8)),
+             finding(INDIRECT, program.places["use"], given=(0, 8))]
+    write_trace(folder, "b.trace", CLEAN, of_program(program, leaks, (), findings=2))
+    report(folder, "--trace", "b.trace", "--leaks=yes", "--json", "b.json")
+    for name, rule, status, text in (
+        ("a.json", "alloc-dealloc-mismatch:drop", 1, "1 report at 1 place, 2 suppressed;"),
+        ("a.json", "at:alloc-dealloc-mismatch:drop@program.c", 1, "1 report at 1 place, 2 suppressed;"),
+        ("a.json", "fun:^make$", 0, "no reports, 3 suppressed;"),
+        ("a.json", "*:program", 0, "no reports, 3 suppressed;"),
+        ("b.json", "leak:program", 0, "no reports, 2 suppressed;"),
+        ("b.json", "indirect-leak:program", 1, "1 report at 1 place (1 by the recorder), 1 suppressed;"),
+        ("b.json", "at:leak:make", 1, "1 report at 1 place (1 by the recorder), 1 suppressed;"),
+        ("b.json", "alloc-dealloc-mismatch:*", 1, "a suppression matched nothing"),
+    ):
+        with open(f"{folder}/rules", "w", encoding="utf-8") as file:
+            file.write(rule + "\n")
+        ran = report(folder, name, "--suppressions", "rules")
+        expect(ran.status, status, rule)
+        expect_in(ran.out, text)
+    for rule, text in ((b"", "asancol: leaks: 16 bytes in 2 blocks at 2 places; --leaks=yes shows them\n"),
+                       (b"leak:make\n", "asancol: leaks: 8 bytes in 1 block at 1 place; --leaks=yes shows them\n")):
+        with open(f"{folder}/rules", "wb") as file:
+            file.write(rule)
+        ran = report(folder, "--trace", "b.trace", "--suppressions", "rules", "--json", "c.json")
+        expect((ran.status, ran.out.endswith(text)), (0, True), ran.out)
+        again = report(folder, "c.json", "c.json")
+        expect((again.status, again.out), (0, ran.out), "read again")
+    ran = report(folder, "--trace", "b.trace", "--leaks=no")
+    expect((ran.status, "leak" in ran.out), (0, False), ran.out)
+    ran = report(folder, "b.json", "a.json", "--baseline", "a.json")
+    expect_in(ran.out, "2 reports at 2 places (2 by the recorder), 2 places known from the baseline")
+    ran = report(folder, "a.json", "b.json", "--baseline", "b.json")
+    expect_in(ran.out, "3 reports at 2 places (2 by the recorder), 2 places known from the baseline")
+
+
+@report_test
+def merged_processes(folder: str) -> None:
+    program = build(folder)
+    feed = Feed(folder, "--json", "a.json")
+    feed.begin()
+    for number in range(3):
+        parts = of_program(program, [mismatch(program.places, count=number + 1)], (), findings=1)
+        feed.process(number, CLEAN, parts, findings=1, reports=0)
+    ran = feed.end()
+    expect(ran.status, 1, "the status")
+    expect_in(ran.out, "(by the recorder, 6 times, 3 processes)",
+              "6 reports at 1 place (6 by the recorder); 3 processes")
+    feed = Feed(folder)
+    feed.begin("run-2")
+    feed.process(0, findings=1)
+    expect_in(feed.end().out, "NOT SEEN WHOLE: its reports did not arrive")
+
+
+@report_test
+def segments_of_a_process(folder: str) -> None:
+    program = build(folder)
+    feed = Feed(folder, "--json", "a.json")
+    feed.begin()
+    for segment in (2, 1):
+        parts = of_program(program, [mismatch(program.places, after=segment)], (), findings=1, segment=segment)
+        feed.process(0, CLEAN, parts, findings=2, reports=0, segment=segment, segments=2)
+    expect_in(feed.end().out, "(by the recorder, 2 times, 1 process)",
+              "2 reports at 1 place (2 by the recorder); 1 process")
+    found = next(it for it in map(json.loads, text_of(folder, "a.json").splitlines()) if it["type"] == "finding")
+    expect((found.get("segment"), found["after"]), (None, 1), "the first of them")
+
+
+@report_test
+def what_is_no_finding(folder: str) -> None:
+    """Entries that are not whole, of kinds that nobody knows, and memory of an older release, which has none."""
+    program = build(folder)
+    found = [mismatch(program.places, count=0), finding(11, program.places["drop"]), freed_block(program)]
+    older = layout.HEADERS[0]
+    write_trace(folder, "a.trace", OVERFLOW + END, of_program(program, found, [0, 3], findings=2))
+    write_trace(folder, "b.trace", OVERFLOW + END, of_program(program, [freed_block(program)], [0, 1], header=older))
+    expect(older, b"ASWH\4\0\0\0", "the header of the older one")
+    for name in ("a.trace", "b.trace"):
+        ran = report(folder, "--trace", name)
+        expect_in(ran.out, "1 report at 1 place; 1 process", "in use ")
+        expect_not_in(ran.out, "recorder")
+    write_trace(folder, "c.trace", OVERFLOW + END, of_program(program, [freed_block(program)], [0, 1],
+                                                             header=b"ASWH\3\0\0\0"))
+    expect_not_in(report(folder, "--trace", "c.trace").out, "in use ")
+    write_trace(folder, "d.trace", CLEAN, of_program(program, [], (), findings_lost=3))
+    expect_in(report(folder, "--trace", "d.trace").out,
+              "NOT SEEN WHOLE: its recorder had no room for 3 of its findings")

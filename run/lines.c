@@ -1,0 +1,100 @@
+#define _GNU_SOURCE
+#include "lines.h"
+
+#include <inttypes.h>
+#include <stdio.h>
+#include <stdlib.h>
+#include <string.h>
+
+#include "processes.h"
+#include "say.h"
+#include "segments.h"
+
+static void say_whole(const struct process *process)
+{
+    char segments[48] = "";
+    bool is_other = process->why[0] == 0 && process->ending == ENDING_EXEC;
+    const char *end = is_other ? "went on as another program" : process->why;
+    uint64_t reports = process->reports + process->findings;
+    if (process->segments > 1)
+        snprintf(segments, sizeof segments, " in %zu segments", process->segments);
+    say("asancol: process %d %s: seen whole%s%s, %" PRIu64 " event%s%s, %" PRIu64 " report%s", process->own_number,
+        process->name, end[0] != 0 ? ": " : "", end, process->events, plural(process->events, "s"), segments,
+        reports, plural(reports, "s"));
+}
+
+void lines_say_whole(void)
+{
+    for (size_t i = 0; i < process_count(); i++) {
+        struct process process = segments_joined(process_at(i));
+        if (process_is_lead(process_at(i)) && process.is_whole)
+            say_whole(&process);
+    }
+}
+
+/* Processes with the same line: its text, and their numbers. */
+struct line {
+    char *text;
+    size_t count;
+    int first[3];
+};
+
+static void say_one(const struct line *line)
+{
+    const int *first = line->first;
+    char numbers[64];
+    if (line->count == 1) {
+        say("asancol: process %d %s", first[0], line->text);
+        return;
+    }
+    if (line->count == 2)
+        snprintf(numbers, sizeof numbers, "%d, %d", first[0], first[1]);
+    else
+        snprintf(numbers, sizeof numbers, "%d, %d, %d%s", first[0], first[1], first[2], line->count > 3 ? ", .." : "");
+    say("asancol: %zu processes (%s) %s", line->count, numbers, line->text);
+}
+
+/* The line of a process of which there is more to say than that it was seen whole, or null. */
+static char *line_of(const struct process *process, bool is_quiet)
+{
+    char *text = NULL;
+    const char *form = NULL;
+    if (!process->is_whole)
+        form = "%s: NOT SEEN WHOLE: %s";
+    else if (process->is_abrupt && (!is_quiet || process->is_crash))
+        form = "%s: %s: seen up to there";
+    else if (process->is_crash)
+        form = "%s: %s";
+    if (form != NULL && asprintf(&text, form, process->name, process->why) < 0)
+        must(NULL);
+    return text;
+}
+
+void lines_say(bool is_quiet)
+{
+    struct line *lines = NULL;
+    size_t count = 0;
+    for (size_t i = 0; i < process_count(); i++) {
+        struct process process = segments_joined(process_at(i));
+        char *text = process_is_lead(process_at(i)) ? line_of(&process, is_quiet) : NULL;
+        size_t at = 0;
+        if (text == NULL)
+            continue;
+        while (at < count && strcmp(lines[at].text, text) != 0)
+            at++;
+        if (at == count) {
+            lines = must(realloc(lines, ++count * sizeof *lines));
+            lines[at] = (struct line){.text = text};
+        } else {
+            free(text);
+        }
+        if (lines[at].count < sizeof lines->first / sizeof *lines->first)
+            lines[at].first[lines[at].count] = process.own_number;
+        lines[at].count++;
+    }
+    for (size_t at = 0; at < count; at++) {
+        say_one(&lines[at]);
+        free(lines[at].text);
+    }
+    free(lines);
+}

@@ -1,0 +1,88 @@
+#define _GNU_SOURCE
+#include "lowered.h"
+
+#include <inttypes.h>
+#include <stdio.h>
+#include <stdlib.h>
+#include <string.h>
+
+#include "processes.h"
+#include "say.h"
+#include "segments.h"
+
+/* What several processes have in common is one line, and there are no more than so many. */
+enum { MAX_LINES = 16 };
+
+struct line {
+    char text[160];
+    const struct process *first;
+    size_t count;
+};
+
+/* What a process has lowered: the text is empty if it is nothing. */
+static void describe(char *text, size_t room, const struct process *process, const struct options *options)
+{
+    const char *halt = getenv("ASANCOL_HALT");
+    bool may_halt = halt != NULL && *halt != 0 && strcmp(halt, "0") != 0;
+    text[0] = 0;
+    if (process->quarantine < options->held)
+        snprintf(text, room,
+                 "held back %" PRIu64 " byte%s of freed memory (ASANCOL_QUARANTINE), so uses after free may be missed",
+                 process->quarantine, plural(process->quarantine, "s"));
+    else if (process->settings.halt != 0 && !may_halt && process->reports > 0)
+        snprintf(text, room, "ended at its first fault (ASANCOL_HALT), so what it would have done was not seen");
+}
+
+static void note(struct line *lines, size_t *count, const struct process *process, const char *text)
+{
+    for (size_t i = 0; i < *count; i++) {
+        if (strcmp(lines[i].text, text) == 0) {
+            lines[i].count++;
+            return;
+        }
+    }
+    if (*count == MAX_LINES)
+        return;
+    struct line *line = &lines[(*count)++];
+    snprintf(line->text, sizeof line->text, "%s", text);
+    line->first = process;
+    line->count = 1;
+}
+
+static const char *made(const struct line *line)
+{
+    char *text, more[64] = "";
+    if (line->count > 1)
+        snprintf(more, sizeof more, "; and so did %zu more", line->count - 1);
+    if (asprintf(&text, "process %d %s: %s%s", line->first->own_number, line->first->name, line->text, more) < 0)
+        must(NULL);
+    return text;
+}
+
+struct words lowered_lines(const struct options *options, bool has_recorded)
+{
+    struct line lines[MAX_LINES];
+    struct words words = {0};
+    size_t count = 0;
+    char text[sizeof lines->text];
+    if (has_recorded && options->held < QUARANTINE_BOUND) {
+        char *all;
+        if (asprintf(&all, "%" PRIu64 " byte%s of freed memory %s held back (%s), so uses after free may be missed",
+                     options->held, plural(options->held, "s"), options->held == 1 ? "is" : "are",
+                     options->quarantine != NULL ? "--quarantine" : "ASANCOL_QUARANTINE") < 0)
+            must(NULL);
+        words_add(&words, all);
+    }
+    for (size_t i = 0; i < process_count(); i++) {
+        const struct process *process = process_at(i);
+        if (process->lead != process || process->is_mark)
+            continue;
+        struct process joined = segments_joined(process);
+        describe(text, sizeof text, &joined, options);
+        if (text[0] != 0)
+            note(lines, &count, process, text);
+    }
+    for (size_t i = 0; i < count; i++)
+        words_add(&words, made(&lines[i]));
+    return words;
+}

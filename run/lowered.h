@@ -1,0 +1,13 @@
+/* Bounds that somebody has lowered: a process for itself, or the user for the whole run. Nothing that was seen is less
+   certain by it, so it costs no status, but a clean result says less. */
+#ifndef ASANCOL_RUN_LOWERED_H
+#define ASANCOL_RUN_LOWERED_H
+
+#include <stdbool.h>
+
+#include "options.h"
+
+/* A line for each bound and value, once all processes are done. */
+struct words lowered_lines(const struct options *options, bool has_recorded);
+
+#endif

@@ -1,0 +1,29 @@
+/* The files of the programs and shared objects that processes run, as these have sent them: held open, so that reports
+   have lines of what a test builds, runs and removes, or builds anew. A file that several processes run is held once,
+   as long as one of them may have a report. */
+#ifndef ASANCOL_RUN_MODULES_H
+#define ASANCOL_RUN_MODULES_H
+
+#include <stddef.h>
+
+#include "common/format.h"
+
+/* Of one process. */
+struct modules {
+    struct module *list[SIDE_FILES];
+    size_t count;
+};
+
+/* No more than so many are held. */
+void modules_allow(size_t most);
+/* Takes descriptors, which are closed here if they are of no use: what is no file, or what is held already. */
+void modules_take(struct modules *modules, const int *descriptors, size_t count);
+/* Opens those of a map of modules that are not among them yet, as objects of dlopen, and are still what was loaded. */
+void modules_find(struct modules *modules, const char *map);
+/* Copies of them, and how many there are. */
+size_t modules_copy(const struct modules *modules, int copies[SIDE_FILES]);
+void modules_let_go(struct modules *modules);
+/* How many descriptors are held here. */
+size_t modules_held(void);
+
+#endif

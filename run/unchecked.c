@@ -1,0 +1,142 @@
+#define _GNU_SOURCE
+#include "unchecked.h"
+
+#include <fcntl.h>
+#include <limits.h>
+#include <stdlib.h>
+#include <string.h>
+#include <unistd.h>
+
+#include "json.h"
+#include "say.h"
+
+/* So many names are known apart, and so many are in a summary. */
+enum { MAX_NAMES = 4096, MAX_SAID = 5 };
+/* A packet for asancol-report has at most 65,536 bytes: so many of it for the one and the other list. */
+enum { MAX_OWN_BYTES = 40000, MAX_SYSTEM_BYTES = 12000 };
+
+struct names {
+    char **names;
+    size_t count, room, more;
+};
+
+static struct {
+    struct names own, system;
+    char last[SIDE_UNCHECKED_ROOM + 1]; /* what the process before had: most have the same */
+} unchecked;
+
+static void add(struct names *names, const char *name)
+{
+    for (size_t i = 0; i < names->count; i++)
+        if (strcmp(names->names[i], name) == 0)
+            return;
+    if (names->count == MAX_NAMES) {
+        names->more++;
+        return;
+    }
+    if (names->count == names->room) {
+        names->room = names->room == 0 ? 16 : 2 * names->room;
+        names->names = must(realloc(names->names, names->room * sizeof *names->names));
+    }
+    names->names[names->count++] = must(strdup(name));
+}
+
+/* A line: a name, or a library of the system after a slash, or how many more there are after a plus sign. */
+static void take_line(char *line)
+{
+    for (char *at = line; *at != 0; at++)
+        if ((unsigned char)*at < ' ' || *at == 0x7f)
+            *at = '?';
+    if (line[0] == '+')
+        unchecked.own.more += strtoull(line + 1, NULL, 10) % INT_MAX;
+    else if (line[0] == '/' && line[1] != 0)
+        add(&unchecked.system, line + 1);
+    else if (line[0] != 0)
+        add(&unchecked.own, line);
+}
+
+static int open_where(const char *trace)
+{
+    char path[PATH_MAX + 8];
+    snprintf(path, sizeof path, "%s.where", trace);
+    return open(path, O_RDONLY | O_CLOEXEC | O_NONBLOCK);
+}
+
+void unchecked_take(const struct process *process)
+{
+    static char text[SIDE_UNCHECKED_ROOM + 1];
+    int from = process->trace != NULL ? open_where(process->trace) : process->side_memory;
+    ssize_t length = from >= 0 && process->side != NULL ? pread(from, text, SIDE_UNCHECKED_ROOM, SIDE_UNCHECKED) : 0;
+    if (process->trace != NULL && from >= 0)
+        close(from);
+    text[length > 0 ? length : 0] = 0;
+    if (strcmp(text, unchecked.last) == 0)
+        return;
+    strcpy(unchecked.last, text);
+    for (char *line = text, *end; (end = strchr(line, '\n')) != NULL; line = end + 1) {
+        *end = 0;
+        take_line(line);
+    }
+}
+
+size_t unchecked_count(void)
+{
+    return unchecked.own.count + unchecked.own.more;
+}
+
+void unchecked_say(FILE *to)
+{
+    size_t said = unchecked.own.count < MAX_SAID ? unchecked.own.count : MAX_SAID;
+    for (size_t i = 0; i < said; i++)
+        fprintf(to, "%s%s", i == 0 ? "" : ", ", unchecked.own.names[i]);
+    if (unchecked_count() > said)
+        fprintf(to, " and %zu more", unchecked_count() - said);
+}
+
+static void say_names(const char *what, const struct names *names)
+{
+    char *text = NULL;
+    size_t length = 0;
+    FILE *to = must(open_memstream(&text, &length));
+    for (size_t i = 0; i < names->count; i++)
+        fprintf(to, "%s%s", i == 0 ? "" : ", ", names->names[i]);
+    if (names->more > 0)
+        fprintf(to, " and %zu more", names->more);
+    if (fclose(to) != 0)
+        must(NULL);
+    if (names->count > 0)
+        say("asancol: %s: %s", what, text);
+    free(text);
+}
+
+void unchecked_say_all(void)
+{
+    if (unchecked_count() > MAX_SAID)
+        say_names("not checked", &unchecked.own);
+    say_names("libraries of the system, not checked", &unchecked.system);
+}
+
+/* Writes as many names as fit, and answers how many are left out. */
+static size_t put(FILE *to, const struct names *names, size_t most)
+{
+    size_t used = 0, i = 0;
+    fputc('[', to);
+    for (; i < names->count; i++) {
+        used += 6 * strlen(names->names[i]) + 3; /* at most */
+        if (used > most)
+            break;
+        if (i > 0)
+            fputc(',', to);
+        json_text(to, names->names[i]);
+    }
+    fputc(']', to);
+    return names->count - i + names->more;
+}
+
+void unchecked_put(FILE *to)
+{
+    fputs(",\"unchecked\":", to);
+    size_t more = put(to, &unchecked.own, MAX_OWN_BYTES);
+    fprintf(to, ",\"unchecked_more\":%zu,\"system\":", more);
+    put(to, &unchecked.system, MAX_SYSTEM_BYTES);
+}

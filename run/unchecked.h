@@ -1,0 +1,25 @@
+/* What was not checked in the processes, by what their recorders say: each name once. */
+#ifndef ASANCOL_RUN_UNCHECKED_H
+#define ASANCOL_RUN_UNCHECKED_H
+
+#include <stdbool.h>
+#include <stddef.h>
+#include <stdio.h>
+
+#include "processes.h"
+
+/* Whether it is said, and whether it counts: in the order of the words of --unchecked (options/asancol-run.options). */
+enum unchecked { UNCHECKED_LIST, UNCHECKED_NO, UNCHECKED_ERROR };
+
+/* Takes what a process has, while its side memory or its file is there. */
+void unchecked_take(const struct process *process);
+/* How many names there are, without those of libraries of the system. */
+size_t unchecked_count(void);
+/* Writes the first names, and how many more there are. */
+void unchecked_say(FILE *to);
+/* Says all names, and those of libraries of the system. */
+void unchecked_say_all(void);
+/* Writes all as fields of JSON, the first with a comma before it. */
+void unchecked_put(FILE *to);
+
+#endif

@@ -1,0 +1,26 @@
+"""What all tests stand on.
+
+- `expectations`: what a test saw and did not expect, and what is left out.
+- `programs`: the programs of this tree, environments without settings of asancol, runs, and waiting.
+- `suite`: finds tests, runs them side by side, and says what came of them.
+- `traces`: traces and their records, built and read.
+- `side`: side memories, written here, and read by what asancol-report reads them with.
+- `lines`: the lines of reports and of ends.
+- `fuzzers`: the parsers of the C programs under sanitizers and libFuzzer.
+
+Each script of tests puts the top of the tree into its path, so that it finds this wherever it is run. What
+asancol-report is made of, `asancol_report`, is found too.
+"""
+
+import sys
+
+from .expectations import Failure, LeftOut, expect, expect_in, expect_not_in, leave_out
+from .programs import TOP, Ran, compilers_there, environment, wait_until, write_text
+from .suite import Later, Suite, test
+
+sys.path.append(f"{TOP}/report")
+
+__all__ = [
+    "Failure", "LeftOut", "Later", "Ran", "Suite", "TOP", "compilers_there", "environment", "expect", "expect_in",
+    "expect_not_in", "leave_out", "test", "wait_until", "write_text",
+]

@@ -1,0 +1,49 @@
+"""Outputs and memory that run out."""
+
+import resource
+import signal
+
+from program import PAST_THE_END, holds, past_the_end, put, same
+from testing import test
+
+
+@test
+def output_that_ends_early(program):
+    """The first bytes go out, as many as there is room for."""
+    put("trace", PAST_THE_END)
+    text = past_the_end().encode()
+    for words in [[], ["check", "trace"]]:
+        for room in range(len(text) + 1):
+
+            def bound():
+                resource.setrlimit(resource.RLIMIT_FSIZE, (room, room))
+                signal.signal(signal.SIGXFSZ, signal.SIG_IGN)
+
+            how = {"given": PAST_THE_END, "before": bound, "restore_signals": False}
+            with open("output", "wb") as output:
+                ran = program.run(words, stdout=output, **how)
+            with open("output", "rb") as output:
+                went_out = output.read()
+            wanted = (1 if room == len(text) else 4, None, b"")
+            same((words, room), (ran, went_out), (wanted, text[:room]))
+
+
+@test
+def no_memory_to_begin(program):
+    """There is a bound on memory under which the program starts, and has none to begin."""
+    put("trace", PAST_THE_END)
+    for words in [[], ["check", "trace"], ["check", *["trace"] * 100], ["--help"]]:
+        ended = set()
+        for kibibytes in range(0, 2048, 4):
+
+            def bound():
+                resource.setrlimit(resource.RLIMIT_DATA, (kibibytes << 10, kibibytes << 10))
+
+            ran = program.run(words, given=PAST_THE_END, before=bound)
+            ended.add(ran)
+            if ran == (3, b"", b"no memory\n"):
+                break
+            # With less than that it does not even start.
+            holds(words, ran[0] == 127 or ran[0] < 0, ran)
+        else:
+            holds(words, False, ended)
