@@ -71,7 +71,7 @@ recorder:
 # Small programs under each compiler that is there, recorded and checked. Tests that need a compiler, an AddressSanitizer
 # or a symbolizer that is not there are left out, and it says which. With SANITIZE=1 its parsers and its stream also run
 # under the compilers' own sanitizers.
-check-recorder: asancol recorder
+check-recorder: asancol recorder run
 	$(if $(SANITIZE),SANITIZE=1) recorder/tests/check.py ./asancol
 
 # What parses strangers' words, objects, formats, settings and messages, in the recorder and in asancol-run: libFuzzer
