@@ -190,14 +190,24 @@ def check_new(suite, folder, compiler):
 
 
 def check_lacking_checks(suite, folder, compiler):
-    """Words that take some of the checks away are let through, and said. The last one holds."""
+    """Words that take some of the checks away are let through, and said: of what is compiled with them the verdict does
+    not say that it was checked. The last one holds."""
     made = Builder(suite, folder, compiler)
     write(folder, words_rsp=f"{LACKING[compiler.name][0]}\n")
     text = "what is compiled with this lacks checks: what they would find is not recorded"
     for words in LACKING[compiler.name]:
         named = words.replace("--param=", "--param ").replace("-Xclang ", "")
         made.cc("-c", "-DVALUE=1", "helper.c", *words.split(), warning=f"{named}: {text}")
-        made.link("-DVALUE=1", "main.c", "helper.c", *words.replace("=0", "=1").replace("false", "true").split())
+        made.cc("main.c", "helper.o", "-o", "program")
+        expect(noted(f"{folder}/program"), ["helper.o"], f"an object with {words}")
+        made.cc("-DVALUE=1", "main.c", "helper.c", *words.split(), "-o", "program", warning=f"{named}: {text}")
+        expect(noted(f"{folder}/program"), ["main.c", "helper.c"], f"sources with {words}")
+        again = words.replace("=0", "=1").replace("false", "true")
+        made.link("-DVALUE=1", "main.c", "helper.c", *again.split())
+        expect(noted(f"{folder}/program"), [], again)
+    made.cc("-c", "-DVALUE=1", f"-DTEXT=\"a {LACKING[compiler.name][0]}\"", "helper.c")
+    made.link("main.c", "helper.o")
+    expect(noted(f"{folder}/program"), [], "a macro with such words")
     made.cc("-c", "-DVALUE=1", "helper.c", "@words.rsp", warning=f"{LACKING[compiler.name][0]}: {text}")
 
 

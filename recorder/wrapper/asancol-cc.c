@@ -45,7 +45,7 @@ static void warn_of_unrecorded(const struct job *job)
     else if (request->refusal != NULL)
         warn(request->refusal, "what is compiled with this is not recorded");
     else if (job->compiler != NULL)
-        left_out_warn(&request->left_out, job->compiler->has_driver ? CHECK_LLVM : CHECK_PARAMETER);
+        left_out_warn(&request->left_out, job->compiler->check_place);
 }
 
 int main(int count, char **words)

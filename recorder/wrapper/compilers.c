@@ -59,6 +59,7 @@ static const struct compiler compilers[] = {
         .use_after_return = {GCC_USE_AFTER_RETURN("0"), GCC_USE_AFTER_RETURN("1"), GCC_USE_AFTER_RETURN("1")},
         .last = GCC_LAST,
         .own_number = "asan-instrumentation-with-call-threshold=",
+        .check_place = CHECK_PARAMETER,
         .compiles_at_link = true,
     },
     {
@@ -70,6 +71,7 @@ static const struct compiler compilers[] = {
                              CLANG_USE_AFTER_RETURN("always")},
         .after = CLANG_COLD,
         .last = CLANG_LAST,
+        .check_place = CHECK_LLVM,
         .has_driver = true,
         .header = "cold_reports.h",
     },

@@ -5,6 +5,7 @@
 #include <stdbool.h>
 #include <stddef.h>
 
+#include "wrapper/left_out.h"
 #include "wrapper/use_after_return.h"
 
 struct flags {
@@ -24,6 +25,7 @@ struct compiler {
     const char *header;     /* a file of the recorder's that it includes after the caller's, likewise; or null */
     const char *own_number; /* before a number that makes the noted switches of each object its own, or null */
     bool has_driver;        /* a program that runs it, and hands it words after -Xclang without a look at them */
+    enum check_place check_place; /* where words stand that take some of its checks away */
     bool compiles_at_link;  /* what it made with -flto is compiled with the settings that are given to the link */
 };
 

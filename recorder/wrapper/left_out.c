@@ -1,7 +1,6 @@
 #define _GNU_SOURCE
 #include "wrapper/left_out.h"
 
-#include <stdbool.h>
 #include <stdio.h>
 #include <stdlib.h>
 #include <string.h>
@@ -69,9 +68,24 @@ void left_out_take(struct left_out *left_out, enum check_place place, const char
     }
 }
 
+bool left_out_any(const struct left_out *left_out, enum check_place place)
+{
+    for (size_t i = 0; i < COUNT(checks); i++)
+        if (checks[i].place == place && left_out->words[i] != NULL)
+            return true;
+    return false;
+}
+
 void left_out_warn(const struct left_out *left_out, enum check_place place)
 {
     for (size_t i = 0; i < COUNT(checks); i++)
         if (checks[i].place == place && left_out->words[i] != NULL)
             warn(left_out->words[i], "what is compiled with this lacks checks: what they would find is not recorded");
+}
+
+void left_out_free(struct left_out *left_out)
+{
+    for (size_t i = 0; i < COUNT(checks); i++)
+        free(left_out->words[i]);
+    *left_out = (struct left_out){0};
 }

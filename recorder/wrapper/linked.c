@@ -1,7 +1,11 @@
 #define _GNU_SOURCE
 #include "wrapper/linked.h"
 
+#include <stdio.h>
 #include <string.h>
+
+#include "common/text.h"
+#include "wrapper/left_out.h"
 
 /* How the files begin: an object; what Clang makes with -flto, in two forms; archives. */
 #define OBJECT ELFMAG
@@ -44,6 +48,39 @@ static bool has_mark(struct view view)
     return false;
 }
 
+/* Takes the next word of noted switches, as much of it as there is room for. False: there are no more. */
+static bool next_word(struct view *rest, char *word, size_t room)
+{
+    size_t length = 0;
+    while (length < rest->size && (rest->bytes[length] == 0 || rest->bytes[length] == ' '))
+        length++;
+    *rest = (struct view){rest->bytes + length, rest->size - length};
+    for (length = 0; length < rest->size && rest->bytes[length] != 0; length++)
+        if (rest->bytes[length] == ' ' && begins_word(*rest, rest->bytes + length + 1))
+            break;
+    snprintf(word, room, "%.*s", (int)length, rest->bytes);
+    *rest = (struct view){rest->bytes + length, rest->size - length};
+    return length != 0;
+}
+
+/* Whether noted switches take a check away. GCC's have their parameters in one form, Clang's are as they were given. */
+static bool lacks_checks(struct view switches)
+{
+    static const char parameter[] = "--param=", llvm[] = "-mllvm", to_inner[] = "-Xclang";
+    struct left_out left_out = {0};
+    char word[64];
+    for (bool is_llvm = false; next_word(&switches, word, sizeof word);) {
+        if (is_llvm)
+            left_out_take(&left_out, CHECK_LLVM, word);
+        else if (begins_with(word, parameter))
+            left_out_take(&left_out, CHECK_PARAMETER, word + strlen(parameter));
+        is_llvm = strcmp(word, llvm) == 0 || (is_llvm && strcmp(word, to_inner) == 0);
+    }
+    bool lacks = left_out_any(&left_out, CHECK_PARAMETER) || left_out_any(&left_out, CHECK_LLVM);
+    left_out_free(&left_out);
+    return lacks;
+}
+
 static bool is_bitcode(struct view view)
 {
     return view_begins(view, BITCODE) || view_begins(view, WRAPPED_BITCODE);
@@ -74,6 +111,7 @@ struct parts {
     bool has_assembly; /* a label in code that is no function: no compiler makes one */
     size_t files;  /* sources that the table of symbols names */
     size_t marked; /* those of them that were compiled so */
+    size_t whole;  /* and have all checks */
 };
 
 static bool is_called(struct view names, const Elf64_Shdr *section, const char *name, bool is_front)
@@ -84,16 +122,17 @@ static bool is_called(struct view names, const Elf64_Shdr *section, const char *
     return is_front ? strncmp(found, name, strlen(name)) == 0 : strcmp(found, name) == 0;
 }
 
-static size_t count_marked(struct view switches)
+static void count_marked(struct parts *parts, struct view switches)
 {
-    size_t count = 0;
     while (switches.size > 0) {
         size_t length = strnlen(switches.bytes, switches.size);
-        count += has_mark((struct view){switches.bytes, length});
+        struct view one = {switches.bytes, length};
+        bool is_marked = has_mark(one);
+        parts->marked += is_marked;
+        parts->whole += is_marked && !lacks_checks(one);
         length += length < switches.size;
         switches = (struct view){switches.bytes + length, switches.size - length};
     }
-    return count;
 }
 
 static bool is_in_code(struct view view, const Elf64_Sym *symbol)
@@ -132,7 +171,7 @@ static struct parts parts_of(struct view view)
         parts.has_code |= (section.sh_flags & SHF_EXECINSTR) != 0 && section.sh_size > 0;
         parts.has_lto |= is_called(names, &section, GCC_LTO, true);
         if (is_called(names, &section, SWITCHES, false))
-            parts.marked += count_marked(bytes);
+            count_marked(&parts, bytes);
         if (section.sh_type == SHT_SYMTAB)
             count_symbols(&parts, view, &section);
     }
@@ -176,10 +215,10 @@ enum origin linked_origin(struct view view)
     if (!is_object(view))
         return ORIGIN_NONE;
     if (is_bitcode(view))
-        return has_mark(view) ? ORIGIN_OURS : ORIGIN_OTHERS;
+        return has_mark(view) && !lacks_checks(view) ? ORIGIN_OURS : ORIGIN_OTHERS;
     struct parts parts = parts_of(view);
     if (!parts.has_code && !parts.has_variables && !parts.has_lto)
         return ORIGIN_NONE;
-    bool is_ours = parts.files != 0 && parts.marked >= parts.files && !parts.has_assembly;
+    bool is_ours = parts.files != 0 && parts.whole >= parts.files && !parts.has_assembly;
     return is_ours ? ORIGIN_OURS : ORIGIN_OTHERS;
 }

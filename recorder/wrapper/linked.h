@@ -19,7 +19,7 @@ struct linked {
 /* What an object is. */
 enum origin {
     ORIGIN_NONE,  /* no object, or there is nothing in it that could be checked */
-    ORIGIN_OURS,  /* the wrapper has compiled all of it */
+    ORIGIN_OURS,  /* the wrapper has compiled all of it, with all checks */
     ORIGIN_OTHERS /* it has not, or not all of it */
 };
 

@@ -154,11 +154,13 @@ static int end_link(const struct job *job, struct link *link, int status, const 
 {
     const struct request *request = &job->request;
     const struct names *assembly = &request->inputs.assembly, *sources = &request->inputs.sources;
+    bool lacks_checks = request->refusal != NULL
+                        || (job->compiler != NULL && left_out_any(&request->left_out, job->compiler->check_place));
     if (linking_is_static(&request->link) && !request->link.is_bare)
         names_add(&link->taken.own, "calls of the C library (-static)");
     for (size_t i = 0; i < assembly->count; i++)
         names_add(&link->taken.own, assembly->names[i]);
-    for (size_t i = 0; request->refusal != NULL && i < sources->count; i++)
+    for (size_t i = 0; lacks_checks && i < sources->count; i++)
         names_add(&link->taken.own, sources->names[i]);
     if (status == 0)
         taken_write(&link->taken, output);
