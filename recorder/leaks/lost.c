@@ -58,7 +58,9 @@ static void add_if_lost(const struct block *block, void *to)
 
 static bool comes_before(const struct lost_group *one, const struct lost_group *other)
 {
-    return one->is_indirect != other->is_indirect ? other->is_indirect : one->bytes > other->bytes;
+    if (one->is_indirect != other->is_indirect)
+        return other->is_indirect;
+    return one->bytes != other->bytes ? one->bytes > other->bytes : one->block < other->block;
 }
 
 /* Moves one down in a heap, at whose top is what comes last. */

@@ -19,7 +19,7 @@ struct lost_group {
 
 struct lost {
     struct lost_group *groups; /* by what LeakSanitizer says first: those that are lost themselves, and the largest
-                                  sum */
+                                  sum; of one sum by their first blocks, so that each run has the same order */
     size_t count, room;
 };
 

@@ -254,6 +254,28 @@ def check_static(suite: Suite, folder: str, compiler: Compiler) -> None:
     expect(recorded(folder, "./static", "two"), (77, 1, 0, 0), "two threads")
 
 
+ORDER = """
+#include <stdlib.h>
+static void *volatile sink;
+#define LOSE(size) (sink = malloc(size), sink = malloc(size), sink = malloc(size), sink = malloc(size), sink = NULL)
+int main(void) {
+    LOSE(24); LOSE(24); LOSE(300); LOSE(24); LOSE(24);
+    volatile char bytes[16000];
+    for (size_t i = 0; i < sizeof bytes; i++) bytes[i] = 0;
+    return 0; }
+"""
+
+
+def check_order(suite: Suite, folder: str, compiler: Compiler) -> None:
+    """The largest come first, and those of one size as their blocks lie: in each run the same."""
+    write(folder, order_c=ORDER)
+    compiler.c(folder, ["order.c"], "order", "-O1", "-w")
+    for name in ("one", "other"):
+        run(["./order"], folder, ASANCOL_TRACE=f"{name}.trace", **WANTED)
+        found = [(-it.size, it.block) for it in side_of(f"{folder}/{name}.trace").findings()]
+        expect((found, len(found)), (sorted(found), 20), "as they stand")
+
+
 def check_debugger(suite: Suite, folder: str, compiler: Compiler) -> None:
     """Threads stop, and go on, in a debugger, which says nothing of it."""
     if not shutil.which("gdb"):
@@ -276,6 +298,6 @@ def tests(suite: Suite, compiler: Compiler) -> None:
         for name in WAYS:
             suite.test(f"{compiler} leaks {name}", check_way, compiler, program, sanitized, name)
     for name, check in (("of threads that work", check_stress), ("while users change", check_users),
-                        ("at each end", check_ends), ("of a static program", check_static),
+                        ("at each end", check_ends), ("of a static program", check_static), ("in order", check_order),
                         ("in a debugger", check_debugger)):
         suite.test(f"{compiler} leaks {name}", check, compiler)

@@ -124,11 +124,12 @@ class Tally(NamedTuple):
     event: int  # the first one's number in its segment; 0 if it has none, as a finding of the recorder
     segment: int = 1  # the number of the first one's segment in its process
     after: int = 0  # of one without an event: how many events came before it
+    number: int = 0  # and which of the findings of its recorder in that segment it is
 
     @property
-    def moment(self) -> Tuple[int, int, bool]:
+    def moment(self) -> Tuple[int, int, bool, int]:
         """When it was, seen from others of its process."""
-        return self.segment, self.event or self.after, not self.event
+        return self.segment, self.event or self.after, not self.event, self.number
 
 
 class Place(NamedTuple):

@@ -124,7 +124,7 @@ class Gatherer:
             if fault.kind in LEAK_KINDS and self.leaks != YES:
                 self.sum_up(process, side, fault)
                 continue
-            first = Tally(0, 0, process, pid, 0, segment, fault.after)
+            first = Tally(0, 0, process, pid, 0, segment, fault.after, count)
             finding, times = finding_by_recorder(fault), times_of(fault)
             sighting = self.sight(finding, times, fault, self.places_of(side, fault), first)
             if fault.kind in LEAK_KINDS:

@@ -99,6 +99,7 @@ def finding_line(tally: Tally, run: int, rest: str) -> str:
     """Returns the line of a finding from what a run has of it, and from the rest, which is the same in all runs."""
     segment = f'"segment":{tally.segment},' if tally.segment > 1 else ""
     segment += f'"after":{tally.after},' if tally.after else ""
+    segment += f'"number":{tally.number},' if tally.number else ""
     return (f'{{"type":"finding","run":{run},"count":{tally.times},"processes":{tally.processes},'
             f'"process":{tally.process},"pid":{tally.pid},"event":{tally.event},{segment}{rest[1:]}')
 
@@ -388,7 +389,8 @@ def finding_of(entry: Entry) -> Finding:
 def tally_of(entry: Entry) -> Tally:
     get = entry.get
     return Tally(number_of(get("count")), number_of(get("processes")), number_of(get("process")), number_of(get("pid")),
-                 number_of(get("event")), number_of(get("segment")) or 1, number_of(get("after")))
+                 number_of(get("event")), number_of(get("segment")) or 1, number_of(get("after")),
+                 number_of(get("number")))
 
 
 def own_of(stack: object) -> Tuple[str, str, int, int]:

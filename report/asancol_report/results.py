@@ -232,7 +232,7 @@ class Results:
                 run.identity = hashlib.sha256(run.identity.encode("utf-8", "surrogateescape")).hexdigest()[:32]
 
     def findings(self) -> List[Finding]:
-        """Returns all findings in the order of their first events, so that a cause stands before what came of it."""
+        """Returns all findings in the order of time, so that a cause stands before what came of it."""
         return sorted(self.places.values(), key=lambda finding: (finding.order, finding.fingerprint))
 
     def placed_crashes(self) -> List[Crash]:

@@ -198,6 +198,59 @@ def segments_of_a_process(folder: str) -> None:
     expect((found.get("segment"), found["after"]), (None, 1), "the first of them")
 
 
+def titles_in(text: str) -> List[str]:
+    """The words of each report that tell those of `at_once` apart."""
+    return re.findall(r"^==\d+==ERROR: asancol: .*(overlap|malloc vs|more than a size|heap-use-after-free)", text, re.M)
+
+
+def at_once(places: Dict[str, int]) -> List[bytes]:
+    """Three that came up between the same two events."""
+    return [finding(OVERLAP, places["use"], 0x2000, 16, places["make"], "memcpy", given=(0x2004, 8), other=0x2000,
+                    after=5),
+            mismatch(places, after=5), finding(PRODUCT, places["use"], call="pvalloc", given=(0, MINUS_FIVE), after=5)]
+
+
+AT_ONCE = ["overlap", "malloc vs", "more than a size"]
+
+
+@report_test
+def order_of_time(folder: str) -> None:
+    """What came up between two events stands as it came up: also if it is read again, and beside other results."""
+    program = build(folder)
+    freed = freed_block(program)
+    for name, step in (("a", 1), ("b", -1)):
+        found = at_once(program.places)[::step]
+        parts = of_program(program, [found[0], freed, *found[1:]], [0, 0, 0, 0, 2], findings=3)
+        write_trace(folder, f"{name}.trace", FREED + END, parts)
+        wanted = ["heap-use-after-free", *AT_ONCE[::step]]
+        ran = report(folder, "--trace", f"{name}.trace", "--json", f"{name}.json")
+        expect(titles_in(ran.out), wanted, ran.out)
+        expect(titles_in(report(folder, f"{name}.json").out), wanted, "read again")
+    for first, second, step in (("a", "b", 1), ("b", "a", -1)):
+        ran = report(folder, f"{first}.json", f"{second}.json", "--json", "c.json")
+        expect(titles_in(ran.out), ["heap-use-after-free", *AT_ONCE[::step]], "merged")
+        expect(report(folder, "c.json").out, ran.out, "merged, and read again")
+    text = re.sub(r'"number":[1-3],"', '"', text_of(folder, "b.json"))
+    with open(f"{folder}/older.json", "w", encoding="utf-8") as file:
+        file.write(text)
+    expect_not_in(text, '"number"')
+    ran = report(folder, "older.json")
+    expect((ran.status, len(titles_in(ran.out))), (1, 4), "a result without their order")
+
+
+@report_test
+def order_of_processes(folder: str) -> None:
+    """Those of an earlier process come first, if it ends later too."""
+    program = build(folder)
+    found = at_once(program.places)
+    feed = Feed(folder)
+    feed.begin()
+    for number, those in ((1, found[1:2]), (0, found)):
+        feed.process(number, CLEAN, of_program(program, those, (), findings=len(those)), findings=len(those), reports=0)
+    ran = feed.end()
+    expect(titles_in(ran.out), AT_ONCE, ran.out)
+
+
 @report_test
 def what_is_no_finding(folder: str) -> None:
     """Entries that are not whole, of kinds that nobody knows, and memory of an older release, which has none."""
