@@ -8,6 +8,7 @@ from typing import Callable, Dict, NamedTuple
 from .class_names import (
     ALIGNMENTS, CLASSES, INDIRECT_LEAK, LEAK, MISMATCH, NEGATIVE_SIZE, NOT_OWNED, SIZE_MISMATCH, TOO_BIG,
 )
+from .leaks import leak_text, Leaks
 from .side import (
     Fault, FINDING_ALIGNMENT, FINDING_FAMILY, FINDING_INDIRECT_LEAK, FINDING_LEAK, FINDING_NEGATIVE_SIZE,
     FINDING_NOT_OWNED, FINDING_OVERFLOW, FINDING_OVERLAP, FINDING_SIZE, FINDING_TOO_BIG,
@@ -31,10 +32,9 @@ class Form(NamedTuple):
     has_size: bool = True
 
 
-def leak_text(class_name: str, size: int, blocks: int) -> str:
-    """Returns LeakSanitizer's words."""
-    kind = "Direct" if class_name == LEAK else "Indirect"
-    return f"{kind} leak of {size} byte(s) in {blocks} object(s)"
+def lost_at(fault: Fault) -> Leaks:
+    """Returns what a process has lost at the place of a leak."""
+    return Leaks(1, fault.count, fault.size)
 
 
 def ranges(fault: Fault) -> str:
@@ -60,9 +60,9 @@ def signed(size: int) -> int:
 
 
 FORMS: Dict[int, Form] = {
-    FINDING_LEAK: Form(lambda _: LEAK, "malloc", lambda it: leak_text(LEAK, it.size, it.count), False),
+    FINDING_LEAK: Form(lambda _: LEAK, "malloc", lambda it: leak_text(LEAK, lost_at(it)), False),
     FINDING_INDIRECT_LEAK: Form(lambda _: INDIRECT_LEAK, "malloc",
-                                lambda it: leak_text(INDIRECT_LEAK, it.size, it.count), False),
+                                lambda it: leak_text(INDIRECT_LEAK, lost_at(it)), False),
     FINDING_FAMILY: Form(lambda _: MISMATCH, "free", lambda it: f"{it.name} vs {it.call}", has_size=False),
     FINDING_SIZE: Form(lambda _: SIZE_MISMATCH, "free", lambda it: (
         f"{it.call} of {plural(it.size, 'byte')}, and {plural(it.block_size, 'byte')} were allocated")),

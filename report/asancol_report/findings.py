@@ -10,6 +10,7 @@ from typing import Dict, Hashable, Iterable, Iterator, List, NamedTuple, Optiona
 
 from .class_names import ATTEMPTS, LEAK, NEGATIVE_SIZE, TITLES
 from .functions import brief
+from .leaks import at_one_place, leak_text, Leaks
 from .sources import Sources
 from .variables import shown_name, Variable
 from .words import plural, printable, stable_path
@@ -125,6 +126,7 @@ class Tally(NamedTuple):
     segment: int = 1  # the number of the first one's segment in its process
     after: int = 0  # of one without an event: how many events came before it
     number: int = 0  # and which of the findings of its recorder in that segment it is
+    lost: Leaks = Leaks()  # of a leak: what all processes have lost there
 
     @property
     def moment(self) -> Tuple[int, int, bool, int]:
@@ -148,7 +150,7 @@ class Finding:
     __slots__ = ("class_name", "raw_class", "access", "size", "call", "address", "bad", "shadow", "rows", "stack",
                  "block",
                  "allocated", "freed", "threads", "fingerprint", "runs", "suppression", "is_known", "follows", "also",
-                 "ordinal", "by_recorder", "said", "blocks")
+                 "ordinal", "by_recorder", "said")
 
     def __init__(self, class_name: str, access: str, size: Optional[int], address: int, bad: Optional[int]) -> None:
         self.class_name = class_name
@@ -175,7 +177,6 @@ class Finding:
         self.ordinal = 1  # which of the findings with this fingerprint it is
         self.by_recorder = False  # no checker has judged it: it is the recorder's word
         self.said = ""  # what that is, in words
-        self.blocks = 0  # of a leak that was gathered: how many blocks of `size` bytes in all
 
     @property
     def counts(self) -> bool:
@@ -245,7 +246,8 @@ class Finding:
     def what(self) -> str:
         """The access in words."""
         if self.by_recorder:
-            return self.said
+            lost = self.lost
+            return leak_text(self.class_name, lost) if lost.blocks else self.said
         if self.class_name in ATTEMPTS:
             return ATTEMPTS[self.class_name]
         call = f" in {printable(self.call)}" if self.call else ""
@@ -258,6 +260,12 @@ class Finding:
     @property
     def is_leak(self) -> bool:
         return self.raw_class == LEAK
+
+    @property
+    def lost(self) -> Leaks:
+        """What a leak has lost in all runs; nothing, if one of them does not say in how many blocks."""
+        each = [tally.lost for tally in self.runs.values()]
+        return at_one_place(each) if all(it.blocks for it in each) else Leaks()
 
     @property
     def title(self) -> str:

@@ -8,12 +8,12 @@ from __future__ import annotations
 
 from typing import Callable, cast, Dict, Hashable, List, NamedTuple, Optional, Tuple
 
-from .by_recorder import FORMS, leak_text
+from .by_recorder import FORMS, lost_at
 from .class_names import class_of, INDIRECT_LEAK, LEAK
 from .crashes import STACK_OVERFLOW
 from .findings import (Block, DYNAMIC, Finding, Frame, GLOBAL, HEAP, Rows, STACK, Stack, Tally, Thread,
                        Threads, UNKNOWN_THREAD)
-from .leaks import Leaks, Sum, SUMMARY, total, YES
+from .leaks import at_one_place, Leaks, Sum, SUMMARY, YES
 from .modules import CodeAddress, Modules
 from .results import Results
 from .side import (
@@ -128,7 +128,7 @@ class Gatherer:
             finding, times = finding_by_recorder(fault), times_of(fault)
             sighting = self.sight(finding, times, fault, self.places_of(side, fault), first)
             if fault.kind in LEAK_KINDS:
-                sighting.lost = total([sighting.lost, Leaks(1, fault.count, fault.size)])
+                sighting.lost = at_one_place([sighting.lost, lost_at(fault)])
             if sighting.first is first:
                 sighting.finding.threads, created = threads_of(side, *fault.threads)
                 sighting.created = [self.calls(side, it) for it in created]
@@ -212,13 +212,11 @@ class Gatherer:
             if known is None:
                 new.append(finding)
             finding = known or finding
-            if sighting.lost.blocks:
-                add_lost(finding, sighting.lost, known is not None)
             before = self.seen_in.get(id(finding), 0)
             self.seen_in[id(finding)] = before | sighting.processes
             added = bits_of(sighting.processes & ~before)
             times = sighting.count or int(known is None)  # pieces alone are none, if they are pieces of what is known
-            first = sighting.first._replace(times=times, processes=added)
+            first = sighting.first._replace(times=times, processes=added, lost=sighting.lost)
             self.results.add(finding, self.run, first)
         self.sightings.clear()
         self.note_last()
@@ -312,13 +310,6 @@ def finding_by_recorder(fault: Fault) -> Finding:
     finding.call = fault.call
     finding.block = Block(fault.block, fault.block_size) if form.has_address and fault.block else None
     return finding
-
-
-def add_lost(finding: Finding, lost: Leaks, is_known: bool) -> None:
-    """Gives a leak what all processes have lost there."""
-    finding.size = lost.bytes + (finding.size or 0 if is_known else 0)
-    finding.blocks += lost.blocks
-    finding.said = leak_text(finding.class_name, finding.size, finding.blocks)
 
 
 def times_of(fault: Fault) -> int:

@@ -11,7 +11,7 @@ from .crashes import Crash
 from .errors import Broken, reason
 from .findings import (Block, DYNAMIC, Finding, first_own, Frame, GLOBAL, HEAP, near_of, Place, Rows, STACK, Stack,
                        Tally, Thread, Threads, UNKNOWN_THREAD)
-from .leaks import Leaks
+from .leaks import leak_text, Leaks
 from .results import Process, Results, Run
 from .side import ACCESSES
 from .variables import Variable
@@ -26,7 +26,7 @@ MAX_ENCODED = 1 << 14
 
 # A line that begins a run, has a process of it, or a finding.
 Entry = Dict[str, Any]
-NO_THREADS = Threads()
+NO_THREADS, NO_LEAKS = Threads(), Leaks()
 # Commands that came up, each once.
 Commands = Dict[Tuple[str, ...], Tuple[str, ...]]
 
@@ -153,8 +153,8 @@ def thread_entry(thread: Thread) -> Entry:
     return entry
 
 
-def finding_entry(finding: Finding) -> Entry:
-    """Returns what is the same of a finding in all runs."""
+def finding_entry(finding: Finding, lost: Leaks) -> Entry:
+    """Returns what is the same of a finding in all runs, but for what a leak has lost in one."""
     entry: Entry = {
         "fingerprint": finding.fingerprint, "class": finding.class_name,
         "access": finding.access, "size": finding.size, "address": f"{finding.address:x}",
@@ -167,6 +167,8 @@ def finding_entry(finding: Finding) -> Entry:
         entry["call"] = finding.call
     if finding.by_recorder:
         entry["by"], entry["said"] = RECORDER, finding.said
+    if lost.blocks:
+        entry.update(size=lost.bytes, blocks=lost.blocks, said=leak_text(finding.class_name, lost))
     if finding.rows.shadow:
         entry["rows"] = {"start": f"{finding.rows.start:x}", "shadow": finding.rows.shadow.hex()}
     if finding.block:
@@ -194,9 +196,9 @@ def lines_of(results: Results) -> Iterator[str]:
     encode_again = functools.lru_cache(maxsize=MAX_ENCODED, typed=True)(encode)
     shared: Dict[int, str] = {}
 
-    def rest_of(finding: Finding) -> str:
-        rest = shared.get(id(finding)) or encode(finding_entry(finding))
-        if len(finding.runs) > 1:
+    def rest_of(finding: Finding, lost: Leaks) -> str:
+        rest = shared.get(id(finding)) or encode(finding_entry(finding, lost))
+        if len(finding.runs) > 1 and not lost.blocks:
             shared[id(finding)] = rest
         return rest
 
@@ -210,7 +212,8 @@ def lines_of(results: Results) -> Iterator[str]:
         for process in run.processes.values():
             yield process_line(process, number, results.crash_of(process), encode_again)
         for finding in mine:
-            yield finding_line(finding.runs[number], number, rest_of(finding))
+            tally = finding.runs[number]
+            yield finding_line(tally, number, rest_of(finding, tally.lost))
     for note in results.notes:
         yield encode({"type": "note", "text": note})
 
@@ -390,7 +393,12 @@ def tally_of(entry: Entry) -> Tally:
     get = entry.get
     return Tally(number_of(get("count")), number_of(get("processes")), number_of(get("process")), number_of(get("pid")),
                  number_of(get("event")), number_of(get("segment")) or 1, number_of(get("after")),
-                 number_of(get("number")))
+                 number_of(get("number")), lost_of(entry))
+
+
+def lost_of(entry: Entry) -> Leaks:
+    blocks = number_of(entry.get("blocks"))
+    return Leaks(1, blocks, number_of(entry.get("size"))) if blocks else NO_LEAKS
 
 
 def own_of(stack: object) -> Tuple[str, str, int, int]:

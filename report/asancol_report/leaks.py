@@ -1,9 +1,11 @@
-"""What leaks, summed up: if leaks are no reports, a line has how much of them there is."""
+"""What leaks: at one place, in however many processes, and summed up: if leaks are no reports, a line has how much of
+them there is."""
 
 from __future__ import annotations
 
 from typing import Callable, Dict, Hashable, Iterable, List, NamedTuple, Tuple
 
+from .class_names import LEAK
 from .words import plural
 
 # What becomes of leaks.
@@ -26,6 +28,17 @@ def total(all_leaks: Iterable[Leaks]) -> Leaks:
     return Leaks(*map(sum, zip(Leaks(), *all_leaks)))
 
 
+def at_one_place(all_leaks: Iterable[Leaks]) -> Leaks:
+    """Returns what several processes or runs have lost at the same place."""
+    return total(all_leaks)._replace(places=1)
+
+
+def leak_text(class_name: str, lost: Leaks) -> str:
+    """Returns LeakSanitizer's words."""
+    kind = "Direct" if class_name == LEAK else "Indirect"
+    return f"{kind} leak of {lost.bytes} byte(s) in {lost.blocks} object(s)"
+
+
 class Lost:
     """What one place has lost. A process may say it in each of its segments: the last time counts."""
 
@@ -44,7 +57,7 @@ class Lost:
 
     @property
     def all(self) -> Leaks:
-        return total([self.before, self.last])._replace(places=1)
+        return at_one_place([self.before, self.last])
 
 
 class Sum:
@@ -62,4 +75,4 @@ class Sum:
         for (class_name, place), lost in self.lost.items():
             if counts(class_name, place):
                 places.setdefault(place, []).append(lost.all)
-        return total(total(it)._replace(places=1) for it in places.values())
+        return total(map(at_one_place, places.values()))

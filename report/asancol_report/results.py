@@ -8,7 +8,7 @@ from typing import Dict, Hashable, Iterable, List, NamedTuple, Optional, Tuple
 
 from .crashes import Crash, CRASH_CLASSES, CRASHES, end_text, line_of_crash
 from .findings import Finding, Place, Stack, Tally, Threads
-from .leaks import Leaks, total
+from .leaks import at_one_place, Leaks, total
 from .sources import Sources
 from .words import signal_name
 
@@ -207,7 +207,8 @@ class Results:
     def tally(finding: Finding, run: int, tally: Tally) -> None:
         before = finding.runs.get(run)
         if before is not None:
-            tally = before._replace(times=before.times + tally.times, processes=before.processes + tally.processes)
+            tally = before._replace(times=before.times + tally.times, processes=before.processes + tally.processes,
+                                    lost=at_one_place([before.lost, tally.lost]))
         finding.runs[run] = tally
 
     def sightings(self, finding: Finding) -> Sightings:

@@ -3,7 +3,7 @@
 import json
 import re
 import xml.dom.minidom
-from typing import Any, Dict, List
+from typing import Any, Dict, List, Tuple
 
 from testing import expect, expect_in, expect_not_in
 from testing.reports import END, FREED, OVERFLOW, Feed, build, freed_block, report, report_test, write_trace
@@ -249,6 +249,49 @@ def order_of_processes(folder: str) -> None:
         feed.process(number, CLEAN, of_program(program, those, (), findings=len(those)), findings=len(those), reports=0)
     ran = feed.end()
     expect(titles_in(ran.out), AT_ONCE, ran.out)
+
+
+def leaking(folder: str, name: str, *lost: Tuple[int, int]) -> None:
+    """Leaves the result of a run in which each process has lost so many bytes in so many blocks at one place, and half
+    of them at another."""
+    program = build(folder)
+    feed = Feed(folder, "--leaks=yes", "--json", f"{name}.json")
+    feed.begin(name)
+    for number, (size, blocks) in enumerate(lost):
+        leaks = [finding(LEAK, program.places["make"], given=(0, size), count=blocks),
+                 finding(INDIRECT, program.places["use"], given=(0, size // 2), count=blocks)]
+        feed.process(number, CLEAN, of_program(program, leaks, (), findings=2), findings=2, reports=0)
+    feed.end()
+
+
+def leaks_in(text: str) -> List[str]:
+    return re.findall(r"memory leaks (.*)\n(.*) allocated from:$", text, re.M)
+
+
+@report_test
+def leaks_of_runs(folder: str) -> None:
+    """A place of leaks has what all processes have lost there, in one run as in several."""
+    leaking(folder, "all", (24, 3), (40, 1), (8, 2))
+    leaking(folder, "one", (24, 3))
+    leaking(folder, "two", (40, 1), (8, 2))
+    wanted = [("(by the recorder, 3 times, 3 processes)", "Direct leak of 72 byte(s) in 6 object(s)"),
+              ("(by the recorder, 3 times, 3 processes)", "Indirect leak of 36 byte(s) in 6 object(s)")]
+    for names in (["all"], ["all", "all"], ["one", "two"], ["two", "one", "two"]):
+        ran = report(folder, *(f"{it}.json" for it in names), "--json", "again.json", "--html=page", "--sarif=sarif")
+        expect(leaks_in(ran.out), wanted, str(names))
+        for kind in ("page", "sarif"):
+            expect_in(text_of(folder, kind), "Direct leak of 72 byte(s) in 6 object(s)")
+        ran = report(folder, "again.json", f"{names[0]}.json")
+        expect(leaks_in(ran.out), wanted, f"{names}, and read again")
+    found = [it for it in map(json.loads, text_of(folder, "again.json").splitlines()) if it["type"] == "finding"]
+    expect([(it["run"], it["size"], it["blocks"], it["said"]) for it in found if it["class"] == "leak"],
+           [(0, 48, 3, "Direct leak of 48 byte(s) in 3 object(s)"),
+            (1, 24, 3, "Direct leak of 24 byte(s) in 3 object(s)")], "what each run has")
+    with open(f"{folder}/older.json", "w", encoding="utf-8") as file:
+        file.write(re.sub(r',"blocks":\d+', "", text_of(folder, "again.json")))
+    ran = report(folder, "older.json")
+    expect([it[1] for it in leaks_in(ran.out)], [f"{it} leak of {size} byte(s) in 3 object(s)" for it, size in
+                                                 (("Direct", 48), ("Indirect", 24))], "without their number")
 
 
 @report_test

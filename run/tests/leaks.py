@@ -2,6 +2,7 @@
 
 import json
 import os
+import re
 import subprocess
 import xml.etree.ElementTree as xml
 from typing import Dict, List
@@ -108,6 +109,12 @@ def check_several(suite: Suite, folder: str, compiler: str) -> None:
     ran = run_it(suite, "--leaks=yes", "--", "sh", "-c", f"{program}; {program}; {program} two")
     expect_ran(ran, 99, "detected memory leaks (by the recorder, 3 times, 3 processes)\n",
                "\nDirect leak of 900 byte(s) in 9 object(s) allocated from:\n", "asancol: 5 reports at 3 places ")
+    words = [f"--json={folder}/{name}.json" for name in ("one", "two")]
+    run_it(suite, "--leaks=yes", words[0], "--", program)
+    run_it(suite, "--leaks=yes", words[1], "--", "sh", "-c", f"{program}; {program} two")
+    merged = suite.run_words([REPORT, f"{folder}/one.json", f"{folder}/two.json"])
+    texts = [text.split("asancol: 5 reports")[0] for text in (ran.err, merged.out)]
+    expect(*(re.findall("==ERROR: .*\n.* allocated from:", text) for text in texts), "merged")
 
 
 def tests(suite: Suite) -> None:
