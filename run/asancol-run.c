@@ -83,7 +83,7 @@ static void put_whole(FILE *to, const struct sum *sum, bool is_incomplete, bool 
     is_first &= sum->abrupt == 0;
     if (sum->crashed > 0)
         fprintf(to, "%s %zu crashed", is_first ? ";" : ",", sum->crashed);
-    if (unchecked_count() == 0 || !lists_unchecked)
+    if (!unchecked_is_any() || !lists_unchecked)
         return;
     fputs("; not checked: ", to);
     unchecked_say(to);

@@ -79,9 +79,19 @@ void unchecked_take(const struct process *process)
     }
 }
 
+static size_t count_of(const struct names *names)
+{
+    return names->count + names->more;
+}
+
 size_t unchecked_count(void)
 {
-    return unchecked.own.count + unchecked.own.more;
+    return count_of(&unchecked.own);
+}
+
+bool unchecked_is_any(void)
+{
+    return count_of(&unchecked.own) + count_of(&unchecked.system) > 0;
 }
 
 void unchecked_say(FILE *to)
@@ -91,6 +101,10 @@ void unchecked_say(FILE *to)
         fprintf(to, "%s%s", i == 0 ? "" : ", ", unchecked.own.names[i]);
     if (unchecked_count() > said)
         fprintf(to, " and %zu more", unchecked_count() - said);
+    size_t libraries = count_of(&unchecked.system);
+    if (libraries > 0)
+        fprintf(to, "%s%zu librar%s of the system", unchecked_count() > 0 ? ", and " : "", libraries,
+                libraries == 1 ? "y" : "ies");
 }
 
 static void say_names(const char *what, const struct names *names)
@@ -138,5 +152,6 @@ void unchecked_put(FILE *to)
     fputs(",\"unchecked\":", to);
     size_t more = put(to, &unchecked.own, MAX_OWN_BYTES);
     fprintf(to, ",\"unchecked_more\":%zu,\"system\":", more);
-    put(to, &unchecked.system, MAX_SYSTEM_BYTES);
+    more = put(to, &unchecked.system, MAX_SYSTEM_BYTES);
+    fprintf(to, ",\"system_more\":%zu", more);
 }

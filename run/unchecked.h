@@ -15,7 +15,10 @@ enum unchecked { UNCHECKED_LIST, UNCHECKED_NO, UNCHECKED_ERROR };
 void unchecked_take(const struct process *process);
 /* How many names there are, without those of libraries of the system. */
 size_t unchecked_count(void);
-/* Writes the first names, and how many more there are. */
+/* Whether there are any, or libraries of the system. */
+bool unchecked_is_any(void);
+/* Writes the first names, how many more there are, and how many libraries of the system. `unchecked_text` of
+   asancol-report says the same of several runs. */
 void unchecked_say(FILE *to);
 /* Says all names, and those of libraries of the system. */
 void unchecked_say_all(void);

@@ -17,6 +17,7 @@
 #include "calls/library.h"
 #include "calls/objects.h"
 #include "base/system.h"
+#include "common/text.h"
 #include "process/link_note.h"
 #include "process/process.h"
 #include "stacks/unwinding.h"
@@ -223,12 +224,11 @@ static bool lead_module(struct module *module, bool is_start)
     return module->is_filled;
 }
 
-/* The C library and what belongs to it, whose calls are not the program's. */
-static bool is_of_library(const struct dl_phdr_info *info)
+bool plain_is_of_library(const char *name)
 {
     static const char *const names[] = {"libc.so.", "libm.so.", "ld-linux", "linux-vdso"};
     for (size_t i = 0; i < sizeof names / sizeof *names; i++)
-        if (object_is_named(info->dlpi_name, names[i]))
+        if (begins_with(name, names[i]))
             return true;
     return false;
 }
@@ -236,7 +236,8 @@ static bool is_of_library(const struct dl_phdr_info *info)
 static bool is_plain(const struct dl_phdr_info *info)
 {
     struct note note;
-    return !is_of_library(info) && !maps_find_note(info->dlpi_addr, LINK_NOTE_OWNER, LINK_NOTE_TYPE, &note);
+    return !plain_is_of_library(base_name(info->dlpi_name))
+           && !maps_find_note(info->dlpi_addr, LINK_NOTE_OWNER, LINK_NOTE_TYPE, &note);
 }
 
 /* The modules that need no further look. Another may lie at the same place since: then its name is elsewhere, or its

@@ -2,10 +2,15 @@
 #ifndef ASANCOL_PLAIN_H
 #define ASANCOL_PLAIN_H
 
+#include <stdbool.h>
+
 /* Has their calls of the C library checked, from here on: of all that are loaded. Once, before there are threads. Does
    nothing if no call is checked, or ASANCOL_LIBRARIES says so. */
 void plain_begin(void);
 /* Those that were loaded since, too. Not in a signal handler. */
 void plain_look_again(void);
+/* Whether a module that is called so, without its folders, is the C library or belongs to it: its calls are not the
+   program's. */
+bool plain_is_of_library(const char *name);
 
 #endif

@@ -7,11 +7,13 @@
 #include <string.h>
 
 #include "calls/library.h"
+#include "calls/plain.h"
 #include "base/digits.h"
 #include "common/format.h"
 #include "common/text.h"
 #include "heap/heap.h"
 #include "process/link_note.h"
+#include "process/process.h"
 #include "base/memory.h"
 #include "stream/maps.h"
 
@@ -150,19 +152,37 @@ static struct name name_of(const struct map_line *line)
     return name;
 }
 
-static bool is_of_system(const struct map_line *line, struct name name)
+static bool is_of_system(const struct map_line *line)
 {
     static const char *const folders[] = {"/lib/", "/lib32/", "/lib64/", "/libx32/",
                                           "/usr/lib/", "/usr/lib32/", "/usr/lib64/", "/usr/libx32/"};
-    static const char *const names[] = {"ld-linux", "libc.so", "libm.so", "libpthread.so", "libdl.so", "librt.so",
-                                        "libgcc_s.so", "libstdc++.so", "libc++.so", "libc++abi.so"};
     for (size_t i = 0; i < sizeof folders / sizeof *folders; i++)
         if (begins_with(line->path, folders[i]))
             return true;
+    return false;
+}
+
+/* What each program of C or C++ stands on: it is not named. */
+static bool is_of_language(struct name name)
+{
+    static const char *const names[] = {"ld-linux", "libc.so", "libm.so", "libpthread.so", "libdl.so", "librt.so",
+                                        "libgcc_s.so", "libstdc++.so", "libc++.so", "libc++abi.so"};
     for (size_t i = 0; i < sizeof names / sizeof *names; i++)
         if (name.length > strlen(names[i]) && begins_with(name.text, names[i]))
             return true;
     return false;
+}
+
+/* Adds a module that asancol-cc did not link. */
+static void add_plain(struct list *list, const struct map_line *first, struct name name)
+{
+#ifndef IS_STATIC
+    static const char calls[] = "calls of libraries (ASANCOL_LIBRARIES=0)";
+    if (!recorder_checks_libraries() && !plain_is_of_library(name.text))
+        add(list, "", calls, sizeof calls - 1);
+#endif
+    if (!is_of_language(name))
+        add(list, is_of_system(first) ? "/" : "", name.text, name.length);
 }
 
 /* Adds what the link of a module has noted. */
@@ -203,10 +223,8 @@ static void add_module(struct list *list, const struct map_line *first)
     memset(text, 0, sizeof text);
     if (has_note && note.size <= LINK_NOTE_ROOM && memory_read(note.start, text, note.size))
         add_noted(list, text, name);
-    else if (is_of_system(first, name))
-        add(list, "/", name.text, name.length);
     else
-        add(list, "", name.text, name.length);
+        add_plain(list, first, name);
 }
 
 /* The malloc that the C library finds may turn out to take its blocks from the recorder's. */

@@ -48,11 +48,13 @@ def unchecked(folder, *words, **settings):
     """What stands beside the trace of a program that was not checked, without libraries of the system."""
     ran = run(list(words), folder, ASANCOL_TRACE="t.trace", ASANCOL_WHERE="1", **settings)
     expect(ran.returncode, 0, f"{words}: {ran.stderr.decode()}")
-    text = "".join(f"{it}\n" for it in side_of(f"{folder}/t.trace").unchecked())
+    side = side_of(f"{folder}/t.trace")
+    text = "".join(f"{it}\n" for it in side.unchecked())
     os.unlink(f"{folder}/t.trace")
     lines = text.splitlines()
-    if not any(line.startswith("/libc.so") or line == STATIC for line in lines):
-        raise Failure(f"the C library is not in {lines}")
+    if STATIC not in lines and not any("/libc.so" in it.path for it in side.maps):
+        raise Failure(f"the C library is not beside {lines}")
+    expect([line for line in lines if line.startswith("/libc.so")], [], "the C library")
     return [line for line in lines if not line.startswith("/")]
 
 

@@ -37,12 +37,13 @@ static bool is_of_system(const char *path)
     return strstr(real, "/lib/gcc/") != NULL || strstr(real, "/lib/clang/") != NULL;
 }
 
-/* What the compiler adds to each link: how a program begins and ends, and its own helpers; and the C library, which the
-   note has in other words if it comes into a static program. The recorder's archives too. */
+/* What the compiler adds to each link: how a program begins and ends, its own helpers and the library of C++; and the C
+   library, which the note has in other words if it comes into a static program. The recorder's archives too. */
 static bool is_of_each_link(const char *path)
 {
     static const char *const fronts[] = {"crt", "libgcc", "libc.a", "libc_nonshared.a", "libm.a", "libm-", "libmvec",
                                          "libpthread", "libdl.a", "librt.a", "libutil.a", "libssp_nonshared.a",
+                                         "libstdc++.a", "libsupc++.a", "libc++.a", "libc++abi.a",
                                          "libclang_rt.builtins", "clang_rt.crt"};
     const char *name = base_name(path);
     if (begins_with(name, "libasancol_"))

@@ -206,7 +206,8 @@ class Files(Hub):
         """Takes in what was not checked. What else a run says at its end is not known of files."""
         ended = run_of(entry)
         run = self.results.runs[self.number]
-        run.unchecked, run.unchecked_more, run.system = ended.unchecked, ended.unchecked_more, ended.system
+        run.unchecked, run.unchecked_more = ended.unchecked, ended.unchecked_more
+        run.system, run.system_more = ended.system, ended.system_more
 
     def known(self, process: Process) -> Process:
         """Returns a process with what the names of its files say."""

@@ -53,8 +53,8 @@ def run_entry(run: Run, number: int, counts: Counts) -> Entry:
         entry["troubles"] = list(run.said)
     if run.unchecked or run.unchecked_more:
         entry["unchecked"], entry["unchecked_more"] = list(run.unchecked), run.unchecked_more
-    if run.system:
-        entry["system"] = list(run.system)
+    if run.system or run.system_more:
+        entry["system"], entry["system_more"] = list(run.system), run.system_more
     if run.cut:
         entry["cut"] = run.cut
     if run.leaks.places:
@@ -288,6 +288,7 @@ def end_run(run: Run, entry: Entry) -> None:
     run.unchecked = dict.fromkeys(words_of(entry.get("unchecked")))
     run.unchecked_more = number_of(entry.get("unchecked_more"))
     run.system = dict.fromkeys(words_of(entry.get("system")))
+    run.system_more = number_of(entry.get("system_more"))
 
 
 def command_of(value: object, commands: Commands) -> Tuple[str, ...]:

@@ -74,7 +74,8 @@ class Run:
         self.said: Tuple[str, ...] = ()  # why not all was seen: lines of asancol-run
         self.unchecked: Dict[str, None] = {}  # what asancol-cc did not compile
         self.unchecked_more = 0  # how many names are left out
-        self.system: Dict[str, None] = {}  # libraries of the system
+        self.system: Dict[str, None] = {}  # libraries of the system, without those of C and C++
+        self.system_more = 0  # how many names are left out
         self.cut = ""  # it stands for a file that could not be read to its end: why
         self.leaks = Leaks()  # that are no reports
         self.processes: Dict[int, Process] = {}
@@ -290,9 +291,9 @@ class Results:
         """Returns the names of what was not checked, without libraries of the system."""
         return list(dict.fromkeys(name for run in self.runs for name in run.unchecked))
 
-    def system(self) -> List[str]:
-        """Returns the libraries of the system, which are not checked."""
-        return list(dict.fromkeys(name for run in self.runs for name in run.system))
+    def system_count(self) -> int:
+        """Returns how many libraries of the system were not checked."""
+        return len({name for run in self.runs for name in run.system}) + sum(run.system_more for run in self.runs)
 
     def unchecked_count(self) -> int:
         return len(self.unchecked()) + sum(run.unchecked_more for run in self.runs)

@@ -299,13 +299,16 @@ def totals_line(results: Results) -> str:
         seen.append(f"{plural(totals.crashes_known, 'crash')} known from the baseline")
     if seen:
         words.append(", ".join(seen))
-    if totals.unchecked and results.lists_unchecked:
+    if results.lists_unchecked and (totals.unchecked or results.system_count()):
         words.append(f"not checked: {unchecked_text(results)}")
     return "; ".join(words)
 
 
 def unchecked_text(results: Results, most: int = MAX_UNCHECKED_SAID) -> str:
-    """Returns the first names of what was not checked, and how many more there are."""
+    """Returns the first names of what was not checked, how many more there are, and how many libraries of the system.
+    asancol-run says the same of one run (`unchecked_say`)."""
     names = results.unchecked()[:most]
-    more = results.unchecked_count() - len(names)
-    return printable(", ".join(names) + (f" and {more} more" if more else ""))
+    more, libraries = results.unchecked_count() - len(names), results.system_count()
+    texts = [", ".join(names) + (f" and {more} more" if more else "")] if names or more else []
+    texts += [f"{plural(libraries, 'library')} of the system"] if libraries else []
+    return printable(", and ".join(texts))

@@ -14,9 +14,11 @@ SURROGATE = re.compile("[\ud800-\udfff]")
 
 
 def plural(count: int, one: str) -> str:
-    """Returns "1 byte", "2 bytes", "3 processes", "4 crashes"."""
+    """Returns "1 byte", "2 bytes", "3 processes", "4 crashes", "5 libraries"."""
     if count == 1:
         return f"1 {one}"
+    if one.endswith("y"):
+        return f"{count} {one[:-1]}ies"
     return f"{count} {one}{'es' if one.endswith(('s', 'sh')) else 's'}"
 
 

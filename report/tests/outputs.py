@@ -46,6 +46,27 @@ def runs_are_merged(folder: str) -> None:
 
 
 @report_test
+def what_was_not_checked(folder: str) -> None:
+    """Names of several runs stand once, and what a packet had no room for is counted."""
+    both = {"unchecked": ["u.o"], "unchecked_more": 7, "system": ["libz.so.1"]}
+    for name, entry, text in (
+        ("a", {"system": ["libz.so.1"]}, "all seen whole; not checked: 1 library of the system\n"),
+        ("b", {"system": ["libz.so.1"], "system_more": 2}, "all seen whole; not checked: 3 libraries of the system\n"),
+        ("c", {"unchecked": ["u.o", "v.o"]}, " events; not checked: u.o, v.o\n"),
+        ("d", both, " events; not checked: u.o and 7 more, and 1 library of the system\n"),
+        ("e", {"system_more": 0}, " events; all seen whole\n"),
+    ):
+        feed = Feed(folder, "--json", name)
+        feed.begin(name)
+        feed.process(0)
+        expect_in(feed.end(**entry).out, text)
+    for names, text in (("ab", "all seen whole; not checked: 3 libraries of the system\n"),
+                        ("abcde", " events; not checked: u.o, v.o and 7 more, and 3 libraries of the system\n")):
+        expect_in(report(folder, *names, "--json", "all").out, text)
+        expect_in(report(folder, "all").out, text)
+
+
+@report_test
 def bad_results(folder: str) -> None:
     run = '{"type":"run","version":1,"run":0,"id":"a","command":["x"]}\n'
     for text, message in (

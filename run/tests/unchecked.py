@@ -5,17 +5,27 @@ import os
 import subprocess
 
 from support import CC, REPORT, RUN, Suite, expect, expect_in, expect_not_in, expect_ran
+from testing.programs import CXX
 
 MAIN = """
 #include <stdlib.h>
 int helper(char *);
 int main(void) { char *p = malloc(8); int result = helper(p); free(p); return result; }
 """
-HELPER = "int helper(char *p) { ((volatile char *)p)[8] = 1; return 0; }\n"
+# Two libraries of the system, and none of them is of C or C++ itself.
+LIBRARIES = ["-Wl,--no-as-needed", "-lresolv", "-lanl"]
+TWO = "not checked: 2 libraries of the system"
+HELPER = """
+#ifndef BYTE
+#define BYTE 8
+#endif
+int helper(char *p) { ((volatile char *)p)[BYTE] = 1; return 0; }
+"""
 
 
 def build(folder: str, compiler: str) -> None:
-    """./bad has a report, ./some has an object that was not compiled so, ./more has six; and ./static."""
+    """./bad has a report, ./some has an object that was not compiled so, ./more has six; ./static; and two with
+    libraries of the system."""
     environment = {**os.environ, "ASANCOL_CC": compiler}
 
     def make(command: str, *words: str) -> None:
@@ -29,6 +39,8 @@ def build(folder: str, compiler: str) -> None:
     make(compiler, "-c", "helper.c", "-o", "u.o")
     make(CC, "main.o", "u.o", "-o", "some")
     make(CC, "-static", "main.o", "helper.o", "-o", "static")
+    make(CC, "-DBYTE=7", "main.c", "helper.c", *LIBRARIES, "-o", "libraries")
+    make(CC, "main.o", "u.o", *LIBRARIES, "-o", "some-libraries")
     make(compiler, "-c", *(f"n{i}.c" for i in range(6)))
     make(CC, "main.o", "u.o", *(f"n{i}.o" for i in range(6)), "-o", "more")
 
@@ -44,19 +56,26 @@ def check_summary(suite: Suite, folder: str, compiler: str) -> None:
         (["-q", "./some"], 0, "; not checked: u.o\n"),
         (["./more"], 0, "; not checked: u.o, n0.o, n1.o, n2.o, n3.o and 2 more\n"),
         (["-v", "./more"], 0, "asancol: not checked: u.o, n0.o, n1.o, n2.o, n3.o, n4.o, n5.o\n"),
-        (["-v", "./some"], 0, "asancol: libraries of the system, not checked: libc.so.6, ld-linux-x86-64.so.2\n"),
+        (["-v", "./some-libraries"], 0, "asancol: libraries of the system, not checked: libanl.so.1, libresolv.so.2\n"),
+        (["./some-libraries"], 0, "; not checked: u.o, and 2 libraries of the system\n"),
+        (["--unchecked=no", "./some-libraries"], 0, " events\n"),
         (["sh", "-c", "./some; ./more; ./some; exec ./some"], 0, " events; not checked: u.o, n0.o"),
         (["./bad"], 99, " events; all seen whole\n"),
         (["--unchecked=error", "./bad"], 99, " events; all seen whole\n"),
+        (["./libraries"], 0, f" events; all seen whole; {TWO}\n"),
+        (["--unchecked=error", "./libraries"], 0, f" events; all seen whole; {TWO}\n"),
+        (["--unchecked=no", "./libraries"], 0, " events; all seen whole\n"),
+        (["sh", "-c", "./libraries; exec ./libraries"], 0, f" events; all seen whole; {TWO}\n"),
         (["--unchecked=error", "sh", "-c", "./bad; ./some"], 99, "; not checked: u.o\n"),
         (["./static"], 99, "; not checked: calls of the C library (-static)\n"),
     ):
-        absent = [] if "bad" in " ".join(words) and "some" not in " ".join(words) else ["all seen whole"]
+        absent = [] if "all seen whole" in text else ["all seen whole"]
         for reporter in ({}, {"ASANCOL_REPORT": REPORT}):
             if status == 99 and not reporter:
                 continue
             expect_ran(suite.run(*words, cwd=folder, **reporter), status, text, absent=absent)
-    expect_ran(suite.run("-q", "--unchecked=no", "./some", cwd=folder), 0, absent=["asancol"])
+    for quiet in (["--unchecked=no", "./some"], ["./libraries"]):
+        expect_ran(suite.run("-q", *quiet, cwd=folder), 0, absent=["asancol"])
 
 
 def check_outputs(suite: Suite, folder: str, compiler: str) -> None:
@@ -67,8 +86,8 @@ def check_outputs(suite: Suite, folder: str, compiler: str) -> None:
     expect_ran(ran, 0, "; not checked: u.o\n")
     with open(f"{folder}/json", encoding="utf-8") as file:
         entry = json.loads(file.readline())
-    names = (entry["unchecked"], entry["unchecked_more"], "libc.so.6" in entry["system"])
-    expect(names, (["u.o"], 0, True), "JSON lines")
+    names = (entry["unchecked"], entry["unchecked_more"], "system" in entry)
+    expect(names, (["u.o"], 0, False), "JSON lines")
     for kind in ("sarif", "html"):
         with open(f"{folder}/{kind}", encoding="utf-8") as file:
             expect_in(file.read(), "not checked: u.o")
@@ -85,7 +104,46 @@ def check_outputs(suite: Suite, folder: str, compiler: str) -> None:
     expect_not_in(ran.out, "all seen whole")
 
 
+CXX_MAIN = """
+#include <iostream>
+int main() { std::cout << "done" << std::endl; }
+"""
+
+
+def check_libraries(suite: Suite, folder: str, compiler: str) -> None:
+    """Libraries of the system are counted, each once, by asancol-run and asancol-report; those of C and C++ are not.
+    And whose calls were not checked is said if it was so."""
+    build(folder, compiler)
+    words = ["./libraries"]
+    for name in ("one", "other"):
+        suite.run(f"--json={name}", "--", *words, cwd=folder, ASANCOL_REPORT=REPORT)
+    ran = suite.run_words([REPORT, "one", "other", "--json=both"], cwd=folder)
+    expect_in(ran.out, f"; all seen whole; {TWO}\n")
+    expect_in(suite.run_words([REPORT, "both"], cwd=folder).out, f"; all seen whole; {TWO}\n")
+    suite.run_words(words, cwd=folder, ASANCOL_TRACE="t.trace", ASANCOL_WHERE="1")
+    expect_in(suite.run_words([REPORT, "--trace", "t.trace"], cwd=folder).out, f"; all seen whole; {TWO}\n")
+    with open(f"{folder}/plus.cpp", "w", encoding="utf-8") as file:
+        file.write(CXX_MAIN)
+    cxx = {"gcc": "g++", "clang": "clang++"}[compiler]
+    for words in (["plus"], ["plus-static", "-static"]):
+        subprocess.run([CXX, "plus.cpp", "-o", *words], cwd=folder, check=True, env={**os.environ, "ASANCOL_CXX": cxx})
+    calls = "calls of libraries (ASANCOL_LIBRARIES=0)"
+    for program, status, on, off in (
+        ("./bad", 99, "; all seen whole\n", "; all seen whole\n"),
+        ("./plus", 0, "; all seen whole\n", f" events; not checked: {calls}\n"),
+        ("./plus-static", 0, *["; not checked: calls of the C library (-static)\n"] * 2),
+        ("./libraries", 0, f"; all seen whole; {TWO}\n",
+         f" events; not checked: {calls}, and 2 libraries of the system\n"),
+    ):
+        for settings, wanted in (({}, on), ({"ASANCOL_LIBRARIES": "0"}, off)):
+            for options in ([], ["--json=x"]):  # asancol-run says it, or asancol-report
+                ran = suite.run(*options, "--", program, cwd=folder, ASANCOL_REPORT=REPORT, **settings)
+                expect_ran(ran, status, wanted)
+    expect_ran(suite.run("--unchecked=error", "./plus", cwd=folder, ASANCOL_LIBRARIES="0"), 98, calls)
+
+
 def tests(suite: Suite) -> None:
     for compiler in ("gcc", "clang"):
         suite.test(f"unchecked: summary, {compiler}", check_summary, compiler)
+        suite.test(f"unchecked: libraries, {compiler}", check_libraries, compiler)
         suite.test(f"unchecked: outputs, {compiler}", check_outputs, compiler)
