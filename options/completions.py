@@ -56,15 +56,23 @@ _NAME() {
     elif declare -F _completion_loader > /dev/null; then
         _completion_loader OTHER
     fi
-    if declare -F _gcc > /dev/null; then
-        _gcc "$@"
-    elif declare -F _comp_cmd_gcc > /dev/null; then
-        _comp_cmd_gcc "$@"
+    if declare -F _FAMILY > /dev/null; then
+        _FAMILY "$@"
+    elif declare -F _comp_cmd_FAMILY > /dev/null; then
+        _comp_cmd_FAMILY "$@"
     fi
     if [[ $2 == -* ]]; then
         mapfile -t -O ${#COMPREPLY[@]} COMPREPLY < <(compgen -W 'WORDS' -- "$2")
     fi
 }"""
+
+# The commands that are completed by a function of another name: compilers by that of gcc.
+OWN_FAMILY = ("cargo",)
+
+
+def family_of(other: str) -> str:
+    return other if other in OWN_FAMILY else "gcc"
+
 
 # The options that take a value have a dash before them for __fish_complete_subcommand, which takes a first word that
 # begins with two for itself.
@@ -195,7 +203,8 @@ def bash_of(program: Program, commands: List[Program]) -> List[str]:
     name, local = function_of(program), "word=$2 before=$3"
     if "Completed as" in program.keys:
         words = " ".join(f"{it.name}{it.joint if it.joint == '=' else ''}" for it in program.shown)
-        lines = filled(BASH_OTHER, program, OTHER=program.keys["Completed as"], WORDS=words)
+        other = program.keys["Completed as"]
+        lines = filled(BASH_OTHER, program, OTHER=other, FAMILY=family_of(other), WORDS=words)
         return [*lines, "", f"complete -o bashdefault -o default -F {name} {program.name}"]
     lines, options = ["    COMPREPLY=()"], list(program.shown)
     if program.has_command:
@@ -267,7 +276,8 @@ def zsh_of(program: Program, commands: List[Program]) -> List[str]:
     if "Completed as" in program.keys:
         other = program.keys["Completed as"]
         own = [quoted(f"{it.name}{it.joint.strip()}:{it.short(program.name)}") for it in program.shown]
-        return [f"local -a own=({' '.join(own)})", "[[ $PREFIX == -* ]] && _describe -o option own", "_gcc \"$@\""]
+        return [f"local -a own=({' '.join(own)})", "[[ $PREFIX == -* ]] && _describe -o option own",
+                f'_{family_of(other)} "$@"']
     lines = []
     patterns = re.findall(r"\*\.\w+|--\w+", program.keys.get("Operands", ""))
     if patterns:

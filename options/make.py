@@ -25,7 +25,7 @@ import table
 
 OPTIONS = os.path.dirname(os.path.abspath(__file__))
 TOP = os.path.dirname(OPTIONS)
-TABLES = ("asancol", "asancol-run", "asancol-cc", "asancol-listen")
+TABLES = ("asancol", "asancol-run", "asancol-cc", "asancol-cargo", "asancol-listen")
 
 
 def text_of(path: str) -> str:

@@ -16,6 +16,8 @@ FOLDERS = {
     "asancol-report": "report/completions",
     "asancol-cc": "recorder/completions",
     "asancol-c++": "recorder/completions",
+    "asancol-fc": "recorder/completions",
+    "asancol-cargo": "recorder/cargo/completions",
     "asancol-listen": "listen/completions",
 }
 
@@ -60,6 +62,7 @@ OFFERED: Dict[str, List[Tuple[List[str], str]]] = {
         (["-fsanitize-address-u"], "-fsanitize-address-use-after-return"),
     ],
     "asancol-c++": [(["--asancol-a"], "--asancol-all")],
+    "asancol-fc": [(["--asancol-a"], "--asancol-all")],
 }
 
 # Words that are not offered.

@@ -219,7 +219,9 @@ def package_is_whole(_: str, folder: str) -> None:
     wanted = [f"lib/asancol/libasancol_{it}.a" for it in ("record", "static", "shared", "first", "first_static")]
     wanted += ["lib/asancol/no-second-allocator.ld", "lib/asancol/cold_reports.h", "lib/asancol/cxx/libc++/__config"]
     wanted += ["lib/asancol/cxx/libstdc++/bits/basic_string.tcc"]
-    for name in ("asancol", "asancol-cc", "asancol-c++", "asancol-run", "asancol-report", "asancol-listen"):
+    wanted += ["lib/asancol/cargo/rustc", "lib/asancol/cargo/rustdoc"]
+    for name in ("asancol", "asancol-cc", "asancol-c++", "asancol-fc", "asancol-cargo", "asancol-run", "asancol-report",
+                 "asancol-listen"):
         wanted += [f"bin/{name}", f"share/man/man1/{name}.1.gz", f"share/bash-completion/completions/{name}"]
         wanted += [f"share/zsh/vendor-completions/_{name}", f"share/fish/vendor_completions.d/{name}.fish"]
     wanted.append("share/man/man5/asancol-trace.5.gz")

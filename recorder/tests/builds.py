@@ -293,6 +293,8 @@ CALLED = (
     ("asancol-c++", CC, "C++"),
     ("cc", CC, "C"),
     ("g++", CC, "C++"),
+    ("asancol-fc", CC, "Fortran"),
+    ("gfortran-12", CC, "Fortran"),
     ("clang++-15", CC, "C++"),
     ("x86_64-linux-gnu-asancol-cc-14.2", CXX, "C"),
     ("x86_64-linux-gnu-asancol-c++-14.2", CC, "C++"),
@@ -306,7 +308,8 @@ CALLED = (
 
 def check_names(suite, folder, compiler):
     """Its name says for which language it is: first that by which it was called, and then those along the links."""
-    settings = {"ASANCOL_CC": "echo C", "ASANCOL_CXX": "echo C++", "PATH": f"{folder}/bin:{os.environ['PATH']}"}
+    settings = {"ASANCOL_CC": "echo C", "ASANCOL_CXX": "echo C++", "ASANCOL_FC": "echo Fortran",
+                "PATH": f"{folder}/bin:{os.environ['PATH']}"}
     os.mkdir(f"{folder}/bin")
     for name, target, _ in CALLED:
         os.symlink(target, f"{folder}/bin/{name}")

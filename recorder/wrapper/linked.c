@@ -4,6 +4,7 @@
 #include <stdio.h>
 #include <string.h>
 
+#include "common/array.h"
 #include "common/text.h"
 #include "wrapper/left_out.h"
 
@@ -16,6 +17,19 @@
 
 /* The section of the switches. In assembly their text may be cut anywhere. */
 #define SWITCHES ".GCC.command.line"
+
+/* rustc notes no switches, but who it is. What it compiles with checks asks for what prepares them. */
+#define COMMENT ".comment"
+#define RUST "rustc version "
+#define CHECKS_ASKED_FOR "__asan_init"
+
+/* What rustc makes beside the crates has no other functions: these lead to the allocator. */
+#define RUST_OWN "__rust_"
+
+/* The crates of its library, which come compiled. An object has the name of its crate, and a point. */
+static const char *const rust_crates[] = {
+    "addr2line", "adler", "adler2", "alloc", "cfg_if", "compiler_builtins", "core", "gimli", "hashbrown", "libc",
+    "memchr", "miniz_oxide", "object", "panic_abort", "panic_unwind", "rustc_demangle", "std", "std_detect", "unwind"};
 
 /* The sections in which GCC keeps what it compiles at the link. */
 #define GCC_LTO ".gnu.lto_"
@@ -109,6 +123,10 @@ bool linked_takes(const char *path)
 struct parts {
     bool has_code, has_variables, has_lto;
     bool has_assembly; /* a label in code that is no function: no compiler makes one */
+    bool is_of_rust;   /* rustc has made some of it */
+    bool asks_checks;  /* of what is compiled with checks */
+    bool has_functions; /* of which the names are not rustc's */
+    bool is_rust_own;   /* a crate of Rust's library */
     size_t files;  /* sources that the table of symbols names */
     size_t marked; /* those of them that were compiled so */
     size_t whole;  /* and have all checks */
@@ -135,6 +153,14 @@ static void count_marked(struct parts *parts, struct view switches)
     }
 }
 
+static bool is_of_rust_crate(const char *name)
+{
+    for (size_t i = 0; i < COUNT(rust_crates); i++)
+        if (begins_with(name, rust_crates[i]) && name[strlen(rust_crates[i])] == '.')
+            return true;
+    return false;
+}
+
 static bool is_in_code(struct view view, const Elf64_Sym *symbol)
 {
     size_t number = symbol->st_shndx;
@@ -150,10 +176,14 @@ static void count_symbols(struct parts *parts, struct view view, const Elf64_Shd
         memcpy(&it, table.bytes + at, sizeof it);
         unsigned type = ELF64_ST_TYPE(it.st_info);
         const char *name = it.st_name < texts.size ? texts.bytes + it.st_name : "";
+        bool is_defined = it.st_shndx != SHN_UNDEF;
         parts->files += type == STT_FILE && name[0] != 0;
+        parts->is_rust_own |= type == STT_FILE && is_of_rust_crate(name);
+        parts->asks_checks |= !is_defined && strcmp(name, CHECKS_ASKED_FOR) == 0;
+        parts->has_functions |= is_defined && type == STT_FUNC && strstr(name, RUST_OWN) == NULL;
         parts->has_assembly |= type == STT_NOTYPE && name[0] != 0 && strncmp(name, ".L", 2) != 0
                                && is_in_code(view, &it);
-        parts->has_variables |= it.st_shndx != SHN_UNDEF && (type == STT_OBJECT || type == STT_TLS);
+        parts->has_variables |= is_defined && (type == STT_OBJECT || type == STT_TLS);
     }
 }
 
@@ -172,16 +202,26 @@ static struct parts parts_of(struct view view)
         parts.has_lto |= is_called(names, &section, GCC_LTO, true);
         if (is_called(names, &section, SWITCHES, false))
             count_marked(&parts, bytes);
+        if (is_called(names, &section, COMMENT, false))
+            parts.is_of_rust |= view_has_text(bytes, RUST);
         if (section.sh_type == SHT_SYMTAB)
             count_symbols(&parts, view, &section);
     }
     return parts;
 }
 
+static bool is_checked_rust(const struct parts *parts)
+{
+    return parts->is_of_rust && parts->asks_checks;
+}
+
 /* Whether some of it was compiled so. */
 static bool is_marked_object(struct view view)
 {
-    return is_bitcode(view) ? has_mark(view) : parts_of(view).marked != 0;
+    if (is_bitcode(view))
+        return has_mark(view);
+    struct parts parts = parts_of(view);
+    return parts.marked != 0 || is_checked_rust(&parts);
 }
 
 /* A member of an archive comes in only if something asks for it, and then the callbacks come in by themselves: so an
@@ -217,8 +257,13 @@ enum origin linked_origin(struct view view)
     if (is_bitcode(view))
         return has_mark(view) && !lacks_checks(view) ? ORIGIN_OURS : ORIGIN_OTHERS;
     struct parts parts = parts_of(view);
+    bool is_rust = is_checked_rust(&parts);
     if (!parts.has_code && !parts.has_variables && !parts.has_lto)
         return ORIGIN_NONE;
-    bool is_ours = parts.files != 0 && parts.whole >= parts.files && !parts.has_assembly;
-    return is_ours ? ORIGIN_OURS : ORIGIN_OTHERS;
+    if (parts.is_of_rust && !parts.has_functions && !parts.asks_checks)
+        return ORIGIN_NONE;
+    if (parts.is_of_rust && parts.is_rust_own && !parts.asks_checks)
+        return ORIGIN_RUST;
+    bool is_ours = is_rust || (parts.files != 0 && parts.whole >= parts.files);
+    return is_ours && !parts.has_assembly ? ORIGIN_OURS : ORIGIN_OTHERS;
 }

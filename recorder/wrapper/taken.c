@@ -19,7 +19,7 @@ struct taken_archive {
     struct taken_archive *next;
     char *path;
     struct view view;
-    bool has_ours, is_system;
+    bool has_ours, has_rust, is_system;
     struct names others; /* members */
 };
 
@@ -34,7 +34,8 @@ static bool is_of_system(const char *path)
     for (size_t i = 0; i < COUNT(folders); i++)
         if (begins_with(real, folders[i]))
             return true;
-    return strstr(real, "/lib/gcc/") != NULL || strstr(real, "/lib/clang/") != NULL;
+    return strstr(real, "/lib/gcc/") != NULL || strstr(real, "/lib/clang/") != NULL
+           || strstr(real, "/lib/rustlib/") != NULL;
 }
 
 /* What the compiler adds to each link: how a program begins and ends, its own helpers and the library of C++; and the C
@@ -65,8 +66,9 @@ static void take_file(struct taken *taken, const char *path)
     if (is_of_each_link(path))
         return;
     struct view view = view_map(path);
-    if (linked_origin(view) == ORIGIN_OTHERS)
-        names_add(is_of_system(path) ? &taken->system : &taken->own, base_name(path));
+    enum origin origin = linked_origin(view);
+    if (origin > ORIGIN_OURS)
+        names_add(origin == ORIGIN_RUST || is_of_system(path) ? &taken->system : &taken->own, base_name(path));
     view_unmap(view);
 }
 
@@ -91,6 +93,7 @@ static void take_member(struct taken *taken, const char *path, const char *name)
         return;
     enum origin origin = archive_origin(archive->view, path, name);
     archive->has_ours |= origin == ORIGIN_OURS;
+    archive->has_rust |= origin == ORIGIN_RUST;
     if (origin == ORIGIN_OTHERS)
         names_add(&archive->others, name);
 }
@@ -142,6 +145,10 @@ static void end_archive(struct taken *taken, const struct taken_archive *archive
 {
     char text[2 * PATH_MAX];
     const char *name = base_name(archive->path);
+    if (archive->has_rust) {
+        snprintf(text, sizeof text, archive->is_system ? "%s" : "Rust's library (%s)", name);
+        names_add(&taken->system, text);
+    }
     if (archive->others.count == 0)
         return;
     if (archive->is_system || !archive->has_ours) {

@@ -23,6 +23,8 @@ FINGERPRINT_DIGITS = 16
 BY_RECORDER = "by the recorder"
 # A file of the system, whose inlined functions stand in all programs: in an `include` below `/usr`, here or in a copy.
 SYSTEM_HEADER = re.compile(r"(?:^|/)usr/(?:local/)?(?:include/|lib\w*/(?:.+/)?include/)")
+# The library of Rust, as rustc and packages of it name its sources.
+RUST_LIBRARY = re.compile(r"\A/rustc/(?:[0-9a-f]+/)?library/|\A/usr/src/rustc-[^/]+/library/|/rustlib/src/rust/library/")
 # A library of the system. What has called it stands for a crash in it, whether it has lines or not.
 SYSTEM_LIBRARY = re.compile(r"/(?:usr/)?lib(?:32|64|x32)?/")
 # What each program of C and C++ stands on.
@@ -339,7 +341,7 @@ def near_of(kind: str, name: str, distance: int, size: int, allocated: Tuple[str
 
 @functools.lru_cache(maxsize=1 << 12)
 def is_of_system(file: str) -> bool:
-    return SYSTEM_HEADER.search(file) is not None
+    return SYSTEM_HEADER.search(file) is not None or RUST_LIBRARY.search(file) is not None
 
 
 def first_own(places: Iterable[Tuple[str, int, str]]) -> Tuple[int, int]:

@@ -27,6 +27,8 @@ from .verdicts import Report, Verdicts
 
 NO_PLACE = "its place was not recorded"
 NO_ALLOCATION = "before the trace began"
+# The function of Rust's library that runs `main`, a thread or a test; Rust's own stacks end there too.
+RUST_BEGINS = "__rust_begin_short_backtrace"
 NO_MODULES = "the modules of a process are not known, as where /proc is not there: its places are addresses"
 
 LEAK_KINDS = (FINDING_LEAK, FINDING_INDIRECT_LEAK)
@@ -254,7 +256,7 @@ class Gatherer:
         return threads._replace(all=(*named, *threads.all[len(named):]))
 
     def stack(self, calls: Calls, note: str) -> Stack:
-        """Returns the frames of calls. What has called `main` is of no use to a reader."""
+        """Returns the frames of calls. What has called `main`, or what Rust calls so, is of no use to a reader."""
         if not calls:
             return (Frame(note=note),)
         frames: List[Frame] = []
@@ -262,7 +264,10 @@ class Gatherer:
         for place in calls:
             if place not in self.frames:
                 self.frames[place] = self.read_frames(place)
-            frames += self.frames[place]
+            for frame in self.frames[place]:
+                if frames and RUST_BEGINS in frame.function:
+                    return tuple(frames)
+                frames.append(frame)
             if frames[-1].function == "main":
                 end = len(frames)
         return tuple(frames[:end] if end else frames)

@@ -5,7 +5,7 @@ from __future__ import annotations
 import re
 from typing import Iterator, List, Tuple
 
-from .findings import Frame, Stack
+from .findings import Frame, RUST_LIBRARY, Stack
 from .functions import is_standard
 from .words import plural
 
@@ -30,7 +30,7 @@ def owner_of(frame: Frame) -> str:
         return library[1]
     if RECORDER.search(frame.file):
         return "the recorder"
-    return "std::" if is_standard(frame.function) else ""
+    return "std::" if is_standard(frame.function) or RUST_LIBRARY.search(frame.file) else ""
 
 
 def rows_of(stack: Stack, own: int) -> Iterator[Row]:

@@ -25,6 +25,11 @@ PATIENCE = 300
 MAX_WORD_LENGTH = 4096
 # What compilers add to the name of a copy of a function, as in `f.constprop.0` and `f(int) [clone .cold]`.
 CLONE = re.compile(r"(?: \[clone [^]]*\]| \(\.[^)]*\)|\.(?:constprop|isra|part|cold|lto_priv|llvm)(?:\.\d+)*)+\Z")
+# What gfortran makes of names: of a module's procedure, one inside another one, and any other.
+FORTRAN_FILE = re.compile(r"\.(?:f|for|ftn|fpp|f\d\d)\Z", re.IGNORECASE)
+OF_MODULE = re.compile(r"\A__(\w+?)_MOD_(\w+)\Z")
+NUMBER = re.compile(r"\.\d+\Z")
+FORTRAN_MAIN = "MAIN__"
 
 
 def on_path(name: str) -> Optional[str]:
@@ -54,10 +59,20 @@ def is_llvm(tool: str) -> bool:
     return LLVM in os.path.basename(tool)
 
 
+def as_written(function: str, file: str) -> str:
+    """Returns the name of a function as its source has it, as far as the symbolizer has not made it so."""
+    name = CLONE.sub("", function)
+    if FORTRAN_FILE.search(file) is None or name == FORTRAN_MAIN:
+        return name
+    of_module = OF_MODULE.match(name)
+    return f"{of_module[1]}::{of_module[2]}" if of_module else NUMBER.sub("", name).removesuffix("_")
+
+
 def name_of(function: object, file: object, line: object, column: object) -> Name:
     """Returns a name of what a tool has answered. What is missing there is empty or 0."""
+    source = file if isinstance(file, str) else ""
     return Name(
-        CLONE.sub("", function[:MAX_WORD_LENGTH]) if isinstance(function, str) and function != "??" else "",
+        as_written(function[:MAX_WORD_LENGTH], source) if isinstance(function, str) and function != "??" else "",
         tidy(file[:MAX_WORD_LENGTH]) if isinstance(file, str) and file != "??" else "",
         line if isinstance(line, int) and line > 0 else 0,
         column if isinstance(column, int) and column > 0 else 0,

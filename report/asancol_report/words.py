@@ -74,6 +74,10 @@ def stable_path(path: str, root: str) -> str:
     return shown if root and not shown.startswith("/") else "/".join(path.split("/")[-2:])
 
 
+# The version of rustc in the paths of its library.
+RUST_VERSION = re.compile(r"\A(/rustc/)[0-9a-f]{40}/")
+
+
 def tidy(path: str) -> str:
-    """Returns a path of a compiler without the steps back that it may have in it."""
-    return os.path.normpath(path) if path else ""
+    """Returns a path of a compiler without the steps back that it may have in it, and without the version of rustc."""
+    return RUST_VERSION.sub(r"\1", os.path.normpath(path)) if path else ""

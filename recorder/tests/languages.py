@@ -1,0 +1,315 @@
+"""Rust, Fortran and D: bugs are found and named as in the language, good code has no report, and mixed programs too."""
+
+import os
+import re
+import shutil
+from typing import Dict, List, Optional, Tuple
+
+from support import CC, TESTS, Suite, build, expect, noted, run, write
+from testing.programs import REPORT
+from testing.expectations import leave_out
+
+CARGO = f"{os.path.dirname(CC)}/cargo/asancol-cargo"
+FC = f"{os.path.dirname(CC)}/asancol-fc"
+
+TITLE = re.compile(r"ERROR: asancol: (.*)")
+OWN_FRAME = re.compile(r"^ +#\d+ 0x\w+ in (.*) (?!/rustc/)\S+:\d+(?::\d+)?(?: \(inlined\))?$", re.M)
+WHERE = re.compile(r"^  0x\w+ is (.*)$", re.M)
+
+# What is said of each bug: the class and the access, the function, and where the bad byte is.
+Said = Tuple[str, str, str]
+RUST: Dict[str, Optional[Said]] = {
+    "vector": ("heap-buffer-overflow: load of 1 byte", "bug::past_a_vector",
+               "0 bytes past the end of a block of 5 bytes"),
+    "freed": ("heap-use-after-free: load of 4 bytes", "bug::after_its_end", "byte 0 of a freed block of 40 bytes"),
+    "array": ("stack-buffer-overflow: load of 4 bytes", "bug::past_an_array",
+              "0 bytes past the end of 'array' (20 bytes) on the stack"),
+    "table": ("global-buffer-overflow: load of 4 bytes", "bug::past_a_table",
+              "0 bytes past the end of 'bug::TABLE' (28 bytes), a global variable"),
+    "scope": ("stack-use-after-scope: load of 4 bytes", "bug::past_a_scope",
+              "byte 0 of 'inner' (32 bytes) on the stack"),
+    "copy": ("heap-buffer-overflow: store of 12 bytes in memcpy", "bug::copied_past",
+             "0 bytes past the end of a block of 10 bytes"),
+    "generic": ("heap-buffer-overflow: load of 2 bytes", "<bug::inner::Row<u16>>::read",
+                "0 bytes past the end of a block of 4 bytes"),
+    "thread": ("heap-buffer-overflow: load of 1 byte in thread T1", "bug::past_a_vector",
+               "0 bytes past the end of a block of 5 bytes"),
+    "panic": None,
+    "good": None,
+}
+FORTRAN: Dict[str, Optional[Said]] = {
+    "row": ("heap-buffer-overflow: load of 4 bytes", "MAIN__", "0 bytes past the end of a block of 20 bytes"),
+    "table": ("global-buffer-overflow: load of 4 bytes", "tables::element",
+              "0 bytes past the end of 'table' (16 bytes), a global variable"),
+    "automatic": ("heap-buffer-overflow: load of 4 bytes", "tables::element",
+                  "0 bytes past the end of a block of 20 bytes"),
+    "local": ("stack-buffer-overflow: load of 4 bytes", "tables::element",
+              "0 bytes past the end of 'local' (16 bytes) on the stack"),
+    "block": ("heap-buffer-overflow: load of 4 bytes", "tables::element",
+              "0 bytes past the end of a block of 12 bytes"),
+    "freed": ("heap-use-after-free: load of 4 bytes", "tables::element", "byte 0 of a freed block of 12 bytes"),
+    "good": None,
+}
+
+
+def is_there(*programs: str) -> bool:
+    missing = [it for it in programs if not shutil.which(it)]
+    for name in missing:
+        leave_out(f"{name} is not there")
+    return not missing
+
+
+def found(pattern: "re.Pattern[str]", text: str) -> str:
+    first = pattern.search(text)
+    return first[1] if first else ""
+
+
+def report_of(suite: Suite, folder: str, traces: List[str]) -> str:
+    ran = run([REPORT, "--trace", *traces], folder, ASANCOL=suite.asancol)
+    return ran.stdout.decode() + ran.stderr.decode()
+
+
+def said_of(suite: Suite, folder: str, words: List[str], status: int = 0, **settings: str) -> List[Said]:
+    """Runs a program, and returns what the report says of each bug. All of it was seen."""
+    ran = run(words, folder, ASANCOL_TRACE="t%p.trace", ASANCOL_WHERE="1", **settings)
+    expect(ran.returncode, status, f"{words}: {ran.stderr.decode()}")
+    traces = sorted(it for it in os.listdir(folder) if it.endswith(".trace"))
+    text = report_of(suite, folder, traces)
+    expect("all seen whole" in text, True, f"{words}: {text}")
+    for name in traces:
+        os.unlink(f"{folder}/{name}")
+        os.unlink(f"{folder}/{name}.where")
+    reports = re.split(r"^==\d+==", text, flags=re.M)[1:]
+    return [(found(TITLE, it), found(OWN_FRAME, it), re.sub(r"(on the stack|a global variable), .*", r"\1", found(WHERE, it)))
+            for it in reports]
+
+
+def check_cases(suite: Suite, folder: str, program: str, cases: Dict[str, Optional[Said]]) -> None:
+    for name, wanted in cases.items():
+        expect(said_of(suite, folder, [program, name]), [wanted] if wanted else [], name)
+
+
+MANIFEST = '[package]\nname = "bug"\nversion = "0.1.0"\nedition = "2021"\n'
+
+
+def crate(folder: str, more: str = "", **files: str) -> None:
+    """Makes a crate of these files."""
+    os.makedirs(f"{folder}/src", exist_ok=True)
+    write(folder, Cargo_toml=MANIFEST + more)
+    write(f"{folder}/src", **files)
+
+
+def cargo(folder: str, *words: str, status: int = 0, **settings: str) -> Tuple[str, str]:
+    ran = run([CARGO, *words], folder, CARGO_TERM_COLOR="never", **settings)
+    expect(ran.returncode, status, f"{words}: {ran.stderr.decode()}")
+    return ran.stdout.decode(), ran.stderr.decode()
+
+
+def built(folder: str, kind: str, name: str = "bug") -> str:
+    """The path of what was built for the target."""
+    targets = [it for it in os.listdir(f"{folder}/target/asancol") if os.path.isdir(f"{folder}/target/asancol/{it}/{kind}")]
+    found = [path for path in (f"{folder}/target/asancol/{it}/{kind}/{name}" for it in targets) if os.path.exists(path)]
+    expect(len(found), 1, f"{name} in {targets}")
+    return found[0]
+
+
+def check_rust(suite: Suite, folder: str, kind: str, *flags: str) -> None:
+    """Bugs of all kinds of memory, by rustc's linker and by that of the binutils."""
+    with open(f"{TESTS}/bug.rs", encoding="utf-8") as file:
+        crate(folder, "[profile.release]\ndebug = true\n", main_rs=file.read())
+    for linker in ("", "-Clink-arg=-fuse-ld=bfd"):
+        cargo(folder, "build", *flags, RUSTFLAGS=linker)
+        check_cases(suite, folder, built(folder, kind), RUST)
+
+
+LIBRARY = """
+/// Reads the third.
+/// ```
+/// assert_eq!(bug::third(&[1, 2, 3]), 3);
+/// let short = vec![1u8, 2].into_boxed_slice();
+/// bug::third(&short);
+/// ```
+pub fn third(of: &[u8]) -> u8 { unsafe { *of.as_ptr().add(2) } }
+#[cfg(test)]
+mod tests {
+    #[test] fn good() { assert_eq!(super::third(&vec![1, 2, 3]), 3); }
+    #[test] fn bad() { let short = vec![1u8, 2].into_boxed_slice(); super::third(&short); }
+}
+"""
+# It sees whether features that are not stable are taken, by the rustc that it is given, and is no program of the target.
+BUILD = """
+use std::process::{Command, Stdio};
+fn takes(target: bool) -> bool {
+    let Ok(wrapper) = std::env::var("RUSTC_WRAPPER") else { return false };
+    let out = std::env::var("OUT_DIR").unwrap();
+    std::fs::write(format!("{out}/probe.rs"), "#![feature(never_type)]").unwrap();
+    let mut probe = Command::new(wrapper);
+    probe.arg(std::env::var("RUSTC").unwrap()).args(["--crate-type", "rlib", "--emit", "metadata", "--out-dir", &out]);
+    if target { probe.args(["--target", &std::env::var("TARGET").unwrap()]); }
+    probe.arg(format!("{out}/probe.rs")).stderr(Stdio::null()).status().unwrap().success()
+}
+fn main() {
+    assert_eq!(takes(true), takes(false));
+    println!("cargo:rerun-if-changed=build.rs");
+}
+"""
+
+
+def check_rust_tests(suite: Suite, folder: str) -> None:
+    """Unit tests and tests of documents. What runs in the build is built as usual, and features as usual."""
+    crate(folder, lib_rs=LIBRARY)
+    write(folder, build_rs=BUILD)
+    said = said_of(suite, folder, [CARGO, "test", "-q"])
+    expect(said[0][:2], ("heap-buffer-overflow: load of 1 byte in thread T1 (tests::bad)", "bug::third"), "a unit test")
+    # Its program is gone when this report is made, and with it the names.
+    expect([it[0] for it in said[1:]], ["heap-buffer-overflow: load of 1 byte"], "a test of a document")
+    scripts = f"{folder}/target/asancol/debug/build"
+    for name in os.listdir(scripts):
+        program = f"{scripts}/{name}/build-script-build"
+        if os.path.exists(program):
+            expect(b"__asan_" in run(["nm", program], folder).stdout, False, "a build script")
+    usual = run(["cargo", "build", "-q"], folder)
+    expect((usual.returncode, usual.stderr), (0, b""), "cargo beside it")
+
+
+WITH_C = """
+use std::ffi::c_char;
+extern "C" { fn fill(at: *mut c_char, count: usize); fn block() -> *mut c_char; }
+#[no_mangle] pub extern "C" fn past_of_rust(at: *mut c_char) { unsafe { *at.add(8) = 1 } }
+#[no_mangle] pub extern "C" fn run(kind: i32) {
+    unsafe {
+        let mut bytes = vec![0 as c_char; 10];
+        if kind == 1 { fill(bytes.as_mut_ptr(), 11) }
+        if kind == 2 { past_of_rust(block()) }
+        std::hint::black_box(&mut bytes);
+    }
+}
+"""
+C_PART = """
+#include <stdlib.h>
+void fill(char *at, size_t count) { while (count-- > 0) at[count] = 1; }
+char *block(void) { static char *kept; return kept = malloc(8); }
+"""
+C_MAIN = "#include <stdlib.h>\nvoid run(int);\nint main(int count, char **words) { run(count > 1 ? atoi(words[1]) : 0); }\n"
+MIXED: Dict[str, Optional[Said]] = {
+    "0": None,
+    "1": ("heap-buffer-overflow: store of 1 byte", "fill", "0 bytes past the end of a block of 10 bytes"),
+    "2": ("heap-buffer-overflow: store of 1 byte", "past_of_rust", "0 bytes past the end of a block of 8 bytes"),
+}
+# As the crate `cc` does it, for the target.
+BUILD_C = """
+fn main() {
+    let compiler = std::env::var(format!("CC_{}", std::env::var("TARGET").unwrap().replace('-', "_"))).unwrap();
+    let out = std::env::var("OUT_DIR").unwrap();
+    let made = std::process::Command::new(compiler).args(["-g", "-fPIC", "-c", "part.c", "-o", &format!("{out}/part.o")]);
+    assert!(made.status().unwrap().success());
+    println!("cargo:rustc-link-arg={out}/part.o");
+}
+""".replace("let made = std::process::Command::new(compiler)", "let mut made = std::process::Command::new(compiler);\n    made")
+
+
+def check_rust_with_c(suite: Suite, folder: str, compiler: str) -> None:
+    """C in a program of Rust, and Rust in a program of C, as a static library and as a shared object."""
+    crate(folder, '[lib]\ncrate-type = ["staticlib", "cdylib", "rlib"]\n', lib_rs=WITH_C, main_rs=(
+        "fn main() { bug::run(std::env::args().nth(1).map_or(0, |it| it.parse().unwrap())) }\n"))
+    write(folder, build_rs=BUILD_C, part_c=C_PART, main_c=C_MAIN)
+    cargo(folder, "build", "-q", CC=compiler)
+    check_cases(suite, folder, built(folder, "debug"), MIXED)
+    settings = {"ASANCOL_CC": compiler}
+    build([CC, "-g", "main.c", "part.c", built(folder, "debug", "libbug.a"), "-o", "with_static"], folder, **settings)
+    expect(noted(f"{folder}/with_static"), ["/Rust's library (libbug.a)"], "what was not compiled by us")
+    check_cases(suite, folder, "./with_static", MIXED)
+    library = built(folder, "debug", "libbug.so")
+    build([CC, "-g", "main.c", library, f"-Wl,-rpath,{os.path.dirname(library)}", "-o", "with_shared"], folder, **settings)
+    check_cases(suite, folder, "./with_shared", MIXED)
+
+
+def check_cargo_errors(suite: Suite, folder: str) -> None:
+    """No words, no rustc, one that is too old; and what a crate's compiler says comes with cargo's status."""
+    crate(folder, main_rs="fn main() { nothing() }\n")
+    ran = run([CARGO], folder)
+    expect((ran.returncode, ran.stderr[:20]), (2, b"usage: asancol-cargo"), "no words")
+    expect("cannot find function" in cargo(folder, "build", status=101)[1], True, "an error of a crate")
+    old = f"{folder}/old"
+    with open(old, "w", encoding="utf-8") as file:
+        file.write('#!/bin/sh\ncase "$*" in *external-clangrt*) exit 1;; *) exec rustc "$@";; esac\n')
+    os.chmod(old, 0o755)
+    version = run(["rustc", "-V"], folder).stdout.decode().strip()
+    expect(cargo(folder, "build", status=1, RUSTC=old)[1],
+           f"asancol-cargo: {version} does not know -Zexternal-clangrt: a newer one is wanted\n", "an old one")
+    none = cargo(folder, "build", status=1, RUSTC="./no-such-one")[1]
+    expect("asancol-cargo: ./no-such-one does not say what it builds for\n" in none, True, "none")
+
+
+def check_fortran(suite: Suite, folder: str, *flags: str) -> None:
+    build([FC, "-g", *flags, f"{TESTS}/bug.f90", "-o", "bug"], folder)
+    check_cases(suite, folder, "./bug", FORTRAN)
+
+
+def check_fortran_projects(suite: Suite, folder: str, tool: str) -> None:
+    """A project in Fortran that finds its compiler by FC, with two files and a module."""
+    with open(f"{TESTS}/bug.f90", encoding="utf-8") as file:
+        module, _, program = file.read().partition("end module\n")
+    write(folder, tables_f90=f"{module}end module\n", bug_f90=program)
+    write(folder, CMakeLists_txt="cmake_minimum_required(VERSION 3.13)\nproject(bug Fortran)\n"
+                                 "add_executable(bug tables.f90 bug.f90)\n",
+          meson_build="project('bug', 'fortran')\nexecutable('bug', 'tables.f90', 'bug.f90')\n")
+    made = {"cmake": [["cmake", "-S", ".", "-B", "made", "-DCMAKE_BUILD_TYPE=Debug"], ["cmake", "--build", "made"]],
+            "meson": [["meson", "setup", "made"], ["meson", "compile", "-C", "made"]]}[tool]
+    for words in made:
+        build(words, folder, FC=FC)
+    check_cases(suite, folder, "made/bug", FORTRAN)
+
+
+D_PROGRAM = """
+import core.stdc.stdlib : malloc, free;
+import core.stdc.stdio : puts;
+int past_a_block(size_t at) { auto block = cast(int*) malloc(20); int one = block[at]; free(block); return one; }
+int past_an_array(size_t at) { int[4] array; array[] = 7; return array.ptr[at]; }
+int main(string[] words)
+{
+    string wanted = words.length > 1 ? words[1] : "";
+    int one = wanted == "block" ? past_a_block(5) : wanted == "array" ? past_an_array(4) : past_an_array(3);
+    auto kept = new int[100];
+    kept[99] = one;
+    puts(kept[99] == 7 ? "seven" : "other");
+    return 0;
+}
+"""
+LACKS = "--param asan-globals=0: what is compiled with this lacks checks: what they would find is not recorded"
+
+
+def check_d(suite: Suite, folder: str) -> None:
+    """By gdc, without what would move the list of modules of D's library. It is said that this is not checked."""
+    write(folder, bug_d=D_PROGRAM)
+    made = run([CC, "-g", "--param", "asan-globals=0", "bug.d", "-o", "bug"], folder, ASANCOL_CC="gdc")
+    expect((made.returncode, made.stderr.decode()), (0, f"asancol-cc: warning: {LACKS}\n"), "the build")
+    expect(noted(f"{folder}/bug"), ["bug.d"], "what was not checked")
+    for name, wanted in {"block": "heap-buffer-overflow", "array": "stack-buffer-overflow", "good": ""}.items():
+        ran = run(["./bug", name], folder, ASANCOL_TRACE="t.trace", ASANCOL_WHERE="1")
+        expect((ran.returncode, ran.stderr), (0, b""), name)
+        text = report_of(suite, folder, ["t.trace"])
+        expect([it.split(":")[0] for it in TITLE.findall(text)], [wanted] if wanted else [], name)
+        os.unlink(f"{folder}/t.trace")
+
+
+def tests_of_all(suite: Suite) -> None:
+    if is_there("cargo", "rustc"):
+        suite.test("rust: debug", check_rust, "debug")
+        suite.test("rust: release", check_rust, "release", "--release")
+        suite.test("rust: tests", check_rust_tests)
+        suite.test("rust: errors", check_cargo_errors)
+        for compiler in suite.compilers:
+            suite.test(f"rust: with C by {compiler}", check_rust_with_c, compiler.name)
+    if is_there("gfortran"):
+        for flags in ((), ("-O2",)):
+            suite.test(f"fortran: {' '.join(flags) or 'plain'}", check_fortran, *flags)
+        for tool in ("cmake", "meson"):
+            if is_there(tool):
+                suite.test(f"fortran: {tool}", check_fortran_projects, tool)
+    if is_there("gdc"):
+        suite.test("D: gdc", check_d)
+
+
+def tests(suite: Suite, compiler: object) -> None:
+    """None of these is for a compiler of C."""
