@@ -1,11 +1,12 @@
-"""Sources of Debian's packages, fetched with `apt-get source` without a change to the system's settings of apt."""
+"""Sources of Debian's packages, fetched with apt-get without a change to the system's settings of apt."""
 
+import glob
 import os
 import subprocess
 
 from support import Failure
 
-PARTS = """Types: deb-src
+PARTS = """Types: deb deb-src
 URIs: http://deb.debian.org/debian
 Suites: bookworm
 Components: main
@@ -47,3 +48,10 @@ class Archive:
     def download(self, package: str, *options: str) -> None:
         """Puts what a source package consists of into `sources`."""
         self.apt("source", "--download-only", *options, package)
+
+    def unpack(self, package: str, to: str) -> None:
+        """Unpacks a package that consists of sources, as those of Rust's crates, into a folder."""
+        self.apt("download", package)
+        (found,) = glob.glob(f"{self.sources}/{package}_*.deb")
+        run_in(self.sources, "dpkg-deb", "-x", found, to)
+        os.unlink(found)

@@ -1,20 +1,23 @@
 """Rust, Fortran and D: bugs are found and named as in the language, good code has no report, and mixed programs too."""
 
+import glob
 import os
 import re
 import shutil
 from typing import Dict, List, Optional, Tuple
 
-from support import CC, TESTS, Suite, build, expect, noted, run, write
+from support import CC, TESTS, TOP, Suite, build, expect, noted, run, write
 from testing.programs import REPORT
 from testing.expectations import leave_out
 
 CARGO = f"{os.path.dirname(CC)}/cargo/asancol-cargo"
+RUN = f"{TOP}/run/asancol-run"
 FC = f"{os.path.dirname(CC)}/asancol-fc"
 
 TITLE = re.compile(r"ERROR: asancol: (.*)")
 OWN_FRAME = re.compile(r"^ +#\d+ 0x\w+ in (.*) (?!/rustc/)\S+:\d+(?::\d+)?(?: \(inlined\))?$", re.M)
 WHERE = re.compile(r"^  0x\w+ is (.*)$", re.M)
+END_OF_WHERE = re.compile(r"(on the stack|a global variable), .*")
 
 # What is said of each bug: the class and the access, the function, and where the bad byte is.
 Said = Tuple[str, str, str]
@@ -80,8 +83,7 @@ def said_of(suite: Suite, folder: str, words: List[str], status: int = 0, **sett
         os.unlink(f"{folder}/{name}")
         os.unlink(f"{folder}/{name}.where")
     reports = re.split(r"^==\d+==", text, flags=re.M)[1:]
-    return [(found(TITLE, it), found(OWN_FRAME, it), re.sub(r"(on the stack|a global variable), .*", r"\1", found(WHERE, it)))
-            for it in reports]
+    return [(found(TITLE, it), found(OWN_FRAME, it), END_OF_WHERE.sub(r"\1", found(WHERE, it))) for it in reports]
 
 
 def check_cases(suite: Suite, folder: str, program: str, cases: Dict[str, Optional[Said]]) -> None:
@@ -107,10 +109,8 @@ def cargo(folder: str, *words: str, status: int = 0, **settings: str) -> Tuple[s
 
 def built(folder: str, kind: str, name: str = "bug") -> str:
     """The path of what was built for the target."""
-    targets = [it for it in os.listdir(f"{folder}/target/asancol") if os.path.isdir(f"{folder}/target/asancol/{it}/{kind}")]
-    found = [path for path in (f"{folder}/target/asancol/{it}/{kind}/{name}" for it in targets) if os.path.exists(path)]
-    expect(len(found), 1, f"{name} in {targets}")
-    return found[0]
+    (path,) = glob.glob(f"{folder}/target/asancol/*-*/{kind}/{name}")
+    return path
 
 
 def check_rust(suite: Suite, folder: str, kind: str, *flags: str) -> None:
@@ -136,7 +136,7 @@ mod tests {
     #[test] fn bad() { let short = vec![1u8, 2].into_boxed_slice(); super::third(&short); }
 }
 """
-# It sees whether features that are not stable are taken, by the rustc that it is given, and is no program of the target.
+# It sees whether the rustc that it is given takes features that are not stable, and is no program of the target.
 BUILD = """
 use std::process::{Command, Stdio};
 fn takes(target: bool) -> bool {
@@ -190,7 +190,11 @@ C_PART = """
 void fill(char *at, size_t count) { while (count-- > 0) at[count] = 1; }
 char *block(void) { static char *kept; return kept = malloc(8); }
 """
-C_MAIN = "#include <stdlib.h>\nvoid run(int);\nint main(int count, char **words) { run(count > 1 ? atoi(words[1]) : 0); }\n"
+C_MAIN = """
+#include <stdlib.h>
+void run(int);
+int main(int count, char **words) { run(count > 1 ? atoi(words[1]) : 0); return 0; }
+"""
 MIXED: Dict[str, Optional[Said]] = {
     "0": None,
     "1": ("heap-buffer-overflow: store of 1 byte", "fill", "0 bytes past the end of a block of 10 bytes"),
@@ -201,11 +205,12 @@ BUILD_C = """
 fn main() {
     let compiler = std::env::var(format!("CC_{}", std::env::var("TARGET").unwrap().replace('-', "_"))).unwrap();
     let out = std::env::var("OUT_DIR").unwrap();
-    let made = std::process::Command::new(compiler).args(["-g", "-fPIC", "-c", "part.c", "-o", &format!("{out}/part.o")]);
+    let mut made = std::process::Command::new(compiler);
+    made.args(["-g", "-fPIC", "-c", "part.c", "-o", &format!("{out}/part.o")]);
     assert!(made.status().unwrap().success());
     println!("cargo:rustc-link-arg={out}/part.o");
 }
-""".replace("let made = std::process::Command::new(compiler)", "let mut made = std::process::Command::new(compiler);\n    made")
+"""
 
 
 def check_rust_with_c(suite: Suite, folder: str, compiler: str) -> None:
@@ -220,7 +225,8 @@ def check_rust_with_c(suite: Suite, folder: str, compiler: str) -> None:
     expect(noted(f"{folder}/with_static"), ["/Rust's library (libbug.a)"], "what was not compiled by us")
     check_cases(suite, folder, "./with_static", MIXED)
     library = built(folder, "debug", "libbug.so")
-    build([CC, "-g", "main.c", library, f"-Wl,-rpath,{os.path.dirname(library)}", "-o", "with_shared"], folder, **settings)
+    at_run = f"-Wl,-rpath,{os.path.dirname(library)}"
+    build([CC, "-g", "main.c", library, at_run, "-o", "with_shared"], folder, **settings)
     check_cases(suite, folder, "./with_shared", MIXED)
 
 
@@ -293,6 +299,30 @@ def check_d(suite: Suite, folder: str) -> None:
         os.unlink(f"{folder}/t.trace")
 
 
+PAGE = f"{TOP}/docs/LANGUAGES.md"
+TOOLS = {"asancol-cargo": "cargo", "asancol-fc": "gfortran", "ASANCOL_CC=gdc": "gdc"}
+
+
+def check_page(suite: Suite, folder: str) -> None:
+    """The commands of the page: what is clean is seen whole, but for D's."""
+    with open(f"{TESTS}/bug.f90", encoding="utf-8") as file:
+        write(folder, program_f90=file.read(), program_d=D_PROGRAM)
+    crate(folder, lib_rs="pub fn one() -> i32 { 1 }\n#[test] fn is_one() { assert_eq!(one(), 1) }\n")
+    with open(PAGE, encoding="utf-8") as page:
+        blocks = re.findall(r"^```sh\n(.*?)^```", page.read(), re.M | re.S)
+    expect(len(blocks), len(TOOLS), "blocks of commands")
+    os.mkdir(f"{folder}/bin")
+    for path in (CC, FC, CARGO, RUN):
+        os.symlink(path, f"{folder}/bin/{os.path.basename(path)}")
+    for block in blocks:
+        if not all(shutil.which(tool) for word, tool in TOOLS.items() if word in block):
+            continue
+        ran = run(["sh", "-ec", block], folder, ASANCOL=suite.asancol, PATH=f"{folder}/bin:{os.environ['PATH']}")
+        text = ran.stderr.decode()
+        expect(ran.returncode, 0, f"{block}: {text}")
+        expect("; not checked: program.d\n" in text if "gdc" in block else "; all seen whole\n" in text, True, text)
+
+
 def tests_of_all(suite: Suite) -> None:
     if is_there("cargo", "rustc"):
         suite.test("rust: debug", check_rust, "debug")
@@ -309,6 +339,7 @@ def tests_of_all(suite: Suite) -> None:
                 suite.test(f"fortran: {tool}", check_fortran_projects, tool)
     if is_there("gdc"):
         suite.test("D: gdc", check_d)
+    suite.test("languages: page", check_page)
 
 
 def tests(suite: Suite, compiler: object) -> None:

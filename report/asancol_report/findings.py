@@ -24,7 +24,7 @@ BY_RECORDER = "by the recorder"
 # A file of the system, whose inlined functions stand in all programs: in an `include` below `/usr`, here or in a copy.
 SYSTEM_HEADER = re.compile(r"(?:^|/)usr/(?:local/)?(?:include/|lib\w*/(?:.+/)?include/)")
 # The library of Rust, as rustc and packages of it name its sources.
-RUST_LIBRARY = re.compile(r"\A/rustc/(?:[0-9a-f]+/)?library/|\A/usr/src/rustc-[^/]+/library/|/rustlib/src/rust/library/")
+RUST_LIBRARY = re.compile(r"\A(?:/rustc|/usr/src/rustc-[^/]+)/library/|/rustlib/src/rust/library/")
 # A library of the system. What has called it stands for a crash in it, whether it has lines or not.
 SYSTEM_LIBRARY = re.compile(r"/(?:usr/)?lib(?:32|64|x32)?/")
 # What each program of C and C++ stands on.
