@@ -33,6 +33,22 @@ static bool is_poisoned(uintptr_t address)
     return shadow_first_bad(address, 1) == address;
 }
 
+static uintptr_t least(uintptr_t one, uintptr_t other)
+{
+    return one < other ? one : other;
+}
+
+static uintptr_t greatest(uintptr_t one, uintptr_t other)
+{
+    return one > other ? one : other;
+}
+
+static void poison_as_container(uintptr_t from, uintptr_t to)
+{
+    if (from < to && (to - from >= GRANULE || !is_poisoned(from)))
+        note_poison_as(SHADE_CONTAINER, from, to - from);
+}
+
 /* A container owns the bytes from `start` up to `end`, and those from `new_middle` on are not in use. It may call this
    for each element: so what lies neither between both middles nor in a granule of theirs is left as it is, as with
    AddressSanitizer. */
@@ -40,14 +56,33 @@ INTERFACE void __sanitizer_annotate_contiguous_container(const void *start, cons
                                                          const void *new_middle)
 {
     uintptr_t before = (uintptr_t)old_middle, middle = (uintptr_t)new_middle;
-    uintptr_t low = (before < middle ? before : middle) / GRANULE * GRANULE;
-    uintptr_t high = ((before > middle ? before : middle) + GRANULE - 1) / GRANULE * GRANULE;
-    low = low > (uintptr_t)start ? low : (uintptr_t)start;
-    high = high < (uintptr_t)end ? high : (uintptr_t)end;
+    uintptr_t low = greatest(least(before, middle) / GRANULE * GRANULE, (uintptr_t)start);
+    uintptr_t high = least((greatest(before, middle) + GRANULE - 1) / GRANULE * GRANULE, (uintptr_t)end);
     if (low < middle)
         note_regions(CODE_UNPOISON, low, middle - low);
-    if (middle < high && (high - middle >= GRANULE || !is_poisoned(middle)))
-        note_poison_as(SHADE_CONTAINER, middle, high - middle);
+    poison_as_container(middle, high);
+}
+
+/* Likewise of a container with two ends, whose bytes in use are those from `new_first` up to `new_last`. The granule of
+   the first byte is in use from its start on, since no shadow says otherwise. */
+INTERFACE void __sanitizer_annotate_double_ended_contiguous_container(const void *start, const void *end,
+                                                                      const void *old_first, const void *old_last,
+                                                                      const void *new_first, const void *new_last)
+{
+    bool was_empty = old_first == old_last, is_empty = new_first == new_last;
+    uintptr_t first = (uintptr_t)new_first / GRANULE * GRANULE, last = (uintptr_t)new_last;
+    uintptr_t low = was_empty ? first : (uintptr_t)old_first, high = was_empty ? last : (uintptr_t)old_last;
+    low = greatest((is_empty ? low : least(low, first)) / GRANULE * GRANULE, (uintptr_t)start);
+    high = is_empty ? high : greatest(high, last);
+    high = least((high + GRANULE - 1) / GRANULE * GRANULE, (uintptr_t)end);
+    first = greatest(first, low);
+    if (is_empty) {
+        poison_as_container(low, high);
+        return;
+    }
+    poison_as_container(low, first);
+    note_regions(CODE_UNPOISON, first, last - first);
+    poison_as_container(last, high);
 }
 
 /* How many bytes from each end of a container are looked at, as AddressSanitizer does. */
@@ -75,6 +110,23 @@ INTERFACE const void *__sanitizer_contiguous_container_find_bad_address(const vo
 INTERFACE int __sanitizer_verify_contiguous_container(const void *start, const void *middle, const void *end)
 {
     return __sanitizer_contiguous_container_find_bad_address(start, middle, end) == NULL;
+}
+
+INTERFACE const void *__sanitizer_double_ended_contiguous_container_find_bad_address(const void *start,
+                                                                                     const void *first,
+                                                                                     const void *last, const void *end)
+{
+    uintptr_t from = (uintptr_t)first, before = first != last ? from / GRANULE * GRANULE : from;
+    const void *wrong = find_wrong((uintptr_t)start, greatest(before, (uintptr_t)start), true);
+    if (wrong == NULL)
+        wrong = find_wrong(from, (uintptr_t)last, false);
+    return wrong != NULL ? wrong : find_wrong((uintptr_t)last, (uintptr_t)end, true);
+}
+
+INTERFACE int __sanitizer_verify_double_ended_contiguous_container(const void *start, const void *first,
+                                                                   const void *last, const void *end)
+{
+    return __sanitizer_double_ended_contiguous_container_find_bad_address(start, first, last, end) == NULL;
 }
 
 INTERFACE int __asan_address_is_poisoned(const volatile void *address)
