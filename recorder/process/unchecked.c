@@ -162,11 +162,12 @@ static bool is_of_system(const struct map_line *line)
     return false;
 }
 
-/* What each program of C or C++ stands on: it is not named. */
+/* What each program of a language stands on: it is not named. */
 static bool is_of_language(struct name name)
 {
     static const char *const names[] = {"ld-linux", "libc.so", "libm.so", "libpthread.so", "libdl.so", "librt.so",
-                                        "libgcc_s.so", "libstdc++.so", "libc++.so", "libc++abi.so"};
+                                        "libgcc_s.so", "libstdc++.so", "libc++.so", "libc++abi.so", "libgfortran.so",
+                                        "libquadmath.so", "libgphobos.so", "libgdruntime.so"};
     for (size_t i = 0; i < sizeof names / sizeof *names; i++)
         if (name.length > strlen(names[i]) && begins_with(name.text, names[i]))
             return true;

@@ -23,6 +23,14 @@ void __sanitizer_cov_dump(void);
 void __sanitizer_cov_reset(void);
 void __sanitizer_dump_coverage(const uintptr_t *places, uintptr_t count);
 #endif
+/* Of newer headers. */
+void __sanitizer_annotate_double_ended_contiguous_container(const void *start, const void *end, const void *old_first,
+                                                            const void *old_last, const void *new_first,
+                                                            const void *new_last);
+int __sanitizer_verify_double_ended_contiguous_container(const void *start, const void *first, const void *last,
+                                                         const void *end);
+const void *__sanitizer_double_ended_contiguous_container_find_bad_address(const void *start, const void *first,
+                                                                           const void *last, const void *end);
 #include <sanitizer/lsan_interface.h>
 #include <stdio.h>
 #include <stdlib.h>
@@ -51,6 +59,25 @@ static void on_report(const char *text)
     failures++;
 }
 
+/* A container with two ends: it is filled, moves on, and is empty. Nothing is known of it without a recorder. */
+static void poison_both_ends(char *block)
+{
+    char *end = block + 64;
+    __sanitizer_annotate_double_ended_contiguous_container(block, end, block, end, block + 20, block + 45);
+    int knows = __asan_address_is_poisoned(block);
+    WANT(__asan_address_is_poisoned(block + 15) == knows && __asan_address_is_poisoned(block + 16) == 0);
+    WANT(__asan_address_is_poisoned(block + 44) == 0 && __asan_address_is_poisoned(block + 45) == knows);
+    WANT(__sanitizer_verify_double_ended_contiguous_container(block, block + 20, block + 45, end) == knows);
+    __sanitizer_annotate_double_ended_contiguous_container(block, end, block + 20, block + 45, block + 32, block + 64);
+    WANT(__asan_address_is_poisoned(block + 31) == knows && __asan_address_is_poisoned(block + 32) == 0);
+    WANT(__asan_address_is_poisoned(block + 63) == 0);
+    WANT(knows == (__sanitizer_double_ended_contiguous_container_find_bad_address(block, block + 32, end, end) == NULL));
+    __sanitizer_annotate_double_ended_contiguous_container(block, end, block + 32, end, block, block);
+    WANT(__asan_address_is_poisoned(block + 32) == knows && __asan_address_is_poisoned(block + 63) == knows);
+    __sanitizer_annotate_double_ended_contiguous_container(block, end, block, block, block, end);
+    WANT(__asan_region_is_poisoned(block, 64) == NULL);
+}
+
 /* Poison, and the bytes of a container in use. */
 static void poison(char *block)
 {
@@ -62,6 +89,7 @@ static void poison(char *block)
     WANT(__asan_region_is_poisoned(block, 64) == NULL);
     WANT(__sanitizer_verify_contiguous_container(block, block + 64, block + 64) == 1);
     WANT(__sanitizer_contiguous_container_find_bad_address(block, block + 64, block + 64) == NULL);
+    poison_both_ends(block);
 }
 
 /* The allocator. In a process without a recorder it knows nothing. */

@@ -260,10 +260,8 @@ enum origin linked_origin(struct view view)
     bool is_rust = is_checked_rust(&parts);
     if (!parts.has_code && !parts.has_variables && !parts.has_lto)
         return ORIGIN_NONE;
-    if (parts.is_of_rust && !parts.has_functions && !parts.asks_checks)
+    if (parts.is_of_rust && (parts.is_rust_own || !parts.has_functions) && !parts.asks_checks)
         return ORIGIN_NONE;
-    if (parts.is_of_rust && parts.is_rust_own && !parts.asks_checks)
-        return ORIGIN_RUST;
     bool is_ours = is_rust || (parts.files != 0 && parts.whole >= parts.files);
     return is_ours && !parts.has_assembly ? ORIGIN_OURS : ORIGIN_OTHERS;
 }

@@ -18,10 +18,9 @@ struct linked {
 
 /* What an object is. */
 enum origin {
-    ORIGIN_NONE,   /* no object, or there is nothing in it that could be checked */
-    ORIGIN_OURS,   /* the wrapper has compiled all of it, with all checks */
-    ORIGIN_RUST,   /* it is Rust's own library, which comes without checks */
-    ORIGIN_OTHERS  /* it has not, or not all of it */
+    ORIGIN_NONE,  /* no object, or there is nothing in it that could be checked, or it is Rust's own library */
+    ORIGIN_OURS,  /* the wrapper has compiled all of it, with all checks */
+    ORIGIN_OTHERS /* it has not, or not all of it */
 };
 
 /* What the linker takes as it is, by its first bytes: so that its name may end in anything. */

@@ -19,9 +19,12 @@ struct taken_archive {
     struct taken_archive *next;
     char *path;
     struct view view;
-    bool has_ours, has_rust, is_system;
+    bool has_ours, is_system;
     struct names others; /* members */
 };
+
+/* Where rustc has the crates of its library. */
+#define RUST_LIBRARIES "/lib/rustlib/"
 
 /* Whether a file is the system's, or the compiler's. */
 static bool is_of_system(const char *path)
@@ -35,21 +38,22 @@ static bool is_of_system(const char *path)
         if (begins_with(real, folders[i]))
             return true;
     return strstr(real, "/lib/gcc/") != NULL || strstr(real, "/lib/clang/") != NULL
-           || strstr(real, "/lib/rustlib/") != NULL;
+           || strstr(real, RUST_LIBRARIES) != NULL;
 }
 
-/* What the compiler adds to each link: how a program begins and ends, its own helpers and the library of C++; and the C
-   library, which the note has in other words if it comes into a static program. The recorder's archives too. */
+/* What the compiler adds to each link: how a program begins and ends, its own helpers and its language's library; and
+   the C library, which the note has in other words if it comes into a static program. The recorder's archives too. */
 static bool is_of_each_link(const char *path)
 {
     static const char *const fronts[] = {"crt", "libgcc", "libc.a", "libc_nonshared.a", "libm.a", "libm-", "libmvec",
                                          "libpthread", "libdl.a", "librt.a", "libutil.a", "libssp_nonshared.a",
                                          "libstdc++.a", "libsupc++.a", "libc++.a", "libc++abi.a",
+                                         "libgfortran.a", "libquadmath.a", "libgphobos.a", "libgdruntime.a",
                                          "libclang_rt.builtins", "clang_rt.crt"};
     const char *name = base_name(path);
     if (begins_with(name, "libasancol_"))
         return true;
-    bool is_one = strstr(name, "crt1.o") != NULL;
+    bool is_one = strstr(name, "crt1.o") != NULL || strstr(path, RUST_LIBRARIES) != NULL;
     for (size_t i = 0; i < COUNT(fronts); i++)
         is_one |= begins_with(name, fronts[i]);
     return is_one && is_of_system(path);
@@ -66,9 +70,8 @@ static void take_file(struct taken *taken, const char *path)
     if (is_of_each_link(path))
         return;
     struct view view = view_map(path);
-    enum origin origin = linked_origin(view);
-    if (origin > ORIGIN_OURS)
-        names_add(origin == ORIGIN_RUST || is_of_system(path) ? &taken->system : &taken->own, base_name(path));
+    if (linked_origin(view) == ORIGIN_OTHERS)
+        names_add(is_of_system(path) ? &taken->system : &taken->own, base_name(path));
     view_unmap(view);
 }
 
@@ -93,7 +96,6 @@ static void take_member(struct taken *taken, const char *path, const char *name)
         return;
     enum origin origin = archive_origin(archive->view, path, name);
     archive->has_ours |= origin == ORIGIN_OURS;
-    archive->has_rust |= origin == ORIGIN_RUST;
     if (origin == ORIGIN_OTHERS)
         names_add(&archive->others, name);
 }
@@ -145,10 +147,6 @@ static void end_archive(struct taken *taken, const struct taken_archive *archive
 {
     char text[2 * PATH_MAX];
     const char *name = base_name(archive->path);
-    if (archive->has_rust) {
-        snprintf(text, sizeof text, archive->is_system ? "%s" : "Rust's library (%s)", name);
-        names_add(&taken->system, text);
-    }
     if (archive->others.count == 0)
         return;
     if (archive->is_system || !archive->has_ours) {

@@ -22,6 +22,7 @@ UNCLAIMED = {
     "CHECK": "the runtime's own checks",
     "does not build": "does not build here",
     "bad-__sanitizer_annotate_contiguous_container": "bad annotations of containers",
+    "bad-__sanitizer_annotate_double_ended_contiguous_container": "bad annotations of containers",
     "bad-__sanitizer_get_allocated_size": "the size of what was not allocated",
     "initialization-order-fiasco": "order of initialisation",
     "invalid-pointer-pair": "pairs of pointers",
