@@ -71,7 +71,8 @@ static void poison_both_ends(char *block)
     __sanitizer_annotate_double_ended_contiguous_container(block, end, block + 20, block + 45, block + 32, block + 64);
     WANT(__asan_address_is_poisoned(block + 31) == knows && __asan_address_is_poisoned(block + 32) == 0);
     WANT(__asan_address_is_poisoned(block + 63) == 0);
-    WANT(knows == (__sanitizer_double_ended_contiguous_container_find_bad_address(block, block + 32, end, end) == NULL));
+    const void *bad = __sanitizer_double_ended_contiguous_container_find_bad_address(block, block + 32, end, end);
+    WANT(knows == (bad == NULL));
     __sanitizer_annotate_double_ended_contiguous_container(block, end, block + 32, end, block, block);
     WANT(__asan_address_is_poisoned(block + 32) == knows && __asan_address_is_poisoned(block + 63) == knows);
     __sanitizer_annotate_double_ended_contiguous_container(block, end, block, block, block, end);
