@@ -99,6 +99,8 @@ SUM = """
 int main(int count, char **words) { (void)words; volatile int sum = INT_MAX; sum += count; return 0; }
 """
 
+LINKERS = [name for name in ("bfd", "gold", "lld", "mold") if shutil.which(f"ld.{name}")]
+
 # Words that leave checks out.
 LACKING = {
     "gcc": [
@@ -209,6 +211,31 @@ def check_lacking_checks(suite, folder, compiler):
     made.link("main.c", "helper.o")
     expect(noted(f"{folder}/program"), [], "a macro with such words")
     made.cc("-c", "-DVALUE=1", "helper.c", "@words.rsp", warning=f"{LACKING[compiler.name][0]}: {text}")
+
+
+STREAM = """
+#include <iostream>
+extern "C" int say(int n) { std::cout << n << std::endl; return 0; }
+#ifdef MAIN
+int main(int count, char **) { return say(count); }
+#endif
+"""
+
+
+def check_cxx_inside(suite, folder, compiler):
+    """The library of C++ as an archive, in a program and in a shared object that calls no operator itself."""
+    write(folder, say_cpp=STREAM, user_c="int say(int);\nint main(int count, char **words) { return say(count); }\n")
+    settings = {"ASANCOL_CC": compiler.name, "ASANCOL_CXX": compiler.cxx}
+    for linker in LINKERS:
+        words = [CXX, f"-fuse-ld={linker}", "-static-libstdc++", "say.cpp"]
+        build([*words, "-DMAIN", "-o", "program"], folder, **settings)
+        build([*words, "-fPIC", "-shared", "-o", "libsay.so"], folder, **settings)
+        build([CC, f"-fuse-ld={linker}", "user.c", "./libsay.so", "-lm", "-o", "user"], folder, **settings)
+        for program in ("./program", "./user"):
+            ran = run([program], folder, ASANCOL_TRACE="t.trace")
+            expect((ran.returncode, ran.stdout, ran.stderr), (0, b"1\n", b""), f"{program} by {linker}")
+            expect(reports(suite.asancol, f"{folder}/t.trace")[:2], (0, []), f"{program} by {linker}")
+            os.unlink(f"{folder}/t.trace")
 
 
 def check_languages(suite, folder, compiler):
@@ -386,6 +413,8 @@ def tests(suite, compiler):
     suite.test(f"{compiler} builds: inputs", check_inputs, compiler)
     suite.test(f"{compiler} builds: shared object", check_shared_object, compiler)
     suite.test(f"{compiler} builds: options", check_options, compiler)
+    if compiler.cxx:
+        suite.test(f"{compiler} builds: C++ inside", check_cxx_inside, compiler)
     suite.test(f"{compiler} builds: languages", check_languages, compiler)
     suite.test(f"{compiler} builds: no recovery", check_no_recovery, compiler)
     suite.test(f"{compiler} builds: new", check_new, compiler)

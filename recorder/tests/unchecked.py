@@ -3,9 +3,9 @@
 import os
 import shutil
 
+from builds import LINKERS
 from support import CC, CXX, HELPER, PAST_THE_END, Failure, build, expect, noted, run, side_of, write
 
-LINKERS = [name for name in ("bfd", "gold", "lld", "mold") if shutil.which(f"ld.{name}")]
 STATIC = "calls of the C library (-static)"
 
 # An allocator that gives each block once.

@@ -236,7 +236,7 @@ static const struct option {
     SETS(link.is_partial, "-no-link"), SETS(link.is_static, "-static"), SETS(link.is_static, "-static-pie"),
     SETS(link.is_static, "--static"), SETS(link.is_bare, "-nostdlib"), SETS(link.is_bare, "-nodefaultlibs"),
     SETS(link.is_bare, "-nolibc"), SETS(link.is_bare, "-ffreestanding"), SETS(link.is_stripped, "-s"),
-    SETS(link.is_traced, "-t"),
+    SETS(link.is_traced, "-t"), SETS(link.has_cxx_inside, "-static-libstdc++"),
     SETS(is_libcxx, "-stdlib=libc++"), SETS(is_libcxx, "--stdlib=libc++"), SETS(is_without_cxx, "-nostdinc++"),
 #undef SETS
 #define TAKES(word, form, take) {word, form, take, 0}

@@ -120,8 +120,16 @@ static void add_static(struct words *line)
     add_file(line, "no-second-allocator.ld");
 }
 
-static void add_to_shared_object(struct words *line)
+/* Linkers wrap the operators that the library of C++ calls too, and see that once they have read the recorder. */
+static void ask_for_operators(struct words *line, const struct job *job)
 {
+    if (job->front->has_new && (job->request.is_libcxx || job->request.link.has_cxx_inside))
+        words_add(line, "-Wl,--undefined=__wrap__Znwm");
+}
+
+static void add_to_shared_object(struct words *line, const struct job *job)
+{
+    ask_for_operators(line, job);
     words_add(line, "-Wl,--undefined=asancol_map_early");
     words_add(line, "-Wl,--undefined=asancol_link_note");
     add_file(line, "libasancol_shared.a");
@@ -130,9 +138,7 @@ static void add_to_shared_object(struct words *line)
 static void add_to_program(struct words *line, const struct job *job)
 {
     const struct link_request *link = &job->request.link;
-    /* Linkers wrap the operators that LLVM's library calls too, and see that once they have read the recorder. */
-    if (job->request.is_libcxx)
-        words_add(line, "-Wl,--undefined=__wrap__Znwm");
+    ask_for_operators(line, job);
     if (has_start(link))
         words_add_all(line, program_flags, COUNT(program_flags));
     add_file(line, "libasancol_record.a");
@@ -157,7 +163,7 @@ void linking_add_after(struct words *line, const struct job *job)
     if (has_libm)
         words_add(line, LIBM);
     if (link->is_shared)
-        add_to_shared_object(line);
+        add_to_shared_object(line, job);
     else
         add_to_program(line, job);
     /* What was called of it is called by the recorder now, which stands behind it. */

@@ -31,6 +31,7 @@ struct link_request {
     bool finds_static;  /* after its last word of this kind the linker looks for static libraries alone */
     bool has_libc;      /* named by itself */
     bool has_libm;      /* the mathematics of the C library */
+    bool has_cxx_inside; /* the library of C++ is linked as an archive */
     bool is_stripped;   /* what is linked has no table of symbols */
     bool is_traced;     /* the caller wants to see what the linker takes in */
     const char *output; /* null if it is not named */
