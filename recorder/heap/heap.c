@@ -490,11 +490,17 @@ static void call_after_malloc(const void *start, size_t size)
             all_hooks[i].after_malloc(start, size);
 }
 
-static void call_before_free(const void *start)
+/* False: the program keeps the block, and nobody else is called. */
+static bool call_before_free(const void *start)
 {
-    for (int i = 0; i < atomic_load(&hook_count); i++)
+    int count = atomic_load(&hook_count);
+    for (int i = 0; i < count; i++)
+        if (all_hooks[i].ignores_free != NULL && all_hooks[i].ignores_free(start) != 0)
+            return false;
+    for (int i = 0; i < count; i++)
         if (all_hooks[i].before_free != NULL)
             all_hooks[i].before_free(start);
+    return true;
 }
 
 static bool has_hooks(void)
@@ -537,8 +543,8 @@ static void give_back(void *pointer, uintptr_t caller, const char *call)
     caller = caller_or(caller);
     if (pointer == NULL)
         return;
-    if (has_hooks())
-        call_before_free(pointer);
+    if (has_hooks() && !call_before_free(pointer))
+        return;
     int before = errno;
     bool is_bad = false;
     if (is_spare(pointer)) {

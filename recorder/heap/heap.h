@@ -44,6 +44,8 @@ void heap_ignore(const void *pointer) OWN_NAME(heap_ignore);
 void heap_poison_count(uintptr_t address) OWN_NAME(heap_poison_count);
 /* The end of the live block around an address; the address itself if there is none. */
 uintptr_t heap_end_around(uintptr_t address);
+/* The start of the live block that has an address, or 0. */
+uintptr_t heap_start_around(uintptr_t address) OWN_NAME(heap_start_around);
 
 /* What the allocator holds. */
 struct heap_numbers {
@@ -60,6 +62,7 @@ size_t heap_live_size(void *pointer) OWN_NAME(heap_live_size);
 struct heap_hooks {
     void (*after_malloc)(const volatile void *start, size_t size);
     void (*before_free)(const volatile void *start);
+    int (*ignores_free)(const volatile void *start); /* not 0: the block stays. Or null */
     bool is_by_name; /* the program defines them, and does not count them */
 };
 /* Answers how many were added then, or 0: there is no room for more. */

@@ -158,14 +158,27 @@ void heap_poison_count(uintptr_t address)
     record_poison(KIND_USER, address, GRANULE);
 }
 
-uintptr_t heap_end_around(uintptr_t address)
+/* The live block in whose slot an address is. */
+static bool live_near(uintptr_t address, uintptr_t *start, uintptr_t *end)
 {
     struct slot slot;
     if (!find_slot(address, &slot) || slot.block == 0)
-        return address;
+        return false;
     struct block block = block_now(slot.block);
-    if (block.state != BLOCK_LIVE && block.state != BLOCK_UNRECORDED)
-        return address;
-    uintptr_t end = block_address(&block, slot.start) + (block.state == BLOCK_LIVE ? block.size : block.large_size);
-    return end > address ? end : address;
+    *start = block_address(&block, slot.start);
+    *end = *start + (block.state == BLOCK_LIVE ? block.size : block.large_size);
+    return block.state == BLOCK_LIVE || block.state == BLOCK_UNRECORDED;
+}
+
+uintptr_t heap_end_around(uintptr_t address)
+{
+    uintptr_t start, end;
+    return live_near(address, &start, &end) && end > address ? end : address;
+}
+
+uintptr_t heap_start_around(uintptr_t address)
+{
+    uintptr_t start, end;
+    bool is_inside = live_near(address, &start, &end) && address >= start && (address < end || address == start);
+    return is_inside ? start : 0;
 }

@@ -87,4 +87,5 @@ const struct recorder_hooks asancol_hooks = {
     .remove_root_region = root_region_remove,
     .vforks = stack_vforks,
     .deeply_bound = unchecked_note_malloc,
+    .live_start = heap_start_around,
 };

@@ -76,6 +76,7 @@ struct recorder_hooks {
     void (*wrong_call)(const struct wrong_call *wrong);
     void (*vforks)(uintptr_t stack);
     void (*deeply_bound)(void *opened);
+    uintptr_t (*live_start)(uintptr_t inside);
 };
 
 /* What is found of the C library (calls/library.h): there if anything is checked. */

@@ -407,6 +407,16 @@ INTERFACE size_t __sanitizer_get_allocated_size(const volatile void *start)
     return size != SIZE_MAX ? size : 0;
 }
 
+INTERFACE size_t __sanitizer_get_allocated_size_fast(const volatile void *start)
+{
+    return __sanitizer_get_allocated_size(start);
+}
+
+INTERFACE const void *__sanitizer_get_allocated_begin(const void *inside)
+{
+    return HAS_HOOK(live_start) ? (const void *)asancol_hooks.live_start((uintptr_t)inside) : NULL;
+}
+
 INTERFACE size_t __sanitizer_get_current_allocated_bytes(void)
 {
     return numbers().live_bytes;
@@ -436,10 +446,10 @@ INTERFACE void __sanitizer_purge_allocator(void)
 INTERFACE int __sanitizer_install_malloc_and_free_hooks(void (*after_malloc)(const volatile void *, size_t),
                                                         void (*before_free)(const volatile void *))
 {
-    return HAS_HOOK(add_hooks) ? asancol_hooks.add_hooks((struct heap_hooks){after_malloc, before_free, false}) : 0;
+    return HAS_HOOK(add_hooks) ? asancol_hooks.add_hooks((struct heap_hooks){after_malloc, before_free, NULL, false}) : 0;
 }
 
-/* A program may define these two, and then they are called. */
+/* A program may define these three, and then they are called. */
 
 static void no_malloc_hook(const volatile void *start, size_t size)
 {
@@ -451,17 +461,26 @@ static void no_free_hook(const volatile void *start)
     (void)start;
 }
 
+static int no_ignore_hook(const volatile void *start)
+{
+    (void)start;
+    return 0;
+}
+
 INTERFACE void __sanitizer_malloc_hook(const volatile void *start, size_t size)
     __attribute__((alias("no_malloc_hook")));
 INTERFACE void __sanitizer_free_hook(const volatile void *start) __attribute__((alias("no_free_hook")));
+INTERFACE int __sanitizer_ignore_free_hook(const volatile void *start) __attribute__((alias("no_ignore_hook")));
 
 #ifndef IN_SHARED_OBJECT
 
 void interface_start(void)
 {
     bool has_malloc = __sanitizer_malloc_hook != no_malloc_hook, has_free = __sanitizer_free_hook != no_free_hook;
-    if (has_malloc || has_free)
-        heap_add_hooks((struct heap_hooks){__sanitizer_malloc_hook, __sanitizer_free_hook, .is_by_name = true});
+    bool has_ignore = __sanitizer_ignore_free_hook != no_ignore_hook;
+    if (has_malloc || has_free || has_ignore)
+        heap_add_hooks((struct heap_hooks){__sanitizer_malloc_hook, __sanitizer_free_hook,
+                                           __sanitizer_ignore_free_hook, .is_by_name = true});
 }
 
 #endif

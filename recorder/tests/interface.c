@@ -24,6 +24,9 @@ void __sanitizer_cov_reset(void);
 void __sanitizer_dump_coverage(const uintptr_t *places, uintptr_t count);
 #endif
 /* Of newer headers. */
+const void *__sanitizer_get_allocated_begin(const void *inside);
+size_t __sanitizer_get_allocated_size_fast(const volatile void *start);
+int __sanitizer_ignore_free_hook(const volatile void *start);
 void __sanitizer_annotate_double_ended_contiguous_container(const void *start, const void *end, const void *old_first,
                                                             const void *old_last, const void *new_first,
                                                             const void *new_last);
@@ -118,12 +121,16 @@ static void allocator(void)
         WANT(last_made == block);
         WANT(__sanitizer_get_ownership(block) == 1);
         WANT(__sanitizer_get_allocated_size(block) == 77);
+        WANT(__sanitizer_get_allocated_size_fast(block) == 77);
+        WANT(__sanitizer_get_allocated_begin(block + 76) == block);
         WANT(__sanitizer_get_current_allocated_bytes() == before + 77);
         WANT(__sanitizer_get_heap_size() >= before + 77);
         WANT(__sanitizer_get_free_bytes() > 0);
     }
     WANT(__sanitizer_get_ownership(&block) == 0);
     WANT(__sanitizer_get_allocated_size(NULL) == 0);
+    WANT(__sanitizer_get_allocated_begin(&block) == NULL);
+    WANT(__sanitizer_ignore_free_hook(block) == 0);
     WANT(__sanitizer_get_estimated_allocated_size(77) == 77);
     WANT(__sanitizer_get_unmapped_bytes() == 0);
     __sanitizer_malloc_hook(block, 77);

@@ -505,6 +505,36 @@ def check_interface(suite: Suite, folder: str, compiler: Compiler) -> None:
         expect((ran.returncode, ran.stderr), (0, b""), program)
 
 
+KEPT = """
+#include <stdlib.h>
+static void *volatile kept;
+static int is_kept;
+int __sanitizer_ignore_free_hook(const volatile void *start) { return is_kept && start == kept; }
+int main(void)
+{
+    char *block = kept = malloc(8);
+    is_kept = 1;
+    free(block);
+    ((volatile char *)block)[7] = 1;
+    is_kept = 0;
+    free(block);
+    ((volatile char *)block)[7] = 1;
+    return 0;
+}
+"""
+
+
+def check_kept_blocks(suite: Suite, folder: str, compiler: Compiler) -> None:
+    """A program may say that a free does not count."""
+    write(folder, kept_c=KEPT)
+    for flags in ([], ["-static"]):
+        compiler.c(folder, ["kept.c"], f"{folder}/kept", "-w", *flags)
+        ran = run(["./kept"], folder, ASANCOL_TRACE="t.trace")
+        expect((ran.returncode, ran.stderr), (0, b""), "the program")
+        expect(reports(suite.asancol, f"{folder}/t.trace")[1], ["store 1 +7 heap-use-after-free"], f"{flags}")
+        os.unlink(f"{folder}/t.trace")
+
+
 GROWING = """
 #include <stdlib.h>
 #include <sanitizer/common_interface_defs.h>
@@ -541,6 +571,7 @@ def sound_tests(suite: Suite, compiler: Compiler) -> None:
         suite.test(f"{compiler} allocation {' '.join(flags)}", check_allocation, compiler, flags)
     suite.test(f"{compiler} second allocator", check_second_allocator, compiler)
     suite.test(f"{compiler} interface", check_interface, compiler)
+    suite.test(f"{compiler} interface: kept blocks", check_kept_blocks, compiler)
     suite.test(f"{compiler} growing container", check_growing, compiler)
     suite.test(f"{compiler} interface: hooks and other names", check_asked_for, compiler)
 
