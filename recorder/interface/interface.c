@@ -446,7 +446,8 @@ INTERFACE void __sanitizer_purge_allocator(void)
 INTERFACE int __sanitizer_install_malloc_and_free_hooks(void (*after_malloc)(const volatile void *, size_t),
                                                         void (*before_free)(const volatile void *))
 {
-    return HAS_HOOK(add_hooks) ? asancol_hooks.add_hooks((struct heap_hooks){after_malloc, before_free, NULL, false}) : 0;
+    struct heap_hooks hooks = {after_malloc, before_free, NULL, false};
+    return HAS_HOOK(add_hooks) ? asancol_hooks.add_hooks(hooks) : 0;
 }
 
 /* A program may define these three, and then they are called. */
