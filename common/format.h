@@ -106,11 +106,12 @@ enum finding_kind {
     FINDING_OVERLAP,       /* two ranges of a call that have bytes in common */
     FINDING_NEGATIVE_SIZE,
     FINDING_OVERFLOW,      /* how much is to be allocated is past any size */
-    FINDING_ALIGNMENT,     /* there is no such alignment */
+    FINDING_ALIGNMENT,     /* there is no such alignment, or the size is no multiple of it */
     FINDING_TOO_BIG,       /* no block can have this size */
-    FINDING_NOT_OWNED      /* it is asked how large a block is, and none begins there */
+    FINDING_NOT_OWNED,     /* it is asked how large a block is, and none begins there */
+    FINDING_OTHER_ALIGNMENT /* a delete says another alignment than the new of its block, and maybe another size */
 };
-enum { FINDING_LAST = FINDING_NOT_OWNED };
+enum { FINDING_LAST = FINDING_OTHER_ALIGNMENT };
 
 enum { SIDE_WORDS = 4000, SIDE_BUILD_COUNT = 112, SIDE_ID = 23, SIDE_FAULTS = 1 << 16, SIDE_THREADS = 1 << 12 };
 enum { SIDE_NAME = 120, SIDE_CALL = 32, SIDE_THREAD_NAME = 16 };
@@ -220,7 +221,7 @@ struct side_found {
     uint64_t count; /* how often it came up; of a leak how many blocks are lost */
     uint64_t after; /* how many events there were before it came up first */
     uint64_t other; /* of an overlap, where the other range begins; of an overflow, what the size is to be taken
-                       times */
+                       times; of another alignment, that of the new */
 };
 
 /* What was seen when an access or a free was bad by the recorder's shadow; or a finding. */
@@ -238,7 +239,7 @@ struct side_fault {
     /* The threads of these three places: their numbers in the list, from 1; 0: the first thread; or SIDE_NO_THREAD. */
     uint32_t thread, allocated_thread, freed_thread;
     /* The whole access, as the program has asked for it; of a free 0 bytes. Of a finding, what the call was given:
-       where its range begins, or the alignment; and the size. Of a leak, how many bytes are lost. */
+       where its range begins, or the alignment (0: none); and the size. Of a leak, how many bytes are lost. */
     uint64_t start, size;
     uint64_t shadow_start; /* of which byte the first byte of `shadow` is; 0: it was not kept */
     uint64_t frame;        /* where the frame of a variable begins */

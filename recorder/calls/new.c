@@ -101,22 +101,22 @@ static inline enum family family_or_any(enum family family)
     {                                                                                                                  \
         IS_OWN_FRAME;                                                                                                  \
         note_called_from(CALLER());                                                                                    \
-        note_called_by(family_or_any(family), 0);                                                                      \
+        note_called_by(family_or_any(family), 0, 0);                                                                   \
         void *made = real_##name arguments;                                                                            \
-        note_called_by(FAMILY_MALLOC, 0);                                                                              \
+        note_called_by(FAMILY_MALLOC, 0, 0);                                                                           \
         note_called_from(0);                                                                                           \
         return made;                                                                                                   \
     }
 
-/* A delete that knows the size says one more. */
-#define DELETE(name, family, size_and_one, parameters, arguments)                                                      \
+/* One without an alignment says 0, as one without a size does. One that knows the size says one more. */
+#define DELETE(name, family, alignment, size_and_one, parameters, arguments)                                           \
     WRAPPED void __wrap_##name parameters                                                                              \
     {                                                                                                                  \
         IS_OWN_FRAME;                                                                                                  \
         note_called_from(CALLER());                                                                                    \
-        note_called_by(family_or_any(family), size_and_one);                                                           \
+        note_called_by(family_or_any(family), alignment, size_and_one);                                                \
         real_##name arguments;                                                                                         \
-        note_called_by(FAMILY_MALLOC, 0);                                                                              \
+        note_called_by(FAMILY_MALLOC, 0, 0);                                                                           \
         note_called_from(0);                                                                                           \
     }
 
@@ -133,11 +133,11 @@ static void *aligned_new(size_t size, size_t alignment)
     {                                                                                                                  \
         IS_OWN_FRAME;                                                                                                  \
         note_called_from(CALLER());                                                                                    \
-        note_called_by(family_or_any(family), 0);                                                                      \
+        note_called_by(family_or_any(family), alignment, 0);                                                           \
         void *made = aligned_new(size, alignment);                                                                     \
         if (made == NULL)                                                                                              \
             made = real_##name arguments;                                                                              \
-        note_called_by(FAMILY_MALLOC, 0);                                                                              \
+        note_called_by(FAMILY_MALLOC, 0, 0);                                                                           \
         note_called_from(0);                                                                                           \
         return made;                                                                                                   \
     }
@@ -153,19 +153,19 @@ ALIGNED_NEW(_ZnamSt11align_val_t, FAMILY_NEW_ARRAY, (size_t size, ALIGNMENT_TO),
 ALIGNED_NEW(_ZnwmSt11align_val_tRKSt9nothrow_t, FAMILY_NEW, (size_t size, ALIGNMENT_TO, TAG), (size, alignment, tag))
 ALIGNED_NEW(_ZnamSt11align_val_tRKSt9nothrow_t, FAMILY_NEW_ARRAY, (size_t size, ALIGNMENT_TO, TAG),
             (size, alignment, tag))
-DELETE(_ZdlPv, FAMILY_NEW, 0, (void *pointer), (pointer))
-DELETE(_ZdaPv, FAMILY_NEW_ARRAY, 0, (void *pointer), (pointer))
-DELETE(_ZdlPvm, FAMILY_NEW, size + 1, (void *pointer, size_t size), (pointer, size))
-DELETE(_ZdaPvm, FAMILY_NEW_ARRAY, size + 1, (void *pointer, size_t size), (pointer, size))
-DELETE(_ZdlPvRKSt9nothrow_t, FAMILY_NEW, 0, (void *pointer, TAG), (pointer, tag))
-DELETE(_ZdaPvRKSt9nothrow_t, FAMILY_NEW_ARRAY, 0, (void *pointer, TAG), (pointer, tag))
-DELETE(_ZdlPvSt11align_val_t, FAMILY_NEW, 0, (void *pointer, ALIGNMENT_TO), (pointer, alignment))
-DELETE(_ZdaPvSt11align_val_t, FAMILY_NEW_ARRAY, 0, (void *pointer, ALIGNMENT_TO), (pointer, alignment))
-DELETE(_ZdlPvmSt11align_val_t, FAMILY_NEW, size + 1, (void *pointer, size_t size, ALIGNMENT_TO),
+DELETE(_ZdlPv, FAMILY_NEW, 0, 0, (void *pointer), (pointer))
+DELETE(_ZdaPv, FAMILY_NEW_ARRAY, 0, 0, (void *pointer), (pointer))
+DELETE(_ZdlPvm, FAMILY_NEW, 0, size + 1, (void *pointer, size_t size), (pointer, size))
+DELETE(_ZdaPvm, FAMILY_NEW_ARRAY, 0, size + 1, (void *pointer, size_t size), (pointer, size))
+DELETE(_ZdlPvRKSt9nothrow_t, FAMILY_NEW, 0, 0, (void *pointer, TAG), (pointer, tag))
+DELETE(_ZdaPvRKSt9nothrow_t, FAMILY_NEW_ARRAY, 0, 0, (void *pointer, TAG), (pointer, tag))
+DELETE(_ZdlPvSt11align_val_t, FAMILY_NEW, alignment, 0, (void *pointer, ALIGNMENT_TO), (pointer, alignment))
+DELETE(_ZdaPvSt11align_val_t, FAMILY_NEW_ARRAY, alignment, 0, (void *pointer, ALIGNMENT_TO), (pointer, alignment))
+DELETE(_ZdlPvmSt11align_val_t, FAMILY_NEW, alignment, size + 1, (void *pointer, size_t size, ALIGNMENT_TO),
        (pointer, size, alignment))
-DELETE(_ZdaPvmSt11align_val_t, FAMILY_NEW_ARRAY, size + 1, (void *pointer, size_t size, ALIGNMENT_TO),
+DELETE(_ZdaPvmSt11align_val_t, FAMILY_NEW_ARRAY, alignment, size + 1, (void *pointer, size_t size, ALIGNMENT_TO),
        (pointer, size, alignment))
-DELETE(_ZdlPvSt11align_val_tRKSt9nothrow_t, FAMILY_NEW, 0, (void *pointer, ALIGNMENT_TO, TAG),
+DELETE(_ZdlPvSt11align_val_tRKSt9nothrow_t, FAMILY_NEW, alignment, 0, (void *pointer, ALIGNMENT_TO, TAG),
        (pointer, alignment, tag))
-DELETE(_ZdaPvSt11align_val_tRKSt9nothrow_t, FAMILY_NEW_ARRAY, 0, (void *pointer, ALIGNMENT_TO, TAG),
+DELETE(_ZdaPvSt11align_val_tRKSt9nothrow_t, FAMILY_NEW_ARRAY, alignment, 0, (void *pointer, ALIGNMENT_TO, TAG),
        (pointer, alignment, tag))

@@ -33,7 +33,10 @@ enum { STATE_BITS = 2, FAMILY_BITS = 2, OFFSET_BITS = 27 };
 _Static_assert(MAX_ALIGNMENT / ALIGNMENT <= (1 << OFFSET_BITS) / 2, "with what comes before the block");
 
 struct block {
-    uint32_t size; /* as it was asked for; of one that is not recorded, in `next` */
+    union {
+        uint32_t size;            /* as it was asked for */
+        uint32_t large_alignment; /* of one that is not recorded, as below */
+    };
     union {
         struct {
             uint32_t state : STATE_BITS;
@@ -45,7 +48,8 @@ struct block {
     };
     union {
         struct block *next; /* in its list of free slots, or in the quarantine */
-        uint64_t large_size;
+        uint64_t alignment; /* of one that is live: what its `new` was given; 0: it was none with an alignment */
+        uint64_t large_size; /* of one that is not recorded */
     };
 };
 

@@ -53,6 +53,12 @@ static inline size_t size_of(const struct block *block)
     return block->state == BLOCK_UNRECORDED ? block->large_size : block->size;
 }
 
+/* That its `new` was given, if it is in use; or 0. */
+static inline size_t alignment_of(const struct block *block)
+{
+    return block->state == BLOCK_UNRECORDED ? block->large_alignment : block->alignment;
+}
+
 /* The block whose slot or run has this address, or null. */
 static inline struct block *block_around(uintptr_t address)
 {

@@ -89,6 +89,29 @@ static bool is_known(enum family family, uintptr_t caller)
     return family != FAMILY_ANY && (family != FAMILY_MALLOC || (caller != 0 && !may_be_operator(caller)));
 }
 
+/* A delete that says no size fits each. */
+static bool has_other_size(const struct block *block, const struct release *release)
+{
+    size_t said = release->size_and_one - 1, size = size_of(block);
+    return release->size_and_one != 0 && said != size && (said != 0 || size != 1);
+}
+
+/* An alignment that each block has counts as none, as with AddressSanitizer. */
+static size_t alignment_or_none(size_t alignment)
+{
+    return alignment < sizeof(void *) ? 0 : alignment;
+}
+
+/* What is wrong with it. FINDING_NONE: nothing. */
+static enum finding_kind kind_of(const struct block *block, const struct release *release)
+{
+    if (block->family != release->family)
+        return FINDING_FAMILY;
+    if (alignment_or_none(alignment_of(block)) != alignment_or_none(release->alignment))
+        return FINDING_OTHER_ALIGNMENT;
+    return has_other_size(block, release) ? FINDING_SIZE : FINDING_NONE;
+}
+
 void families_look_at(const struct block *block, const struct release *release)
 {
     static const char *const made[] = {"malloc", "operator new", "operator new []"};
@@ -97,22 +120,22 @@ void families_look_at(const struct block *block, const struct release *release)
         return;
     place_word allocated = arena.places[block - arena.blocks].allocated;
     enum family family = (enum family)block->family;
-    size_t said = release->size_and_one - 1, size = size_of(block);
-    bool is_of_other = family != release->family;
-    bool is_of_size = release->size_and_one == 0 || said == size || (said == 0 && size == 1);
-    if ((!is_of_other && is_of_size) || !is_known(family, place_address(allocated))
+    enum finding_kind kind = kind_of(block, release);
+    if (kind == FINDING_NONE || !is_known(family, place_address(allocated))
         || !is_known(release->family, release->caller) || !is_release(release))
         return;
+    bool is_alignment = kind == FINDING_OTHER_ALIGNMENT;
     finding_note(&(struct finding){
-        .kind = is_of_other ? FINDING_FAMILY : FINDING_SIZE,
+        .kind = kind,
         .place = place_from(release->frame, release->caller),
         .call = release->family == FAMILY_MALLOC ? release->call : freed[release->family],
         .name = made[family],
         .block = release->address,
-        .block_size = size,
+        .block_size = size_of(block),
         .allocated = allocated,
-        .start = release->address,
-        .size = is_of_other ? 0 : said,
+        .start = is_alignment ? alignment_or_none(release->alignment) : release->address,
+        .size = kind != FINDING_FAMILY && has_other_size(block, release) ? release->size_and_one - 1 : 0,
+        .other = is_alignment ? alignment_or_none(alignment_of(block)) : 0,
     });
 }
 

@@ -1,4 +1,5 @@
-/* Families of functions that allocate: a block has to be freed by its own. And sizes that a delete says. */
+/* Families of functions that allocate: a block has to be freed by its own. And sizes and alignments that a delete
+   says. */
 #ifndef ASANCOL_FAMILIES_H
 #define ASANCOL_FAMILIES_H
 
@@ -12,7 +13,7 @@ struct release {
     uintptr_t address, caller, frame; /* of the block; and of the free, as place_from has them */
     const char *call;                 /* `free` or `realloc`; an operator has its name by its family */
     enum family family;
-    size_t size_and_one;
+    size_t alignment, size_and_one; /* as heap_called_by has them */
 };
 
 /* Notes what is wrong with that, if it is known to be. The allocator's lock is held. */

@@ -51,19 +51,25 @@ void heap_called_from(uintptr_t caller)
 /* What the next malloc or free is for. */
 struct use {
     enum family family;
+    size_t alignment;    /* that an operator was given; or 0 */
     size_t size_and_one; /* that a delete knows; 0: it does not */
 };
 static _Thread_local struct use use_next;
 
-void heap_called_by(enum family family, size_t size_and_one)
+void heap_called_by(enum family family, size_t alignment, size_t size_and_one)
 {
-    use_next = (struct use){family, size_and_one};
+    use_next = (struct use){family, alignment, size_and_one};
+}
+
+bool heap_is_called_by_operator(void)
+{
+    return use_next.family == FAMILY_NEW || use_next.family == FAMILY_NEW_ARRAY;
 }
 
 static struct use take_use(void)
 {
     struct use use = use_next;
-    use_next = (struct use){FAMILY_MALLOC, 0};
+    use_next = (struct use){FAMILY_MALLOC, 0, 0};
     return use;
 }
 
@@ -272,10 +278,10 @@ static bool enter(void)
 static bool free_block(void *pointer, uintptr_t caller, const char *call, struct use use)
 {
     struct block *block = find(pointer);
-    if (block != NULL && (block->state == BLOCK_LIVE || block->state == BLOCK_UNRECORDED)
-        && UNLIKELY(block->family != use.family || use.size_and_one != 0))
+    if (block != NULL && is_in_use(block)
+        && UNLIKELY(block->family != use.family || use.size_and_one != 0 || alignment_of(block) != use.alignment))
         families_look_at(block, &(struct release){(uintptr_t)pointer, caller, borrowed.frame, call, use.family,
-                                                  use.size_and_one});
+                                                  use.alignment, use.size_and_one});
     if (block != NULL && block->state == BLOCK_UNRECORDED) {
         poison((uintptr_t)pointer, (uintptr_t)pointer + block->large_size);
         release(block);
@@ -305,7 +311,7 @@ static void free_deferred(void)
         const char *call = deferred.calls[count - 1];
         /* Unless a handler has just added one. */
         if (atomic_compare_exchange_strong(&deferred.count, &count, count - 1))
-            free_block(pointer, caller, call, (struct use){FAMILY_ANY, 0});
+            free_block(pointer, caller, call, (struct use){FAMILY_ANY, 0, 0});
     }
 }
 
@@ -428,7 +434,7 @@ void heap_ignore(const void *pointer)
         leave();
 }
 
-static void *place_block(size_t size, size_t alignment, uintptr_t caller, enum family family)
+static void *place_block(size_t size, size_t alignment, uintptr_t caller, const struct use *use)
 {
     size_t bytes = room_for(size, alignment);
     struct block *block = take_block(bytes, size);
@@ -442,7 +448,7 @@ static void *place_block(size_t size, size_t alignment, uintptr_t caller, enum f
         return NULL;
     uintptr_t start = (uintptr_t)slot_start(block), lead = bytes <= MAX_SLOT_SIZE ? 0 : lead_for(size);
     uintptr_t address = (start + lead + REDZONE + alignment - 1) / alignment * alignment;
-    struct block now = {.state = block->state, .family = family & ((1 << FAMILY_BITS) - 1),
+    struct block now = {.state = block->state, .family = use->family & ((1 << FAMILY_BITS) - 1),
                         .is_ignored = ignoring != 0};
     now.offset = (address - start) / ALIGNMENT & ((1 << OFFSET_BITS) - 1);
     block_write(block, now);
@@ -451,6 +457,7 @@ static void *place_block(size_t size, size_t alignment, uintptr_t caller, enum f
     poison_new(block, address, size);
     if (size <= MAX_BLOCK_SIZE) {
         SET_NOTE(block->size, (uint32_t)size);
+        SET_NOTE(block->alignment, use->alignment);
         if (!heap.is_unpainted)
             paint_redzones(address, size);
         record_region(CODE_MALLOC, address, size);
@@ -461,6 +468,7 @@ static void *place_block(size_t size, size_t alignment, uintptr_t caller, enum f
     } else {
         /* It can't be spelled, so it is no block for the checker: memory between poison. */
         SET_NOTE(block->large_size, size);
+        SET_NOTE(block->large_alignment, (uint32_t)use->alignment);
         block_go(block, BLOCK_UNRECORDED);
     }
     return (void *)address;
@@ -518,7 +526,7 @@ void *heap_allocate(size_t size, size_t alignment, bool zeroed, uintptr_t caller
         address = fits ? take_spare(size, alignment) : NULL;
     } else {
         if (arena.bytes != NULL || arena_find())
-            address = place_block(size, alignment, caller, use.family);
+            address = place_block(size, alignment, caller, &use);
         if (address == NULL)
             record_region(CODE_MALLOC, 0, size); /* refused */
         leave();

@@ -27,10 +27,12 @@ void heap_is_poisoned(void);
 /* The next malloc of this thread is recorded with this place, and not with that of libc's code which calls it. */
 void heap_called_from(uintptr_t caller);
 
-/* The next malloc or free of this thread is an operator's. One that knows the size of what it deletes says one more;
-   others say 0. FAMILY_MALLOC takes it back. */
-void heap_called_by(enum family family, size_t size_and_one);
-/* Whether a free of another family, or a delete with another size, is noted. */
+/* The next malloc or free of this thread is an operator's, which was given this alignment; or 0. One that knows the
+   size of what it deletes says one more; others say 0. FAMILY_MALLOC takes it back. */
+void heap_called_by(enum family family, size_t alignment, size_t size_and_one);
+/* Whether the next malloc of this thread is that of an operator of a library's. */
+bool heap_is_called_by_operator(void);
+/* Whether a free of another family, or a delete with another size or alignment, is noted. */
 void heap_check_families(bool is_on);
 
 /* The places of mallocs and frees are noted from now on. */

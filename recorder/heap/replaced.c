@@ -91,29 +91,34 @@ static bool is_power_of_two(size_t alignment)
     return alignment != 0 && (alignment & (alignment - 1)) == 0;
 }
 
-/* As the C library does, what is no alignment is rounded up to one. */
-static void *allocate_aligned(size_t alignment, size_t size, uintptr_t caller, const char *call)
+static void note_alignment(const char *call, uintptr_t caller, size_t alignment, size_t size)
 {
-    if (UNLIKELY(!is_power_of_two(alignment)))
-        note(FINDING_ALIGNMENT, call, caller, (struct wrong_call){.start = alignment, .size = size});
-    return heap_allocate(size, power_of_two(alignment), false, caller);
+    note(FINDING_ALIGNMENT, call, caller, (struct wrong_call){.start = alignment, .size = size});
 }
 
+/* As the C library does, what is no alignment is rounded up to one. */
 REPLACES void *memalign(size_t alignment, size_t size)
 {
-    return allocate_aligned(alignment, size, CALLER(), "memalign");
+    if (UNLIKELY(!is_power_of_two(alignment)))
+        note_alignment("memalign", CALLER(), alignment, size);
+    return heap_allocate(size, power_of_two(alignment), false, CALLER());
 }
 
+/* The C library takes any size, as C17 does. AddressSanitizer goes by C11: the size is a multiple of the alignment. But
+   that of a `new` need not be. */
 REPLACES void *aligned_alloc(size_t alignment, size_t size)
 {
-    return allocate_aligned(alignment, size, CALLER(), "aligned_alloc");
+    bool is_whole = is_power_of_two(alignment) && (size & (alignment - 1)) == 0;
+    if (UNLIKELY(!is_whole) && !heap_is_called_by_operator())
+        note_alignment("aligned_alloc", CALLER(), alignment, size);
+    return heap_allocate(size, power_of_two(alignment), false, CALLER());
 }
 
 REPLACES int posix_memalign(void **result, size_t alignment, size_t size)
 {
     int before = errno;
     if (alignment < sizeof(void *) || !is_power_of_two(alignment)) {
-        note(FINDING_ALIGNMENT, "posix_memalign", CALLER(), (struct wrong_call){.start = alignment, .size = size});
+        note_alignment("posix_memalign", CALLER(), alignment, size);
         return EINVAL;
     }
     void *address = heap_allocate(size, power_of_two(alignment), false, CALLER());

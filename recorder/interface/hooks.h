@@ -61,7 +61,7 @@ struct recorder_hooks {
     void (*bad_call)(enum code code, uint64_t address, uint64_t size, uint64_t good, uintptr_t caller,
                      const char *call);
     void (*poison_as)(unsigned char shade, uint64_t address, uint64_t size);
-    void (*called_by)(enum family family, size_t size_and_one);
+    void (*called_by)(enum family family, size_t alignment, size_t size_and_one);
     const int *takes_frames;
     uintptr_t (*fake_take)(unsigned class, uintptr_t real);
     void (*fake_give)(uintptr_t frame, unsigned class);
@@ -174,10 +174,10 @@ static inline void note_called_from(uintptr_t caller)
         asancol_hooks.called_from(caller);
 }
 
-static inline void note_called_by(enum family family, size_t size_and_one)
+static inline void note_called_by(enum family family, size_t alignment, size_t size_and_one)
 {
     if (HAS_HOOK(called_by))
-        asancol_hooks.called_by(family, size_and_one);
+        asancol_hooks.called_by(family, alignment, size_and_one);
 }
 
 static inline void note_wrong_call(const struct wrong_call *wrong)
@@ -310,9 +310,9 @@ static inline void note_called_from(uintptr_t caller)
     asancol_hooks.called_from(caller);
 }
 
-static inline void note_called_by(enum family family, size_t size_and_one)
+static inline void note_called_by(enum family family, size_t alignment, size_t size_and_one)
 {
-    asancol_hooks.called_by(family, size_and_one);
+    asancol_hooks.called_by(family, alignment, size_and_one);
 }
 
 static inline void note_wrong_call(const struct wrong_call *wrong)

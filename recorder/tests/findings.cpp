@@ -34,6 +34,7 @@ struct Derived : Base {
 struct alignas(64) Aligned {
     char bytes[64];
 };
+using Alignment = std::align_val_t;
 static char text[64];
 static wchar_t wide[64];
 static void *volatile kept;
@@ -61,12 +62,18 @@ static void clean()
     delete hide(new Aligned);
     delete[] hide(new Aligned[3]);
     ::operator delete(hide(::operator new(0)));
-    ::operator delete(hide(::operator new(10, std::align_val_t(64))), std::align_val_t(64));
+    ::operator delete(hide(::operator new(10, Alignment(64))), Alignment(64));
+    ::operator delete(hide(::operator new(10, Alignment(4))));
+    ::operator delete(hide(::operator new(10)), 10, Alignment(2));
     ::operator delete[](hide(::operator new[](10, std::nothrow)), std::nothrow);
+    ::operator delete[](hide(::operator new[](10, Alignment(4096), std::nothrow)), Alignment(4096), std::nothrow);
+    std::vector<Aligned>(100).resize(1000);
+    std::make_shared<Aligned>()->bytes[0] = 1;
     kept = realloc(malloc(3), 5);
     free(kept);
     free(strdup("x"));
     free(aligned_alloc(64, 128));
+    free(aligned_alloc(64, large(0)));
     delete hide(static_cast<Base *>(nullptr));
     free(nullptr);
     memcpy(hide(text), text, large(8));
@@ -105,6 +112,19 @@ static const struct {
     {"nothrow_free", [] { free(hide(new (std::nothrow) int)); }},       // nothrow_free
     {"sized", [] { ::operator delete(hide(new Derived), sizeof(Base)); }}, // sized
     {"sized_aligned", [] { ::operator delete(hide(new Aligned), 32, std::align_val_t(64)); }}, // sized_aligned
+    {"aligned_plain", [] { ::operator delete(hide(::operator new(10, Alignment(64)))); }}, // aligned_plain
+    {"plain_aligned", [] { ::operator delete(hide(::operator new(10)), Alignment(64)); }}, // plain_aligned
+    {"as_plain", [] { delete hide((long *)new Aligned); }},             // as_plain
+    {"by_plain", [] { delete hide((Aligned *)new char[64]); }},         // by_plain
+    {"other_alignment",
+     [] { ::operator delete(hide(::operator new(10, Alignment(64))), Alignment(32)); }}, // other_alignment
+    {"other_large",
+     [] { ::operator delete(hide(::operator new(10, Alignment(1024))), Alignment(2048)); }}, // other_large
+    {"other_array",
+     [] { ::operator delete[](hide(::operator new[](10, Alignment(64))), Alignment(128)); }}, // other_array
+    {"other_both", [] { ::operator delete(hide(::operator new(10, Alignment(64))), 20, Alignment(32)); }}, // other_both
+    {"other_nothrow",
+     [] { ::operator delete(hide(::operator new(10, Alignment(64), std::nothrow)), std::nothrow); }}, // other_nothrow
     {"memcpy", [] { memcpy(hide(text) + 2, text, large(10)); }},        // memcpy
     {"mempcpy", [] { kept = mempcpy(hide(text) + 2, text, large(10)); }}, // mempcpy
     {"strcpy", [] { strcpy(hide(text), hide(text) + 3); }},             // strcpy
@@ -124,6 +144,7 @@ static const struct {
     {"array_overflow", [] { kept = reallocarray(nullptr, large(-1) / 2, large(3)); }}, // array_overflow
     {"pvalloc_overflow", [] { kept = pvalloc(large(-5)); }},            // pvalloc_overflow
     {"aligned_alloc", [] { kept = aligned_alloc(large(7), 14); }},      // aligned_alloc
+    {"aligned_alloc_size", [] { kept = aligned_alloc(64, large(10)); }}, // aligned_alloc_size
     {"posix_memalign",
      [] { kept = nullptr; if (posix_memalign((void **)&kept, large(2), 16) == 0) abort(); }}, // posix_memalign
     {"memalign", [] { kept = memalign(large(7), 16); }},                // memalign

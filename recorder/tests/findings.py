@@ -1,19 +1,22 @@
 """What the recorder finds by itself: of families of functions that allocate, and of calls with wrong arguments. Each
 has the class and the line that AddressSanitizer says."""
 
+import os
 import re
 
 from asancol_report.by_recorder import FORMS
 from support import TESTS, expect, run, side_of
 
 SOURCE = f"{TESTS}/findings.cpp"
-FAMILY = "alloc-dealloc-mismatch"
+FAMILY, OF_NEW = "alloc-dealloc-mismatch", "new-delete-type-mismatch"
 # What is found.
 CLASSES = {
     "malloc_delete": FAMILY, "malloc_delete_array": FAMILY, "calloc_delete": FAMILY, "strdup_delete": FAMILY,
     "new_free": FAMILY, "new_delete_array": FAMILY, "array_delete": FAMILY, "array_free": FAMILY,
     "array_realloc": FAMILY, "aligned_free": FAMILY, "nothrow_free": FAMILY,
-    "sized": "new-delete-type-mismatch", "sized_aligned": "new-delete-type-mismatch",
+    "sized": OF_NEW, "sized_aligned": OF_NEW, "aligned_plain": OF_NEW, "plain_aligned": OF_NEW, "as_plain": OF_NEW,
+    "by_plain": FAMILY, "other_alignment": OF_NEW, "other_large": OF_NEW, "other_array": OF_NEW, "other_both": OF_NEW,
+    "other_nothrow": OF_NEW,
     "memcpy": "memcpy-param-overlap", "mempcpy": "mempcpy-param-overlap", "strcpy": "strcpy-param-overlap",
     "stpcpy": "stpcpy-param-overlap", "strcat": "strcat-param-overlap", "strncpy": "strncpy-param-overlap",
     "strncat": "strncat-param-overlap", "strncat_before": "strncat-param-overlap", "strcat_nothing": None,
@@ -21,12 +24,23 @@ CLASSES = {
     "wcscpy": "wcscpy-param-overlap", "wmemcpy": "wmemcpy-param-overlap",
     "calloc_overflow": "calloc-overflow", "array_overflow": "reallocarray-overflow",
     "pvalloc_overflow": "pvalloc-overflow", "aligned_alloc": "invalid-aligned-alloc-alignment",
+    "aligned_alloc_size": "invalid-aligned-alloc-alignment",
     "posix_memalign": "invalid-posix-memalign-alignment", "memalign": "invalid-allocation-alignment",
     "too_big": "allocation-size-too-big", "usable_of_freed": "bad-malloc_usable_size",
     "clean": None, "refused": None,
 }
-# AddressSanitizer does not look at these, or ends where memory is refused.
-ALONE = ("wcscpy", "wmemcpy", "wcsncat_before", "wcscat_nothing", "stpcpy", "mempcpy", "refused")
+# What is said of some.
+WORDS = {
+    "aligned_alloc": "alignment 7 of 14 bytes in aligned_alloc",
+    "aligned_alloc_size": "alignment 64 of 10 bytes in aligned_alloc: the size is no multiple of it",
+    "sized_aligned": "operator delete of 32 bytes, and 64 bytes were allocated",
+    "aligned_plain": "operator delete with no alignment, and 10 bytes with alignment 64 were allocated",
+    "plain_aligned": "operator delete with alignment 64, and 10 bytes with no alignment were allocated",
+    "other_array": "operator delete [] with alignment 128, and 10 bytes with alignment 64 were allocated",
+    "other_both": "operator delete of 20 bytes with alignment 32, and 10 bytes with alignment 64 were allocated",
+}
+# AddressSanitizer does not look at these, or ends where memory is refused. It knows alignments of up to 512.
+ALONE = ("wcscpy", "wmemcpy", "wcsncat_before", "wcscat_nothing", "stpcpy", "mempcpy", "refused", "other_large")
 
 
 def line_of(name):
@@ -49,6 +63,8 @@ def check_case(suite, folder, program, sanitized, name, wanted):
     trace = f"{folder}/t.trace"
     run([program, name], folder, ASANCOL_TRACE=trace, ASANCOL_WHERE="1")
     expect(found_in(trace), [(wanted, line_of(name))] if wanted else [], name)
+    if name in WORDS:
+        expect([FORMS[it.kind].words(it) for it in side_of(trace).findings()], [WORDS[name]], "what it says")
     if name in ALONE:
         return
     ran = run([sanitized, name], folder, ASAN_OPTIONS="detect_leaks=0:allocator_may_return_null=0")
@@ -60,8 +76,11 @@ def check_case(suite, folder, program, sanitized, name, wanted):
 
 def check_switch(suite, folder, program):
     trace = f"{folder}/t.trace"
-    run([program, "array_free"], folder, ASANCOL_TRACE=trace, ASANCOL_WHERE="1", ASANCOL_MISMATCHES="0")
-    expect(found_in(trace), [], "with ASANCOL_MISMATCHES=0")
+    for name in ("array_free", "sized", "other_alignment"):
+        run([program, name], folder, ASANCOL_TRACE=trace, ASANCOL_WHERE="1", ASANCOL_MISMATCHES="0")
+        expect(found_in(trace), [], f"{name} with ASANCOL_MISMATCHES=0")
+        os.unlink(trace)
+        os.unlink(f"{trace}.where")
 
 
 # A program that replaces some operators, and uses what the library compiled and what it did not.

@@ -10,8 +10,9 @@ from .class_names import (
 )
 from .leaks import leak_text, Leaks
 from .side import (
-    Fault, FINDING_ALIGNMENT, FINDING_FAMILY, FINDING_INDIRECT_LEAK, FINDING_LEAK, FINDING_NEGATIVE_SIZE,
-    FINDING_NOT_OWNED, FINDING_OVERFLOW, FINDING_OVERLAP, FINDING_SIZE, FINDING_TOO_BIG,
+    Fault, FINDING_ALIGNMENT, FINDING_FAMILY, FINDING_INDIRECT_LEAK, FINDING_LAST, FINDING_LEAK,
+    FINDING_NEGATIVE_SIZE, FINDING_NOT_OWNED, FINDING_OTHER_ALIGNMENT, FINDING_OVERFLOW, FINDING_OVERLAP, FINDING_SIZE,
+    FINDING_TOO_BIG,
 )
 from .words import plural
 
@@ -22,13 +23,22 @@ SIZE_END = 1 << 64
 NEGATIVE = 1 << 63
 
 
+def given_address(fault: Fault) -> int:
+    """Returns where what the call was given starts; or else where its block does."""
+    return fault.start or fault.block
+
+
+def no_address(_: Fault) -> int:
+    return 0
+
+
 class Form(NamedTuple):
     """What the findings of a kind are."""
 
     class_of: Callable[[Fault], str]
     access: str
     words: Callable[[Fault], str]  # what the recorder says
-    has_address: bool = True  # the start of what the call was given is one, or there is a block
+    address: Callable[[Fault], int] = given_address
     has_size: bool = True
 
 
@@ -55,24 +65,39 @@ def of_call(suffix: str) -> Callable[[Fault], str]:
     return lambda fault: f"{fault.call}-{suffix}" if f"{fault.call}-{suffix}" in CLASSES else f"{first}-{suffix}"
 
 
+def wrong_alignment(fault: Fault) -> str:
+    is_power = fault.start != 0 and fault.start & (fault.start - 1) == 0
+    why = ": the size is no multiple of it" if is_power and fault.call == "aligned_alloc" else ""
+    return f"alignment {fault.start} of {plural(fault.size, 'byte')} in {fault.call}{why}"
+
+
+def other_alignment(fault: Fault) -> str:
+    """Returns both alignments, and both sizes, if the delete says another one too."""
+    said, made = (f"alignment {it}" if it else "no alignment" for it in (fault.start, fault.other))
+    size = f" of {plural(fault.size, 'byte')}" if fault.size else ""
+    return f"{fault.call}{size} with {said}, and {plural(fault.block_size, 'byte')} with {made} were allocated"
+
+
 def signed(size: int) -> int:
     return size - SIZE_END if size >= NEGATIVE else size
 
 
 FORMS: Dict[int, Form] = {
-    FINDING_LEAK: Form(lambda _: LEAK, "malloc", lambda it: leak_text(LEAK, lost_at(it)), False),
+    FINDING_LEAK: Form(lambda _: LEAK, "malloc", lambda it: leak_text(LEAK, lost_at(it)), no_address),
     FINDING_INDIRECT_LEAK: Form(lambda _: INDIRECT_LEAK, "malloc",
-                                lambda it: leak_text(INDIRECT_LEAK, lost_at(it)), False),
+                                lambda it: leak_text(INDIRECT_LEAK, lost_at(it)), no_address),
     FINDING_FAMILY: Form(lambda _: MISMATCH, "free", lambda it: f"{it.name} vs {it.call}", has_size=False),
     FINDING_SIZE: Form(lambda _: SIZE_MISMATCH, "free", lambda it: (
         f"{it.call} of {plural(it.size, 'byte')}, and {plural(it.block_size, 'byte')} were allocated")),
     FINDING_OVERLAP: Form(of_call("param-overlap"), CALL, ranges),
     FINDING_NEGATIVE_SIZE: Form(lambda _: NEGATIVE_SIZE, CALL, lambda it: f"(size={signed(it.size)}) in {it.call}"),
-    FINDING_OVERFLOW: Form(of_call("overflow"), "malloc", product, False),
-    FINDING_ALIGNMENT: Form(lambda it: ALIGNMENTS.get(it.call, ALIGNMENTS["memalign"]), "malloc", lambda it: (
-        f"alignment {it.start} of {plural(it.size, 'byte')} in {it.call}"), False),
-    FINDING_TOO_BIG: Form(lambda _: TOO_BIG, "malloc", lambda it: f"request for {plural(it.size, 'byte')}", False),
+    FINDING_OVERFLOW: Form(of_call("overflow"), "malloc", product, no_address),
+    FINDING_ALIGNMENT: Form(lambda it: ALIGNMENTS.get(it.call, ALIGNMENTS["memalign"]), "malloc", wrong_alignment,
+                            no_address),
+    FINDING_TOO_BIG: Form(lambda _: TOO_BIG, "malloc", lambda it: f"request for {plural(it.size, 'byte')}",
+                          no_address),
     FINDING_NOT_OWNED: Form(lambda _: NOT_OWNED, CALL, lambda it: (
         f"{it.call} of a pointer to no block"), has_size=False),
+    FINDING_OTHER_ALIGNMENT: Form(lambda _: SIZE_MISMATCH, "free", other_alignment, lambda it: it.block, False),
 }
-assert set(FORMS) == set(range(FINDING_LEAK, FINDING_NOT_OWNED + 1))
+assert set(FORMS) == set(range(FINDING_LEAK, FINDING_LAST + 1))

@@ -46,12 +46,12 @@ CLASSES = {
     LEAK: "Block that nothing leads to any more, and that was not freed",
     INDIRECT_LEAK: "Block that only lost blocks lead to, and that was not freed",
     MISMATCH: "Block freed by a function of another family than that which has allocated it",
-    SIZE_MISMATCH: "Object deleted with another size than that which was allocated",
+    SIZE_MISMATCH: "Object deleted with another size or alignment than that which was allocated",
     TOO_BIG: "Request for more memory than a block can have",
     NOT_OWNED: "Question for the size of a block where none begins",
     **{f"{call}-param-overlap": f"Call of {call} on ranges that overlap" for call in OVERLAPPING},
     **{f"{call}-overflow": f"Call of {call} for more bytes than a size can say" for call in OVERFLOWING},
-    **{name: "Alignment that there is not" for name in ALIGNMENTS.values()},
+    **{name: "Alignment that there is not, or not with this size" for name in ALIGNMENTS.values()},
 }
 
 STACK, POISON = "stack-buffer-overflow", "use-after-poison"

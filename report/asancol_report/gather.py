@@ -307,13 +307,13 @@ def finding_of(report: Report, fault: Optional[Fault]) -> Finding:
 def finding_by_recorder(fault: Fault) -> Finding:
     """Returns a finding of the recorder. Of a leak the first block is of no use: there may be many."""
     form = FORMS[fault.kind]
-    address = (fault.start or fault.block) if form.has_address else 0
+    address = form.address(fault)
     finding = Finding(form.class_of(fault), form.access, fault.size if form.has_size else None, address, None)
     finding.by_recorder = True
     finding.raw_class = LEAK if finding.class_name == INDIRECT_LEAK else finding.class_name
     finding.said = form.words(fault)
     finding.call = fault.call
-    finding.block = Block(fault.block, fault.block_size) if form.has_address and fault.block else None
+    finding.block = Block(fault.block, fault.block_size) if address and fault.block else None
     return finding
 
 

@@ -57,7 +57,9 @@ ENDING_NONE, ENDING_EXIT, ENDING_EXEC, ENDING_SIGNAL, ENDING_LOST, ENDING_SEGMEN
 VARIABLE_NONE, VARIABLE_STACK, VARIABLE_GLOBAL, VARIABLE_DYNAMIC = range(4)
 # What the recorder has found by itself.
 (FINDING_NONE, FINDING_LEAK, FINDING_INDIRECT_LEAK, FINDING_FAMILY, FINDING_SIZE, FINDING_OVERLAP,
- FINDING_NEGATIVE_SIZE, FINDING_OVERFLOW, FINDING_ALIGNMENT, FINDING_TOO_BIG, FINDING_NOT_OWNED) = range(11)
+ FINDING_NEGATIVE_SIZE, FINDING_OVERFLOW, FINDING_ALIGNMENT, FINDING_TOO_BIG, FINDING_NOT_OWNED,
+ FINDING_OTHER_ALIGNMENT) = range(12)
+FINDING_LAST = FINDING_OTHER_ALIGNMENT
 
 # How many entries of the index are read at once, and of the list of faults.
 INDEX_PART = 1 << 14
@@ -292,7 +294,7 @@ class Side:
             count = min(FAULTS_PART, self.fault_count - first)
             text = read_at(self.descriptor, FAULTS_AT + first * FAULT.size, count * FAULT.size)
             for fields in FAULT.iter_unpack(text[: len(text) // FAULT.size * FAULT.size]):
-                if FINDING_NONE < fields[KIND_FIELD] <= FINDING_NOT_OWNED:
+                if FINDING_NONE < fields[KIND_FIELD] <= FINDING_LAST:
                     found = self.fault_of_fields(fields)
                     if found.count:
                         yield found

@@ -11,7 +11,7 @@ from testing.side import finding, of_program
 from asancol_report import side as layout
 from asancol_report.class_names import CLASSES
 
-LEAK, INDIRECT, FAMILY, SIZE, OVERLAP, NEGATIVE, PRODUCT, ALIGNMENT, TOO_BIG, NOT_OWNED = range(1, 11)
+LEAK, INDIRECT, FAMILY, SIZE, OVERLAP, NEGATIVE, PRODUCT, ALIGNMENT, TOO_BIG, NOT_OWNED, OTHER_ALIGNMENT = range(1, 12)
 CLEAN = END.replace("reports 1", "reports 0")
 MINUS_FIVE = (1 << 64) - 5
 
@@ -27,7 +27,7 @@ def mismatch(places: Dict[str, int], **more: Any) -> bytes:
 def one_of_each(places: Dict[str, int]) -> List[bytes]:
     here, made = places["use"], places["make"]
     return [
-        finding(LEAK, made, given=(0, 24), count=3, after=11), finding(INDIRECT, made, given=(0, 8), after=12),
+        finding(LEAK, made, given=(0, 24), count=3, after=12), finding(INDIRECT, made, given=(0, 8), after=13),
         mismatch(places, after=1),
         finding(SIZE, here, 0x2000, 40, made, "operator delete", "operator new", (0, 4), after=2),
         finding(OVERLAP, here, 0x2000, 16, made, "memcpy", given=(0x2004, 8), other=0x2000, after=3),
@@ -36,9 +36,10 @@ def one_of_each(places: Dict[str, int]) -> List[bytes]:
         finding(PRODUCT, here, call="pvalloc", given=(0, MINUS_FIVE), after=6),
         finding(ALIGNMENT, here, call="aligned_alloc", given=(7, 16), after=7),
         finding(ALIGNMENT, here, call="posix_memalign", given=(2, 16), after=8),
-        finding(TOO_BIG, here, given=(0, 1 << 60), count=2, after=9),
+        finding(OTHER_ALIGNMENT, places["drop"], 0x3000, 40, made, "operator delete", "operator new", (64, 0), after=9),
+        finding(TOO_BIG, here, given=(0, 1 << 60), count=2, after=10),
         finding(NOT_OWNED, here, 0x2000, 16, made, "malloc_usable_size", given=(0x2000, 0), freed=places["drop"],
-                after=10),
+                after=11),
     ]
 
 
@@ -52,6 +53,8 @@ TITLES = (
     "(by the recorder)",
     "invalid-aligned-alloc-alignment: alignment 7 of 16 bytes in aligned_alloc (by the recorder)",
     "invalid-posix-memalign-alignment: alignment 2 of 16 bytes in posix_memalign (by the recorder)",
+    "new-delete-type-mismatch: operator delete with alignment 64, and 40 bytes with no alignment were allocated "
+    "(by the recorder)",
     "allocation-size-too-big: request for 1152921504606846976 bytes (by the recorder, 2 times, 1 process)",
     "bad-malloc_usable_size: malloc_usable_size of a pointer to no block (by the recorder)",
     "detected memory leaks (by the recorder)",
@@ -69,7 +72,7 @@ def each_kind(folder: str) -> None:
     expect(ran.status, 1, ran.err)
     titles = re.findall(r"^==7==ERROR: asancol: (.*)$", ran.out, re.M)
     expect(titles, list(TITLES), "titles, in the order of what came before")
-    expect_in(ran.out, "asancol: 13 reports at 12 places (13 by the recorder); 1 process, 9 events; all seen whole\n",
+    expect_in(ran.out, "asancol: 14 reports at 13 places (14 by the recorder); 1 process, 9 events; all seen whole\n",
               "0x2000 is byte 0 of a block of 40 bytes\n  allocated at\n", "in make ",
               "0x2004 is byte 4 of a block of 16", "0x2000 is byte 0 of a freed block of 16 bytes",
               "\nDirect leak of 24 byte(s) in 3 object(s) allocated from:\n    #0 ",
@@ -85,6 +88,27 @@ def each_kind(folder: str) -> None:
     expect((again.status, again.out), (1, ran.out), "read again")
     with open(f"{folder}/a.json", encoding="utf-8") as one, open(f"{folder}/b.json", encoding="utf-8") as other:
         expect(one.read(), other.read(), "both results")
+
+
+@report_test
+def alignments(folder: str) -> None:
+    """A size that is no multiple, and what a delete says: each alignment, and the size if that is another one too."""
+    program = build(folder)
+    here, made, of_new = program.places["use"], program.places["make"], "new-delete-type-mismatch"
+    for it, title in (
+        (finding(ALIGNMENT, here, call="aligned_alloc", given=(64, 10)),
+         "invalid-aligned-alloc-alignment: alignment 64 of 10 bytes in aligned_alloc: the size is no multiple of it"),
+        (finding(ALIGNMENT, here, call="aligned_alloc", given=(0, 10)),
+         "invalid-aligned-alloc-alignment: alignment 0 of 10 bytes in aligned_alloc"),
+        (finding(OTHER_ALIGNMENT, here, 0x2000, 40, made, "operator delete", "operator new", (64, 0), other=32),
+         f"{of_new}: operator delete with alignment 64, and 40 bytes with alignment 32 were allocated"),
+        (finding(OTHER_ALIGNMENT, here, 0x2000, 40, made, "operator delete []", "operator new []", (0, 4), other=128),
+         f"{of_new}: operator delete [] of 4 bytes with no alignment, and 40 bytes with alignment 128 were allocated"),
+    ):
+        write_trace(folder, "a.trace", CLEAN, of_program(program, [it], (), findings=1))
+        ran = report(folder, "--trace", "a.trace")
+        expect_in(ran.out, f"==7==ERROR: asancol: {title} (by the recorder)\n")
+        expect_in(ran.out, *["0x2000 is byte 0 of a block of 40 bytes\n"] * (of_new in title))
 
 
 def write_two(folder: str) -> None:
@@ -298,7 +322,8 @@ def leaks_of_runs(folder: str) -> None:
 def what_is_no_finding(folder: str) -> None:
     """Entries that are not whole, of kinds that nobody knows, and memory of an older release, which has none."""
     program = build(folder)
-    found = [mismatch(program.places, count=0), finding(11, program.places["drop"]), freed_block(program)]
+    unknown = finding(layout.FINDING_LAST + 1, program.places["drop"])
+    found = [mismatch(program.places, count=0), unknown, freed_block(program)]
     older = layout.HEADERS[0]
     write_trace(folder, "a.trace", OVERFLOW + END, of_program(program, found, [0, 3], findings=2))
     write_trace(folder, "b.trace", OVERFLOW + END, of_program(program, [freed_block(program)], [0, 1], header=older))

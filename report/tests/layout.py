@@ -26,7 +26,7 @@ NUMBERS = [
     ("SIDE_OLDEST", side.OLDEST),
     ("sizeof(struct side_found)", side.FOUND.size),
     *[(name, getattr(side, name)) for name in vars(side) if name.startswith("FINDING_")],
-    ("FINDING_LAST", side.FINDING_NOT_OWNED),
+    ("FINDING_LAST", side.FINDING_LAST),
     ("SIDE_MAPS", side.MAPS_AT),
     ("SIDE_INDEX", side.INDEX_AT),
     ("SIDE_INDEX_ENTRY", side.ENTRY_BYTES),
