@@ -187,6 +187,7 @@ struct side_progress {
     uint64_t findings;  /* how many entries of the list of faults are findings */
     uint64_t findings_lost; /* and how often there was no room for one */
     uint64_t leaks; /* how many of the findings are leaks */
+    uint64_t leaks_missed; /* 1: it was to look for leaks, and could not the last time */
 };
 
 /* What its environment has set for it, beside the quarantine. */

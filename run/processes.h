@@ -55,6 +55,7 @@ struct process {
     uint64_t events, reports, left_out, restated;
     uint64_t findings;          /* places of which its recorder says that something is wrong there, */
     uint64_t leaks;             /* and those that leak, if leaks are summed up: then they are no findings */
+    bool leaks_missed;          /* they were to be looked for, and could not be */
     uint64_t forks;             /* how many children it has made by fork, which are to be here */
     int of_parent;              /* the number of whoever has forked it, as it knows that itself; */
     uint64_t of_parent_started; /* and when that was begun; 0: nobody that was recorded */

@@ -239,7 +239,7 @@ void report_process(struct process *process)
 {
     struct message *message;
     bool has_crash = process->is_crash && process->verdicts >= 0;
-    bool has_findings = process->findings + process->leaks > 0 && process->verdicts >= 0;
+    bool has_findings = (process->findings + process->leaks > 0 || process->leaks_missed) && process->verdicts >= 0;
     bool is_shown = process->reports > 0 || has_crash || has_findings;
     if (!is_shown && segments_are_several(process))
         return; /* what all of them come to is said once they are there */

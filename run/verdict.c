@@ -67,7 +67,8 @@ enum {
     CHECKS = 1 << 12,
     MAIN = 1 << 13,
     FILE_ALONE = 1 << 14,
-    FINDINGS_LOST = 1 << 15
+    FINDINGS_LOST = 1 << 15,
+    LEAKS_MISSED = 1 << 16
 };
 
 enum answer { WHOLE, UP_TO_THERE, BEFORE_MAIN, UNCHECKED, NOT_WHOLE };
@@ -99,6 +100,8 @@ static const struct row rows[] = {
      "ended in a call of the recorder's own, or before an exec, as by SIGKILL or a filter of system calls"},
     {ANY, ANY, FINDINGS_LOST, 0, NOT_WHOLE,
      "its recorder had no room for LOST of its findings"},
+    {ANY, ANY, LEAKS_MISSED, 0, NOT_WHOLE,
+     "leaks of it were not looked for, as if a thread does not stop"},
     {CUT_OFF, NONE, GONE | NONE_MISSING, CHECKS, UNCHECKED,
      "no code of it was compiled by asancol-cc"},
     {CUT_OFF, NONE, GONE | NONE_MISSING | REPLACED | MAIN, 0, WHOLE,
@@ -352,6 +355,7 @@ static void read_side(struct process *process)
     process->findings = progress.findings < SIDE_FAULTS ? progress.findings : SIDE_FAULTS;
     process->leaks = leaks_count ? 0 : progress.leaks < process->findings ? progress.leaks : process->findings;
     process->findings -= process->leaks;
+    process->leaks_missed = progress.leaks_missed != 0;
     process->forks = progress.forks;
     process->becomes = progress.becomes != 0 && process->ending == ENDING_EXEC;
     process->of_parent = (int)progress.of_parent;
@@ -396,6 +400,8 @@ static unsigned facts_of(struct process *process, unsigned fate)
         facts |= look_if_gone(process);
     if (process->side != NULL && side_progress(process->side).findings_lost != 0)
         facts |= FINDINGS_LOST;
+    if (leaks_count && process->leaks_missed)
+        facts |= LEAKS_MISSED;
     facts |= process->is_file ? FILE_ALONE : 0;
     return facts | (process->has_checks ? CHECKS : 0) | (has_begun(process) ? MAIN : 0);
 }

@@ -43,8 +43,8 @@ static const char *find_lost(struct search *search)
         return NULL;
     if (!marking_begin())
         return "there is no memory for it";
-    const char *why = "a thread does not stop";
-    if (world_stop()) {
+    const char *why = world_stop();
+    if (why == NULL) {
         roots_mark(search->frame);
         mark_indirect();
         world_go_on();
@@ -116,6 +116,7 @@ static bool look_from(uintptr_t frame)
         undisturbed_end(&before);
         side_end_calls(calls);
     }
+    side_note_leaks_missed(search.why != NULL);
     if (search.why != NULL)
         recorder_say("leaks are not looked for: ", beginning_name(), search.why);
     note(&search.lost);

@@ -160,17 +160,20 @@ static bool wait_for_all(uint64_t end)
 
 /* Until all that were found have stopped, and then no other is there: one may have been created by one that still
    ran. */
-static bool stop_all(void)
+static const char *stop_all(void)
 {
+    static const char does_not_stop[] = "a thread does not stop";
     uint64_t end = milliseconds() + PATIENCE_MS;
     for (;;) {
         bool found = false;
-        if (!other_threads_visit(visit_running, &found) || world.has_failed || !wait_for_all(end))
-            return false;
+        if (!other_threads_visit(visit_running, &found))
+            return "the system does not say which threads there are";
+        if (world.has_failed || !wait_for_all(end))
+            return does_not_stop;
         if (!found)
-            return true;
+            return NULL;
         if (milliseconds() > end)
-            return false;
+            return does_not_stop;
     }
 }
 
@@ -204,23 +207,23 @@ static void give_signal_back(const struct system_action *old)
         action_set(USER_SIGNAL, old, NULL);
 }
 
-bool world_stop(void)
+const char *world_stop(void)
 {
     struct system_action old;
     world.has_failed = false;
     if (!find_slots())
-        return false;
+        return "there is no memory for it";
     atomic_fetch_add(&world.round, 1);
     if (!has_other_threads())
-        return true;
-    bool is_stopped = take_signal(&old) && stop_all();
-    if (is_stopped) {
+        return NULL;
+    const char *why = take_signal(&old) ? stop_all() : "the system takes no handler of the signal that stops threads";
+    if (why == NULL) {
         give_signal_back(&old);
-        return true;
+        return NULL;
     }
     world_go_on();
     world.first = world.count;
-    return false;
+    return why;
 }
 
 void world_go_on(void)

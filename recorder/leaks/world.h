@@ -6,9 +6,9 @@
 #include <stdint.h>
 #include <ucontext.h>
 
-/* Stops the others, whoever created them. False: one of them does not stop, or nobody says which there are; then all
-   run. Who calls it has the lock of the allocator. A stopped thread may have any other lock. */
-bool world_stop(void);
+/* Stops the others, whoever created them. Null; or why it can't be done, and then all run. Who calls it has the lock of
+   the allocator. A stopped thread may have any other lock. */
+const char *world_stop(void);
 void world_go_on(void);
 
 /* A thread that is stopped: what the signal has interrupted, and its control block, which is 0 if it is not known. */

@@ -365,6 +365,13 @@ bool side_note_becoming(bool becomes)
     return side != NULL;
 }
 
+void side_note_leaks_missed(bool were_missed)
+{
+    struct side *side = side_now();
+    if (side != NULL)
+        atomic_store((_Atomic uint64_t *)&progress_in(side)->leaks_missed, were_missed);
+}
+
 _Atomic uint64_t *side_begin_calls(bool for_start)
 {
     struct side *side = side_now();

@@ -21,6 +21,8 @@ void side_note_restated(uint64_t events);
 void side_note_fork(void);
 /* That it becomes a program that is to connect, or does not. False: there is no side memory. */
 bool side_note_becoming(bool becomes);
+/* Whether leaks were to be looked for, the last time, and could not be. */
+void side_note_leaks_missed(bool were_missed);
 /* A sandbox may end the process for the calls of the system that come now: what the recorder tries in the middle of the
    program, or does for a program that is about to be started. They are over with what this answers. */
 _Atomic uint64_t *side_begin_calls(bool for_start);

@@ -6,6 +6,7 @@ import shutil
 from typing import Dict, List, Tuple
 
 from support import TESTS, Compiler, Suite, expect, leave_out, run, write
+from testing.programs import REPORT
 from testing.side import side_of
 
 LEAK, INDIRECT = 1, 2
@@ -80,8 +81,8 @@ def recorded(folder: str, program: str, *words: str, **settings: str) -> Lost:
     return lost_in(f"{folder}/t.trace")
 
 
-def by_sanitizer(folder: str, program: str, name: str) -> Lost:
-    said = run([program, name], folder, LSAN_OPTIONS="exitcode=0").stderr.decode()
+def by_sanitizer(folder: str, program: str, name: str, **settings: str) -> Lost:
+    said = run([program, name], folder, LSAN_OPTIONS="exitcode=0", **settings).stderr.decode()
     sums: List[int] = []
     for kind in ("Direct", "Indirect"):
         found = re.findall(rf"^{kind} leak of (\d+) byte\(s\) in (\d+) object", said, re.M)
@@ -289,6 +290,86 @@ def check_debugger(suite: Suite, folder: str, compiler: Compiler) -> None:
     expect(lost_in(f"{folder}/t.trace"), NOTHING, "leaks")
 
 
+# Frames apart from the stack that alone lead to a block: of the first thread and of another one. And one that was
+# returned from, which leads nowhere.
+FRAMES = """
+#include <pthread.h>
+#include <stdlib.h>
+#include <unistd.h>
+__attribute__((noinline)) static void fill(void *volatile *room, size_t size) { *room = malloc(size); }
+__attribute__((noinline, no_sanitize("address", "kernel-address"))) static void clear_stack(void) {
+    volatile char bytes[16000];
+    for (size_t i = 0; i < sizeof bytes; i++) bytes[i] = 0; }
+__attribute__((noinline)) static void lose(void) { void *volatile room[8]; fill(room + 3, 300); }
+static void *wait_here(void *p) {
+    void *volatile room[8];
+    fill(room + 3, 200);
+    clear_stack();
+    for (;;) pause();
+    return room[3]; }
+int main(void) {
+    void *volatile room[8];
+    pthread_t thread;
+    if (pthread_create(&thread, NULL, wait_here, NULL) == 0) usleep(50000);
+    lose();
+    fill(room + 3, 100);
+    clear_stack();
+    exit(0); }
+"""
+
+
+def check_frames(suite: Suite, folder: str, compiler: Compiler) -> None:
+    write(folder, frames_c=FRAMES)
+    flags, kept = ["-O1", "-w", "-pthread"], (300, 1, 0, 0)
+    for option in ("runtime", "always"):
+        compiler.c(folder, ["frames.c"], "frames", *flags, f"-fsanitize-address-use-after-return={option}")
+        expect(recorded(folder, "./frames"), kept, option)
+        os.unlink(f"{folder}/t.trace")
+        os.unlink(f"{folder}/t.trace.where")
+    if compiler.has_sanitizer:
+        compiler.c(folder, ["frames.c"], "sanitized", *flags, "-fsanitize=address", native=True)
+        options = "detect_stack_use_after_return=1"
+        expect(by_sanitizer(folder, "./sanitized", "", ASAN_OPTIONS=options), kept, "LeakSanitizer")
+
+
+# A thread that no signal stops: it waits for a child of vfork, or it has blocked the C library's own signals.
+STUCK = """
+#define _GNU_SOURCE
+#include <pthread.h>
+#include <stdlib.h>
+#include <string.h>
+#include <sys/syscall.h>
+#include <unistd.h>
+static void *volatile sink;
+static void *wait_here(void *how) {
+    unsigned long all = -1ul;
+    if (strcmp(how, "vfork") == 0 && vfork() == 0) { sleep(4); _exit(0); }
+    if (strcmp(how, "blocks") == 0) syscall(SYS_rt_sigprocmask, 0, &all, NULL, sizeof all);
+    for (;;) pause(); }
+int main(int count, char **words) {
+    pthread_t thread;
+    if (pthread_create(&thread, NULL, wait_here, words[1]) == 0) usleep(50000);
+    sink = malloc(100);
+    sink = NULL;
+    return 7; }
+"""
+
+
+def check_stuck(suite: Suite, folder: str, compiler: Compiler) -> None:
+    """Nothing leaks of which nobody knows, and the process ends as without the recorder."""
+    write(folder, stuck_c=STUCK)
+    compiler.c(folder, ["stuck.c"], "stuck", "-O1", "-w", "-pthread")
+    for how in ("vfork", "blocks"):
+        ran = run(["./stuck", how], folder, ASANCOL_TRACE=f"{how}.trace", **WANTED)
+        said = "asancol: leaks are not looked for: ./stuck: a thread does not stop\n"
+        expect((ran.returncode, ran.stderr.decode()), (7, said), how)
+        expect((lost_in(f"{folder}/{how}.trace"), side_of(f"{folder}/{how}.trace").leaks_missed), (NOTHING, 1), how)
+        for leaks, status, text in (("yes", 3, "NOT SEEN WHOLE: leaks of it were not looked for, "),
+                                    ("summary", 0, "asancol: leaks of a process were not looked for, ")):
+            ran = run([REPORT, f"--leaks={leaks}", "--trace", f"{how}.trace"], folder, ASANCOL=suite.asancol)
+            expect((ran.returncode, text in ran.stdout.decode()), (status, True), ran.stdout.decode())
+
+
 def tests(suite: Suite, compiler: Compiler) -> None:
     if compiler.cxx:
         sources, flags = [f"{TESTS}/leaks.cpp"], ["-w", "-O1", "-pthread"]
@@ -299,5 +380,6 @@ def tests(suite: Suite, compiler: Compiler) -> None:
             suite.test(f"{compiler} leaks {name}", check_way, compiler, program, sanitized, name)
     for name, check in (("of threads that work", check_stress), ("while users change", check_users),
                         ("at each end", check_ends), ("of a static program", check_static), ("in order", check_order),
-                        ("in a debugger", check_debugger)):
+                        ("in a debugger", check_debugger), ("that a frame alone leads to", check_frames),
+                        ("if a thread does not stop", check_stuck)):
         suite.test(f"{compiler} leaks {name}", check, compiler)

@@ -29,6 +29,7 @@ NO_PLACE = "its place was not recorded"
 NO_ALLOCATION = "before the trace began"
 # The function of Rust's library that runs `main`, a thread or a test; Rust's own stacks end there too.
 RUST_BEGINS = "__rust_begin_short_backtrace"
+LEAKS_MISSED = "leaks of a process were not looked for, as if a thread does not stop"
 NO_MODULES = "the modules of a process are not known, as where /proc is not there: its places are addresses"
 
 LEAK_KINDS = (FINDING_LEAK, FINDING_INDIRECT_LEAK)
@@ -116,6 +117,8 @@ class Gatherer:
             threads, created = threads_of(side, last.thread)
             self.last[process] = Crashed(last, self.calls(side, last.calls), threads,
                                          [self.calls(side, it) for it in created])
+        if side is not None and side.leaks_missed and self.leaks == SUMMARY:
+            self.results.notes[LEAKS_MISSED] = None
         if lines.strange:
             self.results.notes[f"process {pid}: {lines.strange} lines of asancol were not understood"] = None
 

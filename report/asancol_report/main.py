@@ -173,7 +173,7 @@ class Report:
     def check_trace(self, traces: Files, asancol_run: str, gatherer: Gatherer) -> None:
         from .hub import CannotCheck
         try:
-            traces.check(asancol_run, self.options.check_words)
+            traces.check(asancol_run, [f"--leaks={self.options.value('--leaks')}", *self.options.check_words])
         except CannotCheck:
             raise
         except Broken as error:

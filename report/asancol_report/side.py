@@ -26,7 +26,7 @@ HAS_ADDRESS, BY_LOAD, BY_STORE, BY_JUMP, STACK_USED_UP = 1, 2, 4, 8, 16
 ACCESSES = {BY_LOAD: "load", BY_STORE: "store", BY_JUMP: "jump"}
 BUILDS_AT = 4096
 BUILD = struct.Struct("<QB23s")
-PROGRESS_AT, PROGRESS = 7680, struct.Struct("<14Q")
+PROGRESS_AT, PROGRESS = 7680, struct.Struct("<15Q")
 BESIDE_THREADS_AT, BESIDE_THREADS = 8160, struct.Struct("<II16s")
 MAPS_AT = 8192
 UNCHECKED_AT, UNCHECKED_ROOM = 245760, 1 << 14
@@ -173,9 +173,9 @@ class Side:
         self.stack_words = min(stack_words, MAX_STACK_WORDS)
         progress = read_at(descriptor, PROGRESS_AT, PROGRESS.size) if self.is_good else b""
         has_progress = len(progress) == PROGRESS.size
-        fields = PROGRESS.unpack(progress) if has_progress else (0,) * 14
+        fields = PROGRESS.unpack(progress) if has_progress else (0,) * 15
         self.needed, before, self.restated, self.noted = fields[:4]
-        self.finding_count, self.findings_lost, self.leak_count = fields[11:]
+        self.finding_count, self.findings_lost, self.leak_count, self.leaks_missed = fields[11:]
         self.segment = before + 1
         self.stacks: Dict[int, Calls] = {}
         self.maps = self.read_maps() if self.is_good else []

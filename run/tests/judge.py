@@ -48,6 +48,8 @@ ENDS = [
     End("ended in a call of the recorder's own, or before an exec, as by SIGKILL or a filter of system calls",
         "close=0 ending=0 kill=31 calls=1", test="abrupt.check_forbidden"),
     End("its recorder had no room for LOST of its findings", "findings_lost=2"),
+    End("leaks of it were not looked for, as if a thread does not stop", "leaks_missed=1", ["--leaks=yes"],
+        test="leaks.check_stuck"),
     End("no code of it was compiled by asancol-cc", f"{GONE} has_checks=0"),
     End("ran another program, by an exec in a library", "close=0 ending=0 exec=1", test="abrupt.check_spawns"),
     End("ran another program, by an exec in a library", "close=0 ending=0 exec=1 has_begun=0"),

@@ -33,10 +33,10 @@ def run_it(suite: Suite, *words: str) -> Ran:
     return suite.run(*words, ASANCOL_REPORT=REPORT)
 
 
-def make(folder: str, compiler: str) -> str:
+def make(folder: str, compiler: str, text: str = PROGRAM, *flags: str) -> str:
     with open(f"{folder}/leak.c", "w", encoding="utf-8") as file:
-        file.write(PROGRAM)
-    words = [CC, "-g", "-O1", "-w", "leak.c", "-o", "leak"]
+        file.write(text)
+    words = [CC, "-g", "-O1", "-w", *flags, "leak.c", "-o", "leak"]
     subprocess.run(words, cwd=folder, env={**os.environ, "ASANCOL_CC": compiler}, check=True)
     return f"{folder}/leak"
 
@@ -117,8 +117,82 @@ def check_several(suite: Suite, folder: str, compiler: str) -> None:
     expect(*(re.findall("==ERROR: .*\n.* allocated from:", text) for text in texts), "merged")
 
 
+STUCK = """
+#define _GNU_SOURCE
+#include <pthread.h>
+#include <stdlib.h>
+#include <sys/syscall.h>
+#include <unistd.h>
+static void *wait_here(void *p) {
+    unsigned long all = -1ul;
+    syscall(SYS_rt_sigprocmask, 0, &all, NULL, sizeof all);
+    for (;;) pause(); }
+int main(void) {
+    pthread_t thread;
+    if (pthread_create(&thread, NULL, wait_here, NULL) == 0) usleep(50000);
+    return 7; }
+"""
+
+
+def check_stuck(suite: Suite, folder: str, compiler: str) -> None:
+    """If leaks could not be looked for, nobody calls the process clean of them."""
+    program = make(folder, compiler, STUCK, "-pthread")
+    said = f"asancol: leaks are not looked for: {program}: a thread does not stop\n"
+    ran = run_it(suite, "--leaks=yes", "--", program)
+    expect_ran(ran, 98, said, "NOT SEEN WHOLE: leaks of it were not looked for, as if a thread does not stop\n")
+    ran = run_it(suite, f"--json={folder}/out.json", "--", program)
+    note = "asancol: leaks of a process were not looked for, as if a thread does not stop\n"
+    expect_ran(ran, 7, said, "all seen whole\n", note)
+    expect_in(suite.run_words([REPORT, f"{folder}/out.json"]).out, note)
+    expect_ran(run_it(suite, "--leaks=no", "--", program), 7, "all seen whole\n", absent=["leaks"])
+
+
+# A program that installs a filter of system calls, and ends with status 7 if it is not ended by one.
+FILTERED = """
+#define _GNU_SOURCE
+#include <linux/filter.h>
+#include <linux/seccomp.h>
+#include <stddef.h>
+#include <stdlib.h>
+#include <string.h>
+#include <sys/prctl.h>
+#include <sys/syscall.h>
+#include <unistd.h>
+static void *volatile sink;
+#define ALLOW(name) BPF_JUMP(BPF_JMP | BPF_JEQ | BPF_K, SYS_##name, 0, 1), BPF_STMT(BPF_RET | BPF_K, SECCOMP_RET_ALLOW)
+int main(int count, char **words) {
+    sink = malloc(100);
+    sink = NULL;
+    struct sock_filter code[] = {
+        BPF_STMT(BPF_LD | BPF_W | BPF_ABS, offsetof(struct seccomp_data, nr)), ALLOW(read), ALLOW(write), ALLOW(exit),
+        ALLOW(exit_group), ALLOW(brk), ALLOW(rt_sigreturn), ALLOW(mmap), ALLOW(munmap), ALLOW(mprotect), ALLOW(madvise),
+        ALLOW(futex), ALLOW(getpid), ALLOW(rt_sigprocmask), ALLOW(clock_gettime), ALLOW(sendto), ALLOW(sendmsg),
+        ALLOW(fstat), ALLOW(newfstatat),
+        BPF_STMT(BPF_RET | BPF_K, SECCOMP_RET_KILL_PROCESS)};
+    struct sock_fprog filter = {sizeof code / sizeof *code, code};
+    if (strcmp(words[1], "errno") == 0) code[filter.len - 1].k = SECCOMP_RET_ERRNO | 1;
+    prctl(PR_SET_NO_NEW_PRIVS, 1, 0, 0, 0);
+    if (strcmp(words[1], "strict") == 0 ? prctl(PR_SET_SECCOMP, SECCOMP_MODE_STRICT)
+                                        : prctl(PR_SET_SECCOMP, SECCOMP_MODE_FILTER, &filter)) return 1;
+    if (count > 2) syscall(SYS_exit, 7);
+    return 7; }
+"""
+
+
+def check_filtered(suite: Suite, folder: str, compiler: str) -> None:
+    """Where a filter refuses the recorder's calls, or ends whoever makes them, no process is called clean of leaks. Who
+    leaves at once, as in strict mode, ends as without the recorder: nobody looks for leaks then."""
+    program = make(folder, compiler, FILTERED)
+    for how, status, said in ((["strict", "leaves"], 7, "ended abruptly, with status 7: seen up to there"),
+                              (["kill"], 98, "NOT SEEN WHOLE: ended in a call of the recorder's own, "),
+                              (["errno"], 98, "NOT SEEN WHOLE: leaks of it were not looked for, ")):
+        expect_ran(run_it(suite, "--leaks=yes", "--", program, *how), status, said)
+    expect_ran(run_it(suite, "--", program, "errno"), 7, "all seen whole\n", "leaks of a process were not looked for")
+
+
 def tests(suite: Suite) -> None:
     for compiler in ("gcc", "clang"):
         for name, check in (("forms", check_forms), ("suppressed", check_rules), ("outputs", check_outputs),
-                            ("of several processes", check_several)):
+                            ("of several processes", check_several), ("if a thread does not stop", check_stuck),
+                            ("under a filter of system calls", check_filtered)):
             suite.test(f"{compiler} leaks: {name}", check, compiler)
