@@ -275,7 +275,7 @@ static inline uint32_t take_number(struct fake_stack *stack, unsigned class, uin
     return none;
 }
 
-uintptr_t fake_take(unsigned class, uintptr_t real)
+static inline __attribute__((always_inline)) uintptr_t take(unsigned class, uintptr_t real)
 {
     struct fake_stack *stack = own;
     if (UNLIKELY(stack == NULL) && (stack = begin()) == NULL)
@@ -293,6 +293,21 @@ uintptr_t fake_take(unsigned class, uintptr_t real)
     words[size_of(class) / sizeof *words - 1] = (uintptr_t)(flags_of(stack, class) + number);
     paint(frame, class, 0);
     return frame;
+}
+
+/* The smaller ones, which are most, have code for themselves, without shifts and loops. */
+uintptr_t fake_take(unsigned class, uintptr_t real)
+{
+    switch (class) {
+    case 0:
+        return take(0, real);
+    case 1:
+        return take(1, real);
+    case 2:
+        return take(2, real);
+    default:
+        return take(class, real);
+    }
 }
 
 void fake_give(uintptr_t frame, unsigned class)
