@@ -9,8 +9,8 @@ from typing import Dict, Iterable, List, Tuple
 # What one place has lost, directly and indirectly: bytes and blocks of each.
 Lost = Tuple[int, int, int, int]
 NOTHING: Lost = (0, 0, 0, 0)
-# So many blocks of a place are kept by words that nobody uses any more, in all processes of a suite: by some here, and
-# by others with AddressSanitizer, whose frames and registers have other values.
+# So many blocks of a place may be kept by words that nobody uses any more, in all processes of a suite. With
+# AddressSanitizer there may be more such words. Which block leads to which is by chance if hashes are drawn, as in Lua.
 STALE = 4
 
 SAID = re.compile(r"(Direct|Indirect) leak of (\d+) byte\(s\) in (\d+) object\(s\)")
@@ -56,9 +56,10 @@ def of_result(path: str) -> Dict[str, Lost]:
     return places
 
 
-def are_alike(one: Lost, other: Lost) -> bool:
-    """Whether no more blocks differ, of those that are lost directly or indirectly, than stale words may keep."""
-    return all(abs(one[count] - other[count]) <= STALE for count in (1, 3))
+def are_alike(ours: Lost, theirs: Lost) -> bool:
+    """Whether the blocks that LeakSanitizer finds are found, and at no place that it does not know."""
+    found, real = ours[1] + ours[3], theirs[1] + theirs[3]
+    return found >= real - STALE and (real != 0 or found <= STALE)
 
 
 def differences(real: Dict[str, Lost], recorded: Dict[str, Lost]) -> List[str]:
