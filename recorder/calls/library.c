@@ -75,10 +75,19 @@ static const char more_than_one;
 
 struct library library = {.__errno_location = own_error, .__libc_single_threaded = &more_than_one};
 
+/* The loader's list of what is loaded, with the program first. */
+#ifdef IS_PRELOAD
+
+static const struct link_map *loaded(void)
+{
+    return _r_debug.r_map;
+}
+
+#else
+
 /* Of the program, made by the linker. */
 extern const Elf64_Dyn program_entries[] __asm__("_DYNAMIC") __attribute__((visibility("hidden")));
 
-/* The loader's list of what is loaded, with the program first. */
 static const struct link_map *loaded(void)
 {
     for (const Elf64_Dyn *it = program_entries; it->d_tag != DT_NULL; it++)
@@ -86,6 +95,8 @@ static const struct link_map *loaded(void)
             return ((const struct r_debug *)it->d_un.d_ptr)->r_map;
     return NULL;
 }
+
+#endif
 
 static const struct link_map *library_named(const char *front)
 {
@@ -149,7 +160,7 @@ void library_begin(void)
     }
     if (map == NULL)
         return;
-    struct object program = object_read(loaded()->l_addr, program_entries);
+    struct object program = object_read(loaded()->l_addr, loaded()->l_ld);
     struct object from = object_read(map->l_addr, map->l_ld);
     find_all(&program, &from);
     if (loader != NULL) {
@@ -162,15 +173,26 @@ void library_begin(void)
 struct search {
     const char *name;
     uintptr_t found;
-    bool is_past_program;
+    bool is_past_own;
 };
+
+/* Whether this is the module that has the recorder: the program comes first, and after it what is preloaded. */
+static bool is_own_module(const struct dl_phdr_info *module)
+{
+#ifdef IS_PRELOAD
+    return range_has(object_range(module), (uintptr_t)&library);
+#else
+    (void)module;
+    return true;
+#endif
+}
 
 static int look_for_name(struct dl_phdr_info *module, size_t size, void *of)
 {
     struct search *search = of;
     (void)size;
-    if (!search->is_past_program) {
-        search->is_past_program = true;
+    if (!search->is_past_own) {
+        search->is_past_own = is_own_module(module);
         return 0;
     }
     for (int i = 0; i < module->dlpi_phnum && search->found == 0; i++) {
@@ -190,12 +212,23 @@ void *library_next(const char *name)
     return (void *)search.found;
 }
 
+void *library_first(const char *name)
+{
+    struct search search = {.name = name, .is_past_own = true};
+    library.dl_iterate_phdr(look_for_name, &search);
+    return (void *)search.found;
+}
+
 /* Some functions of time are those that the system maps into the process. */
 static int look_at(struct dl_phdr_info *module, size_t size, void *of)
 {
     struct meeting *meeting = of;
     struct code_range range = object_range(module);
     (void)size;
+#ifdef IS_PRELOAD
+    if (meeting->program.size == 0)
+        meeting->program = range;
+#endif
     if (range_has(range, (uintptr_t)library.vsnprintf))
         meeting->library = range;
     if (range_has(range, beginning.system_code))

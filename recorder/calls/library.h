@@ -75,8 +75,10 @@ static inline bool library_is_of_cxx(const char *path)
 void library_begin(void);
 /* Says where the code is. Where the library is a part of the program, nothing is wrapped, and it stays unsaid. */
 void library_find(struct meeting *meeting);
-/* The function of this name in the objects after the program, which the program's own one hides; or null. */
+/* The function of this name in the objects after the one that has the recorder, whose own one hides it; or null. */
 void *library_next(const char *name) OWN_NAME(library_next);
+/* Likewise in all objects, with the program first. Where a program only names it, it is not the program's. */
+void *library_first(const char *name);
 /* After a library was opened: the mathematics may have come with it. */
 void library_look_again(void);
 /* From now on no call is checked. */

@@ -18,7 +18,7 @@ static void note_opened(void *opened, int mode)
     asancol_hooks.modules_changed();
 }
 
-GUARD_OWN(dlopen);
+GUARD_OWN_OF_CALLER(dlopen);
 CHECK void *checked_dlopen(const char *file, int mode)
 {
     IS_OWN_FRAME; /* a constructor of the library may run */
@@ -27,7 +27,7 @@ CHECK void *checked_dlopen(const char *file, int mode)
     return opened;
 }
 
-GUARD_OWN(dlmopen);
+GUARD_OWN_OF_CALLER(dlmopen);
 CHECK void *checked_dlmopen(Lmid_t namespace, const char *file, int mode)
 {
     IS_OWN_FRAME;

@@ -4,6 +4,8 @@
    the program's own slot, which stays as it is. Nothing is exported: what the program, or a library before the C
    library, has by such a name is called as before. If nothing is recorded, no slot is touched.
 
+   If this is preloaded, the program is plain too, and is looked at as they are.
+
    The loader's lock is held while slots are looked at (dl_iterate_phdr). It guards what is `static` here. */
 #define _GNU_SOURCE
 #include "calls/plain.h"
@@ -29,6 +31,10 @@ struct stub {
     int32_t code, function, name;
 };
 
+#ifdef IS_PRELOAD /* with those that stand in other files (GUARD_OWN) */
+#define plain_stubs __start_asancol_stubs
+#define plain_stubs_end __stop_asancol_stubs
+#endif
 extern const struct stub plain_stubs[] __attribute__((visibility("hidden")));
 extern const struct stub plain_stubs_end[] __attribute__((visibility("hidden")));
 
@@ -189,7 +195,7 @@ static void lead(struct module *module, const Elf64_Rela *it)
         return;
     _Atomic uintptr_t *slot = (_Atomic uintptr_t *)place;
     uintptr_t now = atomic_load_explicit(slot, memory_order_relaxed);
-    if (now < module->all.size) { /* as it is in the file */
+    if (now < module->all.size && module->info->dlpi_addr != 0) { /* as it is in the file */
         module->is_filled = false;
         return;
     }
@@ -290,10 +296,12 @@ static int look_at(struct dl_phdr_info *info, size_t size, void *of)
 {
     struct look *look = of;
     (void)size;
+#ifndef IS_PRELOAD
     if (!look->is_past_program) {
         look->is_past_program = true;
         return 0;
     }
+#endif
     if (is_known(info))
         return 0;
     struct module module;
@@ -305,7 +313,7 @@ static int look_at(struct dl_phdr_info *info, size_t size, void *of)
     return 0;
 }
 
-static bool is_on;
+static _Atomic bool is_on;
 
 static int read_library(struct dl_phdr_info *info, size_t size, void *unused)
 {
@@ -319,16 +327,23 @@ static int read_library(struct dl_phdr_info *info, size_t size, void *unused)
     return 1;
 }
 
+/* Whether the loader has filled all slots that there are, and has yet to make some read-only. */
+#ifdef IS_PRELOAD
+enum { IS_AT_START = false };
+#else
+enum { IS_AT_START = true };
+#endif
+
 void plain_begin(void)
 {
     const struct meeting *meeting = (const struct meeting *)MEETING_START;
     if (meeting->library.size == 0 || !recorder_checks_libraries())
         return;
-    is_on = true;
     next_dlsym = library.dlsym;
     enter_stubs();
     library.dl_iterate_phdr(read_library, NULL);
-    library.dl_iterate_phdr(look_at, &(struct look){.is_start = true});
+    library.dl_iterate_phdr(look_at, &(struct look){.is_start = IS_AT_START});
+    atomic_store(&is_on, true);
 }
 
 void plain_look_again(void)

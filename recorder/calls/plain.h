@@ -4,8 +4,9 @@
 
 #include <stdbool.h>
 
-/* Has their calls of the C library checked, from here on: of all that are loaded. Once, before there are threads. Does
-   nothing if no call is checked, or ASANCOL_LIBRARIES says so. */
+/* Has their calls of the C library checked, from here on: of all that are loaded. Once, before there are threads, or if
+   this is preloaded at any time but in a signal handler. Does nothing if no call is checked, or ASANCOL_LIBRARIES says
+   so. */
 void plain_begin(void);
 /* Those that were loaded since, too. Not in a signal handler. */
 void plain_look_again(void);

@@ -56,8 +56,7 @@ _Static_assert(offsetof(struct meeting, program) == 56, "as the stubs have it");
 
 /* The program's stubs of the C library are in a list (plain.c): how far from there the stub is, the pointer to its
    function, and the name. A program may wrap the function by itself, so the stub is not meant by its name. */
-#ifdef LISTS_STUBS
-#define LIST(name)                                                                                                     \
+#define LISTED(name)                                                                                                   \
     __asm__(".pushsection asancol_stubs,\"a\",@progbits\n"                                                            \
             "\t.long .L__wrap_" #name " - .\n"                                                                         \
             "\t.long __real_" #name "@GOTPCREL\n"                                                                      \
@@ -65,7 +64,9 @@ _Static_assert(offsetof(struct meeting, program) == 56, "as the stubs have it");
             ".popsection\n"                                                                                            \
             ".pushsection .rodata.str1.1,\"aMS\",@progbits,1\n"                                                       \
             ".Lname_of_" #name ": .asciz \"" #name "\"\n"                                                             \
-            ".popsection\n");
+            ".popsection\n")
+#if defined LISTS_STUBS || defined IS_PRELOAD
+#define LIST(name) LISTED(name);
 #else
 #define LIST(name)
 #endif
@@ -75,13 +76,13 @@ _Static_assert(offsetof(struct meeting, program) == 56, "as the stubs have it");
     GUARD("__wrap_" #name, "__real_" #name, "checked_" #name, "__real_" #name)                                         \
     LIST(name)
 
-/* For a function that the program calls to end, to go on otherwise or to give memory another use: what it does is seen
-   as long as the name is not the object's own, or the program's. */
-#define GUARD_OWN(name)                                                                                                \
+/* For a function whose effect depends on its caller, and that the program calls to end, to go on otherwise or to give
+   memory another use: what it does is seen as long as the name is not the object's own, or the program's. */
+#define GUARD_OWN_OF_CALLER(name)                                                                                      \
     __asm__(".pushsection .text\n"                                                                                     \
             ".p2align 4\n"                                                                                             \
             BIND("__wrap_" #name) HIDE("__wrap_" #name)                                                                \
-            ".type __wrap_" #name ",@function\n__wrap_" #name ":\n"                                                    \
+            ".type __wrap_" #name ",@function\n__wrap_" #name ":\n.L__wrap_" #name ":\n"                              \
             "\t.cfi_startproc\n"                                                                                       \
             "\tendbr64\n"                                                                                              \
             "\tmovq __real_" #name "@GOTPCREL(%rip), %r11\n"                                                           \
@@ -97,6 +98,16 @@ _Static_assert(offsetof(struct meeting, program) == 56, "as the stubs have it");
             "\t.cfi_endproc\n"                                                                                         \
             ".size __wrap_" #name ", .-__wrap_" #name "\n"                                                             \
             ".popsection\n")
+
+/* For one whose effect is the same whoever calls it. A plain program that has the recorder preloaded ends, and goes on,
+   as one of asancol-cc does. */
+#ifdef IS_PRELOAD
+#define GUARD_OWN(name)                                                                                                \
+    GUARD_OWN_OF_CALLER(name);                                                                                         \
+    LISTED(name)
+#else
+#define GUARD_OWN(name) GUARD_OWN_OF_CALLER(name)
+#endif
 
 /* For a function whose check calls another one: both have to be the library's. */
 #define STUB_OF_TWO(name, other)                                                                                       \

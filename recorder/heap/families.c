@@ -9,13 +9,28 @@
 #include "base/memory.h"
 #include "calls/library.h"
 #include "heap/blocks.h"
+#include "heap/heap.h"
+#include "process/link_note.h"
 #include "stream/findings.h"
+#include "stream/maps.h"
 
 static _Atomic bool are_checked;
 
 void heap_check_families(bool is_on)
 {
     atomic_store_explicit(&are_checked, is_on, memory_order_relaxed);
+}
+
+/* A plain program, which has this preloaded, may have the library of C++ inside. */
+static bool has_own_operators(const void *module)
+{
+#ifdef IS_PRELOAD
+    struct note note;
+    return !maps_find_note((uintptr_t)module, LINK_NOTE_OWNER, LINK_NOTE_TYPE, &note);
+#else
+    (void)module;
+    return false;
+#endif
 }
 
 /* Whether a function that calls malloc or free may be an operator of C++: who has called that was not compiled here, so
@@ -25,7 +40,8 @@ static bool may_be_operator(uintptr_t caller)
 #if __GLIBC_PREREQ(2, 35)
     struct dl_find_object found = {0};
     if (library._dl_find_object != NULL && library._dl_find_object((void *)(caller - 1), &found) == 0)
-        return found.dlfo_link_map == NULL || library_is_of_cxx(found.dlfo_link_map->l_name);
+        return found.dlfo_link_map == NULL || library_is_of_cxx(found.dlfo_link_map->l_name)
+               || has_own_operators(found.dlfo_map_start);
 #else
     (void)caller;
 #endif
@@ -80,8 +96,8 @@ static bool is_call_of(uintptr_t function, uintptr_t back)
    if the call is one of free. */
 static bool is_release(const struct release *release)
 {
-    return release->family != FAMILY_MALLOC || is_call_of((uintptr_t)&heap_own_free, release->caller)
-           || is_call_of((uintptr_t)&heap_own_realloc, release->caller);
+    return release->family != FAMILY_MALLOC || is_call_of(EXPORTED(free), release->caller)
+           || is_call_of(EXPORTED(realloc), release->caller);
 }
 
 static bool is_known(enum family family, uintptr_t caller)

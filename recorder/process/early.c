@@ -1,4 +1,5 @@
-/* The first call into an object: of a program by first.c, of a shared object when it is loaded. */
+/* The first call into an object: of a program by first.c, of a shared object when it is loaded. What is preloaded comes
+   before all others (-z initfirst). */
 #include "process/early.h"
 
 #include <stddef.h>
@@ -8,6 +9,7 @@
 #include "shadow/mapping.h"
 #else
 #include "calls/plain.h"
+#include "process/aside.h"
 #include "process/start.h"
 #endif
 
@@ -21,8 +23,10 @@ static void map_early(int count, char **words, char **variables)
 #ifdef IN_SHARED_OBJECT
     shadow_map();
 #else
+    if (!aside_is_own())
+        return;
     asancol_start();
-#ifndef IS_STATIC
+#if !defined IS_STATIC && !defined IS_PRELOAD
     plain_begin();
 #endif
 #endif
@@ -31,7 +35,7 @@ static void map_early(int count, char **words, char **variables)
 }
 
 /* In a program first.c calls it. */
-#ifdef IN_SHARED_OBJECT
+#if defined IN_SHARED_OBJECT || defined IS_PRELOAD
 __attribute__((section(".init_array.00000"), used))
 #endif
 void (*const asancol_map_early)(int, char **, char **) = map_early;

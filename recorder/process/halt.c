@@ -1,7 +1,9 @@
 /* ASANCOL_HALT: the process ends at the first access or free that the shadow holds for bad, as a fuzzer wants it.
 
    With 1 the recording ends there, with a close if it has everything. With 2 it begins there: with what stands, and
-   this one event. So only a process that fails leaves a trace, and asancol judges it without a second run. */
+   this one event. So only a process that fails leaves a trace, and asancol judges it without a second run.
+
+   What is preloaded and waits begins there too, and the process goes on. */
 #include "process/halt.h"
 
 #include <string.h>
@@ -48,6 +50,12 @@ static void say_where(enum code code, uint64_t address)
 
 void halt_at(enum code code, unsigned width, uint64_t address, uintptr_t caller, struct access *whole)
 {
+    if (!recorder_halts()) {
+        if (recorder_is_own_process())
+            recorder_wait_no_more();
+        record(code, width, address, caller, whole);
+        return;
+    }
     /* In a child of vfork all memory is its parent's, which has not halted. */
     if (!recorder_is_own_process())
         signals_abort();

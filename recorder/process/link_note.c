@@ -8,5 +8,9 @@ __attribute__((section(LINK_NOTE_SECTION), aligned(4), used)) const struct link_
     .text_size = LINK_NOTE_ROOM,
     .type = LINK_NOTE_TYPE,
     .owner = LINK_NOTE_OWNER,
+#ifdef IS_PRELOAD
+    .text = LINK_NOTE_KNOWN, /* all of it is the recorder's */
+#else
     .text = LINK_NOTE_UNKNOWN,
+#endif
 };

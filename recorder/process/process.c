@@ -10,8 +10,11 @@
 #include "base/self.h"
 #include "base/system.h"
 #include "calls/library.h"
+#include "calls/plain.h"
 #include "heap/heap.h"
+#include "process/aside.h"
 #include "process/orphan.h"
+#include "process/signals.h"
 #include "process/threads.h"
 #include "process/unseen.h"
 #include "stacks/fake_stack.h"
@@ -36,10 +39,39 @@ static struct {
     char name[PATH_MAX];
 } process;
 
+/* What is preloaded waits for the first module of asancol-cc, or the first bad access or free (halt.c). Whoever ends
+   that sets it to false. Until then blocks have redzones and places, and nothing else of the recorder is there. */
+static _Atomic bool is_waiting;
+
+bool recorder_waits(void)
+{
+    return atomic_load(&is_waiting);
+}
+
+bool recorder_halts(void)
+{
+    return process.settings.halt != HALT_NEVER;
+}
+
+/* What a program says at its start, one that has this preloaded says once it has a module. */
+static void say_who_is_recorded(void)
+{
+    unseen_note(process.settings.passed_over, "ASANCOL_TRACE is set for it, so its trace is there");
+    if (recorder_hub() == NULL)
+        orphan_note();
+}
+
 void recorder_found_checks(void)
 {
+    static _Atomic bool has_said;
     self_note_checks();
     side_note_checks();
+    if (!IS_PRELOADED)
+        return;
+    if (!atomic_exchange(&has_said, true))
+        say_who_is_recorded();
+    if (recorder_waits() && process.settings.halt != HALT_AND_RECORD)
+        recorder_wait_no_more();
 }
 
 /* The recorder stands after the program's own objects, so this constructor comes after theirs. */
@@ -101,7 +133,7 @@ static bool begin(uint64_t most_held)
 /* Nothing is recorded from now on. If the process is not to end at a fault either, the shadow need not show one. */
 static void be_idle(void)
 {
-    if (process.settings.halt == HALT_NEVER) {
+    if (!recorder_halts() && !recorder_waits()) {
         heap_set_bound(0);
         heap_paint(false);
         library_leave_unchecked();
@@ -121,15 +153,17 @@ void recorder_start(void)
     self_note_process();
     settings_read(&process.settings);
     process.pattern = process.settings.trace;
-    unseen_note(process.settings.passed_over, "ASANCOL_TRACE is set for it, so its trace is there");
     bool wanted = output_name() != NULL;
-    if (recorder_hub() == NULL)
-        orphan_note();
+    if (!IS_PRELOADED)
+        say_who_is_recorded();
     enum halt halt = process.settings.halt;
     heap_lock();
-    process.begins_late = wanted && halt == HALT_AND_RECORD;
-    atomic_store(&halt_is_on, halt != HALT_NEVER);
-    if (!wanted || halt == HALT_AND_RECORD || !begin(UINT64_MAX)) {
+    process.begins_late = wanted && (halt == HALT_AND_RECORD || IS_PRELOADED);
+    atomic_store(&is_waiting, wanted && IS_PRELOADED);
+    atomic_store(&halt_is_on, halt != HALT_NEVER || recorder_waits());
+    if (recorder_waits() && process.settings.with_side)
+        heap_keep_places();
+    if (!wanted || process.begins_late || !begin(UINT64_MAX)) {
         state_forget();
         be_idle();
     }
@@ -160,6 +194,42 @@ bool recorder_begin_late(void)
     undisturbed_end(&before);
     return has_begun;
 }
+
+#ifdef IS_PRELOAD
+
+/* The flag of faults comes first: who finds the stream on does not find that, and records once. Where a handler has
+   interrupted the allocator, the next fault begins it. */
+void recorder_wait_no_more(void)
+{
+    if (heap_is_entered())
+        return;
+    struct disturbance before;
+    undisturbed_begin(&before);
+    heap_lock();
+    bool has_waited = recorder_waits(), has_begun = false;
+    if (has_waited) {
+        atomic_store(&halt_is_on, recorder_halts());
+        has_begun = begin(UINT64_MAX);
+        process.begins_late = false;
+        atomic_store(&is_waiting, false);
+        if (!has_begun)
+            be_idle();
+    }
+    heap_unlock();
+    undisturbed_end(&before);
+    if (has_begun) {
+        plain_begin();
+        signals_handle();
+    }
+}
+
+#else
+
+void recorder_wait_no_more(void)
+{
+}
+
+#endif
 
 bool recorder_checks_libraries(void)
 {

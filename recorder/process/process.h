@@ -16,6 +16,12 @@ void recorder_say_child(void);
 bool recorder_begins_late(void);
 /* Begins it. False: it can't be, and a line said why. */
 bool recorder_begin_late(void);
+/* Whether this is preloaded and records nothing yet: until there is a module of asancol-cc, or something bad. */
+bool recorder_waits(void);
+/* Begins the recording, if it waits and can begin here. If it can't begin at all, a line says why. */
+void recorder_wait_no_more(void);
+/* Whether the process ends at its first fault, by its settings. */
+bool recorder_halts(void);
 /* The hub that this process has by its settings, or null; also if it does not connect there. */
 const char *recorder_hub(void);
 /* Whether calls that plain libraries make are checked, by its settings. */

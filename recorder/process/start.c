@@ -9,6 +9,7 @@
 #include "heap/heap.h"
 #include "interface/interface.h"
 #include "leaks/leaks.h"
+#include "process/aside.h"
 #include "process/beginning.h"
 #include "process/halt.h"
 #include "process/process.h"
@@ -51,6 +52,8 @@ static void after_handlers(void *unused)
 static void after_destructors(void)
 {
     ends.destructors_are_over = true;
+    if (!aside_is_own())
+        return;
     if (!ends.is_registered || ends.handlers_are_over)
         end_at_exit(true);
 }

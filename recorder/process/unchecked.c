@@ -32,12 +32,14 @@ static _Atomic uint64_t more_apart;
 
 void unchecked_start(void)
 {
-#ifdef IS_STATIC
+#if defined IS_STATIC
     uintptr_t found = (uintptr_t)&malloc;
+#elif defined IS_PRELOAD
+    uintptr_t found = (uintptr_t)library_first("malloc"); /* where a program only calls it, dlsym may find that call */
 #else
     uintptr_t found = (uintptr_t)library.dlsym(RTLD_DEFAULT, "malloc");
 #endif
-    if (found != (uintptr_t)&heap_own_malloc)
+    if (found != EXPORTED(malloc))
         other_malloc = found;
 }
 
@@ -49,7 +51,7 @@ void unchecked_note_malloc(void *opened)
     uintptr_t found = (uintptr_t)library.dlsym(opened, "malloc");
     if (found == 0)
         library.dlerror(); /* the program has made no error */
-    if (found == 0 || found == (uintptr_t)&heap_own_malloc)
+    if (found == 0 || found == EXPORTED(malloc))
         return;
     for (size_t i = 0; i < APART; i++) {
         uintptr_t there = 0;

@@ -37,24 +37,28 @@ static _Noreturn void fail(const char *why)
     system_exit(127);
 }
 
-static void map_at(uint64_t address, int advice)
+static const char taken[] = "something else has its addresses";
+
+/* Why it can't be mapped; null: it is. */
+static const char *map_at(uint64_t address, int advice)
 {
     int flags = MAP_PRIVATE | MAP_ANONYMOUS | MAP_NORESERVE | MAP_FIXED_NOREPLACE;
     void *at = (void *)address;
     long start = system_mmap(at, SHADOW_BYTES, PROT_READ | PROT_WRITE, flags, -1, 0);
     if (start < 0 && start != -EEXIST)
-        fail(start == -ENOMEM ? "address space is limited (ulimit -v, or vm.overcommit_memory=2)"
-                              : error_text((int)-start));
+        return start == -ENOMEM ? "address space is limited (ulimit -v, or vm.overcommit_memory=2)"
+                                : error_text((int)-start);
     /* A system that does not know MAP_FIXED_NOREPLACE takes the address for a hint. */
     if (start > 0 && start != (long)at)
-        fail("something else has its addresses");
+        return taken;
     /* Where another object of the process came first, the whole range is mapped. If anything else has a part of it, the
        rest is a hole, of which the system says ENOMEM here. */
     if (system_madvise(at, SHADOW_BYTES, MADV_DONTDUMP) == -ENOMEM)
-        fail("something else has its addresses");
+        return taken;
     system_madvise(at, SHADOW_BYTES, MADV_NOHUGEPAGE);
     if (advice != 0)
         system_madvise(at, SHADOW_BYTES, advice);
+    return NULL;
 }
 
 /* A wild pointer into one of the two maps faults as it would without them: in the compilers' check, which reads the
@@ -67,26 +71,29 @@ static void guard(uint64_t address)
 enum { MEETING_FLAGS = MAP_PRIVATE | MAP_ANONYMOUS | MAP_FIXED_NOREPLACE };
 
 /* The program writes into it before the constructors of the objects that are loaded with it. */
-static void map_meeting(void)
+static const char *map_meeting(void)
 {
     void *at = (void *)MEETING_START;
     long start = system_mmap(at, PAGE, PROT_READ | PROT_WRITE, MEETING_FLAGS, -1, 0);
 #ifdef IN_SHARED_OBJECT
     if (start == -EEXIST)
-        return;
+        return NULL;
 #else
     /* An object has mapped an empty one when it was relocated. */
     if (start == -EEXIST && system_mprotect(at, PAGE, PROT_READ | PROT_WRITE) == 0)
         start = (long)at;
 #endif
     if (start != (long)at)
-        fail("something else has its addresses");
+        return taken;
 #ifndef IN_SHARED_OBJECT
-    library_find(at);
+#ifndef IS_PRELOAD
     ((struct meeting *)at)->program = own_code;
+#endif
+    library_find(at);
     ((struct meeting *)at)->hooks = &asancol_hooks;
 #endif
     system_mprotect(at, PAGE, PROT_READ);
+    return NULL;
 }
 
 /* The header of the object's own file, made by the linker. */
@@ -132,20 +139,44 @@ __attribute__((used)) static void (*const relocated)(void) = at_relocation;
 
 #endif
 
-void shadow_map(void)
+static const char *map_all(void)
 {
-    static bool is_mapped;
-    if (is_mapped)
-        return;
-    is_mapped = true;
     find_own_code();
 #ifndef IN_SHARED_OBJECT
     library_begin();
 #endif
-    map_at(SHADOW_START, 0);
+    const char *why = map_at(SHADOW_START, 0);
     /* A child's stream states nothing yet. */
-    map_at(STATED_START, MADV_WIPEONFORK);
-    map_meeting();
+    if (why == NULL)
+        why = map_at(STATED_START, MADV_WIPEONFORK);
+    if (why == NULL)
+        why = map_meeting();
+    if (why != NULL)
+        return why;
     guard(SHADOW_START);
     guard(STATED_START);
+    return NULL;
 }
+
+static bool is_mapped;
+
+void shadow_map(void)
+{
+    if (is_mapped)
+        return;
+    is_mapped = true;
+    const char *why = map_all();
+    if (why != NULL)
+        fail(why);
+}
+
+#ifdef IS_PRELOAD
+
+bool shadow_try_to_map(void)
+{
+    if (!is_mapped)
+        is_mapped = map_all() == NULL;
+    return is_mapped;
+}
+
+#endif

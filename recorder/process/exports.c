@@ -1,0 +1,54 @@
+/* What is preloaded has names of the C library: these, which lead where aside.c says. A call comes here with whatever
+   its caller has given it, and its caller stays the caller. */
+#include "process/aside.h"
+
+/* The recorder's function of the name is called `asancol_instead_NAME` (Makefile). At its first call a way leads to
+   find_way, with the way in r11. */
+#define EXPORT(name)                                                                                                   \
+    __asm__(".pushsection .text\n"                                                                                     \
+            ".p2align 4\n"                                                                                             \
+            ".globl " #name "\n.type " #name ",@function\n" #name ":\n"                                                \
+            ".globl asancol_exported_" #name "\n.hidden asancol_exported_" #name "\n"                                  \
+            "asancol_exported_" #name ":\n"                                                                            \
+            "\t.cfi_startproc\n"                                                                                       \
+            "\tendbr64\n"                                                                                              \
+            "\tjmp *.Lway_" #name "(%rip)\n"                                                                           \
+            ".Lfirst_" #name ":\n"                                                                                     \
+            "\tendbr64\n"                                                                                              \
+            "\tleaq .Lway_" #name "(%rip), %r11\n"                                                                     \
+            "\tjmp find_way\n"                                                                                         \
+            "\t.cfi_endproc\n"                                                                                         \
+            ".size " #name ", .-" #name "\n"                                                                           \
+            ".popsection\n"                                                                                            \
+            ".pushsection asancol_exported,\"aw\",@progbits\n"                                                             \
+            ".balign 8\n"                                                                                              \
+            ".Lway_" #name ": .quad .Lfirst_" #name ", asancol_instead_" #name ", .Lname_" #name "\n"                   \
+            ".popsection\n"                                                                                            \
+            ".pushsection .rodata.str1.1,\"aMS\",@progbits,1\n"                                                        \
+            ".Lname_" #name ": .asciz \"" #name "\"\n"                                                                 \
+            ".popsection\n");
+
+#include "out/exported.def"
+
+/* All arguments are in these registers: no function here has others. */
+__asm__(".pushsection .text\n"
+        ".p2align 4\n"
+        ".type find_way,@function\nfind_way:\n"
+        "\t.cfi_startproc\n"
+        "\tpushq %rdi\n\t.cfi_adjust_cfa_offset 8\n"
+        "\tpushq %rsi\n\t.cfi_adjust_cfa_offset 8\n"
+        "\tpushq %rdx\n\t.cfi_adjust_cfa_offset 8\n"
+        "\tpushq %rcx\n\t.cfi_adjust_cfa_offset 8\n"
+        "\tpushq %r8\n\t.cfi_adjust_cfa_offset 8\n"
+        "\tmovq %r11, %rdi\n"
+        "\tcall asancol_way_of\n"
+        "\tmovq %rax, %r11\n"
+        "\tpopq %r8\n\t.cfi_adjust_cfa_offset -8\n"
+        "\tpopq %rcx\n\t.cfi_adjust_cfa_offset -8\n"
+        "\tpopq %rdx\n\t.cfi_adjust_cfa_offset -8\n"
+        "\tpopq %rsi\n\t.cfi_adjust_cfa_offset -8\n"
+        "\tpopq %rdi\n\t.cfi_adjust_cfa_offset -8\n"
+        "\tjmp *%r11\n"
+        "\t.cfi_endproc\n"
+        ".size find_way, .-find_way\n"
+        ".popsection\n");
