@@ -8,6 +8,7 @@
 #include <string.h>
 #include <unistd.h>
 
+#include "common/array.h"
 #include "common/path.h"
 #include "say.h"
 
@@ -81,26 +82,46 @@ char *name_expanded(const char *option, const char *text)
     return name;
 }
 
+/* The file of that name in the first of these folders, which are counted from that of this program, where there is such
+   a one; or null. */
+static char *find_beside(const char *const *folders, size_t count, const char *name, bool is_such(const char *))
+{
+    char self[PATH_MAX], folder[PATH_MAX + 32];
+    ssize_t length = readlink("/proc/self/exe", self, sizeof self - 1);
+    self[length > 0 ? length : 0] = 0;
+    char *slash = strrchr(self, '/');
+    if (slash == NULL)
+        return NULL;
+    *slash = 0;
+    for (size_t i = 0; i < count; i++) {
+        snprintf(folder, sizeof folder, "%s%s", self, folders[i]);
+        char *path = path_in(folder, strlen(folder), name);
+        if (is_such(path))
+            return path;
+        free(path);
+    }
+    return NULL;
+}
+
 char *find_own_program(const char *name, const char *variable)
 {
     /* Where all is installed; and in the tree that all is built in. */
     static const char *const folders[] = {"", "/..", "/../report"};
-    char self[PATH_MAX], folder[PATH_MAX + 16];
     const char *named = getenv(variable);
     if (named != NULL && *named != 0)
         return path_of_program(named, NULL);
-    ssize_t length = readlink("/proc/self/exe", self, sizeof self - 1);
-    self[length > 0 ? length : 0] = 0;
-    char *slash = strrchr(self, '/');
-    if (slash != NULL) {
-        *slash = 0;
-        for (size_t i = 0; i < sizeof folders / sizeof *folders; i++) {
-            snprintf(folder, sizeof folder, "%s%s", self, folders[i]);
-            char *path = path_in(folder, strlen(folder), name);
-            if (path_is_program(path))
-                return path;
-            free(path);
-        }
-    }
-    return path_of_program(name, NULL);
+    char *path = find_beside(folders, COUNT(folders), name, path_is_program);
+    return path != NULL ? path : path_of_program(name, NULL);
+}
+
+static bool can_be_read(const char *path)
+{
+    return access(path, R_OK) == 0;
+}
+
+char *find_recorders_file(const char *name)
+{
+    static const char *const folders[] = {"/../lib/asancol", "/../recorder"};
+    char *path = find_beside(folders, COUNT(folders), name, can_be_read);
+    return path != NULL ? realpath(path, NULL) : NULL;
 }

@@ -16,4 +16,7 @@ int name_descriptor(const char *name);
    is not there or cannot be executed. */
 char *find_own_program(const char *name, const char *variable);
 
+/* A file of the recorder's, where that is installed beside this program, or built. Null: it is not there. */
+char *find_recorders_file(const char *name);
+
 #endif

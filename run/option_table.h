@@ -37,12 +37,12 @@
     "Checking and others:\n" \
     "  --quarantine B           how many bytes of freed blocks are held (268435456)\n" \
     "  --no-mismatches          malloc may be freed by delete, and so on\n" \
+    "  --preload                records modules of programs not built so\n" \
     "  --memory B               how many bytes each checker may hold (no bound)\n" \
     "  --limit N                how many events of a process are checked (16777216)\n" \
     "  -h, --help               print this help\n" \
     "  --version                print the name and the release\n" \
-    "%p in a FILE is the process number, %q{VAR} a variable, %% a percent sign.\n" \
-    "Status: 99 a report; 98 not all was seen; 125 to 127 no start; else COMMAND's.\n"
+    "%p in a FILE is the process, %q{VAR} a variable. Status 125 to 127: no start.\n"
 
 #define OPTION_DEFAULTS \
     .exitcode = 99, \
@@ -80,6 +80,7 @@
     {"baseline", 0, PASS_INPUT, 0, 0, 0, NULL}, \
     {"quarantine", 0, PASS_CHECK, AT(quarantine), 0, 1099511627776, NULL}, \
     {"no-mismatches", 0, SET_FLAG, AT(no_mismatches), 0, 0, NULL}, \
+    {"preload", 0, SET_FLAG, AT(preloads), 0, 0, NULL}, \
     {"memory", 0, PASS_CHECK, 0, 1048576, 1099511627776, NULL}, \
     {"limit", 0, PASS_CHECK, 0, 1, 16777216, NULL}, \
     {"files", 0, SET_FLAG, AT(are_files), 0, 0, NULL}, \

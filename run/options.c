@@ -17,6 +17,7 @@
 #include "children.h"
 #include "names.h"
 #include "option_table.h"
+#include "preload.h"
 #include "say.h"
 
 _Static_assert(MAX_OF_QUARANTINE == MAX_QUARANTINE && DEFAULT_OF_QUARANTINE == QUARANTINE_BOUND
@@ -386,5 +387,7 @@ struct options options_read(char **words)
     if (options.are_files)
         unsetenv("ASANCOL_QUARANTINE"); /* it says nothing of what was recorded before */
     follow_recorder(&options);
+    if (options.preloads)
+        options.preloaded = preload_value();
     return options;
 }

@@ -20,6 +20,8 @@ struct options {
     double timeout; /* 0: none */
     bool quiet, verbose, live;
     bool no_mismatches;     /* of families of functions that allocate: they are not noted */
+    bool preloads;          /* the recorder into programs that asancol-cc did not build */
+    const char *preloaded;  /* LD_PRELOAD with that, or null */
     enum unchecked unchecked;
     enum leaks leaks;
     const char *log;        /* or null */

@@ -1,0 +1,288 @@
+"""What is preloaded: modules of asancol-cc in programs that it did not build."""
+
+import glob
+import os
+import signal
+import subprocess
+from typing import Dict, List, Optional, Sequence, Tuple
+
+from support import (
+    HELPER, PAST_THE_END, RECORDER, TESTS, Compiler, Suite, expect, leave_out, noted, placed, reports, run, side_of, write,
+)
+
+PRELOADED = f"{RECORDER}/libasancol_preload.so"
+
+# How the host is linked: at a fixed place, with calls that wait for their first time; and anywhere, with all bound.
+LINKS: Dict[str, Sequence[str]] = {
+    "fixed": ["-no-pie", "-fno-pie", "-Wl,-z,lazy", "-Wl,-z,norelro"],
+    "lazy": ["-pie", "-fPIE", "-Wl,-z,lazy", "-Wl,-z,relro"],
+    "now": ["-pie", "-fPIE", "-Wl,-z,now", "-Wl,-z,relro"],
+    "slots": ["-no-pie", "-fno-pie", "-fno-plt", "-Wl,-z,now", "-Wl,-z,relro"],
+}
+
+# What happens: the reports, as access, size, class, and function and file of the innermost line that is known.
+OVER = ("load", "1", "heap-buffer-overflow", "act", "preload_module.c")
+CASES: Dict[str, List[Tuple[str, str, str, str, str]]] = {
+    "read": [],
+    "over": [OVER],
+    "stack": [("store", "1", "stack-buffer-overflow", "act", "preload_module.c")],
+    "global": [("store", "1", "global-buffer-overflow", "act", "preload_module.c")],
+    "module frees it": [],
+    "host frees it": [],
+    "module frees twice": [("free", "", "double-free", "act", "preload_module.c")],
+    "host frees twice": [("free", "", "double-free", "act_out", "preload_host.c")],
+    "one of each": [("free", "", "double-free", "act_out", "preload_host.c")],
+    "module reads freed": [("load", "1", "heap-use-after-free", "act", "preload_module.c")],
+    "threads": [],
+    "threads over": [OVER],
+    "vfork": [],
+    "signals": [],
+    "_exit": [],
+}
+
+
+def build_both(folder: str, compiler: Compiler, link: str = "now") -> None:
+    compiler.c(folder, [f"{TESTS}/preload_host.c"], "host", "-O1", "-pthread", *LINKS[link], native=True)
+    compiler.c(folder, [f"{TESTS}/preload_module.c"], "module.so", "-O1", "-fPIC", "-shared")
+
+
+def preloaded(folder: str, *words: str, **settings: str) -> "subprocess.CompletedProcess[bytes]":
+    """Runs a command that has it preloaded. No setting but the given ones is there."""
+    given = {"LD_PRELOAD": PRELOADED, "ASANCOL_TRACE": "t.%p.trace", "ASANCOL_WHERE": "1", **settings}
+    return run(list(words), folder, **{name: value for name, value in given.items() if value})
+
+
+def traces_in(folder: str) -> List[str]:
+    return sorted(glob.glob(f"{folder}/t.*.trace"), key=os.path.getmtime)
+
+
+def take_trace(folder: str) -> Optional[str]:
+    """The only trace, under another name; or None."""
+    found = traces_in(folder)
+    if not found:
+        return None
+    expect(len(found), 1, "traces")
+    os.replace(found[0], f"{folder}/taken.trace")
+    if os.path.exists(f"{found[0]}.where"):
+        os.replace(f"{found[0]}.where", f"{folder}/taken.trace.where")
+    return f"{folder}/taken.trace"
+
+
+def check_cases(suite: Suite, folder: str, compiler: Compiler, link: str) -> None:
+    """Each case has its reports with their lines, and its trace a close."""
+    build_both(folder, compiler, link)
+    for case, wanted in CASES.items():
+        ran = preloaded(folder, "./host", "./module.so", case)
+        expect((ran.returncode, ran.stdout, ran.stderr), (0, b"", b""), case)
+        trace = take_trace(folder)
+        found, status = placed(suite.asancol, trace)
+        seen = [(it.kind, it.width, it.wrong, it.function, it.line.split(":")[0]) for it in found]
+        expect((status, seen), (1 if wanted else 0, wanted), case)
+        expect(reports(suite.asancol, trace)[2].split()[0], "closed", f"{case}: its fate")
+
+
+def check_calls(suite: Suite, folder: str, compiler: Compiler, link: str) -> None:
+    """Calls of the module are checked, and those of the host that it passes its blocks to."""
+    build_both(folder, compiler, link)
+    for case, wanted in (("call", "preload_module.c"), ("host copies too much", "preload_host.c")):
+        expect(preloaded(folder, "./host", "./module.so", case).returncode, 0, case)
+        side = side_of(take_trace(folder))
+        faults = [(it.call, side.lines([it.place[0]])[0][1].split(":")[0]) for it in side.faults()]
+        expect({it for it in faults}, {("memcpy", wanted)}, case)
+
+
+def check_processes(suite: Suite, folder: str, compiler: Compiler) -> None:
+    """A forked child and a program after an exec have traces apart."""
+    build_both(folder, compiler)
+    for case, wanted in (("fork", [0, 1]), ("exec", [0, 1])):
+        ran = preloaded(folder, "./host", "./module.so", case, ASANCOL_TRACE="t.%p.trace")
+        expect((ran.returncode, ran.stderr), (0, b""), case)
+        found = sorted(len(side_of(it).faults()) for it in traces_in(folder))
+        fates = [reports(suite.asancol, it)[2].split()[0] for it in traces_in(folder)]
+        expect((found, fates), (wanted, ["closed"] * 2), case)
+        for path in glob.glob(f"{folder}/t.*"):
+            os.unlink(path)
+
+
+def check_ends(suite: Suite, folder: str, compiler: Compiler) -> None:
+    """A signal ends the process as without it, and the trace says where."""
+    build_both(folder, compiler)
+    for case, number, place in (("abort", signal.SIGABRT, "preload_module.c"), ("term", signal.SIGTERM, "")):
+        expect(preloaded(folder, "./host", "./module.so", case).returncode, -number, case)
+        side = side_of(take_trace(folder))
+        expect(side.signal, number, case)
+        lines = [line.split(":")[0] for _, line in side.lines([it for it in side.last().calls if side.path(it)])]
+        expect(place in lines or not place, True, f"{case}: {lines}")
+
+
+def check_without_module(suite: Suite, folder: str, compiler: Compiler) -> None:
+    """A program without a module is not recorded, unless it has a bad free; nor one for which nothing is asked."""
+    build_both(folder, compiler)
+    expect(preloaded(folder, "./host").returncode, 0, "no module")
+    expect(preloaded(folder, "sh", "-c", "ls /; (exit 0)").returncode, 0, "a shell")
+    expect(preloaded(folder, "./host", "./module.so", "over", ASANCOL_TRACE="").returncode, 0, "no trace")
+    expect(traces_in(folder), [], "traces")
+    expect(preloaded(folder, "./host", "bad").returncode, 0, "a bad free")
+    trace = take_trace(folder)
+    found, status = placed(suite.asancol, trace)
+    expect([(it.kind, it.wrong, it.function) for it in found], [("free", "bad-free", "main")], "a bad free")
+    expect(reports(suite.asancol, trace)[2].split()[0], "no-close", "no access was seen")
+
+
+def check_halt(suite: Suite, folder: str, compiler: Compiler) -> None:
+    build_both(folder, compiler)
+    for halt in ("1", "2"):
+        ran = preloaded(folder, "./host", "./module.so", "read", ASANCOL_HALT=halt)
+        expect((ran.returncode, take_trace(folder) is None), (0, halt == "2"), f"a good run, {halt}")
+        ran = preloaded(folder, "./host", "./module.so", "over", ASANCOL_HALT=halt)
+        expect(ran.returncode, -signal.SIGABRT, f"halt {halt}")
+        found, _ = placed(suite.asancol, take_trace(folder))
+        expect([it.line.split(":")[0] for it in found], ["preload_module.c"], f"halt {halt}")
+
+
+HIDES = "{ global: main; local: *; };\n"
+COPIES = """
+#include <stdlib.h>
+#include <string.h>
+int main(int count, char **words)
+{
+    char *copy = strdup(words[count - 1]);
+    int last = ((volatile char *)copy)[strlen(words[count - 1]) + (count > 2)];
+    free(copy);
+    return last;
+}
+"""
+
+
+def check_aside(suite: Suite, folder: str, compiler: Compiler) -> None:
+    """A program of asancol-cc is recorded as without it, also if the C library finds the preloaded malloc first; and a
+    static one."""
+    write(folder, main_c=PAST_THE_END, helper_c=HELPER, copies_c=COPIES, one_map=HIDES)
+    compiler.c(folder, ["main.c", "helper.c"], "program", "-DVALUE=1")
+    compiler.c(folder, ["main.c", "helper.c"], "static", "-DVALUE=1", "-static")
+    compiler.c(folder, ["copies.c"], "copies", "-fno-builtin")
+    compiler.c(folder, ["copies.c"], "hides", "-fno-builtin", "-Wl,--version-script=one.map")
+    for words in (["./program"], ["./static"], ["./copies", "a text"], ["./copies", "a text", "more"],
+                  ["./hides", "a text"]):
+        seen = []
+        for preload in ("", PRELOADED):
+            ran = preloaded(folder, *words, LD_PRELOAD=preload)
+            expect((ran.returncode, ran.stderr), (0, b""), f"{words}")
+            trace = take_trace(folder)
+            unchecked = [it.replace(os.path.basename(PRELOADED), "libc.so.6") for it in side_of(trace).unchecked()]
+            seen.append((reports(suite.asancol, trace), unchecked))
+        expect(seen[1], seen[0], f"{words}")
+    expect("malloc of libc.so.6" in seen[0][1], True, "its malloc is hidden")
+
+
+OTHER = """
+#define _GNU_SOURCE
+#include <dlfcn.h>
+#include <stdlib.h>
+#include <unistd.h>
+static int count;
+void *malloc(size_t size)
+{
+    static void *(*next)(size_t);
+    if (!next)
+        next = (void *(*)(size_t))dlsym(RTLD_NEXT, "malloc");
+    count++;
+    return next(size);
+}
+__attribute__((destructor)) static void say(void) { if (count && write(1, "counted\\n", 8) < 0) _exit(9); }
+"""
+
+
+def check_others(suite: Suite, folder: str, compiler: Compiler) -> None:
+    """Another library that is preloaded too does its work, before it or after it."""
+    build_both(folder, compiler)
+    write(folder, other_c=OTHER)
+    compiler.c(folder, ["other.c"], "other.so", "-shared", "-fPIC", native=True)
+    for order, said in ((f"{PRELOADED}:./other.so", b""), (f"./other.so:{PRELOADED}", b"counted\n")):
+        ran = preloaded(folder, "./host", "./module.so", "over", LD_PRELOAD=order)
+        expect((ran.returncode, ran.stdout, ran.stderr), (0, said, b""), order)
+        expect([it.wrong for it in placed(suite.asancol, take_trace(folder))[0]], ["heap-buffer-overflow"], order)
+
+
+def check_no_room(suite: Suite, folder: str, compiler: Compiler) -> None:
+    """A program for which there is no room for a shadow runs as without it."""
+    build_both(folder, compiler)
+    ran = preloaded(folder, "sh", "-c", "ulimit -v 4000000; ./host && ls /")
+    expect((ran.returncode, b"usr" in ran.stdout, ran.stderr, traces_in(folder)), (0, True, b"", []), "no room")
+
+
+NEWS = """
+#include <cstdlib>
+#include <new>
+extern "C" { void *make(int kind); void take(int kind, void *it); }
+void *make(int kind) { return kind == 0 ? malloc(5) : kind == 1 ? operator new(5) : operator new[](5); }
+void take(int kind, void *it)
+{
+    if (kind == 0) free(it); else if (kind == 1) operator delete(it); else operator delete[](it);
+}
+"""
+NEWS_HOST = """
+#include <dlfcn.h>
+#include <stdlib.h>
+#include <new>
+int main(int, char **words)
+{
+    void *opened = dlopen("./news.so", RTLD_NOW);
+    void *(*make)(int) = opened ? (void *(*)(int))dlsym(opened, "make") : 0;
+    void (*take)(int, void *) = opened ? (void (*)(int, void *))dlsym(opened, "take") : 0;
+    if (!make || !take)
+        return 1;
+    for (int kind = 0; kind < 3; kind++)
+        take(kind, make(kind));
+    take(1, operator new(5));
+    take(2, operator new[](5));
+    take(0, malloc(5));
+    operator delete(make(1));
+    if (words[1])
+        take(1, make(0));
+    return 0;
+}
+"""
+
+
+def check_families(suite: Suite, folder: str, compiler: Compiler) -> None:
+    """What the module makes a plain program may free, and the other way, also if that has the library of C++ inside;
+    the module's own mismatch is noted."""
+    if not compiler.cxx:
+        leave_out(f"no C++ of {compiler}")
+        return
+    write(folder, news_cpp=NEWS, host_cpp=NEWS_HOST)
+    compiler.cpp(folder, ["news.cpp"], "news.so", "-shared", "-fPIC")
+    for flags in ([], ["-static-libstdc++", "-static-libgcc"], ["-rdynamic", "-static-libstdc++"]):
+        compiler.cpp(folder, ["host.cpp"], "host", *flags, native=True)
+        expect(preloaded(folder, "./host").returncode, 0, f"{flags}")
+        expect(list(side_of(take_trace(folder)).findings()), [], f"{flags}")
+    compiler.cpp(folder, ["host.cpp"], "host", native=True)
+    expect(preloaded(folder, "./host", "bad").returncode, 0, "a mismatch")
+    expect(len(list(side_of(take_trace(folder)).findings())), 1, "a mismatch")
+
+
+def check_note(suite: Suite, folder: str) -> None:
+    """It is all of asancol-cc, and shows nothing but what others may ask for."""
+    expect(noted(PRELOADED), [], "its note")
+    shown = run(["nm", "-D", "--defined-only", PRELOADED], folder).stdout.decode()
+    names = [line.split()[-1] for line in shown.splitlines()]
+    odd = [it for it in names if it.startswith(("asancol", "__wrap", "__real", "__start", "__stop"))]
+    expect((odd, "malloc" in names, "__asan_report_load1_noabort" in names), ([], True, True), "names")
+    needed = run(["readelf", "-d", PRELOADED], folder).stdout.decode()
+    libraries = {it.split("[")[1].split("]")[0] for it in needed.splitlines() if "(NEEDED)" in it}
+    expect(libraries <= {"libc.so.6", "ld-linux-x86-64.so.2"}, True, f"{libraries}")
+
+
+def tests(suite: Suite, compiler: Compiler) -> None:
+    for link in LINKS:
+        suite.test(f"{compiler} preloaded, host {link}", check_cases, compiler, link)
+        suite.test(f"{compiler} preloaded, calls, host {link}", check_calls, compiler, link)
+    for name, test in (("processes", check_processes), ("ends", check_ends), ("no module", check_without_module),
+                       ("halt", check_halt), ("steps aside", check_aside), ("beside another", check_others),
+                       ("no room", check_no_room), ("families", check_families)):
+        suite.test(f"{compiler} preloaded, {name}", test, compiler)
+
+
+def tests_of_all(suite: Suite) -> None:
+    suite.test("preloaded, names", check_note)
