@@ -24,6 +24,7 @@ TOP = os.path.dirname(os.path.dirname(os.path.abspath(__file__)))
 DEBIAN = f"{TOP}/packaging/debian"
 REVISION = "1"
 PROGRAMS = ("asancol", "asancol-cc", "asancol-run")
+PRELOADED = "usr/lib/asancol/libasancol_preload.so"
 
 
 def output_of(words: List[str], folder: str = TOP) -> str:
@@ -70,6 +71,7 @@ def strip(root: str) -> None:
     for archive in glob.glob(f"{root}/usr/lib/asancol/*.a"):
         words = ["strip", "--strip-debug", "--enable-deterministic-archives", "--remove-section=.comment"]
         subprocess.run([*words, archive], check=True)
+    subprocess.run(["strip", "--strip-unneeded", "--remove-section=.comment", f"{root}/{PRELOADED}"], check=True)
 
 
 def zip_pages(root: str) -> None:
@@ -105,7 +107,8 @@ def libraries_of(root: str) -> str:
     """Returns the packages with the libraries that the programs need. The root is `debian/asancol` in some folder."""
     folder = os.path.dirname(root)
     write(f"{folder}/control", "Source: asancol\n\nPackage: asancol\nArchitecture: amd64\n")
-    found = output_of(["dpkg-shlibdeps", "-O", *(f"-e{root}/usr/bin/{name}" for name in PROGRAMS)], f"{folder}/..")
+    files = [*(f"usr/bin/{name}" for name in PROGRAMS), PRELOADED]
+    found = output_of(["dpkg-shlibdeps", "-O", *(f"-e{root}/{file}" for file in files)], f"{folder}/..")
     return re.sub(r"^shlibs:Depends=", "", found.strip())
 
 

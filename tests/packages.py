@@ -218,7 +218,7 @@ def package_is_whole(_: str, folder: str) -> None:
     must(["dpkg-deb", "-x", package_of(folder), folder])
     wanted = [f"lib/asancol/libasancol_{it}.a" for it in ("record", "static", "shared", "first", "first_static")]
     wanted += ["lib/asancol/no-second-allocator.ld", "lib/asancol/cold_reports.h", "lib/asancol/cxx/libc++/__config"]
-    wanted += ["lib/asancol/cxx/libstdc++/bits/basic_string.tcc"]
+    wanted += ["lib/asancol/cxx/libstdc++/bits/basic_string.tcc", "lib/asancol/libasancol_preload.so"]
     wanted += ["lib/asancol/cargo/rustc", "lib/asancol/cargo/rustdoc"]
     for name in ("asancol", "asancol-cc", "asancol-c++", "asancol-fc", "asancol-cargo", "asancol-run", "asancol-report",
                  "asancol-listen"):

@@ -9,7 +9,6 @@
 #include "base/memory.h"
 #include "calls/library.h"
 #include "heap/blocks.h"
-#include "heap/heap.h"
 #include "process/link_note.h"
 #include "stream/findings.h"
 #include "stream/maps.h"

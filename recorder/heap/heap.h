@@ -72,15 +72,6 @@ int heap_add_hooks(struct heap_hooks hooks) OWN_NAME(heap_add_hooks);
 
 /* The recorder's malloc, whatever stands in its place. */
 void *heap_own_malloc(size_t size);
-/* Where a call of one of these names leads, if it comes here. */
-#ifdef IS_PRELOAD
-extern const char exported_malloc[] __asm__("asancol_exported_malloc") __attribute__((visibility("hidden")));
-extern const char exported_free[] __asm__("asancol_exported_free") __attribute__((visibility("hidden")));
-extern const char exported_realloc[] __asm__("asancol_exported_realloc") __attribute__((visibility("hidden")));
-#define EXPORTED(name) ((uintptr_t)exported_##name)
-#else
-#define EXPORTED(name) ((uintptr_t)&heap_own_##name)
-#endif
 /* Whether what stands in its place takes its blocks from the recorder. */
 bool heap_is_below(void);
 

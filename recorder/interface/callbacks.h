@@ -7,8 +7,10 @@
 #ifndef ASANCOL_CALLBACKS_H
 #define ASANCOL_CALLBACKS_H
 
+#include <stdbool.h>
+
 #include "base/platform.h"
-#include "process/process.h"
+#include "process/waiting.h"
 
 #if defined IN_SHARED_OBJECT
 #define CALLBACK /* hidden: each shared object calls its own */

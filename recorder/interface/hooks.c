@@ -10,6 +10,7 @@
 #include "leaks/root_regions.h"
 #include "process/signals.h"
 #include "process/unchecked.h"
+#include "process/waiting.h"
 #include "stacks/fake_stack.h"
 #include "stacks/unwinding.h"
 #include "stream/thread_list.h"

@@ -20,9 +20,9 @@
             "\t.cfi_endproc\n"                                                                                         \
             ".size " #name ", .-" #name "\n"                                                                           \
             ".popsection\n"                                                                                            \
-            ".pushsection asancol_exported,\"aw\",@progbits\n"                                                             \
+            ".pushsection asancol_exported,\"aw\",@progbits\n"                                                         \
             ".balign 8\n"                                                                                              \
-            ".Lway_" #name ": .quad .Lfirst_" #name ", asancol_instead_" #name ", .Lname_" #name "\n"                   \
+            ".Lway_" #name ": .quad .Lfirst_" #name ", asancol_instead_" #name ", .Lname_" #name "\n"                  \
             ".popsection\n"                                                                                            \
             ".pushsection .rodata.str1.1,\"aMS\",@progbits,1\n"                                                        \
             ".Lname_" #name ": .asciz \"" #name "\"\n"                                                                 \

@@ -12,6 +12,7 @@
 #include "base/self.h"
 #include "process/process.h"
 #include "process/signals.h"
+#include "process/waiting.h"
 #include "stream/record.h"
 #include "stream/state.h"
 

@@ -10,11 +10,9 @@
 #include "base/self.h"
 #include "base/system.h"
 #include "calls/library.h"
-#include "calls/plain.h"
 #include "heap/heap.h"
 #include "process/aside.h"
 #include "process/orphan.h"
-#include "process/signals.h"
 #include "process/threads.h"
 #include "process/unseen.h"
 #include "stacks/fake_stack.h"
@@ -48,30 +46,21 @@ bool recorder_waits(void)
     return atomic_load(&is_waiting);
 }
 
+bool recorder_waits_for_checks(void)
+{
+    return recorder_waits() && process.settings.halt != HALT_AND_RECORD;
+}
+
 bool recorder_halts(void)
 {
     return process.settings.halt != HALT_NEVER;
 }
 
-/* What a program says at its start, one that has this preloaded says once it has a module. */
-static void say_who_is_recorded(void)
+void recorder_say_who(void)
 {
     unseen_note(process.settings.passed_over, "ASANCOL_TRACE is set for it, so its trace is there");
     if (recorder_hub() == NULL)
         orphan_note();
-}
-
-void recorder_found_checks(void)
-{
-    static _Atomic bool has_said;
-    self_note_checks();
-    side_note_checks();
-    if (!IS_PRELOADED)
-        return;
-    if (!atomic_exchange(&has_said, true))
-        say_who_is_recorded();
-    if (recorder_waits() && process.settings.halt != HALT_AND_RECORD)
-        recorder_wait_no_more();
 }
 
 /* The recorder stands after the program's own objects, so this constructor comes after theirs. */
@@ -155,7 +144,7 @@ void recorder_start(void)
     process.pattern = process.settings.trace;
     bool wanted = output_name() != NULL;
     if (!IS_PRELOADED)
-        say_who_is_recorded();
+        recorder_say_who();
     enum halt halt = process.settings.halt;
     heap_lock();
     process.begins_late = wanted && (halt == HALT_AND_RECORD || IS_PRELOADED);
@@ -195,21 +184,16 @@ bool recorder_begin_late(void)
     return has_begun;
 }
 
-#ifdef IS_PRELOAD
-
-/* The flag of faults comes first: who finds the stream on does not find that, and records once. Where a handler has
-   interrupted the allocator, the next fault begins it. */
-void recorder_wait_no_more(void)
+/* The flag of faults comes first: who finds the stream on does not find that, and records once. */
+bool recorder_end_waiting(void)
 {
-    if (heap_is_entered())
-        return;
     struct disturbance before;
     undisturbed_begin(&before);
     heap_lock();
     bool has_waited = recorder_waits(), has_begun = false;
     if (has_waited) {
         atomic_store(&halt_is_on, recorder_halts());
-        has_begun = begin(UINT64_MAX);
+        has_begun = recorder_is_own_process() && begin(UINT64_MAX);
         process.begins_late = false;
         atomic_store(&is_waiting, false);
         if (!has_begun)
@@ -217,19 +201,10 @@ void recorder_wait_no_more(void)
     }
     heap_unlock();
     undisturbed_end(&before);
-    if (has_begun) {
-        plain_begin();
-        signals_handle();
-    }
+    if (has_waited && !recorder_is_own_process())
+        recorder_say_child();
+    return has_begun;
 }
-
-#else
-
-void recorder_wait_no_more(void)
-{
-}
-
-#endif
 
 bool recorder_checks_libraries(void)
 {

@@ -16,10 +16,13 @@ void recorder_say_child(void);
 bool recorder_begins_late(void);
 /* Begins it. False: it can't be, and a line said why. */
 bool recorder_begin_late(void);
-/* Whether this is preloaded and records nothing yet: until there is a module of asancol-cc, or something bad. */
+/* Whether this is preloaded and records nothing yet; and whether checks end that, or a fault alone. */
 bool recorder_waits(void);
-/* Begins the recording, if it waits and can begin here. If it can't begin at all, a line says why. */
-void recorder_wait_no_more(void);
+bool recorder_waits_for_checks(void);
+/* Begins the recording, if it waits: else, or if it can't begin, it answers false, and a line has said why it can't. */
+bool recorder_end_waiting(void);
+/* Says to a hub why it will not see this process, if it will not. */
+void recorder_say_who(void);
 /* Whether the process ends at its first fault, by its settings. */
 bool recorder_halts(void);
 /* The hub that this process has by its settings, or null; also if it does not connect there. */
@@ -34,7 +37,5 @@ void recorder_finish_in_handler(int number);
 /* Before an exec. False: there is nothing to take back. */
 bool recorder_before_exec(void);
 void recorder_exec_failed(void);
-/* A shared object, or what calls an exported callback, has the calls of a compiler before its accesses. */
-void recorder_found_checks(void);
 
 #endif

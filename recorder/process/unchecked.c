@@ -11,6 +11,7 @@
 #include "base/digits.h"
 #include "common/format.h"
 #include "common/text.h"
+#include "heap/blocks.h"
 #include "heap/heap.h"
 #include "process/link_note.h"
 #include "process/process.h"

@@ -7,7 +7,8 @@ import subprocess
 from typing import Dict, List, Optional, Sequence, Tuple
 
 from support import (
-    HELPER, PAST_THE_END, RECORDER, TESTS, Compiler, Suite, expect, leave_out, noted, placed, reports, run, side_of, write,
+    HELPER, PAST_THE_END, RECORDER, TESTS, Compiler, Suite, expect, leave_out, noted, placed, reports, run, side_of,
+    write,
 )
 
 PRELOADED = f"{RECORDER}/libasancol_preload.so"
@@ -262,6 +263,75 @@ def check_families(suite: Suite, folder: str, compiler: Compiler) -> None:
     expect(len(list(side_of(take_trace(folder)).findings())), 1, "a mismatch")
 
 
+def check_linked_otherwise(suite: Suite, folder: str, compiler: Compiler) -> None:
+    """A module that asancol-cc compiled and did not link is recorded from its first bad access on."""
+    build_both(folder, compiler)
+    compiler.c(folder, [f"{TESTS}/preload_module.c"], "module.o", "-O1", "-fPIC", "-c")
+    compiler.c(folder, ["module.o"], "other.so", "-shared", native=True)
+    for case in ("over", "stack", "global"):
+        expect(preloaded(folder, "./host", "./other.so", case).returncode, 0, case)
+        found, _ = placed(suite.asancol, take_trace(folder))
+        expect([it.line.split(":")[0] for it in found], ["preload_module.c"], case)
+
+
+LINKED_HOST = """
+#include <stdlib.h>
+void *act(const char *what, void *block);
+int main(int count, char **words)
+{
+    char *block = malloc(10);
+    block[2] = 1;
+    act(words[count - 1], block);
+    free(block);
+    return 0;
+}
+"""
+
+
+def check_linked_with(suite: Suite, folder: str, compiler: Compiler) -> None:
+    """A shared object that a plain program is linked with, or that is preloaded too, is there from the start."""
+    write(folder, host_c=LINKED_HOST)
+    compiler.c(folder, [f"{TESTS}/preload_module.c"], "module.so", "-O1", "-fPIC", "-shared", "-Wl,-soname,./module.so")
+    compiler.c(folder, ["host.c", "./module.so"], "host", native=True)
+    for preload in (PRELOADED, f"{PRELOADED}:./module.so"):
+        for case, wanted in (("read", []), ("over", ["heap-buffer-overflow"]), ("stack", ["stack-buffer-overflow"])):
+            ran = preloaded(folder, "./host", case, LD_PRELOAD=preload)
+            expect((ran.returncode, ran.stderr), (0, b""), case)
+            trace = take_trace(folder)
+            expect([it.wrong for it in placed(suite.asancol, trace)[0]], wanted, case)
+            expect(reports(suite.asancol, trace)[2].split()[0], "closed", f"{case}: its fate")
+
+
+CLONES = """
+#define _GNU_SOURCE
+#include <dlfcn.h>
+#include <sched.h>
+#include <signal.h>
+#include <stdlib.h>
+#include <sys/syscall.h>
+#include <sys/wait.h>
+#include <unistd.h>
+int main(void)
+{
+    int status;
+    long child = syscall(SYS_clone, SIGCHLD, 0, 0, 0, 0);
+    if (child == 0)
+        _exit(dlopen("./module.so", RTLD_NOW) == NULL);
+    return waitpid((pid_t)child, &status, 0) != child || status != 0;
+}
+"""
+
+
+def check_clone(suite: Suite, folder: str, compiler: Compiler) -> None:
+    """A child that no fork has announced is not recorded, and a line says so once it has a module."""
+    build_both(folder, compiler)
+    write(folder, clones_c=CLONES)
+    compiler.c(folder, ["clones.c"], "clones", native=True)
+    ran = preloaded(folder, "./clones")
+    expect((ran.returncode, b"a child is not recorded" in ran.stderr), (0, True), ran.stderr.decode())
+    expect(traces_in(folder), [], "traces")
+
+
 def check_note(suite: Suite, folder: str) -> None:
     """It is all of asancol-cc, and shows nothing but what others may ask for."""
     expect(noted(PRELOADED), [], "its note")
@@ -280,7 +350,9 @@ def tests(suite: Suite, compiler: Compiler) -> None:
         suite.test(f"{compiler} preloaded, calls, host {link}", check_calls, compiler, link)
     for name, test in (("processes", check_processes), ("ends", check_ends), ("no module", check_without_module),
                        ("halt", check_halt), ("steps aside", check_aside), ("beside another", check_others),
-                       ("no room", check_no_room), ("families", check_families)):
+                       ("no room", check_no_room), ("families", check_families),
+                       ("linked otherwise", check_linked_otherwise), ("linked with it", check_linked_with),
+                       ("clone", check_clone)):
         suite.test(f"{compiler} preloaded, {name}", test, compiler)
 
 

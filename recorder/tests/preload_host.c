@@ -133,7 +133,7 @@ int main(int count, char **words)
     fill();
     if (count < 3) { /* no module */
         if (count == 2)
-            free(block + 1);
+            free(block + size - 20); /* a byte past its start */
         return 0;
     }
     if (!open_module(words[1]))

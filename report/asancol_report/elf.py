@@ -1,9 +1,9 @@
-"""The segments and the build id of a program or a shared object."""
+"""The segments and the notes of a program or a shared object."""
 
 from __future__ import annotations
 
 import struct
-from typing import List, Tuple
+from typing import Iterator, List, Tuple
 
 from .reading import read_at
 
@@ -11,21 +11,21 @@ MAGIC = b"\x7fELF\x02\x01"  # 64 bits, lowest byte first
 HEADER_BYTES = 64
 SEGMENT = struct.Struct("<IIQQQQ")
 NOTE = struct.Struct("<III")
-LOAD, NOTES = 1, 4
-BUILD_ID = 3
+LOAD, INTERPRETER, NOTES = 1, 3, 4
+BUILD_ID = (b"GNU\0", 3)
+LINK = (b"asancol\0", 1)  # what a link by asancol-cc leaves
 MAX_NOTES_SIZE = 1 << 16
 
 
-def build_id_of(notes: bytes) -> str:
-    """Returns the build id that stands among notes, in hexadecimal."""
+def notes_in(notes: bytes) -> Iterator[Tuple[Tuple[bytes, int], bytes]]:
+    """Yields the owner and the kind of each note, and what it says."""
     at = 0
     while at + NOTE.size <= len(notes):
         name_bytes, bytes_of_it, kind = NOTE.unpack_from(notes, at)
-        start = at + NOTE.size + (name_bytes + 3) // 4 * 4
-        if kind == BUILD_ID and notes[at + NOTE.size:at + NOTE.size + 4] == b"GNU\0":
-            return notes[start:start + bytes_of_it].hex()
+        name_at = at + NOTE.size
+        start = name_at + (name_bytes + 3) // 4 * 4
+        yield (notes[name_at:name_at + name_bytes], kind), notes[start:start + bytes_of_it]
         at = start + (bytes_of_it + 3) // 4 * 4
-    return ""
 
 
 class Elf:
@@ -33,7 +33,9 @@ class Elf:
 
     def __init__(self, descriptor: int) -> None:
         self.loads: List[Tuple[int, int, int]] = []  # offset in the file, length there, address
-        self.build_id = ""
+        self.build_id = ""  # in hexadecimal
+        self.is_program = False
+        self.is_linked = False  # by asancol-cc
         header = read_at(descriptor, 0, HEADER_BYTES)
         if len(header) < HEADER_BYTES or not header.startswith(MAGIC):
             return
@@ -46,8 +48,16 @@ class Elf:
             kind, _, offset, address, _, length = SEGMENT.unpack_from(table, at)
             if kind == LOAD:
                 self.loads.append((offset, length, address))
-            elif kind == NOTES and not self.build_id:
-                self.build_id = build_id_of(read_at(descriptor, offset, min(length, MAX_NOTES_SIZE)))
+            elif kind == INTERPRETER:
+                self.is_program = True
+            elif kind == NOTES:
+                self.take_notes(read_at(descriptor, offset, min(length, MAX_NOTES_SIZE)))
+
+    def take_notes(self, notes: bytes) -> None:
+        for what, text in notes_in(notes):
+            if what == BUILD_ID and not self.build_id:
+                self.build_id = text.hex()
+            self.is_linked |= what == LINK
 
     def address(self, offset: int) -> int:
         """Returns the address that the symbols of the file use for an offset in it."""

@@ -1,0 +1,34 @@
+#include "process/waiting.h"
+
+#include <stdatomic.h>
+#include <stdbool.h>
+
+#include "base/self.h"
+#include "calls/plain.h"
+#include "heap/heap.h"
+#include "process/aside.h"
+#include "process/process.h"
+#include "process/signals.h"
+#include "stream/side.h"
+
+void recorder_wait_no_more(void)
+{
+    if (!IS_PRELOADED || heap_is_entered() || !recorder_end_waiting())
+        return;
+#ifndef IS_STATIC
+    plain_begin();
+#endif
+    signals_handle();
+}
+
+/* What a program says at its start, one that has this preloaded says once it has a module. */
+void recorder_found_checks(void)
+{
+    static _Atomic bool has_said;
+    self_note_checks();
+    side_note_checks();
+    if (IS_PRELOADED && !atomic_exchange(&has_said, true))
+        recorder_say_who();
+    if (recorder_waits_for_checks())
+        recorder_wait_no_more();
+}

@@ -1,0 +1,10 @@
+/* What is preloaded waits for the first shared object of asancol-cc, or the first bad access or free. */
+#ifndef ASANCOL_WAITING_H
+#define ASANCOL_WAITING_H
+
+/* Begins the recording, if it waits. Where a handler has interrupted the allocator, the next fault does. */
+void recorder_wait_no_more(void);
+/* A shared object, or what calls an exported callback, has the calls of a compiler before its accesses. */
+void recorder_found_checks(void);
+
+#endif
