@@ -22,6 +22,7 @@ void foreign_note(void)
     bool is_named = dladdr(&asancol_checks, &object) != 0 && object.dli_fname != NULL;
     joined_add(&joined, "it loaded ", sizeof why);
     joined_add(&joined, is_named ? object.dli_fname : "a library", MAX_NAME_LENGTH);
-    joined_add(&joined, ", which was built by asancol-cc, and was not built so itself; --preload records it", sizeof why);
+    joined_add(&joined, ", which was built by asancol-cc, and was not built so itself", sizeof why);
+    joined_add(&joined, "; --preload records it", sizeof why);
     unseen_note(hub, why);
 }
