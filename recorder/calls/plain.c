@@ -20,6 +20,7 @@
 #include "calls/objects.h"
 #include "base/system.h"
 #include "common/text.h"
+#include "process/aside.h"
 #include "process/link_note.h"
 #include "process/process.h"
 #include "stacks/unwinding.h"
@@ -95,9 +96,10 @@ __asm__(".pushsection .text\n"
         ".size dlsym_stub, .-dlsym_stub\n"
         ".popsection\n");
 
-/* Where a slot leads, and where it shall. */
+/* Where a slot leads, and where it shall. `is_export`: to a function of the recorder's that has the name itself. */
 struct way {
     uintptr_t from, to;
+    bool is_export;
 };
 
 static bool is_checked(uintptr_t function)
@@ -112,9 +114,10 @@ static bool find_way(const char *name, struct way *way)
 {
     const struct stub *stub = find_stub(name);
     if (stub != NULL)
-        *way = (struct way){*(const uintptr_t *)at_distance(&stub->function), (uintptr_t)at_distance(&stub->code)};
+        *way = (struct way){*(const uintptr_t *)at_distance(&stub->function), (uintptr_t)at_distance(&stub->code),
+                            aside_is_behind(at_distance(&stub->function))};
     else if (strcmp(name, "dlsym") == 0)
-        *way = (struct way){(uintptr_t)next_dlsym, (uintptr_t)dlsym_stub};
+        *way = (struct way){(uintptr_t)next_dlsym, (uintptr_t)dlsym_stub, false};
     else
         return false;
     return is_checked(way->from);
@@ -127,6 +130,7 @@ struct module {
     const struct dl_phdr_info *info;
     const _Atomic uintptr_t *slot; /* one that leads to a stub, or null */
     bool is_filled;                /* no slot was found that the loader has yet to fill */
+    bool is_plain;                 /* asancol-cc has not linked it */
 };
 
 static void read_module(struct module *module, const struct dl_phdr_info *info)
@@ -191,7 +195,7 @@ static void lead(struct module *module, const Elf64_Rela *it)
     bool is_slot = type == R_X86_64_JUMP_SLOT || type == R_X86_64_GLOB_DAT
                    || (type == R_X86_64_64 && it->r_addend == 0);
     if (!is_slot || symbol->st_shndx != SHN_UNDEF || !find_way(module->object.texts + symbol->st_name, &way)
-        || !is_writable(module->info, place))
+        || (!way.is_export && !module->is_plain) || !is_writable(module->info, place))
         return;
     _Atomic uintptr_t *slot = (_Atomic uintptr_t *)place;
     uintptr_t now = atomic_load_explicit(slot, memory_order_relaxed);
@@ -242,8 +246,7 @@ bool plain_is_of_library(const char *name)
 static bool is_plain(const struct dl_phdr_info *info)
 {
     struct note note;
-    return !plain_is_of_library(base_name(info->dlpi_name))
-           && !maps_find_note(info->dlpi_addr, LINK_NOTE_OWNER, LINK_NOTE_TYPE, &note);
+    return !maps_find_note(info->dlpi_addr, LINK_NOTE_OWNER, LINK_NOTE_TYPE, &note);
 }
 
 /* The modules that need no further look. Another may lie at the same place since: then its name is elsewhere, or its
@@ -306,7 +309,9 @@ static int look_at(struct dl_phdr_info *info, size_t size, void *of)
         return 0;
     struct module module;
     read_module(&module, info);
-    if (!is_plain(info) || lead_module(&module, look->is_start)) {
+    module.is_plain = is_plain(info);
+    bool is_led = !plain_is_of_library(base_name(info->dlpi_name)) && (module.is_plain || IS_PRELOADED);
+    if (!is_led || lead_module(&module, look->is_start)) {
         keep_known(&module);
         look->has_found = true;
     }
@@ -342,6 +347,9 @@ void plain_begin(void)
     next_dlsym = library.dlsym;
     enter_stubs();
     library.dl_iterate_phdr(read_library, NULL);
+#ifdef IS_PRELOAD
+    aside_find_behind(&library_object);
+#endif
     library.dl_iterate_phdr(look_at, &(struct look){.is_start = IS_AT_START});
     atomic_store(&is_on, true);
 }

@@ -6,6 +6,7 @@
 #include <stddef.h>
 
 #include "calls/library.h"
+#include "calls/objects.h"
 #include "process/link_note.h"
 #include "shadow/mapping.h"
 #include "stream/maps.h"
@@ -54,4 +55,16 @@ uintptr_t way_of(struct exported *it)
     uintptr_t to = aside_is_own() ? it->own : (uintptr_t)library_next(it->name);
     atomic_store_explicit(&it->to, to, memory_order_relaxed);
     return to;
+}
+
+void aside_find_behind(const struct object *of)
+{
+    for (struct exported *it = exported; it != exported_end; it++)
+        if ((uintptr_t)library_first(it->name) == it->code)
+            it->behind = object_find(of, it->name);
+}
+
+bool aside_is_behind(const void *pointer)
+{
+    return (uintptr_t)pointer >= (uintptr_t)exported && (uintptr_t)pointer < (uintptr_t)exported_end;
 }

@@ -12,8 +12,9 @@
    decided asks again. */
 struct exported {
     _Atomic uintptr_t to;
-    uintptr_t own;
+    uintptr_t own, code; /* the recorder's function, and where a call of the name leads */
     const char *name;
+    uintptr_t behind; /* the C library's function of the name, if that is hidden; or 0 (aside_find_behind) */
 };
 
 #ifdef IS_PRELOAD
@@ -25,6 +26,20 @@ enum { IS_PRELOADED = false };
 static inline bool aside_is_own(void)
 {
     return true;
+}
+#endif
+
+struct object;
+/* Finds what the names hide of this object, the C library. Once, before the first slot is looked at (plain.c). */
+void aside_find_behind(const struct object *of);
+/* Whether a pointer to a function is one to that. */
+#ifdef IS_PRELOAD
+bool aside_is_behind(const void *pointer);
+#else
+static inline bool aside_is_behind(const void *pointer)
+{
+    (void)pointer;
+    return false;
 }
 #endif
 

@@ -3,7 +3,8 @@
 #include "process/aside.h"
 
 /* The recorder's function of the name is called `asancol_instead_NAME` (Makefile). At its first call a way leads to
-   find_way, with the way in r11. */
+   find_way, with the way in r11. A module that was opened with RTLD_DEEPBIND finds the C library's function first: so
+   that is in the list of stubs too (LISTED in calls/stubs.h), and the module's slot is led here. */
 #define EXPORT(name)                                                                                                   \
     __asm__(".pushsection .text\n"                                                                                     \
             ".p2align 4\n"                                                                                             \
@@ -22,7 +23,14 @@
             ".popsection\n"                                                                                            \
             ".pushsection asancol_exported,\"aw\",@progbits\n"                                                         \
             ".balign 8\n"                                                                                              \
-            ".Lway_" #name ": .quad .Lfirst_" #name ", asancol_instead_" #name ", .Lname_" #name "\n"                  \
+            ".Lway_" #name ": .quad .Lfirst_" #name ", asancol_instead_" #name ", asancol_exported_" #name "\n"        \
+            "\t.quad .Lname_" #name "\n"                                                                               \
+            ".Lbehind_" #name ": .quad 0\n"                                                                            \
+            ".popsection\n"                                                                                            \
+            ".pushsection asancol_stubs,\"a\",@progbits\n"                                                             \
+            "\t.long asancol_exported_" #name " - .\n"                                                                 \
+            "\t.long .Lbehind_" #name " - .\n"                                                                         \
+            "\t.long .Lname_" #name " - .\n"                                                                           \
             ".popsection\n"                                                                                            \
             ".pushsection .rodata.str1.1,\"aMS\",@progbits,1\n"                                                        \
             ".Lname_" #name ": .asciz \"" #name "\"\n"                                                                 \

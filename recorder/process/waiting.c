@@ -32,3 +32,12 @@ void recorder_found_checks(void)
     if (recorder_waits_for_checks())
         recorder_wait_no_more();
 }
+
+/* Its own slots are looked at now: a constructor may allocate. */
+void recorder_module_comes(void)
+{
+    recorder_found_checks();
+#ifdef IS_PRELOAD
+    plain_look_again();
+#endif
+}

@@ -6,5 +6,7 @@
 void recorder_wait_no_more(void);
 /* A shared object, or what calls an exported callback, has the calls of a compiler before its accesses. */
 void recorder_found_checks(void);
+/* A shared object of asancol-cc is loaded, before its constructors. */
+void recorder_module_comes(void);
 
 #endif

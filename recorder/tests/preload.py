@@ -28,6 +28,7 @@ CASES: Dict[str, List[Tuple[str, str, str, str, str]]] = {
     "over": [OVER],
     "stack": [("store", "1", "stack-buffer-overflow", "act", "preload_module.c")],
     "global": [("store", "1", "global-buffer-overflow", "act", "preload_module.c")],
+    "own": [("store", "1", "heap-buffer-overflow", "act", "preload_module.c")],
     "module frees it": [],
     "host frees it": [],
     "module frees twice": [("free", "", "double-free", "act", "preload_module.c")],
@@ -69,17 +70,22 @@ def take_trace(folder: str) -> Optional[str]:
     return f"{folder}/taken.trace"
 
 
-def check_cases(suite: Suite, folder: str, compiler: Compiler, link: str) -> None:
+def check_cases(suite: Suite, folder: str, compiler: Compiler, link: str, **settings: str) -> None:
     """Each case has its reports with their lines, and its trace a close."""
     build_both(folder, compiler, link)
     for case, wanted in CASES.items():
-        ran = preloaded(folder, "./host", "./module.so", case)
+        ran = preloaded(folder, "./host", "./module.so", case, **settings)
         expect((ran.returncode, ran.stdout, ran.stderr), (0, b"", b""), case)
         trace = take_trace(folder)
         found, status = placed(suite.asancol, trace)
         seen = [(it.kind, it.width, it.wrong, it.function, it.line.split(":")[0]) for it in found]
         expect((status, seen), (1 if wanted else 0, wanted), case)
         expect(reports(suite.asancol, trace)[2].split()[0], "closed", f"{case}: its fate")
+
+
+def check_deep(suite: Suite, folder: str, compiler: Compiler) -> None:
+    """A module that is opened with RTLD_DEEPBIND has the recorder's malloc too."""
+    check_cases(suite, folder, compiler, "now", DEEP="1")
 
 
 def check_calls(suite: Suite, folder: str, compiler: Compiler, link: str) -> None:
@@ -352,7 +358,7 @@ def tests(suite: Suite, compiler: Compiler) -> None:
                        ("halt", check_halt), ("steps aside", check_aside), ("beside another", check_others),
                        ("no room", check_no_room), ("families", check_families),
                        ("linked otherwise", check_linked_otherwise), ("linked with it", check_linked_with),
-                       ("clone", check_clone)):
+                       ("clone", check_clone), ("RTLD_DEEPBIND", check_deep)):
         suite.test(f"{compiler} preloaded, {name}", test, compiler)
 
 

@@ -28,7 +28,7 @@ static void fill(void)
 
 static int open_module(const char *path)
 {
-    void *opened = dlopen(path, RTLD_NOW);
+    void *opened = dlopen(path, getenv("DEEP") != NULL ? RTLD_NOW | RTLD_DEEPBIND : RTLD_NOW);
     if (opened == NULL) {
         puts(dlerror());
         return 0;

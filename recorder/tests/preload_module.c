@@ -20,7 +20,11 @@ void *act(const char *what, void *block)
         table[end] = 1;
     else if (strcmp(what, "call") == 0)
         memcpy((void *)table, block, end), memcpy(block, (void *)table, size);
-    else if (strcmp(what, "free") == 0 || strcmp(what, "module frees it") == 0)
+    else if (strcmp(what, "own") == 0) {
+        volatile char *own = malloc(end);
+        own[end] = 1;
+        free((void *)own);
+    } else if (strcmp(what, "free") == 0 || strcmp(what, "module frees it") == 0)
         free(block);
     else if (strcmp(what, "module frees twice") == 0)
         free(block), free(block);
