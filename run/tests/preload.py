@@ -84,7 +84,8 @@ def check_module(suite: Suite, folder: str, compiler: str) -> None:
     ran = suite.run("--preload", *over, cwd=folder, ASANCOL_REPORT=REPORT)
     expect_ran(ran, 99, "heap-buffer-overflow: load of 1 byte", f"in act {MODULE}:", f"in fill {HOST}:",
                "; not checked: host\n", absent=["NOT SEEN WHOLE"])
-    expect_ran(suite.run(*over, cwd=folder), 98, "which was built by asancol-cc, and was not built so itself; --preload records it")
+    words = "which was built by asancol-cc, and was not built so itself; --preload records it"
+    expect_ran(suite.run(*over, cwd=folder), 98, words)
     expect_ran(suite.run("--preload", "--unchecked=error", *good, cwd=folder), 98, "; not checked: host\n")
     expect_ran(suite.run("--preload", "--", "./host", cwd=folder), 98, "NOTHING WAS RECORDED")
 
