@@ -71,7 +71,7 @@ TARGETS = [
            [SIDE + REPORT + b"p0 end " + it + b"\n" for it in ENDS],
            [b"p0 end ", b"events ", b" reports ", b" checked "]),
     Target("asancol-run: words", [f"{THEIRS}/words.c", f"{THEIRS}/ends.c", f"{RUN}/options.c", f"{RUN}/names.c",
-                                   f"{COMMON}/path.c", f"{COMMON}/words.c"],
+                                   f"{RUN}/preload.c", f"{COMMON}/path.c", f"{COMMON}/words.c"],
            RUNS, [b"--wait=", b"--at-least=", b"%q{", b"}", b"--quarantine=", b"--html="],
            ["-Dexit=fuzz_exit", "-include", f"{THEIRS}/ends.h", '-DRELEASE="1"']),
 ]
