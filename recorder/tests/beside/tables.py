@@ -61,7 +61,6 @@ PIECES = "AddressSanitizer names the class by the first byte, which is good; her
 
 # Tests with executions that are not the same.
 KNOWN: List[Row] = [
-    Row("compiler-rt", "Linux/aligned_delete_test.cpp", "alignments of new and delete are not compared"),
     Row("compiler-rt", "Linux/interception_test.cpp", "what lies below a program's own function is not checked"),
     Row("compiler-rt", "Linux/printf-fortify-5.c",
         "AddressSanitizer fills a new block with bytes that are no end of a format; here its first byte is one"),
@@ -76,6 +75,4 @@ KNOWN: List[Row] = [
         "AddressSanitizer looks at the end of the range first, which no process has; here the first bad byte counts"),
     Row("gcc", "c-c++-common/asan/misalign-*", PIECES),
     Row("gcc", "g++.dg/asan/interception-test-1.C", "what lies below a program's own function is not checked"),
-    Row("units", "AddressSanitizer_StrArgsOverlapTest by *",
-        "the process goes on, and what the recorder finds between the same two events is not in the order of time"),
 ]
