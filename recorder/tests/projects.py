@@ -15,11 +15,12 @@ from support import (
 def check_by_itself(suite, folder, compiler):
     """The recorder, built by the compiler without a warning."""
     copy = f"{folder}/recorder"
-    shutil.copytree(RECORDER, copy, ignore=shutil.ignore_patterns("out", "tests", "*.a", "asancol-cc", "asancol-c++"))
+    built = ("out", "tests", "*.a", "*.so", "asancol-cc", "asancol-c++", "asancol-fc")
+    shutil.copytree(RECORDER, copy, ignore=shutil.ignore_patterns(*built))
     for name in ("install.mk", "VERSION"):
         shutil.copy(f"{RECORDER}/../{name}", folder)
     shutil.copytree(f"{RECORDER}/../common", f"{folder}/common")
-    made = run(["make", "-s", f"CC={compiler.name}"], copy)
+    made = run(["make", "-s", "-j4", f"CC={compiler.name}"], copy)
     expect((made.returncode, made.stderr), (0, b""), "make")
     write(folder, main_c=PAST_THE_END, helper_c=HELPER)
     build(["recorder/asancol-cc", "-DVALUE=1", "main.c", "helper.c", "-o", "program"], folder, ASANCOL_CC=compiler.name)
