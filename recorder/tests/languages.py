@@ -4,6 +4,7 @@ import glob
 import os
 import re
 import shutil
+import signal
 from typing import Dict, List, Optional, Tuple
 
 from support import CC, TESTS, TOP, Suite, build, expect, noted, run, write
@@ -247,9 +248,86 @@ def check_cargo_errors(suite: Suite, folder: str) -> None:
     expect("asancol-cargo: ./no-such-one does not say what it builds for\n" in none, True, "none")
 
 
+FEATURE = "#![feature(never_type)]\npub type Never = !;\nfn main() {}\n"
+
+
+def check_features(suite: Suite, folder: str) -> None:
+    """Features that are not stable: as plain cargo has them."""
+    for number, (allowed, status) in enumerate({"": 101, "other": 101, "other,bug": 0, "1": 0}.items()):
+        own = f"{folder}/{number}"
+        crate(own, main_rs=FEATURE)
+        settings = {"RUSTC_BOOTSTRAP": allowed} if allowed else {}
+        cargo(own, "build", "-q", status=status, **settings)
+        expect(run(["cargo", "build", "-q"], own, **settings).returncode, status, f"plain cargo: {allowed}")
+    if run(["rustc", "+nightly", "-V"], folder).returncode != 0:
+        return leave_out("rustc +nightly is not there")
+    cargo(f"{folder}/0", "+nightly", "build", "-q")
+    cargo(f"{folder}/0", "build", "-q", RUSTUP_TOOLCHAIN="nightly")
+
+
+def host_of(folder: str) -> str:
+    return found(re.compile("^host: (.*)$", re.M), run(["rustc", "-vV"], folder).stdout.decode())
+
+
+def check_settings(suite: Suite, folder: str) -> None:
+    """Flags of the project's settings hold, and the target and wrapper that the environment names."""
+    crate(folder, main_rs='fn main() { std::process::exit(if cfg!(flag_of_settings) { 0 } else { 1 }) }\n')
+    os.mkdir(f"{folder}/.cargo")
+    write(f"{folder}/.cargo", config_toml='[build]\nrustflags = ["--cfg", "flag_of_settings"]\n')
+    wrapper = f"{folder}/wrapper"
+    with open(wrapper, "w", encoding="utf-8") as file:
+        file.write(f'#!/bin/sh\necho "$*" >> "{folder}/calls"\nexec "$@"\n')
+    os.chmod(wrapper, 0o755)
+    named = {"RUSTC_WRAPPER": wrapper, "CARGO_BUILD_TARGET": host_of(folder)}
+    expect(said_of(suite, folder, [CARGO, "run", "-q"], **named), [], "the flag of the settings")
+    with open(f"{folder}/calls", encoding="utf-8") as calls:
+        expect("--crate-name bug" in calls.read(), True, "the wrapper")
+
+
+def has_checks(program: str) -> bool:
+    return b"__asan_" in run(["nm", program], os.path.dirname(program)).stdout
+
+
+def check_folders(suite: Suite, folder: str) -> None:
+    """By its name on the path, from another folder, and in a folder where plain cargo has built for the target."""
+    own = f"{folder}/the crate"
+    crate(own, main_rs="fn main() {}\n")
+    host = host_of(folder)
+    path = f"{os.path.dirname(CARGO)}:{os.environ['PATH']}"
+    for words in (["--manifest-path", "the crate/Cargo.toml"], ["--manifest-path=the crate/Cargo.toml"]):
+        made = run(["asancol-cargo", "build", "-q", *words], folder, PATH=path)
+        expect(made.returncode, 0, made.stderr.decode())
+        expect(has_checks(built(own, "debug")), True, "from another folder")
+        expect(os.listdir(f"{own}/target"), ["asancol"], "from another folder")
+        shutil.rmtree(f"{own}/target")
+    program = f"{folder}/shared/{host}/debug/bug"
+    for _ in range(2):
+        plain = run(["cargo", "build", "-q", "--target", host], own, CARGO_TARGET_DIR=f"{folder}/shared")
+        expect((plain.returncode, has_checks(program)), (0, False), "plain cargo")
+        cargo(own, "build", "-q", CARGO_TARGET_DIR=f"{folder}/shared")
+        expect(has_checks(program), True, "after plain cargo")
+
+
 def check_fortran(suite: Suite, folder: str, *flags: str) -> None:
     build([FC, "-g", *flags, f"{TESTS}/bug.f90", "-o", "bug"], folder)
     check_cases(suite, folder, "./bug", FORTRAN)
+
+
+NULL_IN_FORTRAN = """program no_where
+  integer, pointer :: nowhere(:)
+  nowhere => null()
+  nowhere(command_argument_count() + 1) = 4
+end program
+"""
+
+
+def check_fortran_null(suite: Suite, folder: str) -> None:
+    """A null access: its place is said by gfortran's library, or by the report if that makes no backtrace."""
+    write(folder, null_f90=NULL_IN_FORTRAN)
+    for flags, where in (([], r"\sat .*null\.f90:4"), (["-fno-backtrace"], r"#0 .* MAIN__ .*null\.f90:4")):
+        build([FC, "-g", *flags, "null.f90", "-o", "null"], folder)
+        ran = run([RUN, "--", "./null"], folder, ASANCOL=suite.asancol)
+        expect((ran.returncode, bool(re.search(where, ran.stderr.decode()))), (-signal.SIGSEGV, True), str(ran))
 
 
 def check_fortran_projects(suite: Suite, folder: str, tool: str) -> None:
@@ -329,11 +407,15 @@ def tests_of_all(suite: Suite) -> None:
         suite.test("rust: release", check_rust, "release", "--release")
         suite.test("rust: tests", check_rust_tests)
         suite.test("rust: errors", check_cargo_errors)
+        suite.test("rust: features", check_features)
+        suite.test("rust: folders", check_folders)
+        suite.test("rust: settings", check_settings)
         for compiler in suite.compilers:
             suite.test(f"rust: with C by {compiler}", check_rust_with_c, compiler.name)
     if is_there("gfortran"):
         for flags in ((), ("-O2",)):
             suite.test(f"fortran: {' '.join(flags) or 'plain'}", check_fortran, *flags)
+        suite.test("fortran: null", check_fortran_null)
         for tool in ("cmake", "meson"):
             if is_there(tool):
                 suite.test(f"fortran: {tool}", check_fortran_projects, tool)
