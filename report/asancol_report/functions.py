@@ -13,6 +13,7 @@ CUT = "<..>"
 OPERATOR = re.compile(r"operator(?:<=>|<<=?|>>=?|<=?|>=?|->\*?)|->")
 ANONYMOUS = "(anonymous namespace)"
 STANDARD = ("std::", "__gnu_cxx::", "__cxxabiv1::")
+STANDARD_OF_RUST = ("alloc::", "core::", "std::")
 
 
 def parts(name: str) -> Iterator[Tuple[str, bool]]:
@@ -47,7 +48,17 @@ def brief(name: str) -> str:
 
 @functools.lru_cache(maxsize=1 << 12)
 def is_standard(name: str) -> bool:
-    """Whether a function is one of C++'s library. What it returns, and what its arguments are, says nothing."""
+    """Whether a function is of C++'s library or Rust's. What it returns, and what its arguments are, says nothing."""
+    if name.startswith("<"):
+        return is_standard_of_rust(name)
     bare = "".join(text for text, is_arguments in parts(name.replace(ANONYMOUS, "")) if not is_arguments)
     scope = re.split(r"\(|\boperator\b", bare)[0].split(" ")[-1]
     return scope.startswith(STANDARD)
+
+
+def is_standard_of_rust(name: str) -> bool:
+    """Whether a function of a type, `<alloc::vec::Vec<app::A>>::push`, is one of Rust's library. If it is one of a
+    trait, as in `<core::A as core::B>::function`, that has to be of the library, too."""
+    (_, _), (whole, _), *_ = parts(name + "<>")
+    bare = "".join(text for text, is_arguments in parts(whole[1:-1]) if not is_arguments)
+    return all(it.startswith(STANDARD_OF_RUST) for it in bare.split(" as "))

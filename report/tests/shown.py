@@ -127,6 +127,18 @@ def own_functions_are_no_library(folder: str) -> None:
            "theirs")
 
 
+@report_test
+def functions_of_rusts_library_are_one_line(folder: str) -> None:
+    """Also without a line, as they came compiled. What a crate adds to a type of the library is the crate's."""
+    theirs = ["<alloc::raw_vec::RawVecInner>::try_allocate_in", "<alloc::vec::Vec<own::A>>::push",
+              "<alloc::vec::Vec<own::A> as core::ops::drop::Drop>::drop", "<std::sys::thread::unix::Thread>::new"]
+    expect(stack_of(folder, ["use", *(f"{it}@??" for it in theirs), "caller"])[1:],
+           [f".. {len(theirs)} frames of std::", f"#{len(theirs) + 1} caller /x/a.c:3"], "theirs")
+    names = ["<own::A as core::fmt::Display>::fmt", "<alloc::vec::Vec<u8> as own::Trait>::f", "<own::A>::new",
+             "<(alloc::A, core::B) as own::Trait>::f", "<corelib::A>::new", "core::f"]
+    expect(len(stack_of(folder, ["use", *names])), len(names) + 1, "own")
+
+
 VARIABLES = "3 32 16 7 buf:196 64 8 5 other 96 4 11 caf\u00e9 x:12"
 
 
