@@ -5,6 +5,7 @@ import os
 import re
 import shutil
 import signal
+import sys
 from typing import Dict, List, Optional, Tuple
 
 from support import CC, TESTS, TOP, Suite, build, expect, noted, run, write
@@ -231,6 +232,22 @@ def check_rust_with_c(suite: Suite, folder: str, compiler: str) -> None:
     check_cases(suite, folder, "./with_shared", MIXED)
 
 
+FROM_PYTHON = "import ctypes, sys; ctypes.CDLL(sys.argv[1]).third_of(int(sys.argv[2]))"
+
+
+def check_rust_in_python(suite: Suite, folder: str) -> None:
+    """A shared object of Rust in a plain Python, which nothing of ours has linked."""
+    crate(folder, '[lib]\ncrate-type = ["cdylib"]\n', lib_rs=(
+        '#[no_mangle] pub extern "C" fn third_of(count: usize) -> i32 '
+        '{ let all = vec![1i32; count]; unsafe { *std::hint::black_box(all.as_ptr()).add(2) } }\n'))
+    cargo(folder, "build", "-q")
+    for count, status in ((3, 0), (2, 99)):
+        words = [sys.executable, "-c", FROM_PYTHON, built(folder, "debug", "libbug.so"), str(count)]
+        ran = run([RUN, "--preload", "--", *words], folder, ASANCOL=suite.asancol)
+        expect((ran.returncode, b"heap-buffer-overflow: load of 4 bytes\n    #0" in ran.stderr), (status, status != 0),
+               f"{count}: {ran.stderr.decode()}")
+
+
 def check_cargo_errors(suite: Suite, folder: str) -> None:
     """No words, no rustc, one that is too old; and what a crate's compiler says comes with cargo's status."""
     crate(folder, main_rs="fn main() { nothing() }\n")
@@ -407,6 +424,7 @@ def tests_of_all(suite: Suite) -> None:
         suite.test("rust: release", check_rust, "release", "--release")
         suite.test("rust: tests", check_rust_tests)
         suite.test("rust: errors", check_cargo_errors)
+        suite.test("rust: in Python", check_rust_in_python)
         suite.test("rust: features", check_features)
         suite.test("rust: folders", check_folders)
         suite.test("rust: settings", check_settings)
