@@ -35,7 +35,7 @@ static struct words words_for(const struct process *process)
     static const char option[] = "--quarantine";
     static char bytes[24];
     struct words words = {0};
-    bool is_other = process->side != NULL && process->side->quarantine != checkers.quarantine && !checkers.is_fixed;
+    bool is_other = process->side != NULL && process->quarantine != checkers.quarantine && !checkers.is_fixed;
     words_add(&words, "asancol");
     if (checkers.options.count == 0 && !is_other)
         return words;
@@ -46,7 +46,7 @@ static struct words words_for(const struct process *process)
             words_add(&words, checkers.options.words[i + 1]);
         }
     if (is_other) {
-        snprintf(bytes, sizeof bytes, "%" PRIu64, process->side->quarantine);
+        snprintf(bytes, sizeof bytes, "%" PRIu64, process->quarantine);
         words_add(&words, option);
         words_add(&words, bytes);
     }

@@ -77,7 +77,7 @@ void process_name(struct process *process)
     const struct side *side = process->side;
     process->own_number = side != NULL ? (int)side->process : (int)process->peer;
     process->parent = side != NULL ? (int)side->parent : 0;
-    process->quarantine = side != NULL ? side->quarantine : UINT64_MAX;
+    process->quarantine = side != NULL ? side_quarantine(side) : UINT64_MAX;
     if (side != NULL)
         process->settings = side_settings(side);
     process_set_name(process, side != NULL ? side->words : name_by_number(process->peer));

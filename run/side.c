@@ -77,6 +77,12 @@ void side_unmap(const struct side *side)
         munmap((void *)(uintptr_t)side, SIDE_MAPPED);
 }
 
+uint64_t side_quarantine(const struct side *side)
+{
+    uint64_t held = side->quarantine;
+    return held < MAX_QUARANTINE ? held : MAX_QUARANTINE;
+}
+
 struct side_settings side_settings(const struct side *side)
 {
     struct side_settings settings; /* once: the process may write there */

@@ -12,6 +12,8 @@ int side_receive(int connection, struct modules *modules);
 const struct side *side_map(int descriptor);
 /* Reads the first part from a file; or answers null. */
 const struct side *side_read(const char *path);
+/* How many bytes it holds of freed blocks. No process can hold more than a checker takes: more counts as that. */
+uint64_t side_quarantine(const struct side *side);
 /* What was set for it. */
 struct side_settings side_settings(const struct side *side);
 /* How far the process has come. */

@@ -44,8 +44,8 @@ memory = os.memfd_create("side", os.MFD_ALLOW_SEALING)
 os.ftruncate(memory, 1 << 20)
 text = b"ASWH\\4\\0\\0\\0" + bytes(56) + b"\\x1b]0;x\\x07" * 500
 if what in ("sealed", "garbage"):
-    found = bytes(24)  # with findings there is a report, whose text this is not about
-    garbage = text[:8] + os.urandom(7760) + found + os.urandom(400)
+    found = bytes(32)  # with findings there is a report, whose text this is not about
+    garbage = text[:8] + os.urandom(7760) + found + os.urandom(392)
     os.pwrite(memory, text if what == "sealed" else garbage, 0)
     __import__("fcntl").fcntl(memory, 1033, shrink)
 if what == "short":
