@@ -79,7 +79,7 @@ void side_unmap(const struct side *side)
 
 uint64_t side_quarantine(const struct side *side)
 {
-    uint64_t held = side->quarantine;
+    uint64_t held = *(const volatile uint64_t *)&side->quarantine; /* once: the process may write there */
     return held < MAX_QUARANTINE ? held : MAX_QUARANTINE;
 }
 

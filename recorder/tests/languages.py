@@ -261,6 +261,9 @@ def check_cargo_errors(suite: Suite, folder: str) -> None:
     version = run(["rustc", "-V"], folder).stdout.decode().strip()
     expect(cargo(folder, "build", status=1, RUSTC=old)[1],
            f"asancol-cargo: {version} does not know -Zexternal-clangrt: a newer one is wanted\n", "an old one")
+    for flags in ("-Cllvm-args=-asan-stack=0", "-C llvm-args=-asan-instrument-reads=false"):
+        said = cargo(folder, "build", status=101, RUSTFLAGS=flags)[1]
+        expect("take it out: what would be compiled with this could lack checks\n" in said, True, flags)
     none = cargo(folder, "build", status=1, RUSTC="./no-such-one")[1]
     expect("asancol-cargo: ./no-such-one does not say what it builds for\n" in none, True, "none")
 
