@@ -615,6 +615,3 @@ static int print_within(char *to, size_t room, int flag, const char *format, va_
 __asm__(".pushsection asancol_stubs,\"a\",@progbits\n.balign 4\n.globl plain_stubs\nplain_stubs:\n.popsection\n");
 #endif
 #include "out/calls.def"
-#ifdef LISTS_STUBS
-__asm__(".pushsection asancol_stubs,\"a\",@progbits\n.globl plain_stubs_end\nplain_stubs_end:\n.popsection\n");
-#endif

@@ -32,7 +32,9 @@ struct stub {
     int32_t code, function, name;
 };
 
-#ifdef IS_PRELOAD /* with those that stand in other files (GUARD_OWN) */
+/* Of the first file that has stubs, and behind those of the last (Makefile). What is preloaded has some in other files,
+   and no linker leaves them out. */
+#ifdef IS_PRELOAD
 #define plain_stubs __start_asancol_stubs
 #define plain_stubs_end __stop_asancol_stubs
 #endif

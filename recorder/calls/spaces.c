@@ -141,3 +141,7 @@ __attribute__((used)) static void before_jump(uintptr_t target, const void *unus
 OF_BOOST(make_fcontext, before_make)
 OF_BOOST(jump_fcontext, before_jump)
 OF_BOOST(ontop_fcontext, before_jump)
+
+#ifndef IN_SHARED_OBJECT /* the last file that has stubs */
+__asm__(".pushsection asancol_stubs,\"a\",@progbits\n.globl plain_stubs_end\nplain_stubs_end:\n.popsection\n");
+#endif

@@ -99,9 +99,9 @@ _Static_assert(offsetof(struct meeting, program) == 56, "as the stubs have it");
             ".size __wrap_" #name ", .-__wrap_" #name "\n"                                                             \
             ".popsection\n")
 
-/* For one whose effect is the same whoever calls it. A plain program that has the recorder preloaded ends, and goes on,
-   as one of asancol-cc does. */
-#ifdef IS_PRELOAD
+/* For one whose effect is the same whoever calls it, plain libraries too; and a plain program that has the recorder
+   preloaded. */
+#ifndef IN_SHARED_OBJECT
 #define GUARD_OWN(name)                                                                                                \
     GUARD_OWN_OF_CALLER(name);                                                                                         \
     LISTED(name)

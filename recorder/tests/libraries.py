@@ -274,12 +274,54 @@ def check_churn(suite: Suite, folder: str, compiler: Compiler) -> None:
         expect(seen(suite, folder, "./threads"), (0, []), "threads")
 
 
+LEAVES = """
+#include <signal.h>
+#include <sys/mman.h>
+#include <unistd.h>
+static void handle(int number) { (void)number; _exit(4); }
+int leave(int way)
+{
+    struct sigaction action = {.sa_handler = handle}, old;
+    if (way == 1)
+        _exit(4);
+    if (way == 2)
+        execl("/bin/sh", "sh", "-c", "exit 4", (char *)0);
+    if (way == 3 && (sigaction(SIGSEGV, &action, &old) != 0 || old.sa_handler != SIG_DFL))
+        return 1;
+    if (way == 3)
+        raise(SIGSEGV);
+    char *memory = mmap(0, 1 << 20, PROT_READ | PROT_WRITE, MAP_PRIVATE | MAP_ANONYMOUS, -1, 0);
+    memory[4096] = 1;
+    return munmap(memory, 1 << 20) == 0 ? 4 : 1;
+}
+"""
+CALLS_IT = """
+#include <stdlib.h>
+int leave(int);
+int main(int count, char **words) { free(malloc(8)); return leave(count > 1 ? atoi(words[1]) : 0); }
+"""
+
+
+def check_ends(suite: Suite, folder: str, compiler: Compiler) -> None:
+    """A process that a library ends, or makes another program of, is complete; its handlers see the program's own."""
+    write(folder, leaves_c=LEAVES, main_c=CALLS_IT)
+    for link in LINKS:
+        compiler.c(folder, ["leaves.c"], "libleaves.so", "-fPIC", "-shared", "-O1", *LINKS[link], native=True)
+        compiler.c(folder, ["main.c", "./libleaves.so"], "leaves")
+        for way in ("0", "1", "2", "3"):
+            ran = run(["./leaves", way], folder, ASANCOL_TRACE="t.trace")
+            expect((ran.returncode, ran.stderr), (4, b""), f"{link} {way}")
+            expect(reports(suite.asancol, f"{folder}/t.trace")[:2], (0, []), f"{link} {way}")
+            os.unlink(f"{folder}/t.trace")
+
+
 def tests(suite: Suite, compiler: Compiler) -> None:
     for link in LINKS:
         suite.test(f"{compiler} plain libraries, {link}", check_calls, compiler, link)
     suite.test(f"{compiler} plain libraries, their slots", check_slots, compiler)
     suite.test(f"{compiler} plain libraries, protected", check_protection, compiler)
     suite.test(f"{compiler} plain libraries that fork", check_fork, compiler)
+    suite.test(f"{compiler} plain libraries that end the process", check_ends, compiler)
     suite.test(f"{compiler} plain libraries in links", check_links, compiler)
     suite.test(f"{compiler} plain libraries of threads", check_churn, compiler)
     suite.test(f"{compiler} plain libraries at the start", check_start, compiler)
