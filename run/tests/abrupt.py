@@ -26,13 +26,25 @@ def build(compiler: str, folder: str, program: str) -> None:
     subprocess.run(words, check=True, env={**os.environ, "ASANCOL_CC": compiler})
 
 
+# The library's calls are not seen.
+UNSEEN = {"ASANCOL_LIBRARIES": "0"}
+LIBRARIES = "calls of libraries (ASANCOL_LIBRARIES=0)"
+
+
 def check_exits(suite: Suite, folder: str, program: str) -> None:
-    for way in ("call", "exit"):
-        ran = suite.run("--", program, way, "0")
-        expect_ran(ran, 0, "ended abruptly, with status 0: seen up to there", SEEN)
-        expect_ran(suite.run("--", program, way, "3"), 3, "ended abruptly, with status 3: seen up to there")
+    """By a call of the system, or by one of the C library that is seen or not."""
+    for way, settings in (("call", {}), ("exit", UNSEEN)):
+        ran = suite.run("--", program, way, "0", **settings)
+        expect_ran(ran, 0, "ended abruptly, with status 0: seen up to there", "1 ended abruptly; not checked: ")
+        ran = suite.run("--", program, way, "3", **settings)
+        expect_ran(ran, 3, "ended abruptly, with status 3: seen up to there")
+    for status in (0, 3):
+        ran = suite.run("--", program, "exit", str(status))
+        expect_ran(ran, status, f"no reports; 1 process, 2 events{NOT_CHECKED}", absent=["abruptly"])
     ran = suite.run("--", program, "child", "4")
-    expect_ran(ran, 0, "ended abruptly", ": seen up to there", "2 processes", SEEN)
+    expect_ran(ran, 0, f"no reports; 2 processes, 4 events{NOT_CHECKED}", absent=["abruptly"])
+    ran = suite.run("--", program, "child", "4", **UNSEEN)
+    expect_ran(ran, 0, "ended abruptly", ": seen up to there", "2 processes", "1 ended abruptly; not checked: ")
 
 
 def check_bug(suite: Suite, folder: str, program: str) -> None:
@@ -88,22 +100,27 @@ def check_forbidden(suite: Suite, folder: str, program: str) -> None:
 
 
 def check_spawns(suite: Suite, folder: str, program: str) -> None:
-    """A library forks and executes, which nobody sees: what runs on as another program did not end. All have one line,
-    if there is any."""
+    """A library forks and executes: what runs on as another program did not end, also if nobody sees that it does. All
+    have one line, if there is any."""
     ran = suite.run("--", program, "spawns", "9", "/bin/true")
     expect((ran.status, ran.err.count("ended abruptly, as by") <= 1), (0, True), ran.err)
     line = f"{program} spawns 3 '{shutil.which('sleep')}'"
     ran = suite.run("--wait", "0", "--", "sh", "-c", line)
     expect_ran(ran, 0, "4 processes", NOT_CHECKED, absent=["ended abruptly", "NOT SEEN"])
     ran = suite.run("-v", "--", program, "spawns", "1", program)
-    expect_ran(ran, 0, "ran another program, by an exec in a library", "3 processes", NOT_CHECKED,
+    expect_ran(ran, 0, "seen whole: went on as another program", "3 processes", NOT_CHECKED,
+               absent=["ended abruptly", "NOT SEEN"])
+    ran = suite.run("-v", "--", program, "spawns", "1", program, **UNSEEN)
+    expect_ran(ran, 0, "ran another program, by an exec in a library", "3 processes", LIBRARIES,
                absent=["ended abruptly", "NOT SEEN"])
 
 
 def check_daemon(suite: Suite, folder: str, program: str) -> None:
-    """The parent ends in code that nobody sees, and the daemon is recorded."""
+    """The parent ends in a library, which is seen or not, and the daemon is recorded."""
     ran = suite.run("--", program, "daemon", ASANCOL_REPORT=REPORT)
-    expect_ran(ran, 99, "in store_past", "2 processes", SEEN)
+    expect_ran(ran, 99, "in store_past", "2 processes", NOT_CHECKED, absent=["abruptly"])
+    ran = suite.run("--", program, "daemon", ASANCOL_REPORT=REPORT, **UNSEEN)
+    expect_ran(ran, 99, "in store_past", "2 processes", "1 ended abruptly; not checked: ")
 
 
 def killed(suite: Suite, words: List[str], least: float, most: float, **settings: str) -> List[str]:
