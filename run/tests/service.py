@@ -130,7 +130,8 @@ def check_killed(suite: Suite, folder: str) -> None:
     program.kill()
     program.wait()
     result = service.of_process(program.pid)
-    expect_in(result.text, " heap-buffer-overflow ", "p0 end no-close events 3 ")
+    # What it allocates for its output after that may have come too.
+    expect_in(result.text, " heap-buffer-overflow ", "p0 end no-close events ")
     expect(result.status, "3", "status")
     service.end()
 
