@@ -29,11 +29,10 @@ static bool shadow_is_clean(uintptr_t start, size_t size)
     return (start + size) % 2 != 0;
 }
 
-void call_is_bad(enum code code, uintptr_t start, size_t size, uintptr_t caller)
+void call_is_bad(enum code code, uintptr_t start, size_t size, size_t good, struct call call)
 {
-    if ((code != CODE_LOAD && code != CODE_STORE) || start == 0 || caller != 1)
+    if ((code != CODE_LOAD && code != CODE_STORE) || start == 0 || good > size || call.caller != 1)
         abort();
-    (void)size;
 }
 
 static void walk(int count, ...)
@@ -41,9 +40,9 @@ static void walk(int count, ...)
     va_list values;
     va_start(values, count);
     if (is_scan)
-        format_checks_scan(format, values, count, 1);
+        format_checks_scan(format, values, count, (struct call){1, "scanf"});
     else
-        format_checks_print(format, values, 1);
+        format_checks_print(format, values, (struct call){1, "printf"});
     va_end(values);
 }
 

@@ -3,6 +3,7 @@
 #include <stdlib.h>
 #include <string.h>
 
+#include "stacks/fake_stack.h"
 #include "stacks/frames.h"
 #include "base/memory.h"
 
@@ -19,6 +20,11 @@ bool memory_read(uint64_t address, void *to, size_t size)
         return false;
     memcpy(to, bytes + (address - PLACE), size);
     return true;
+}
+
+uint64_t fake_start_of(uint64_t address)
+{
+    return address;
 }
 
 enum { MOST = 100 };

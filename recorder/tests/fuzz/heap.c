@@ -9,6 +9,7 @@
 
 #include "base/system.h"
 #include "calls/library.h"
+#include "heap/families.h"
 #include "heap/blocks.h"
 #include "heap/heap.h"
 #include "shadow/mapping.h"
@@ -34,6 +35,8 @@ static _Thread_local uint64_t events;
 void record_region(enum code code, uint64_t address, uint64_t size) { (void)code, (void)address, (void)size, events++; }
 void record_regions(enum code code, uint64_t address, uint64_t size) { (void)code, (void)address, (void)size; }
 void record_poison(enum kind kind, uint64_t address, uint64_t size) { (void)kind, (void)address, (void)size, events++; }
+void families_look_at(const struct block *block, const struct release *release) { (void)block, (void)release; }
+void families_note_too_big(size_t size, uintptr_t caller) { (void)size, (void)caller; }
 void record_unused(uint64_t address, uint64_t size) { (void)address, (void)size; }
 void record_free(uint64_t address) { (void)address, events++; }
 void record_bad_free(uint64_t address, uintptr_t caller, const char *call)

@@ -30,6 +30,9 @@ static void expect(bool holds, const char *what)
 _Thread_local struct own_stack own_stack;
 bool is_on_own_stack(uintptr_t frame) { return frame >= own_stack.low && frame < own_stack.top; }
 uintptr_t heap_end_around(uintptr_t address) { return address; }
+void fake_frames_left(uintptr_t low, uintptr_t top) { (void)low, (void)top; }
+void fake_context_begins(uintptr_t low, uintptr_t top) { (void)low, (void)top; }
+bool recorder_is_own_process(void) { return true; }
 void shadow_clear(uint64_t address, uint64_t size)
 {
     memset((void *)shadow_of(address), 0, (size + GRANULE - 1) / GRANULE);
