@@ -23,7 +23,7 @@
 #define RUST "rustc version "
 #define CHECKS_ASKED_FOR "__asan_init"
 
-/* What rustc makes beside the crates has no other functions: these lead to the allocator. */
+/* What rustc makes beside the crates has no other names: these lead to the allocator. */
 #define RUST_OWN "__rust_"
 
 /* The crates of its library, which come compiled. An object has the name of its crate, and a point. */
@@ -125,7 +125,7 @@ struct parts {
     bool has_assembly; /* a label in code that is no function: no compiler makes one */
     bool is_of_rust;   /* rustc has made some of it */
     bool asks_checks;  /* of what is compiled with checks */
-    bool has_functions; /* of which the names are not rustc's */
+    bool has_own_names; /* functions or variables whose names are not rustc's */
     bool is_rust_own;   /* a crate of Rust's library */
     size_t files;  /* sources that the table of symbols names */
     size_t marked; /* those of them that were compiled so */
@@ -180,7 +180,8 @@ static void count_symbols(struct parts *parts, struct view view, const Elf64_Shd
         parts->files += type == STT_FILE && name[0] != 0;
         parts->is_rust_own |= type == STT_FILE && is_of_rust_crate(name);
         parts->asks_checks |= !is_defined && strcmp(name, CHECKS_ASKED_FOR) == 0;
-        parts->has_functions |= is_defined && type == STT_FUNC && strstr(name, RUST_OWN) == NULL;
+        bool is_name = is_defined && (type == STT_FUNC || type == STT_OBJECT);
+        parts->has_own_names |= is_name && strstr(name, RUST_OWN) == NULL;
         parts->has_assembly |= type == STT_NOTYPE && name[0] != 0 && strncmp(name, ".L", 2) != 0
                                && is_in_code(view, &it);
         parts->has_variables |= is_defined && (type == STT_OBJECT || type == STT_TLS);
@@ -260,7 +261,7 @@ enum origin linked_origin(struct view view)
     bool is_rust = is_checked_rust(&parts);
     if (!parts.has_code && !parts.has_variables && !parts.has_lto)
         return ORIGIN_NONE;
-    if (parts.is_of_rust && (parts.is_rust_own || !parts.has_functions) && !parts.asks_checks)
+    if (parts.is_of_rust && (parts.is_rust_own || !parts.has_own_names) && !parts.asks_checks)
         return ORIGIN_NONE;
     bool is_ours = is_rust || (parts.files != 0 && parts.whole >= parts.files);
     return is_ours && !parts.has_assembly ? ORIGIN_OURS : ORIGIN_OTHERS;

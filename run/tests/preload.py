@@ -61,7 +61,7 @@ class Texts(unittest.TestCase):
                 pool.join()
 
     def test_programs(self):
-        subprocess.run("ls / | sort > /dev/null", shell=True, check=True)
+        subprocess.run(["sh", "-c", "ls / | sort > /dev/null"], check=True)
         subprocess.run([sys.executable, "-c", "import os, texts; os._exit(0)"], check=True)
 
 
