@@ -1,0 +1,188 @@
+-- What a recorder may write of a run, and when the same is reported of both.
+--
+-- A run is all that a process does: each of its events, in its place. A recording is what a
+-- recorder writes of it, where it leaves some events out, and puts others in. Both are histories.
+use Rattle.std.specs.Prelude.{ℕ, ◌≡◌, ◌+◌, ◌<◌, Bool, true, false, IsTrue, IsSome, List, [], ◌∷◌}
+use Rattle.std.specs.Prelude.{◌++◌, length, filter, not, None, Contains}
+use Rattle.std.specs.List.{AllZip}
+use Rattle.std.specs.List.Sorted.{IsPermutation}
+use Rattle.trace_record.specs.declared.event.Event.{Event}
+use Rattle.trace_record.specs.declared.event.Event.TheVariants as event
+use Rattle.trace_record.specs.declared.event.Access.{Access}
+use Rattle.trace_record.specs.declared.event.Region.{Region}
+use Rattle.shadow_map.specs.States.{state_of, lift, bad_byte_of}
+use Rattle.shadow_map.specs.Granules.{front_of}
+use Rattle.shadow_map.specs.Causes.{deciding_granule}
+use Rattle.heap_book.specs.Spans.{Extent, meets}
+use Rattle.asan_units.specs.Units.{granule_of}
+use Rattle.asan_check.specs.declared.report.Class.TheVariants as class
+use Rattle.asan_check.specs.declared.report.Fault.{Fault}
+use Rattle.asan_check.specs.declared.report.Fault.TheVariants as fault
+use Rattle.asan_check.specs.declared.report.Report.{Report}
+use Rattle.asan_check.specs.History.{block_of, live, held, marks}
+use Rattle.asan_check.specs.Verdicts.{fault_of, is_access, marks_none, verdicts_of}
+use Rattle.asan_laws.specs.Laws.{access_event}
+use Rattle.asan_laws.specs.Restating.{LaysOut, is_shade}
+
+-- ---- what a recording and a run have in common
+
+-- both have the same blocks, but for some that the run holds: the same live ones, in whatever
+-- order, and the same held ones, in the same order, but for these, which are the run's oldest
+pub record HaveBlocksBut (bound : ℕ) (cut : List Extent) (recorded run : List Event) : Type 0 where
+  pub same_live : IsPermutation (live bound recorded) (live bound run)
+  pub oldest_cut : held bound run ≡ cut ++ held bound recorded
+
+-- both have the same blocks
+abbrev pub HaveSameBlocks : ℕ → List Event → List Event → Type 0
+HaveSameBlocks bound recorded run = HaveBlocksBut bound [] recorded run
+
+-- a granule has the same shadow byte after both
+abbrev pub IsSameAt : ℕ → List Event → List Event → ℕ → Type 0
+IsSameAt bound recorded run granule =
+    lift (state_of (marks bound recorded)) granule ≡ lift (state_of (marks bound run)) granule
+
+-- an access finds the same in both: the same shadow byte in the granule of its first byte and, if
+-- it is bad in the run, in the granule that says the class
+pub record FindsTheSame (bound : ℕ) (recorded run : List Event) (a : Access) : Type 0 where
+  pub here : IsSameAt bound recorded run (granule_of a.at)
+  pub class_there : IsSome (bad_byte_of (state_of (marks bound run)) a.at a.width)
+      → IsSameAt bound recorded run (deciding_granule (state_of (marks bound run)) a.at)
+
+-- an access finds as many addressable bytes in both, in the granule of its first byte
+abbrev pub FindsAsMany : ℕ → List Event → List Event → Access → Type 0
+FindsAsMany bound recorded run a =
+    front_of (lift (state_of (marks bound recorded)) (granule_of a.at))
+    ≡ front_of (lift (state_of (marks bound run)) (granule_of a.at))
+
+-- what a recorded access has to find as it is in the run: all shadow bytes that it looks at, or
+-- only how many bytes are addressable
+pub data Detail : Type 0 where
+  shadow_bytes : Detail
+  addressable_bytes : Detail
+
+-- an access finds as much in both
+abbrev pub Finds : ℕ → Detail → List Event → List Event → Access → Type 0
+Finds bound shadow_bytes recorded run a = FindsTheSame bound recorded run a
+Finds bound addressable_bytes recorded run a = FindsAsMany bound recorded run a
+
+-- ---- what a recorder may write
+
+-- a malloc or a free
+abbrev pub is_of_block : Event → Bool
+is_of_block (event.Malloc r) = true
+is_of_block (event.Free p) = true
+is_of_block e = false
+
+-- a recording of a run: each event of either came to its place in one of these ways
+pub data Records (bound : ℕ) (detail : Detail) (first past : List Event)
+    : List Event → List Event → Type 0 where
+  -- the recording begins with these first events, when this is what the run has done
+  begins : Records bound detail first past first past
+  -- a malloc or a free is recorded
+  block : (e : Event) (recorded run : List Event) → IsTrue (is_of_block e)
+      → Records bound detail first past recorded run
+      → Records bound detail first past (e ∷ recorded) (e ∷ run)
+  -- a load or a store is recorded, which finds in the recording what it finds in the run
+  access : (is_store : Bool) (a : Access) (recorded run : List Event)
+      → Finds bound detail recorded run a → Records bound detail first past recorded run
+      → Records bound detail first past (access_event is_store a ∷ recorded)
+      (access_event is_store a ∷ run)
+  -- a load or a store is left out, which is good in the run
+  leaves_out_access : (e : Event) (recorded run : List Event) → IsTrue (is_access e)
+      → fault_of bound run e ≡ None → Records bound detail first past recorded run
+      → Records bound detail first past recorded (e ∷ run)
+  -- an event is put in that changes nothing, as a load does, and is good in the recording
+  says_nothing : (e : Event) (recorded run : List Event) → IsTrue (marks_none e)
+      → fault_of bound recorded e ≡ None → Records bound detail first past recorded run
+      → Records bound detail first past (e ∷ recorded) run
+  -- a poison or an unpoison is left out; one that is recorded in its place is also put in
+  leaves_out_shade : (e : Event) (recorded run : List Event) → IsTrue (is_shade e)
+      → Records bound detail first past recorded run
+      → Records bound detail first past recorded (e ∷ run)
+  -- a poison or an unpoison is put in, which states what some memory is
+  states : (e : Event) (recorded run : List Event) → IsTrue (is_shade e)
+      → Records bound detail first past recorded run
+      → Records bound detail first past (e ∷ recorded) run
+
+-- of each event that stands in both, and has since the recording began, its number in the recording
+-- and its number in the run, in their order
+abbrev pub numbers_in_both : {bound : ℕ} {detail : Detail} {first past recorded run : List Event}
+    → Records bound detail first past recorded run → List (ℕ × ℕ)
+numbers_in_both begins = []
+numbers_in_both (block e recorded run is way) =
+    numbers_in_both way ++ (length recorded + 1, length run + 1) ∷ []
+numbers_in_both (access is_store a recorded run finds way) =
+    numbers_in_both way ++ (length recorded + 1, length run + 1) ∷ []
+numbers_in_both (leaves_out_access e recorded run is good way) = numbers_in_both way
+numbers_in_both (says_nothing e recorded run is good way) = numbers_in_both way
+numbers_in_both (leaves_out_shade e recorded run is way) = numbers_in_both way
+numbers_in_both (states e recorded run is way) = numbers_in_both way
+
+-- such numbers come before others, in the recording and in the run
+abbrev pub IsBefore : ℕ × ℕ → ℕ × ℕ → Type 0
+IsBefore these others = (these.0 < others.0) × (these.1 < others.1)
+
+-- an event has this number in a history, whose events count from 1
+pub record HasNumber (history : List Event) (e : Event) (number : ℕ) : Type 0 where
+  pub later : List Event
+  pub before : List Event
+  pub split : history ≡ later ++ e ∷ before
+  pub counted : number ≡ length before + 1
+
+-- ---- what is reported
+
+-- a fault, but for the class and the shadow byte of an access
+abbrev pub without_class : Fault → Fault
+without_class (fault.Access is_store width at bad c shadow) =
+    fault.Access is_store width at bad class.UnknownCrash 0
+without_class f = f
+
+-- faults are the same but for class and shadow byte
+abbrev pub IsSameButForClass : Fault → Fault → Type 0
+IsSameButForClass one other = without_class one ≡ without_class other
+
+-- faults are the same but for class and shadow byte; or one of these blocks was freed again, which
+-- is a bad free in the recording and a double free in the run
+pub data IsSameButForCut (cut : List Extent) : Fault → Fault → Type 0 where
+  same : (one other : Fault) → IsSameButForClass one other → IsSameButForCut cut one other
+  freed_again : (b : Extent) → Contains cut b
+      → IsSameButForCut cut (fault.BadFree b.at) (fault.DoubleFree b.at)
+
+-- a report on a recording and one on the run are on one event, by its numbers, and on the same
+-- fault, where `Same` says when faults are
+abbrev pub IsReportedOfOne : List (ℕ × ℕ) → (Fault → Fault → Type 0) → Report → Report → Type 0
+IsReportedOfOne numbers Same one other =
+    Contains numbers (one.number, other.number) × Same one.fault other.fault
+
+-- since the recording began, the same is reported of it as of the run: the reports on each are such
+-- reports, one by one
+pub record AreReportedAlike (bound : ℕ) (numbers : List (ℕ × ℕ)) (Same : Fault → Fault → Type 0)
+    (first past recorded run : List Event) : Type 0 where
+  pub of_recording : List Report
+  pub of_run : List Report
+  pub recording_adds : verdicts_of bound recorded ≡ verdicts_of bound first ++ of_recording
+  pub run_adds : verdicts_of bound run ≡ verdicts_of bound past ++ of_run
+  pub one_by_one : AllZip (IsReportedOfOne numbers Same) of_recording of_run
+
+-- ---- the recording goes on in a new segment
+
+-- a history without its poisons and unpoisons
+abbrev pub without_shades : List Event → List Event
+without_shades past = filter (λ e. not (is_shade e)) past
+
+-- a history begins a segment, with what another has left but for some of its held blocks: without
+-- its poisons and unpoisons it lays out the other's live blocks, in whatever order, and its held
+-- blocks, in the order of their frees, but for these, which are the oldest
+pub record RestatesBut (bound : ℕ) (cut : List Extent) (restated past : List Event) : Type 0 where
+  pub lives : List Extent
+  pub newest : List Extent
+  pub lays_out : LaysOut (without_shades restated) lives newest
+  pub same_live : IsPermutation lives (live bound past)
+  pub oldest_cut : held bound past ≡ cut ++ newest
+
+-- since this past, no malloc of a run meets the span of one of these blocks while that is held
+abbrev pub NoMallocMeets : ℕ → List Extent → List Event → List Event → Type 0
+NoMallocMeets bound blocks past run =
+    (later before : List Event) (r : Region) (b : Extent) →
+    run ≡ later ++ event.Malloc r ∷ (before ++ past) → Contains blocks b →
+    Contains (held bound (before ++ past)) b → meets (block_of r) b ≡ false

@@ -1,0 +1,319 @@
+//! What the definitions of histories and verdicts come to, in the words of somebody who reads the
+//! reports. Each function does nothing: its contract is the law.
+
+ghost use Rattle.std.specs.Prelude.{◌≡◌, ◌↔◌, ◌+◌, ◌∷◌, ◌++◌, ℕ, Bool, IsTrue, List, Some, None};
+ghost use Rattle.std.specs.Prelude.{Contains, IsPermutation, option_to_list, reverse, map};
+ghost use Rattle.std.specs.Prelude.{length, ◌≤◌, ◌⊎◌, []};
+ghost use Rattle.std.specs.List.{IsDistinct, list_all};
+ghost use Rattle.trace_record.specs.declared.event.Event.{Event};
+ghost use Rattle.trace_record.specs.declared.event.Access.{Access};
+ghost use Rattle.trace_record.specs.declared.shade.Shade.{Shade};
+ghost use Rattle.trace_record.specs.declared.event.Event.TheVariants as event;
+ghost use Rattle.trace_record.specs.Shades.{shade_size, shade_kind};
+ghost use Rattle.shadow_map.specs.States.{Mark, AreMarks, code_of, state_of, lift};
+ghost use Rattle.heap_book.specs.Spans.{Extent, span_from, span_to, meets};
+ghost use Rattle.asan_units.specs.Units.{granule_of, granule_size, first_byte, round_up};
+ghost use Rattle.asan_check.specs.declared.report.Class.TheVariants as class;
+ghost use Rattle.asan_check.specs.declared.report.Report.{Report};
+ghost use Rattle.asan_check.specs.Codes.{Freed, class_of_code, code_of_kind};
+ghost use Rattle.asan_check.specs.History.{live, held, marks};
+ghost use Rattle.asan_check.specs.Verdicts.{fault_of, is_access, verdict, verdicts, verdicts_of};
+ghost use Rattle.asan_laws.specs.Thinning.{LeaveTheSame, LeavesOutGood, IsSublist, faults_of};
+ghost use Rattle.asan_laws.specs.Thinning.{renumbered, thinned, one_later, LeavesOut};
+ghost use Rattle.asan_laws.specs.Thinning.{LeavesOutGoodOnes, EventsLeftOutAreGood, faults_on};
+ghost use Rattle.asan_laws.specs.Thinning.{thinned_events};
+ghost use Rattle.asan_laws.specs.Restating.{StandTheSame, Restates, IsAsLaid, NoneShares};
+ghost use Rattle.asan_laws.specs.Restating.{later_by, is_shade};
+ghost use Rattle.asan_check.specs.declared.report.Fault.{Fault};
+ghost use Rattle.asan_laws.specs.Laws.{SharesByte, IsReportedAmong};
+ghost use Rattle.asan_laws.specs.Laws.{since_malloc, since_free, IsLiveSince, IsHeldSince};
+ghost use Rattle.asan_laws.specs.Laws.{NoPoisonShares, NoUnpoisonShares};
+ghost use Rattle.asan_laws.specs.Laws.{access_event, LiesInside, StartsAround, StartsWithin};
+ghost use Rattle.asan_laws.specs.Laws.{first_byte_report, shadow_around, IsPoisonedSince};
+
+/// The spans of live and held blocks never meet, after any history and with any bound on the
+/// quarantine.
+pub fn spans_never_meet()
+    ensures { (bound : ℕ) (past : List Event) →
+        IsDistinct meets (live bound past ++ held bound past) }
+{}
+
+/// Two blocks meet exactly where their spans share a byte.
+pub fn blocks_meet_where_spans_share_a_byte()
+    ensures { (one other : Extent) → IsTrue (meets one other) ↔ SharesByte one other }
+{}
+
+/// A block is live exactly where the history has a malloc that was admitted for it, and no free at
+/// its address since; the events since are those that the other laws name.
+pub fn live_since_its_malloc()
+    ensures found { (bound : ℕ) (past : List Event) (block : Extent) →
+        Contains (live bound past) block →
+        IsLiveSince bound past block (since_malloc bound past block) }
+    ensures only { (bound : ℕ) (past : List Event) (block : Extent) (since : List Event) →
+        IsLiveSince bound past block since →
+        Contains (live bound past) block × (since ≡ since_malloc bound past block) }
+{}
+
+/// A block is held exactly where the history has a free of it while it was live, and it was held
+/// ever since; the events since are those that the other laws name.
+pub fn held_since_its_free()
+    ensures found { (bound : ℕ) (past : List Event) (block : Extent) →
+        Contains (held bound past) block →
+        IsHeldSince bound past block (since_free bound past block) }
+    ensures only { (bound : ℕ) (past : List Event) (block : Extent) (since : List Event) →
+        IsHeldSince bound past block since →
+        Contains (held bound past) block × (since ≡ since_free bound past block) }
+{}
+
+/// A load or a store that lies inside a live block is not reported, as long as no poison, of
+/// whatever kind, since the block's malloc shares a granule with the block.
+pub fn quiet_inside_live_block()
+    ensures { (bound : ℕ) (past : List Event) (block : Extent) (is_store : Bool) (access : Access) →
+        Contains (live bound past) block →
+        LiesInside block access →
+        NoPoisonShares (since_malloc bound past block) block.at (block.at + block.size) →
+        verdict bound past (access_event is_store access) ≡ None }
+{}
+
+/// A load or a store that starts in the span of a live block, but before or past the block's bytes,
+/// is reported as a heap buffer overflow whose bad byte is the first one, as long as no poison and
+/// no unpoison since the block's malloc shares a granule with the span.
+pub fn overflow_is_reported()
+    ensures { (bound : ℕ) (past : List Event) (block : Extent) (is_store : Bool) (access : Access) →
+        Contains (live bound past) block →
+        StartsAround block access →
+        NoPoisonShares (since_malloc bound past block) (span_from block) (span_to block) →
+        NoUnpoisonShares (since_malloc bound past block) (span_from block) (span_to block) →
+        verdict bound past (access_event is_store access)
+        ≡ Some (first_byte_report past is_store access class.HeapBufferOverflow
+        (shadow_around block access.at)) }
+{}
+
+/// A load or a store that starts at the bytes of a held block, or at those that round its size up,
+/// is reported as a use after free whose bad byte is the first one, as long as no poison and no
+/// unpoison since the block's free shares a granule with those bytes.
+pub fn use_after_free_is_reported()
+    ensures { (bound : ℕ) (past : List Event) (block : Extent) (is_store : Bool) (access : Access) →
+        Contains (held bound past) block →
+        StartsWithin block access →
+        NoPoisonShares (since_free bound past block) block.at (block.at + round_up block.size) →
+        NoUnpoisonShares (since_free bound past block) block.at (block.at + round_up block.size) →
+        verdict bound past (access_event is_store access)
+        ≡ Some (first_byte_report past is_store access class.HeapUseAfterFree (code_of Freed)) }
+{}
+
+/// A load or a store that starts in a granule that lies wholly in the region of a poison is
+/// reported at its first byte, with the class and the shadow byte of the poison's kind, as long as
+/// no mark that was laid after the poison's covers a byte of the granule.
+pub fn poison_is_reported()
+    ensures { (bound : ℕ) (past : List Event) (poison : Shade) (is_store : Bool) (access : Access) →
+        IsPoisonedSince bound past poison (granule_of access.at) →
+        verdict bound past (access_event is_store access)
+        ≡ Some (first_byte_report past is_store access
+        (class_of_code (code_of_kind (shade_kind poison))) (code_of_kind (shade_kind poison))) }
+{}
+
+/// Every mark of a history, with whatever bound on the quarantine, is one that a call may make. So
+/// the laws on bytes after such marks hold after every history.
+pub fn marks_of_a_history_are_marks()
+    ensures { (bound : ℕ) (past : List Event) → AreMarks (marks bound past) }
+{}
+
+/// Later events only add marks to those of a history, the newest first.
+pub fn marks_are_only_added()
+    ensures { (bound : ℕ) (past since : List Event) → (laid : List Mark)
+        × (marks bound (since ++ past) ≡ laid ++ marks bound past) }
+{}
+
+/// The reports on some events are the verdicts on each of them, in their order: first those on the
+/// events before it, then the verdict on it, if it is a report, and then those on the events after
+/// it.
+pub fn each_event_has_its_verdict()
+    ensures { (bound : ℕ) (before after : List Event) (event : Event) → (later : List Report)
+        × (verdicts bound (before ++ event ∷ after)
+        ≡ (verdicts bound before ++ option_to_list (verdict bound (reverse before) event))
+        ++ later) }
+{}
+
+/// A report is one of the reports on some events exactly where one of these events has it as its
+/// verdict after the events before it.
+pub fn reports_are_verdicts()
+    ensures { (bound : ℕ) (events : List Event) (report : Report) →
+        Contains (verdicts bound events) report ↔ IsReportedAmong bound events report }
+{}
+
+/// Loads and stores leave no trace: whichever of them are left out of a history, its marks, its
+/// live blocks and its held blocks are the same.
+pub fn accesses_leave_no_trace()
+    ensures { (bound : ℕ) (numbers : ℕ → Bool) (past : List Event) →
+        LeaveTheSame bound (thinned numbers past) past }
+{}
+
+/// After two histories that leave the same marks, live blocks and held blocks, the same is wrong
+/// with an event, or nothing is, and they leave the same again after it.
+pub fn the_same_is_left_again()
+    ensures verdict { (bound : ℕ) (one other : List Event) (event : Event) →
+        LeaveTheSame bound one other → fault_of bound one event ≡ fault_of bound other event }
+    ensures again { (bound : ℕ) (one other : List Event) (event : Event) →
+        LeaveTheSame bound one other → LeaveTheSame bound (event ∷ one) (event ∷ other) }
+{}
+
+/// After two histories that leave the same, any later events bring the same faults.
+pub fn later_faults_are_the_same()
+    ensures { (bound : ℕ) (one other later : List Event) → LeaveTheSame bound one other →
+        (added : List Fault)
+        × (faults_of bound (later ++ one) ≡ faults_of bound one ++ added)
+        × (faults_of bound (later ++ other) ≡ faults_of bound other ++ added) }
+{}
+
+/// After two histories that stand the same, the same is wrong with an event, or nothing is, and
+/// they stand the same again after it. Histories that leave the same stand the same. So do
+/// histories after which each byte has the same state, if the live blocks are the same, in whatever
+/// order, and the held ones too, in the same order.
+pub fn the_same_stands_again()
+    ensures verdict { (bound : ℕ) (one other : List Event) (event : Event) →
+        StandTheSame bound one other → fault_of bound one event ≡ fault_of bound other event }
+    ensures again { (bound : ℕ) (one other : List Event) (event : Event) →
+        StandTheSame bound one other → StandTheSame bound (event ∷ one) (event ∷ other) }
+    ensures left { (bound : ℕ) (one other : List Event) →
+        LeaveTheSame bound one other → StandTheSame bound one other }
+    ensures states { (bound : ℕ) (one other : List Event) →
+        ((byte : ℕ) → state_of (marks bound one) byte ≡ state_of (marks bound other) byte) →
+        IsPermutation (live bound one) (live bound other) → held bound one ≡ held bound other →
+        StandTheSame bound one other }
+{}
+
+/// After two histories that stand the same, any later events bring the same faults, and the same
+/// reports but for their numbers: to the number that a report has among the later events alone, the
+/// count of the events before these is added.
+pub fn later_reports_are_the_same()
+    ensures faults { (bound : ℕ) (one other later : List Event) → StandTheSame bound one other →
+        (added : List Fault)
+        × (faults_of bound (later ++ one) ≡ faults_of bound one ++ added)
+        × (faults_of bound (later ++ other) ≡ faults_of bound other ++ added) }
+    ensures reports { (bound : ℕ) (one other later : List Event) →
+        StandTheSame bound (reverse one) (reverse other) →
+        (added : List Report)
+        × (verdicts bound (one ++ later)
+        ≡ verdicts bound one ++ map (later_by (length one)) added)
+        × (verdicts bound (other ++ later)
+        ≡ verdicts bound other ++ map (later_by (length other)) added) }
+{}
+
+/// A history that restates another by its live and its held blocks, and then by poisons and
+/// unpoisons, has the same blocks, live and held, and nothing is wrong in it. It stands the same if
+/// each granule has the same shadow byte. A granule has that of itself if the other history left
+/// in it what its blocks alone leave, and no poison and no unpoison of the restating touches it.
+/// Where a poison takes in a granule wholly, and none after it touches it, the shadow byte is the
+/// code of the poison's kind.
+pub fn what_is_restated_stands_the_same()
+    ensures live { (bound : ℕ) (restated past : List Event) → Restates bound restated past →
+        IsPermutation (live bound restated) (live bound past) }
+    ensures held { (bound : ℕ) (restated past : List Event) → Restates bound restated past →
+        held bound restated ≡ held bound past }
+    ensures quiet { (bound : ℕ) (restated past : List Event) → Restates bound restated past →
+        verdicts_of bound restated ≡ [] }
+    ensures stands { (bound : ℕ) (restated past : List Event)
+        (is : Restates bound restated past) →
+        ((granule : ℕ) →
+        (IsAsLaid bound past granule × NoneShares is.shades granule)
+        ⊎ (lift (state_of (marks bound restated)) granule
+        ≡ lift (state_of (marks bound past)) granule)) →
+        StandTheSame bound restated past }
+    ensures poisoned { (bound : ℕ) (laid later : List Event) (poison : Shade) (granule : ℕ) →
+        IsTrue (list_all is_shade later) → NoneShares later granule →
+        poison.at ≤ first_byte granule →
+        first_byte granule + granule_size ≤ poison.at + shade_size poison →
+        lift (state_of (marks bound (later ++ event.Poison poison ∷ laid))) granule
+        ≡ code_of_kind (shade_kind poison) }
+{}
+
+/// Leaving out loads and stores invents nothing: whichever are left out, the faults of what is left
+/// of a history are, in their order, some of those of the history.
+pub fn thinning_invents_nothing()
+    ensures { (bound : ℕ) (numbers : ℕ → Bool) (past : List Event) →
+        IsSublist (faults_of bound (thinned numbers past)) (faults_of bound past) }
+{}
+
+/// Leaving out loads and stores that are good where they stand loses nothing: the faults are the
+/// same, in their order, and the verdicts are the same but for their numbers, to each of which the
+/// count of what was left out before it is added.
+pub fn thinning_loses_nothing_bad()
+    ensures faults { (bound : ℕ) (numbers : ℕ → Bool) (full : List Event) →
+        LeavesOutGood bound numbers full →
+        faults_of bound (thinned numbers full) ≡ faults_of bound full }
+    ensures numbered { (bound : ℕ) (numbers : ℕ → Bool) (full : List Event) →
+        LeavesOutGood bound numbers full →
+        verdicts_of bound full
+        ≡ map (renumbered numbers full) (verdicts_of bound (thinned numbers full)) }
+{}
+
+/// A load or a store that is recorded a second time, right after the first, has its fault again,
+/// or none again, and leaves no trace. So with whatever events later, its fault stands twice in
+/// place of once, and all others stay; and the reports are the same, with the one on it a second
+/// time, and with numbers that are one more from there on.
+pub fn an_access_twice_gives_its_fault_twice()
+    ensures fault { (bound : ℕ) (past : List Event) (access : Event) →
+        IsTrue (is_access access) →
+        fault_of bound (access ∷ past) access ≡ fault_of bound past access }
+    ensures trace { (bound : ℕ) (past : List Event) (access : Event) →
+        IsTrue (is_access access) →
+        LeaveTheSame bound (access ∷ past) (access ∷ access ∷ past) }
+    ensures faults { (bound : ℕ) (past : List Event) (access : Event) →
+        IsTrue (is_access access) → (later : List Event) →
+        let said = option_to_list (fault_of bound past access) in (added : List Fault)
+        × (faults_of bound (later ++ access ∷ past) ≡ (faults_of bound past ++ said) ++ added)
+        × (faults_of bound (later ++ access ∷ access ∷ past)
+        ≡ ((faults_of bound past ++ said) ++ said) ++ added) }
+    ensures reports { (bound : ℕ) (before after : List Event) (access : Event) →
+        IsTrue (is_access access) →
+        let said = option_to_list (verdict bound (reverse before) access) in (added : List Report)
+        × (verdicts bound (before ++ access ∷ after) ≡ (verdicts bound before ++ said) ++ added)
+        × (verdicts bound (before ++ access ∷ access ∷ after)
+        ≡ ((verdicts bound before ++ said) ++ map one_later said) ++ map one_later added) }
+{}
+
+/// Each way to leave out loads and stores of a list of events is a test of their numbers, whether
+/// the newest event stands first or the oldest, and each test is such a way. The same is so of the
+/// ways that leave out, of a history, good ones alone. So the laws on tests speak of every way.
+pub fn each_way_to_leave_out_is_a_test_of_numbers()
+    ensures of_a_history { (thin full : List Event) → LeavesOut thin full →
+        (numbers : ℕ → Bool) × (thinned numbers full ≡ thin) }
+    ensures of_events { (thin full : List Event) → LeavesOut thin full →
+        (numbers : ℕ → Bool) × (thinned_events numbers full ≡ thin) }
+    ensures thinned_is_a_way { (numbers : ℕ → Bool) (past : List Event) →
+        LeavesOut (thinned numbers past) past }
+    ensures thinned_events_is_a_way { (numbers : ℕ → Bool) (events : List Event) →
+        LeavesOut (thinned_events numbers events) events }
+    ensures of_good_ones { (bound : ℕ) (thin full : List Event) →
+        LeavesOutGoodOnes bound thin full → (numbers : ℕ → Bool)
+        × (thinned numbers full ≡ thin) × LeavesOutGood bound numbers full }
+    ensures good_is_a_way { (bound : ℕ) (numbers : ℕ → Bool) (full : List Event) →
+        LeavesOutGood bound numbers full → LeavesOutGoodOnes bound (thinned numbers full) full }
+{}
+
+/// Leaving out loads and stores invents nothing: whichever are left out of some events, and in
+/// whichever way, the faults of what is left are, in their order, some of those of the events.
+pub fn thinned_events_invent_nothing()
+    ensures thinned { (bound : ℕ) (numbers : ℕ → Bool) (events : List Event) →
+        IsSublist (faults_on bound (thinned_events numbers events)) (faults_on bound events) }
+    ensures each_way { (bound : ℕ) (thin full : List Event) → LeavesOut thin full →
+        IsSublist (faults_on bound thin) (faults_on bound full) }
+{}
+
+/// Leaving out loads and stores of some events that are good where they stand loses nothing: the
+/// faults are the same, in their order, and the reports are the same but for their numbers, to each
+/// of which the count of what was left out before it is added.
+pub fn thinned_events_lose_nothing_bad()
+    ensures faults { (bound : ℕ) (numbers : ℕ → Bool) (events : List Event) →
+        EventsLeftOutAreGood bound numbers events →
+        faults_on bound (thinned_events numbers events) ≡ faults_on bound events }
+    ensures numbered { (bound : ℕ) (numbers : ℕ → Bool) (events : List Event) →
+        EventsLeftOutAreGood bound numbers events →
+        verdicts bound events
+        ≡ map (renumbered numbers (reverse events))
+        (verdicts bound (thinned_events numbers events)) }
+    ensures each_way { (bound : ℕ) (thin full : List Event) →
+        LeavesOutGoodOnes bound (reverse thin) (reverse full) →
+        faults_on bound thin ≡ faults_on bound full }
+{}
