@@ -3,10 +3,12 @@
 
 ghost use Rattle.std.specs.Prelude.{◌≡◌, IfOk};
 
-use super::{STREAM_AND_MORE, TEXT, feed_of, text_and_status};
-use asan_collect::{Collector, Heaps, Live, OpenGate, Options};
+use super::{expect_eq, text_and_status};
+use asan_collect::{Collector, Heaps, Live, Missing, OpenGate, Options};
 use std::alloc::Global;
+use std::process::Abort;
 use std::test::Fail;
+use test_streams::{STREAM_AND_MORE, TEXT, feed_of};
 use trace_feed::{Arrival, ListDoor, MemFeed};
 
 /// A door of one sender.
@@ -18,6 +20,12 @@ fn one_of_a_kind(alloc: Global) -> Result<ListDoor<MemFeed>, Fail>
     Ok(ListDoor::new(arrivals))
 }
 
+/// Asserts that nothing is counted as missing.
+fn expect_none_missing(rt: &impl Abort, missing: Missing) {
+    let parts = (missing.lanes, missing.workers, missing.readers);
+    expect_eq(rt, (parts, missing.ends), ((0, 0, 0), 0));
+}
+
 #[test]
 fn one_sender_alone(rt: HostRuntime) -> Result<(), Fail> {
     let mut door = one_of_a_kind(rt.alloc())?;
@@ -27,9 +35,10 @@ fn one_sender_alone(rt: HostRuntime) -> Result<(), Fail> {
         heaps: Heaps::all_from(rt.alloc()),
         options: Options::usual(),
     };
-    let outcomes = collector.collect_openly(&mut door)?;
+    let (outcomes, missing) = collector.collect_openly(&mut door)?;
+    expect_none_missing(&rt, missing);
     let (text, status) = text_and_status(rt.alloc(), &outcomes)?;
-    assert_eq!(rt; (text.as_str(), status), (TEXT, 1));
+    expect_eq(&rt, (text.as_str(), status), (TEXT, 1));
     Ok(())
 }
 
@@ -43,11 +52,12 @@ fn lines_of_one_sender_alone(rt: HostRuntime) -> Result<(), Fail> {
         heaps: Heaps::all_from(rt.alloc()),
         options: Options::usual(),
     };
-    let live = collector.collect_live_openly(&mut door, &mut output)?;
+    let (live, missing) = collector.collect_live_openly(&mut door, &mut output)?;
+    expect_none_missing(&rt, missing);
     let Live { outcomes, wrote } = live;
     assert!(rt; wrote.is_ok());
-    assert_eq!(rt; String::from_utf8(output)?.as_str(), TEXT);
+    expect_eq(&rt, String::from_utf8(output)?.as_str(), TEXT);
     let (text, _) = text_and_status(rt.alloc(), &outcomes)?;
-    assert_eq!(rt; text.as_str(), TEXT);
+    expect_eq(&rt, text.as_str(), TEXT);
     Ok(())
 }

@@ -5,10 +5,7 @@ ghost use Rattle.asan_senders.specs.Ranges.{most_senders};
 ghost use Rattle.asan_stream.specs.Outcomes.{reports_of};
 ghost use Rattle.asan_stream.specs.Ranges.{most_reports};
 
-use super::{
-    LENGTH, LOADS, MISS, STREAM_AND_MORE, THREE_TEXTS, feed_of, outcome_of_feed, text_and_status,
-    three_arrivals,
-};
+use super::{expect_at, expect_eq, expect_eq_at, outcome_of_feed, text_and_status, three_arrivals};
 use asan_collect::{Gate, MAX_SENDERS, OpenGate, Options, Outcome, collect};
 use refusing_allocator::RefusingAllocator;
 use std::alloc::{AllocError, Allocator, Global};
@@ -18,7 +15,8 @@ use std::sync::Wait;
 use std::test::Fail;
 use std::thread::Threads;
 use std::time::Clock;
-use trace_feed::{Arrival, Door, Feed, ListDoor, MemFeed};
+use test_streams::{LENGTH, LOADS, MISS, STREAM_AND_MORE, THREE_TEXTS, feed_of};
+use trace_feed::{Arrival, Door, Feed, MemFeed};
 use trace_record::Fate;
 
 /// What becomes of the senders of a door. No more is said of it than writing it out needs.
@@ -54,13 +52,32 @@ where
     text_and_status(alloc, &outcomes_of(rt, alloc, door, gate, options)?)
 }
 
+/// Asserts what is printed of the senders of a door, and the status. A failure names how many items
+/// each lane had, and how many checkers there were.
+pub(super) fn expect_printed<D: Door, R: Threads + Wait + Clock + Sync + Abort>(
+    rt: &R,
+    alloc: Global,
+    door: &mut D,
+    options: Options,
+    wanted: (&str, u8),
+) -> Result<(), Fail>
+where
+    D::Feed: Send + Drop,
+    requires { (D.seen door.old).refusals ≤ 2 ^ 32 }
+{
+    let (text, status) = printed_of(rt, alloc, door, &OpenGate, options)?;
+    let place = (options.ring, options.workers);
+    expect_eq_at(rt, place, (text.as_str(), status), wanted);
+    Ok(())
+}
+
 /// Asserts that two outcomes are printed alike.
 pub(super) fn expect_same<A: Allocator + Copy>(
     rt: &impl Abort,
     outcome: &Outcome<MemFeed>,
     other: &Outcome<MemFeed, A>,
 ) {
-    assert_eq!(rt; outcome.ending(), other.ending());
+    expect_eq(rt, outcome.ending(), other.ending());
     assert!(rt; outcome.reports() == other.reports());
 }
 
@@ -68,16 +85,10 @@ pub(super) fn expect_same<A: Allocator + Copy>(
 fn three_senders(rt: HostRuntime) -> Result<(), Fail> {
     for workers in [1, 2, 3, 64] {
         for ring in [1, 2, 1024] {
-            let mut door = three_arrivals(rt.alloc())?;
+            let mut door = three_arrivals(rt.alloc());
             let options = Options::new(1 << 28, ring, workers, 1 << 24)?;
-            let (text, status) = printed_of(&rt, rt.alloc(), &mut door, &OpenGate, options)?;
-            assert_eq!(rt;
-                text.as_str(),
-                THREE_TEXTS,
-                "ring {ring}, workers {workers}"
-            );
-            assert_eq!(rt; status, 3);
-            assert_eq!(rt; door.refusals(), 0);
+            expect_printed(&rt, rt.alloc(), &mut door, options, (THREE_TEXTS, 3))?;
+            expect_eq(&rt, door.refusals(), 0);
         }
     }
     Ok(())
@@ -173,20 +184,23 @@ fn expect_each_alone(
     Ok(())
 }
 
+/// Asserts that each sender of a crowd of this many has its own outcome.
+fn expect_crowd<R: Threads + Wait + Clock + Sync + Abort>(
+    rt: &R,
+    alloc: Global,
+    senders: usize,
+    options: Options,
+) -> Result<(), Fail> {
+    let outcomes = outcomes_of(rt, alloc, &mut crowd_of(alloc, senders), &OpenGate, options)?;
+    expect_eq_at(rt, options.ring, outcomes.len(), senders);
+    expect_each_alone(rt, alloc, options, &outcomes)
+}
+
 #[test]
 fn each_of_a_crowd_has_its_own_outcome(rt: HostRuntime) -> Result<(), Fail> {
-    let alloc = rt.alloc();
     for (senders, ring, workers) in [(12, 1, 5), (12, 1024, 5), (40, 2, 3), (256, 64, 64)] {
         let options = Options::new(1 << 28, ring, workers, 1 << 24)?;
-        let outcomes = outcomes_of(
-            &rt,
-            alloc,
-            &mut crowd_of(alloc, senders),
-            &OpenGate,
-            options,
-        )?;
-        assert_eq!(rt; outcomes.len(), senders, "ring {ring}");
-        expect_each_alone(&rt, alloc, options, &outcomes)?;
+        expect_crowd(&rt, rt.alloc(), senders, options)?;
     }
     Ok(())
 }
@@ -256,9 +270,8 @@ fn twelve_senders_of_five_checkers(rt: HostRuntime) -> Result<(), Fail> {
     let wanted = text_of_misses(alloc, 12)?;
     for ring in [1, 1024] {
         let options = Options::new(1 << 28, ring, 5, 1 << 24)?;
-        let (text, status) = printed_of(&rt, alloc, &mut misses(alloc, 12), &OpenGate, options)?;
-        assert_eq!(rt; text.as_str(), wanted.as_str(), "ring {ring}");
-        assert_eq!(rt; status, 0);
+        let wanted = (wanted.as_str(), 0);
+        expect_printed(&rt, alloc, &mut misses(alloc, 12), options, wanted)?;
     }
     Ok(())
 }
@@ -268,7 +281,11 @@ fn expect_miss(rt: &impl Abort, outcome: &Outcome<MemFeed>) {
     let Outcome::Settled { end, .. } = outcome else {
         panic!(rt; "it was not settled");
     };
-    assert_eq!(rt; (end.fate, end.events, end.offset), (Fate::Closed, 2, 36));
+    expect_eq(
+        rt,
+        (end.fate, end.events, end.offset),
+        (Fate::Closed, 2, 36),
+    );
 }
 
 #[test]
@@ -278,11 +295,11 @@ fn the_257th_sender_stays_at_the_door(rt: HostRuntime) -> Result<(), Fail> {
         let mut door = misses(alloc, 257);
         let options = Options::new(1 << 28, 2, workers, 1 << 24)?;
         let outcomes = outcomes_of(&rt, alloc, &mut door, &OpenGate, options)?;
-        assert_eq!(rt; outcomes.len(), MAX_SENDERS, "workers {workers}");
+        expect_eq_at(&rt, workers, outcomes.len(), MAX_SENDERS);
         for outcome in &outcomes {
             expect_miss(&rt, outcome);
         }
-        assert_eq!(rt; door.left, 1);
+        expect_eq(&rt, door.left, 1);
     }
     Ok(())
 }
@@ -300,9 +317,9 @@ fn expect_no_room<R: Threads + Wait + Clock + Sync + Abort>(
     )?);
     let mut door = misses(alloc, 3);
     let outcomes = collect(rt, heap, &mut door, &OpenGate, options);
-    assert!(rt; outcomes.is_err(), "turn {turn}");
+    expect_at(rt, turn, outcomes.is_err());
     assert!(rt; heap.has_refused());
-    assert_eq!(rt; door.left, 3);
+    expect_eq(rt, door.left, 3);
     Ok(())
 }
 

@@ -3,7 +3,7 @@
 
 use super::collect::{expect_same, outcomes_of};
 use super::reading::end_of;
-use super::{POISON, STREAM, Senders, feed_of, outcome_of_feed};
+use super::{Senders, expect_eq, expect_eq_at, outcome_of_feed};
 use asan_check::Ending;
 use asan_collect::{OpenGate, Options, Outcome};
 use std::alloc::{AllocError, Global};
@@ -13,6 +13,7 @@ use std::test::Fail;
 use std::thread::Threads;
 use std::time::Clock;
 use test_draws::Draws;
+use test_streams::{POISON, STREAM, feed_of};
 use trace_feed::MemFeed;
 
 /// Each place of the longest stream.
@@ -52,9 +53,25 @@ fn expect_outcome<R: Abort>(
         end: end_of(rt, stream, u64::from(options.limit)),
         reports: outcome.reports().len() as u64,
     };
-    assert_eq!(rt; outcome.ending(), wanted, "{stream:?}");
+    expect_eq_at(rt, stream, outcome.ending(), wanted);
     for cuts in [&[], &each_place()[..], cuts] {
         expect_alone(rt, alloc, stream, cuts, options, outcome)?;
+    }
+    Ok(())
+}
+
+/// Asserts that each of these streams has its outcome by `check_feed` too.
+fn expect_outcomes<R: Abort>(
+    rt: &R,
+    alloc: Global,
+    streams: &[Vec<u8>],
+    cuts: &[u64],
+    options: Options,
+    outcomes: &[Outcome<MemFeed>],
+) -> Result<(), AllocError> {
+    expect_eq(rt, outcomes.len(), streams.len());
+    for (stream, outcome) in streams.iter().zip(outcomes) {
+        expect_outcome(rt, alloc, stream, cuts, options, outcome)?;
     }
     Ok(())
 }
@@ -72,10 +89,7 @@ fn expect_one_outcome<R: Threads + Wait + Clock + Sync + Abort>(
         let cuts = [draws.below(36), draws.below(36), draws.below(36)];
         let mut door = Senders::new(alloc, streams, &cuts);
         let outcomes = outcomes_of(rt, alloc, &mut door, &OpenGate, options)?;
-        assert_eq!(rt; outcomes.len(), streams.len());
-        for (stream, outcome) in streams.iter().zip(&outcomes) {
-            expect_outcome(rt, alloc, stream, &cuts, options, outcome)?;
-        }
+        expect_outcomes(rt, alloc, streams, &cuts, options, &outcomes)?;
     }
     Ok(())
 }
@@ -130,7 +144,7 @@ fn expect_of_each_damaged<R: Threads + Wait + Clock + Sync + Abort>(
     let mut draws = Draws::new();
     for place in from..to {
         let streams = damaged(alloc, sound, place)?;
-        assert_eq!(rt; streams.len(), 255);
+        expect_eq(rt, streams.len(), 255);
         expect_one_outcome(rt, alloc, &streams, &mut draws)?;
     }
     Ok(())

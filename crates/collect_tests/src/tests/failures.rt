@@ -1,19 +1,23 @@
 //! Tests of one failure at each place: of a read beside other senders, and of an arrival.
 
-ghost use Rattle.std.specs.Prelude.{◌≡◌, IfOk};
+ghost use Rattle.std.specs.Prelude.{◌≤◌, All, length};
+ghost use Rattle.asan_senders.specs.Ranges.{most_senders};
+ghost use Rattle.asan_stream.specs.Outcomes.{reports_of};
+ghost use Rattle.asan_stream.specs.Ranges.{most_reports};
 
-use super::collect::{outcomes_of, printed_of};
+use super::collect::{expect_printed, outcomes_of};
 use super::reading::end_of;
-use super::{MISS, STREAM, feed_of, text_and_status};
+use super::{Listed, Sent, expect_eq, expect_eq_at, text_and_status};
 use asan_collect::{OpenGate, Options, Outcome};
-use std::alloc::{AllocError, Global};
+use std::alloc::Global;
 use std::io::Write;
 use std::process::Abort;
 use std::sync::Wait;
 use std::test::Fail;
 use std::thread::Threads;
 use std::time::Clock;
-use trace_feed::{Arrival, Door, Feed, ListDoor, MemFeed};
+use test_streams::{MISS, STREAM};
+use trace_feed::{Door, Feed, MemFeed};
 use trace_record::{End, Fate};
 
 /// What is printed of a sound sender.
@@ -35,29 +39,18 @@ struct Between {
     status: u8,
 }
 
-/// A door of a sender whose read fails at this place between two sound ones.
-fn door_that_fails(alloc: Global, place: u64) -> Result<ListDoor<MemFeed>, AllocError>
-    ensures { IfOk result (λ d. d.refusals ≡ 0) }
-{
-    let mut arrivals = Vec::new(alloc);
-    arrivals.push(Arrival::Came(feed_of(alloc, &MISS, &[], None)?))?;
-    arrivals.push(Arrival::Came(feed_of(alloc, &STREAM, &[], Some(place))?))?;
-    arrivals.push(Arrival::Came(feed_of(alloc, &MISS, &[], None)?))?;
-    Ok(ListDoor::new(arrivals))
-}
-
-/// What comes of a sender whose read fails at this place between two sound ones.
-fn failing_at<R: Threads + Wait + Clock + Sync + Abort>(
-    rt: &R,
+/// What came of the sender between two others.
+fn between_of(
+    rt: &impl Abort,
     alloc: Global,
-    place: usize,
-    options: Options,
-) -> Result<Between, Fail> {
-    let mut door = door_that_fails(alloc, place as u64)?;
-    let outcomes = outcomes_of(rt, alloc, &mut door, &OpenGate, options)?;
-    let (text, status) = text_and_status(alloc, &outcomes)?;
-    let [_, Outcome::Settled { feed, end, reports }, _] = outcomes.as_slice() else {
-        panic!(rt; "place {place}");
+    outcomes: &[Outcome<MemFeed>],
+) -> Result<Between, Fail>
+    requires senders { length outcomes.now ≤ most_senders }
+    requires reports { All (λ o. length (reports_of o) ≤ most_reports) outcomes.now }
+{
+    let (text, status) = text_and_status(alloc, outcomes)?;
+    let [_, Outcome::Settled { feed, end, reports }, _] = outcomes else {
+        panic!(rt; "it was not settled");
     };
     Ok(Between {
         end: *end,
@@ -68,6 +61,48 @@ fn failing_at<R: Threads + Wait + Clock + Sync + Abort>(
     })
 }
 
+/// What comes of a sender whose read fails at this place between two sound ones.
+fn failing_at<R: Threads + Wait + Clock + Sync + Abort>(
+    rt: &R,
+    alloc: Global,
+    place: usize,
+    options: Options,
+) -> Result<Between, Fail> {
+    let senders = [
+        Some((&MISS[..], None)),
+        Some((&STREAM[..], Some(place as u64))),
+        Some((&MISS[..], None)),
+    ];
+    let mut door = Listed::new(alloc, &senders);
+    let outcomes = outcomes_of(rt, alloc, &mut door, &OpenGate, options)?;
+    between_of(rt, alloc, &outcomes)
+}
+
+/// How the first bytes of the stream end, this many of them, where the read after them fails or the
+/// stream ends there.
+fn end_of_first(rt: &impl Abort, place: usize) -> End
+    requires { place ≤ 36 }
+{
+    let mut end = end_of(rt, &STREAM[..place], 1 << 24);
+    if place < STREAM.len() {
+        end.fate = Fate::ReadFailed;
+    }
+    end
+}
+
+/// Asserts what came of a sender whose read failed at this place, if it is not the stream's end.
+fn expect_failed_at(rt: &impl Abort, place: usize, between: &Between)
+    requires { place ≤ 36 }
+{
+    let wanted = end_of_first(rt, place);
+    let fails = place < STREAM.len();
+    expect_eq_at(rt, place, between.end, wanted);
+    expect_eq_at(rt, place, between.faults, u64::from(fails));
+    // The second event is the bad store.
+    expect_eq_at(rt, place, between.reports as u64, wanted.events / 2);
+    expect_eq_at(rt, place, between.status, if fails { 3 } else { 1 });
+}
+
 #[test]
 fn each_failing_read_beside_two_senders(rt: HostRuntime) -> Result<(), Fail> {
     let alloc = rt.alloc();
@@ -75,62 +110,47 @@ fn each_failing_read_beside_two_senders(rt: HostRuntime) -> Result<(), Fail> {
     let front = format!(in alloc; "p0 {SOUND}\np1 ")?;
     let back = format!(in alloc; "\np2 {SOUND}\n")?;
     for place in 0..=STREAM.len() {
-        let mut wanted = end_of(&rt, &STREAM[..place], 1 << 24);
-        let (faults, status) = if place < STREAM.len() {
-            wanted.fate = Fate::ReadFailed;
-            (1, 3)
-        } else {
-            (0, 1)
-        };
         let between = failing_at(&rt, alloc, place, options)?;
-        assert_eq!(rt; between.end, wanted, "place {place}");
-        assert_eq!(rt; between.faults, faults);
-        // The second event is the bad store.
-        assert_eq!(rt; between.reports as u64, wanted.events / 2);
+        expect_failed_at(&rt, place, &between);
         assert!(rt; between.text.starts_with(front.as_str()));
         assert!(rt; between.text.ends_with(back.as_str()));
-        assert_eq!(rt; between.status, status);
     }
     Ok(())
 }
 
-/// A door of three senders, of which the one of this number is refused. The last one is sound, and
-/// each other has a report.
-fn door_that_refuses(alloc: Global, refused: usize) -> Result<ListDoor<MemFeed>, AllocError>
-    ensures { IfOk result (λ d. d.refusals ≡ 0) }
-{
-    let first = Arrival::Came(feed_of(alloc, &STREAM, &[], None)?);
-    let second = Arrival::Came(feed_of(alloc, &STREAM, &[], None)?);
-    let third = Arrival::Came(feed_of(alloc, &MISS, &[], None)?);
-    let mut arrivals = Vec::new(alloc);
-    arrivals.push(if refused == 0 {
-        Arrival::Refused
+/// Three senders, of which the one of this number is refused. The last one is sound, and each other
+/// has a report.
+fn one_refused(refused: usize) -> [Sent<'static>; 3] {
+    let mut senders = [
+        Some((&STREAM[..], None)),
+        Some((&STREAM[..], None)),
+        Some((&MISS[..], None)),
+    ];
+    for (number, sender) in senders.iter_mut().enumerate() {
+        if number == refused {
+            *sender = None;
+        }
+    }
+    senders
+}
+
+/// What is printed of the sender of this number behind its name, where one is refused.
+fn lines_of(number: usize, refused: usize) -> &'static [&'static str] {
+    if number == refused {
+        &["end not-opened"]
+    } else if number == 2 {
+        &[SOUND]
     } else {
-        first
-    })?;
-    arrivals.push(if refused == 1 {
-        Arrival::Refused
-    } else {
-        second
-    })?;
-    arrivals.push(if refused == 2 {
-        Arrival::Refused
-    } else {
-        third
-    })?;
-    Ok(ListDoor::new(arrivals))
+        &[REPORT, REPORTED]
+    }
 }
 
 /// What is printed of the three senders where the one of this number is refused.
 fn text_where_refused(alloc: Global, refused: usize) -> Result<String, Fail> {
     let mut text = String::new(alloc);
-    for place in 0..3 {
-        if place == refused {
-            write!(text, "p{place} end not-opened\n")?;
-        } else if place == 2 {
-            write!(text, "p{place} {SOUND}\n")?;
-        } else {
-            write!(text, "p{place} {REPORT}\np{place} {REPORTED}\n")?;
+    for number in 0..3 {
+        for line in lines_of(number, refused) {
+            write!(text, "p{number} {line}\n")?;
         }
     }
     Ok(text)
@@ -141,11 +161,11 @@ fn a_refusal_at_each_place(rt: HostRuntime) -> Result<(), Fail> {
     let alloc = rt.alloc();
     for refused in 0..3 {
         let wanted = text_where_refused(alloc, refused)?;
-        let mut door = door_that_refuses(alloc, refused)?;
-        let (text, status) = printed_of(&rt, alloc, &mut door, &OpenGate, Options::usual())?;
-        assert_eq!(rt; text.as_str(), wanted.as_str());
-        assert_eq!(rt; status, 3);
-        assert_eq!(rt; door.refusals(), 1);
+        let senders = one_refused(refused);
+        let mut door = Listed::new(alloc, &senders);
+        let wanted = (wanted.as_str(), 3);
+        expect_printed(&rt, alloc, &mut door, Options::usual(), wanted)?;
+        expect_eq(&rt, door.refusals(), 1);
     }
     Ok(())
 }

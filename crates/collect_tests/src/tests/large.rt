@@ -1,8 +1,9 @@
 //! A block of 2^32 bytes, which only version 2 has.
 
 use super::Senders;
-use super::collect::printed_of;
-use asan_collect::{OpenGate, Options};
+use super::collect::expect_printed;
+use asan_collect::Options;
+use std::alloc::{AllocError, Global};
 use std::test::Fail;
 
 /// A malloc of 2^32 bytes at 0x1_0000_0000, a load of its last byte and of the one past it, a free
@@ -20,22 +21,25 @@ p0 #5 load 1 at 000180000000 bad 000180000000 heap-use-after-free shadow fd
 p0 end closed events 5 offset 65 reports 2
 ";
 
-#[test]
-fn four_gigabyte_block_beside_version_1(rt: HostRuntime) -> Result<(), Fail> {
-    let alloc = rt.alloc();
+/// What a sender of version 2 and one of version 1 send.
+fn both_versions(alloc: Global) -> Result<Vec<Vec<u8>>, AllocError> {
     let mut first = FOUR_GIGABYTES;
     first[4] = 1;
     let mut sent = Vec::new(alloc);
     sent.push(FOUR_GIGABYTES.to_vec(alloc)?)?;
     sent.push(first.to_vec(alloc)?)?;
+    Ok(sent)
+}
+
+#[test]
+fn four_gigabyte_block_beside_version_1(rt: HostRuntime) -> Result<(), Fail> {
+    let alloc = rt.alloc();
+    let sent = both_versions(alloc)?;
     let wanted = format!(in alloc; "{HELD}p1 end malformed size events 0 offset 8 reports 0\n")?;
-    for cut in [12, 20] {
-        let options = Options::new(1 << 40, 1, 2, 1 << 24)?;
-        let cuts = [cut];
+    let options = Options::new(1 << 40, 1, 2, 1 << 24)?;
+    for cuts in [[12], [20]] {
         let mut door = Senders::new(alloc, &sent, &cuts);
-        let (text, status) = printed_of(&rt, alloc, &mut door, &OpenGate, options)?;
-        assert_eq!(rt; text.as_str(), wanted.as_str(), "cut at {cut}");
-        assert_eq!(rt; status, 3);
+        expect_printed(&rt, alloc, &mut door, options, (wanted.as_str(), 3))?;
     }
     Ok(())
 }

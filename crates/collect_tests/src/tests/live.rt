@@ -1,11 +1,9 @@
 //! Tests of reports that are printed as they come.
 
-ghost use Rattle.std.specs.Prelude.{◌≡◌, ◌≤◌, ◌^◌, IfOk};
+ghost use Rattle.std.specs.Prelude.{◌≡◌, ◌≤◌, ◌^◌};
 ghost use Rattle.trace_feed.specs.Doors.{IfCame};
 
-use super::fails_once::FailsOnce;
-use super::rig::OUT_OF_ORDER;
-use super::{STREAM, feed_of, text_and_status, three_arrivals, wait_for};
+use super::{Listed, expect_eq, text_and_status, three_arrivals, wait_for};
 use asan_collect::{Gate, Live, OpenGate, Options, Why, WriteFault, collect_live};
 use std::alloc::Global;
 use std::io;
@@ -16,8 +14,12 @@ use std::sync::atomic::{AtomicU64, Ordering};
 use std::test::Fail;
 use std::thread::Threads;
 use std::time::Clock;
-use test_writers::{ShortWriter, WhenFull};
-use trace_feed::{Arrival, Door, Feed, FeedFault, ListDoor, MemFeed};
+use test_streams::STREAM;
+use test_writers::{FailsOnce, ShortWriter, WhenFull};
+use trace_feed::{Arrival, Door, Feed, FeedFault, ListDoor};
+
+/// What a gate has heard of where an event came out of order, or twice.
+const OUT_OF_ORDER: u64 = u64::MAX;
 
 /// What is printed of each of the three senders.
 const THREE_TEXTS: [&str; 3] = [
@@ -34,7 +36,7 @@ fn expect_lines(rt: &impl Abort, text: &str, prefix: &str, wanted: &str) {
     let mut wanted = wanted.lines();
     for line in text.lines() {
         if line.starts_with(prefix) {
-            assert_eq!(rt; Some(line), wanted.next());
+            expect_eq(rt, Some(line), wanted.next());
         }
     }
     assert!(rt; wanted.next().is_none());
@@ -93,7 +95,7 @@ fn print_three<W: Write, R: Threads + Wait + Clock + Sync>(
     print_live(
         rt,
         alloc,
-        &mut three_arrivals(alloc)?,
+        &mut three_arrivals(alloc),
         &OpenGate,
         options,
         output,
@@ -114,10 +116,10 @@ fn live_lines_of_each_process(rt: HostRuntime) -> Result<(), Fail> {
         for workers in [1, 3] {
             let mut text = Vec::new(rt.alloc());
             let printed = print_three(&rt, rt.alloc(), ring, workers, &mut text)?;
-            assert_eq!(rt; printed.wrote, Ok(()));
-            assert_eq!(rt; printed.senders, 3);
+            expect_eq(&rt, printed.wrote, Ok(()));
+            expect_eq(&rt, printed.senders, 3);
             let text = String::from_utf8(text)?;
-            assert_eq!(rt; text.lines().count(), 4);
+            expect_eq(&rt, text.lines().count(), 4);
             expect_three(&rt, text.as_str());
         }
     }
@@ -136,7 +138,7 @@ fn an_output_that_takes_no_more(rt: HostRuntime) -> Result<(), Fail> {
                 flushes: true,
             };
             let printed = print_three(&rt, rt.alloc(), ring, workers, &mut output)?;
-            assert_eq!(rt; printed.wrote, fault_after(10));
+            expect_eq(&rt, printed.wrote, fault_after(10));
             assert!(rt; output.held.as_slice() == &THREE_TEXTS[0].as_bytes()[..10]);
             expect_three(&rt, printed.text.as_str());
         }
@@ -159,11 +161,15 @@ fn expect_last_write<R: Threads + Wait + Clock + Sync + Abort>(
         failing,
     };
     let printed = print_three(rt, alloc, 1, workers, &mut output)?;
-    assert_eq!(rt; printed.wrote, fault_after(written));
-    assert_eq!(rt; output.writes, failing);
-    assert_eq!(rt; output.held.len() as u64, written);
-    assert!(rt; super::THREE_TEXTS.as_bytes().starts_with(&output.held));
-    assert_eq!(rt; printed.text.as_str(), super::THREE_TEXTS);
+    expect_eq(rt, printed.wrote, fault_after(written));
+    expect_eq(rt, output.writes, failing);
+    expect_eq(rt, output.held.len() as u64, written);
+    assert!(rt;
+        test_streams::THREE_TEXTS
+            .as_bytes()
+            .starts_with(&output.held)
+    );
+    expect_eq(rt, printed.text.as_str(), test_streams::THREE_TEXTS);
     Ok(())
 }
 
@@ -266,7 +272,7 @@ fn noticed_of<R: Threads + Wait + Clock + Sync + Abort>(
     };
     let options = Options::new(1 << 28, 1024, workers, 1 << 24)?;
     let live = print_live(rt, alloc, &mut door, &OpenGate, options, &mut output)?;
-    assert_eq!(rt; live.wrote, Ok(()));
+    expect_eq(rt, live.wrote, Ok(()));
     Ok(String::from_utf8(output.text)?)
 }
 
@@ -310,22 +316,11 @@ impl Gate for Counters {
     }
 }
 
-/// A door of three senders of this stream.
-fn three_of(alloc: Global, bytes: &[u8]) -> Result<ListDoor<MemFeed>, Fail>
-    ensures { IfOk result (λ d. d.refusals ≡ 0) }
-{
-    let mut arrivals = Vec::new(alloc);
-    arrivals.push(Arrival::Came(feed_of(alloc, bytes, &[], None)?))?;
-    arrivals.push(Arrival::Came(feed_of(alloc, bytes, &[], None)?))?;
-    arrivals.push(Arrival::Came(feed_of(alloc, bytes, &[], None)?))?;
-    Ok(ListDoor::new(arrivals))
-}
-
 /// Asserts that two texts have the same lines that begin so, in the same order.
 fn expect_same_lines(rt: &impl Abort, text: &str, wanted: &str, prefix: &str) {
     let mut lines = text.lines().filter(|line| line.starts_with(prefix));
     for line in wanted.lines().filter(|line| line.starts_with(prefix)) {
-        assert_eq!(rt; lines.next(), Some(line));
+        expect_eq(rt, lines.next(), Some(line));
     }
     assert!(rt; lines.next().is_none());
 }
@@ -333,20 +328,22 @@ fn expect_same_lines(rt: &impl Abort, text: &str, wanted: &str, prefix: &str) {
 #[test]
 fn many_reports_through_small_lanes(rt: HostRuntime) -> Result<(), Fail> {
     let alloc = rt.alloc();
-    let mut door = three_of(alloc, &frees(alloc, 1000)?)?;
+    let bytes = frees(alloc, 1000)?;
+    let senders = [Some((bytes.as_slice(), None)); 3];
+    let mut door = Listed::new(alloc, &senders);
     let options = Options::new(1 << 28, 1, 2, 1 << 24)?;
     let mut text = Vec::new(alloc);
     let gate = Counters {
         heard: [AtomicU64::new(0), AtomicU64::new(0), AtomicU64::new(0)],
     };
     let printed = print_live(&rt, alloc, &mut door, &gate, options, &mut text)?;
-    assert_eq!(rt; printed.wrote, Ok(()));
+    expect_eq(&rt, printed.wrote, Ok(()));
     // The last reports waited for room after the end was taken, and the gate's calls with them.
     for heard in &gate.heard {
-        assert_eq!(rt; heard.load(Ordering::SeqCst), 1000);
+        expect_eq(&rt, heard.load(Ordering::SeqCst), 1000);
     }
     let text = String::from_utf8(text)?;
-    assert_eq!(rt; text.lines().count(), 3003);
+    expect_eq(&rt, text.lines().count(), 3003);
     for prefix in ["p0 ", "p1 ", "p2 "] {
         expect_same_lines(&rt, text.as_str(), printed.text.as_str(), prefix);
     }

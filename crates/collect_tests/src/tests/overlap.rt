@@ -5,7 +5,7 @@
 //! work were done in turn.
 
 use super::collect::printed_of;
-use super::{MISS, STREAM_AND_MORE, feed_of, wait_for};
+use super::{expect_eq, expect_eq_at, wait_for};
 use asan_collect::{Gate, Options};
 use std::alloc::Global;
 use std::sync::Wait;
@@ -13,6 +13,7 @@ use std::sync::atomic::{AtomicU64, Ordering};
 use std::test::Fail;
 use std::thread::Threads;
 use std::time::Clock;
+use test_streams::{MISS, STREAM_AND_MORE, feed_of};
 use trace_feed::{Arrival, Feed, FeedFault, ListDoor};
 
 /// A feed whose second read waits for a flag, and its first one too if `waits_first`. Where it
@@ -136,7 +137,7 @@ p1 end closed events 2 offset 36 reports 1
     for workers in [1, 2] {
         for swapped in [false, true] {
             let text = printed_of_two(&rt, rt.alloc(), swapped, workers)?;
-            assert_eq!(rt; text.as_str(), wanted, "workers {workers}");
+            expect_eq_at(&rt, workers, text.as_str(), wanted);
         }
     }
     Ok(())
@@ -180,12 +181,12 @@ fn checkers_overlap(rt: HostRuntime) -> Result<(), Fail> {
     };
     let options = Options::new(1 << 28, 1024, 2, 1 << 24)?;
     let (text, _) = printed_of(&rt, alloc, &mut ListDoor::new(arrivals), &gate, options)?;
-    assert_eq!(rt; missed.load(Ordering::SeqCst), 0);
+    expect_eq(&rt, missed.load(Ordering::SeqCst), 0);
     let wanted = "\
 p0 end closed events 2 offset 36 reports 0
 p1 end closed events 2 offset 36 reports 0
 ";
-    assert_eq!(rt; text.as_str(), wanted);
+    expect_eq(&rt, text.as_str(), wanted);
     Ok(())
 }
 
@@ -198,33 +199,40 @@ const FOUR_LOADS: [u8; 49] = [
 /// What is printed of them.
 const FOUR_LOADS_TEXT: &str = "p0 end closed events 4 offset 49 reports 0\n";
 
+/// What is printed of one sender of them, over a lane of this many items. Its second read waits for
+/// a flag, and sets another when it begins.
+fn printed_of_four<G: Gate + Sync, R: Threads + Wait + Clock + Sync>(
+    rt: &R,
+    alloc: Global,
+    ring: u32,
+    flag: &AtomicU64,
+    began: &AtomicU64,
+    gate: &G,
+) -> Result<String, Fail> {
+    let mut arrivals = Vec::new(alloc);
+    arrivals.push(Arrival::Came(Waiting {
+        bytes: &FOUR_LOADS,
+        cut: 38,
+        place: 0,
+        waits_first: false,
+        flag,
+        began,
+        faults: 0,
+    }))?;
+    let options = Options::new(1 << 28, ring, 1, 1 << 24)?;
+    Ok(printed_of(rt, alloc, &mut ListDoor::new(arrivals), gate, options)?.0)
+}
+
 #[test]
 fn reader_and_checker_overlap(rt: HostRuntime) -> Result<(), Fail> {
     for ring in [1, 1024] {
         let (first, second, began) = (flag(), flag(), flag());
-        let mut arrivals = Vec::new(rt.alloc());
-        arrivals.push(Arrival::Came(Waiting {
-            bytes: &FOUR_LOADS,
-            cut: 38,
-            place: 0,
-            waits_first: false,
-            flag: &first,
-            began: &began,
-            faults: 0,
-        }))?;
         let gate = Marking {
             first: &first,
             second: &second,
         };
-        let options = Options::new(1 << 28, ring, 1, 1 << 24)?;
-        let (text, _) = printed_of(
-            &rt,
-            rt.alloc(),
-            &mut ListDoor::new(arrivals),
-            &gate,
-            options,
-        )?;
-        assert_eq!(rt; text.as_str(), FOUR_LOADS_TEXT, "ring {ring}");
+        let text = printed_of_four(&rt, rt.alloc(), ring, &first, &began, &gate)?;
+        expect_eq_at(&rt, ring, text.as_str(), FOUR_LOADS_TEXT);
     }
     Ok(())
 }
@@ -247,29 +255,12 @@ impl<'a> Gate for Holding<'a> {
 #[test]
 fn reader_runs_ahead(rt: HostRuntime) -> Result<(), Fail> {
     let (began, set, missed) = (flag(), AtomicU64::new(1), flag());
-    let mut arrivals = Vec::new(rt.alloc());
-    arrivals.push(Arrival::Came(Waiting {
-        bytes: &FOUR_LOADS,
-        cut: 38,
-        place: 0,
-        waits_first: false,
-        flag: &set,
-        began: &began,
-        faults: 0,
-    }))?;
     let gate = Holding {
         flag: &began,
         missed: &missed,
     };
-    let options = Options::new(1 << 28, 1024, 1, 1 << 24)?;
-    let (text, _) = printed_of(
-        &rt,
-        rt.alloc(),
-        &mut ListDoor::new(arrivals),
-        &gate,
-        options,
-    )?;
-    assert_eq!(rt; text.as_str(), FOUR_LOADS_TEXT);
-    assert_eq!(rt; missed.load(Ordering::SeqCst), 0);
+    let text = printed_of_four(&rt, rt.alloc(), 1024, &set, &began, &gate)?;
+    expect_eq(&rt, text.as_str(), FOUR_LOADS_TEXT);
+    expect_eq(&rt, missed.load(Ordering::SeqCst), 0);
     Ok(())
 }

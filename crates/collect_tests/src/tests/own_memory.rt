@@ -1,9 +1,9 @@
 //! Tests of collections in which each checker takes its memory from its own allocator.
 
-ghost use Rattle.std.specs.Prelude.{◌≡◌, ◌≤◌, ◌^◌, IfOk};
+ghost use Rattle.std.specs.Prelude.{◌≤◌, ◌^◌};
 
 use super::collect::misses;
-use super::{STREAM_AND_MORE, feed_of};
+use super::{Listed, Sent, expect_eq, expect_eq_at};
 use asan_collect::{BadOption, Collector, Heaps, MAX_SENDERS, OpenGate, Options, Outcome};
 use refusing_allocator::RefusingAllocator;
 use std::alloc::{Allocator, Global};
@@ -12,19 +12,12 @@ use std::sync::Wait;
 use std::test::Fail;
 use std::thread::Threads;
 use std::time::Clock;
-use trace_feed::{Arrival, Door, ListDoor, MemFeed};
+use test_streams::STREAM_AND_MORE;
+use trace_feed::{Door, MemFeed};
 use trace_record::Fate;
 
-/// A door of three senders of the same stream.
-fn three_of_a_kind(alloc: Global) -> Result<ListDoor<MemFeed>, Fail>
-    ensures { IfOk result (λ d. d.refusals ≡ 0) }
-{
-    let mut arrivals = Vec::new(alloc);
-    arrivals.push(Arrival::Came(feed_of(alloc, &STREAM_AND_MORE, &[], None)?))?;
-    arrivals.push(Arrival::Came(feed_of(alloc, &STREAM_AND_MORE, &[], None)?))?;
-    arrivals.push(Arrival::Came(feed_of(alloc, &STREAM_AND_MORE, &[], None)?))?;
-    Ok(ListDoor::new(arrivals))
-}
+/// Three senders of the same stream.
+static THREE_OF_A_KIND: [Sent<'static>; 3] = [Some((&STREAM_AND_MORE, None)); 3];
 
 /// What becomes of the senders of a door, where each of the first has its own allocator.
 fn outcomes_within<'a, D: Door, R: Threads + Wait + Clock + Sync>(
@@ -95,7 +88,7 @@ where
         heaps: Heaps { shared, own },
         options: Options::usual(),
     };
-    Ok(collector.collect_openly(door)?)
+    Ok(collector.collect_openly(door)?.0)
 }
 
 /// Asserts that a sender ran out of memory if it was short of it, and was settled else.
@@ -112,13 +105,13 @@ fn expect_short<A: Allocator + Copy>(
             ..
         } => {
             assert!(rt; is_short);
-            assert_eq!(rt; (end.fate, end.events, *checked), (Fate::Closed, 2, 0));
+            expect_eq(rt, (end.fate, end.events, *checked), (Fate::Closed, 2, 0));
             assert!(rt; reports.is_empty());
         }
         Outcome::Settled { end, reports, .. } => {
             assert!(rt; !is_short);
-            assert_eq!(rt; (end.fate, end.events), (Fate::Closed, 2));
-            assert_eq!(rt; reports.len(), 1);
+            expect_eq(rt, (end.fate, end.events), (Fate::Closed, 2));
+            expect_eq(rt, reports.len(), 1);
         }
         _ => panic!(rt; "the sender was not read"),
     }
@@ -130,7 +123,7 @@ fn expect_one_short<A: Allocator + Copy>(
     outcomes: &[Outcome<MemFeed, A>],
     short: usize,
 ) {
-    assert_eq!(rt; outcomes.len(), 3);
+    expect_eq(rt, outcomes.len(), 3);
     for (sender, outcome) in outcomes.iter().enumerate() {
         expect_short(rt, outcome, sender == short);
     }
@@ -151,7 +144,7 @@ fn expect_memory_runs_out<R: Threads + Wait + Clock + Sync + Abort>(
     for sender in 0..3 {
         own.push(if sender == short { &little } else { &ample })?;
     }
-    let mut door = three_of_a_kind(alloc)?;
+    let mut door = Listed::new(alloc, &THREE_OF_A_KIND);
     let mut text = Vec::new(alloc);
     let outcomes = if is_live {
         printed_within(rt, &shared, &own, &mut door, &mut text)?
@@ -162,7 +155,7 @@ fn expect_memory_runs_out<R: Threads + Wait + Clock + Sync + Abort>(
     // The reports are held until the outcomes are let go.
     assert!(rt; ample.held() > 0);
     drop(outcomes);
-    assert_eq!(rt; (ample.held(), little.held(), shared.held()), (0, 0, 0));
+    expect_eq(rt, (ample.held(), little.held(), shared.held()), (0, 0, 0));
     Ok(())
 }
 
@@ -179,11 +172,9 @@ fn memory_runs_out_for_one_sender(rt: HostRuntime) -> Result<(), Fail> {
 fn a_sender_alone_has_the_first_memory(rt: HostRuntime) -> Result<(), Fail> {
     let ample = RefusingAllocator::counting(rt.alloc());
     let little = RefusingAllocator::with_bound(rt.alloc(), 100);
-    let mut arrivals = Vec::new(rt.alloc());
-    arrivals.push(Arrival::Came(feed_of(rt.alloc(), &STREAM_AND_MORE, &[], None)?))?;
-    let mut door = ListDoor::new(arrivals);
+    let mut door = Listed::new(rt.alloc(), &THREE_OF_A_KIND[..1]);
     let outcomes = outcomes_openly(&rt, &ample, &[&little, &ample], &mut door)?;
-    assert_eq!(rt; outcomes.len(), 1);
+    expect_eq(&rt, outcomes.len(), 1);
     for outcome in &outcomes {
         expect_short(&rt, outcome, true);
     }
@@ -193,7 +184,7 @@ fn a_sender_alone_has_the_first_memory(rt: HostRuntime) -> Result<(), Fail> {
 /// Asserts that each outcome has one report.
 fn expect_a_report_each<A: Allocator + Copy>(rt: &impl Abort, outcomes: &[Outcome<MemFeed, A>]) {
     for outcome in outcomes {
-        assert_eq!(rt; outcome.reports().len(), 1);
+        expect_eq(rt, outcome.reports().len(), 1);
     }
 }
 
@@ -201,7 +192,7 @@ fn expect_a_report_each<A: Allocator + Copy>(rt: &impl Abort, outcomes: &[Outcom
 fn senders_past_the_list_share_the_memory(rt: HostRuntime) -> Result<(), Fail> {
     let own = RefusingAllocator::counting(rt.alloc());
     let shared = RefusingAllocator::counting(rt.alloc());
-    let mut door = three_of_a_kind(rt.alloc())?;
+    let mut door = Listed::new(rt.alloc(), &THREE_OF_A_KIND);
     let outcomes = outcomes_within(&rt, &shared, &[&own], &mut door)?;
     expect_a_report_each(&rt, &outcomes);
     let of_one = own.held();
@@ -215,7 +206,7 @@ fn expect_same_requests(rt: &impl Abort, heaps: &[RefusingAllocator<Global>]) {
     let requests = heaps.first().map_or(0, |heap| heap.requests_made());
     assert!(rt; requests > 0);
     for (sender, heap) in heaps.iter().enumerate() {
-        assert_eq!(rt; heap.requests_made(), requests, "sender {sender}");
+        expect_eq_at(rt, sender, heap.requests_made(), requests);
     }
 }
 
@@ -229,7 +220,7 @@ fn each_sender_has_its_own_memory(rt: HostRuntime) -> Result<(), Fail> {
     let shared = RefusingAllocator::counting(rt.alloc());
     let mut door = misses(rt.alloc(), MAX_SENDERS as u32);
     let outcomes = outcomes_within(&rt, &shared, &own, &mut door)?;
-    assert_eq!(rt; outcomes.len(), MAX_SENDERS);
+    expect_eq(&rt, outcomes.len(), MAX_SENDERS);
     // All senders send the same, so that their checkers ask for the same.
     expect_same_requests(&rt, &heaps);
     Ok(())
@@ -243,15 +234,15 @@ fn bounded(bytes: u64) -> Result<Options, BadOption> {
 #[test]
 fn bounds_of_memory(rt: HostRuntime) -> Result<(), Fail> {
     let usual = Options::usual();
-    assert_eq!(rt; usual.memory, None);
+    expect_eq(&rt, usual.memory, None);
     for bytes in [0, (1 << 20) - 1, (1 << 40) + 1, u64::MAX] {
-        assert_eq!(rt; usual.with_memory(bytes).err(), Some(BadOption::Memory));
+        expect_eq(&rt, usual.with_memory(bytes).err(), Some(BadOption::Memory));
     }
     for bytes in [1 << 20, 1 << 26, 1 << 40] {
         let options = bounded(bytes)?;
-        assert_eq!(rt; (options.quarantine, options.ring), (0, 1));
-        assert_eq!(rt; (options.workers, options.limit), (3, 7));
-        assert_eq!(rt; options.memory, Some(bytes));
+        expect_eq(&rt, (options.quarantine, options.ring), (0, 1));
+        expect_eq(&rt, (options.workers, options.limit), (3, 7));
+        expect_eq(&rt, options.memory, Some(bytes));
     }
     Ok(())
 }

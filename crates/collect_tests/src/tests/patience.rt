@@ -4,17 +4,19 @@
 ghost use Rattle.std.specs.Prelude.{◌≡◌, IfOk};
 
 use super::collect::printed_of;
-use super::{feed_of, wait_until};
-use asan_collect::{Gate, Live, Options, collect_live};
+use super::{expect_eq, wait_until};
+use asan_collect::{Gate, Options, collect_live};
 use std::alloc::Global;
 use std::io::Write;
+use std::process::Abort;
 use std::sync::Wait;
 use std::sync::atomic::{AtomicU64, Ordering};
 use std::test::Fail;
 use std::thread::Threads;
 use std::time::{Clock, Duration};
 use std::{io, thread};
-use trace_feed::{Arrival, Feed, FeedFault, ListDoor};
+use test_streams::feed_of;
+use trace_feed::{Arrival, Feed, FeedFault, ListDoor, MemFeed};
 
 /// How often the threads that wait look in vain at least.
 const LOOKS: u64 = 100_000;
@@ -223,6 +225,19 @@ fn printed_late<'a, R: Threads + Wait + Clock + Sync>(
     Ok(printed_of(rt, alloc, &mut door, &gate, options_of(ring)?)?.0)
 }
 
+/// Asserts that nothing waited in vain, and what was printed.
+fn expect_waited(
+    rt: &impl Abort,
+    alloc: Global,
+    counters: &Counters,
+    text: &str,
+) -> Result<(), Fail> {
+    let wanted = text_of_frees(alloc)?;
+    expect_eq(rt, text, wanted.as_str());
+    expect_eq(rt, counters.missed.load(Ordering::SeqCst), 0);
+    Ok(())
+}
+
 #[test]
 fn a_slow_feed_is_waited_for(rt: HostRuntime) -> Result<(), Fail> {
     let counters = Counters::new();
@@ -235,9 +250,7 @@ fn a_slow_feed_is_waited_for(rt: HostRuntime) -> Result<(), Fail> {
         counters.until(&counters.sleeps, 0),
     );
     let text = printed_late(&restless, rt.alloc(), 1, &counters, many, now)?;
-    assert_eq!(rt; text.as_str(), text_of_frees(rt.alloc())?.as_str());
-    assert_eq!(rt; counters.missed.load(Ordering::SeqCst), 0);
-    Ok(())
+    expect_waited(&rt, rt.alloc(), &counters, text.as_str())
 }
 
 #[test]
@@ -252,9 +265,7 @@ fn a_slow_checker_is_waited_for(rt: HostRuntime) -> Result<(), Fail> {
         counters.until(&counters.sleeps, 0),
     );
     let text = printed_late(&restless, rt.alloc(), 1, &counters, now, many)?;
-    assert_eq!(rt; text.as_str(), text_of_frees(rt.alloc())?.as_str());
-    assert_eq!(rt; counters.missed.load(Ordering::SeqCst), 0);
-    Ok(())
+    expect_waited(&rt, rt.alloc(), &counters, text.as_str())
 }
 
 #[test]
@@ -265,9 +276,18 @@ fn a_lane_has_its_room(rt: HostRuntime) -> Result<(), Fail> {
         counters.until(&counters.reads, 0),
     );
     let text = printed_late(&rt, rt.alloc(), EVENTS - 1, &counters, now, second_read)?;
-    assert_eq!(rt; text.as_str(), text_of_frees(rt.alloc())?.as_str());
-    assert_eq!(rt; counters.missed.load(Ordering::SeqCst), 0);
-    Ok(())
+    expect_waited(&rt, rt.alloc(), &counters, text.as_str())
+}
+
+/// A door of one sender, who sends the frees and the close.
+fn early_door(alloc: Global) -> Result<ListDoor<MemFeed>, Fail>
+    ensures { IfOk result (λ d. d.refusals ≡ 0) }
+{
+    let mut bytes = frees(alloc)?;
+    bytes.push(7)?;
+    let mut arrivals = Vec::new(alloc);
+    arrivals.push(Arrival::Came(feed_of(alloc, &bytes, &[], None)?))?;
+    Ok(ListDoor::new(arrivals))
 }
 
 /// What is printed of one sender as it comes, over lanes of this many items, where the first write
@@ -279,11 +299,7 @@ fn printed_slowly<'a, R: Threads + Wait + Clock + Sync>(
     counters: &'a Counters,
     until: Until<'a>,
 ) -> Result<String, Fail> {
-    let mut bytes = frees(alloc)?;
-    bytes.push(7)?;
-    let mut arrivals = Vec::new(alloc);
-    arrivals.push(Arrival::Came(feed_of(alloc, &bytes, &[], None)?))?;
-    let mut door = ListDoor::new(arrivals);
+    let mut door = early_door(alloc)?;
     let gate = Slow {
         last: &counters.last,
         until: counters.until(&counters.last, 0),
@@ -293,9 +309,7 @@ fn printed_slowly<'a, R: Threads + Wait + Clock + Sync>(
         until,
     };
     let options = options_of(ring)?;
-    let Live { outcomes, wrote } = collect_live(rt, alloc, &mut door, &gate, options, &mut output)?;
-    wrote?;
-    drop(outcomes);
+    collect_live(rt, alloc, &mut door, &gate, options, &mut output)?.wrote?;
     Ok(String::from_utf8(output.text)?)
 }
 
@@ -308,9 +322,7 @@ fn a_slow_output_is_waited_for(rt: HostRuntime) -> Result<(), Fail> {
     };
     let many = counters.until(&counters.sleeps, LOOKS);
     let text = printed_slowly(&restless, rt.alloc(), 1, &counters, many)?;
-    assert_eq!(rt; text.as_str(), text_of_frees(rt.alloc())?.as_str());
-    assert_eq!(rt; counters.missed.load(Ordering::SeqCst), 0);
-    Ok(())
+    expect_waited(&rt, rt.alloc(), &counters, text.as_str())
 }
 
 #[test]
@@ -318,7 +330,5 @@ fn a_report_lane_has_its_room(rt: HostRuntime) -> Result<(), Fail> {
     let counters = Counters::new();
     let all = counters.until(&counters.last, u64::from(EVENTS));
     let text = printed_slowly(&rt, rt.alloc(), EVENTS - 1, &counters, all)?;
-    assert_eq!(rt; text.as_str(), text_of_frees(rt.alloc())?.as_str());
-    assert_eq!(rt; counters.missed.load(Ordering::SeqCst), 0);
-    Ok(())
+    expect_waited(&rt, rt.alloc(), &counters, text.as_str())
 }

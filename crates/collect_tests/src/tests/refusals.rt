@@ -3,7 +3,7 @@
 ghost use Rattle.std.specs.Prelude.{◌≡◌};
 
 use super::collect::outcomes_of;
-use super::three_arrivals;
+use super::{Listed, expect_at, expect_eq, expect_eq_at, three_arrivals};
 use asan_collect::{Live, OpenGate, Options, Outcome, Why, WriteFault, collect, collect_live};
 use refusing_allocator::RefusingAllocator;
 use std::alloc::{Allocator, Global};
@@ -12,7 +12,7 @@ use std::sync::Wait;
 use std::test::Fail;
 use std::thread::Threads;
 use std::time::Clock;
-use trace_feed::{Arrival, Door, ListDoor, MemFeed};
+use trace_feed::{Arrival, Door, MemFeed};
 
 /// How many times each turn is made. Which thread asks first is not the same each time.
 const REPEATS: u32 = 20;
@@ -34,7 +34,7 @@ fn is_ample<A: Allocator + Copy>(
     };
     match outcome {
         Outcome::Settled { end, reports, .. } => {
-            assert_eq!(rt; end, whole);
+            expect_eq(rt, end, whole);
             assert!(rt; reports.as_slice() == all.as_slice());
             true
         }
@@ -44,7 +44,7 @@ fn is_ample<A: Allocator + Copy>(
             reports,
             ..
         } => {
-            assert_eq!(rt; end, whole);
+            expect_eq(rt, end, whole);
             assert!(rt; *checked < end.events);
             assert!(rt; all.starts_with(reports));
             false
@@ -55,15 +55,15 @@ fn is_ample<A: Allocator + Copy>(
 }
 
 /// Asserts that no sender was asked for.
-fn expect_all_to_come(rt: &impl Abort, door: &mut ListDoor<MemFeed>)
+fn expect_all_to_come(rt: &impl Abort, door: &mut Listed)
     requires { door.old.refusals ≡ 0 }
 {
     for arrived in 0..4 {
-        assert_eq!(rt; door.refusals(), 0);
+        assert!(rt; door.refusals() == 0);
         let arrival = door.next();
-        assert_eq!(rt; matches!(arrival, Arrival::Came(_)), arrived < 3);
+        expect_eq(rt, matches!(arrival, Arrival::Came(_)), arrived < 3);
     }
-    assert_eq!(rt; door.refusals(), 0);
+    expect_eq(rt, door.refusals(), 0);
 }
 
 /// How many outcomes are not those of ample memory. Each has to be one that a refused growth
@@ -73,7 +73,7 @@ fn count_hit<A: Allocator + Copy>(
     ample: &[Outcome<MemFeed>],
     outcomes: &[Outcome<MemFeed, A>],
 ) -> u32 {
-    assert_eq!(rt; outcomes.len(), 3);
+    expect_eq(rt, outcomes.len(), 3);
     let mut hit = 0u32;
     for (ample, outcome) in ample.iter().zip(outcomes) {
         if !is_ample(rt, ample, outcome) {
@@ -100,7 +100,7 @@ fn refused_in_collect<R: Threads + Wait + Clock + Sync + Abort>(
     ample: &[Outcome<MemFeed>],
 ) -> Result<bool, Fail> {
     let heap = RefusingAllocator::at_turn(alloc, turn);
-    let mut door = three_arrivals(alloc)?;
+    let mut door = three_arrivals(alloc);
     match collect(rt, &heap, &mut door, &OpenGate, options) {
         Err(_) => {
             assert!(rt; heap.has_refused());
@@ -108,7 +108,7 @@ fn refused_in_collect<R: Threads + Wait + Clock + Sync + Abort>(
         }
         Ok(outcomes) => {
             let hit = count_hit(rt, ample, &outcomes);
-            assert_eq!(rt; hit, u32::from(heap.has_refused()), "turn {turn}");
+            expect_eq_at(rt, turn, hit, u32::from(heap.has_refused()));
         }
     }
     Ok(heap.has_refused())
@@ -119,8 +119,8 @@ fn count_unwritten(rt: &impl Abort, wrote: Result<(), WriteFault>, text: &[u8]) 
     match wrote {
         Ok(()) => 0,
         Err(fault) => {
-            assert_eq!(rt; fault.why, Why::NoMemory);
-            assert_eq!(rt; fault.written, text.len() as u64);
+            expect_eq(rt, fault.why, Why::NoMemory);
+            expect_eq(rt, fault.written, text.len() as u64);
             1
         }
     }
@@ -135,7 +135,7 @@ fn refused_in_live<R: Threads + Wait + Clock + Sync + Abort>(
     ample: &[Outcome<MemFeed>],
 ) -> Result<bool, Fail> {
     let heap = RefusingAllocator::at_turn(alloc, turn);
-    let mut door = three_arrivals(alloc)?;
+    let mut door = three_arrivals(alloc);
     let mut text = Vec::new(alloc);
     match collect_live(rt, &heap, &mut door, &OpenGate, options, &mut text) {
         Err(_) => {
@@ -146,7 +146,7 @@ fn refused_in_live<R: Threads + Wait + Clock + Sync + Abort>(
         Ok(Live { outcomes, wrote }) => {
             let hit = count_hit(rt, ample, &outcomes);
             let hit = hit.saturating_add(count_unwritten(rt, wrote, &text));
-            assert_eq!(rt; hit, u32::from(heap.has_refused()), "turn {turn}");
+            expect_eq_at(rt, turn, hit, u32::from(heap.has_refused()));
         }
     }
     Ok(heap.has_refused())
@@ -179,10 +179,10 @@ fn refuse_each<R: Threads + Wait + Clock + Sync + Abort>(
     way: Way,
 ) -> Result<(), Fail> {
     let options = Options::new(1 << 28, 1, 3, 1 << 24)?;
-    let ample = outcomes_of(rt, alloc, &mut three_arrivals(alloc)?, &OpenGate, options)?;
+    let ample = outcomes_of(rt, alloc, &mut three_arrivals(alloc), &OpenGate, options)?;
     for turn in 1..200u64 {
         if !refused_at(rt, alloc, way, turn, options, &ample)? {
-            assert!(rt; turn > 20, "only {turn} turns");
+            expect_at(rt, turn, turn > 20);
             return Ok(());
         }
     }

@@ -1,9 +1,11 @@
 //! Tests of senders of both versions of the format in one collection.
 
-use super::collect::printed_of;
-use super::{MISS, POISON, STREAM, Senders};
-use asan_collect::{OpenGate, Options};
+use super::Senders;
+use super::collect::expect_printed;
+use asan_collect::Options;
+use std::alloc::{AllocError, Global};
 use std::test::Fail;
+use test_streams::{MISS, POISON, STREAM};
 
 /// A poison of 8 bytes at 0x1000, which is a user's, a load of a byte there, and the close.
 const USERS_POISON: [u8; 36] = [
@@ -24,9 +26,8 @@ p3 end malformed header events 0 offset 0 reports 0
 p4 end closed events 2 offset 36 reports 0
 ";
 
-#[test]
-fn senders_of_both_versions(rt: HostRuntime) -> Result<(), Fail> {
-    let alloc = rt.alloc();
+/// What the five senders send.
+fn sent_by_five(alloc: Global) -> Result<Vec<Vec<u8>>, AllocError> {
     let mut third = POISON;
     third[4] = 3;
     let mut second = MISS;
@@ -36,13 +37,18 @@ fn senders_of_both_versions(rt: HostRuntime) -> Result<(), Fail> {
     for stream in streams {
         sent.push(stream.to_vec(alloc)?)?;
     }
+    Ok(sent)
+}
+
+#[test]
+fn senders_of_both_versions(rt: HostRuntime) -> Result<(), Fail> {
+    let alloc = rt.alloc();
+    let sent = sent_by_five(alloc)?;
     for workers in 1..=3 {
         for ring in [1, 1024] {
             let options = Options::new(1 << 28, ring, workers, 1 << 24)?;
             let mut door = Senders::new(alloc, &sent, &[11, 20]);
-            let (text, status) = printed_of(&rt, alloc, &mut door, &OpenGate, options)?;
-            assert_eq!(rt; text.as_str(), TEXT, "ring {ring}, workers {workers}");
-            assert_eq!(rt; status, 3);
+            expect_printed(&rt, alloc, &mut door, options, (TEXT, 3))?;
         }
     }
     Ok(())

@@ -2,11 +2,12 @@
 
 ghost use Rattle.std.specs.Prelude.{◌≡◌, ◌≤◌};
 
-use super::{LENGTH, STREAM_AND_MORE, TEXT, feed_of, outcome_of_feed, text_and_status};
-use asan_collect::{BadOption, Options, Outcome, check_feed};
+use super::{expect_eq, expect_eq_at, outcome_of_feed, text_and_status};
+use asan_stream::{BadOption, Options, Outcome, check_feed};
 use std::alloc::Global;
 use std::process::Abort;
 use std::test::Fail;
+use test_streams::{LENGTH, STREAM_AND_MORE, TEXT, feed_of};
 use trace_feed::{Feed, FeedFault, MemFeed};
 use trace_record::{End, Fate};
 
@@ -29,8 +30,8 @@ fn printed_alike_wherever_it_is_cut(rt: HostRuntime) -> Result<(), Fail> {
         ] {
             let feed = feed_of(alloc, &STREAM_AND_MORE[..length], &[cut], fail_at)?;
             let (text, status) = printed(alloc, feed, options)?;
-            assert_eq!(rt; text.as_str(), TEXT, "cut at {cut}");
-            assert_eq!(rt; status, 1);
+            expect_eq_at(&rt, cut, text.as_str(), TEXT);
+            expect_eq(&rt, status, 1);
         }
     }
     let mut places = [0; LENGTH];
@@ -42,7 +43,7 @@ fn printed_alike_wherever_it_is_cut(rt: HostRuntime) -> Result<(), Fail> {
         feed_of(alloc, &STREAM_AND_MORE, &places, None)?,
         options,
     )?;
-    assert_eq!(rt; text.as_str(), TEXT, "byte by byte");
+    expect_eq_at(&rt, "byte by byte", text.as_str(), TEXT);
     Ok(())
 }
 
@@ -55,12 +56,13 @@ fn unknown_code_ends_a_feed(rt: HostRuntime) -> Result<(), Fail> {
         for (length, fail_at) in [(26, None), (bytes.len(), None), (26, Some(26))] {
             let feed = feed_of(alloc, &bytes[..length], &[cut], fail_at)?;
             let (text, status) = printed(alloc, feed, Options::usual())?;
-            assert_eq!(rt;
+            expect_eq_at(
+                &rt,
+                cut,
                 text.as_str(),
                 "p0 end malformed code events 1 offset 25 reports 0\n",
-                "cut at {cut}"
             );
-            assert_eq!(rt; status, 3);
+            expect_eq(&rt, status, 3);
         }
     }
     Ok(())
@@ -111,14 +113,14 @@ fn every_truncation(rt: HostRuntime) -> Result<(), Fail> {
     for length in 0..=LENGTH {
         let (mut wanted, count) = end_of_first(length);
         let found = found_of_first(&rt, rt.alloc(), length, false)?;
-        assert_eq!(rt; found, (wanted, count, 0), "{length} bytes");
+        expect_eq_at(&rt, length, found, (wanted, count, 0));
         let mut faults = 0;
         if length < LENGTH {
             wanted.fate = Fate::ReadFailed;
             faults = 1;
         }
         let found = found_of_first(&rt, rt.alloc(), length, true)?;
-        assert_eq!(rt; found, (wanted, count, faults), "{length} bytes");
+        expect_eq_at(&rt, length, found, (wanted, count, faults));
     }
     Ok(())
 }
@@ -136,7 +138,11 @@ fn refused_options(rt: HostRuntime) {
         (0, 1, 1, 1, None),
         (1 << 40, 65_536, 64, 1 << 24, None),
     ] {
-        assert_eq!(rt; Options::new(quarantine, ring, workers, limit).err(), bad);
+        expect_eq(
+            &rt,
+            Options::new(quarantine, ring, workers, limit).err(),
+            bad,
+        );
     }
 }
 
@@ -175,8 +181,8 @@ fn few_reads_take_many_records(rt: HostRuntime) -> Result<(), Fail> {
     let Outcome::Settled { feed, end, .. } = outcome else {
         panic!(rt; "it was read");
     };
-    assert_eq!(rt; (end.fate, end.events), (Fate::Closed, 1000));
-    assert_eq!(rt; feed.reads, 3);
+    expect_eq(&rt, (end.fate, end.events), (Fate::Closed, 1000));
+    expect_eq(&rt, feed.reads, 3);
     Ok(())
 }
 
@@ -198,7 +204,7 @@ fn a_feed_that_has_ended_is_not_asked_again(rt: HostRuntime) -> Result<(), Fail>
     for fails in [false, true] {
         for (length, reads) in [(0, 1), (8, 2), (30, 2), (35, 2)] {
             let found = reads_of_first(&rt, rt.alloc(), length, fails)?;
-            assert_eq!(rt; found, reads, "{length} bytes");
+            expect_eq_at(&rt, length, found, reads);
         }
     }
     Ok(())

@@ -6,12 +6,12 @@ ghost use Rattle.asan_stream.specs.Ranges.{most_reports};
 ghost use Rattle.asan_stream.specs.Outcomes.{reports_of};
 
 use super::rig::{
-    CLOSED, Rig, Step, expect_step, expect_steps, good_load, good_malloc, plain_rig, run_all,
-    run_rig,
+    CLOSED, Rig, Step, ample_rig, benches_of, expect_step, expect_steps, good_load, good_malloc,
+    plain_rig, run_all, run_rig,
 };
-use super::{STREAM_AND_MORE, THREE_TEXTS, feed_of, text_and_status};
+use super::{expect_eq, expect_eq_at, text_and_status};
 use asan_check::Checker;
-use asan_collect::{Bench, Gate, Item, Outcome, ReaderDone, Turn, run_reader, settle};
+use asan_stream::{Bench, Gate, Item, Outcome, ReaderDone, Turn, run_reader, settle};
 use refusing_allocator::RefusingAllocator;
 use std::alloc::{Allocator, Global};
 use std::process::Abort;
@@ -22,11 +22,9 @@ use std::test::Fail;
 use std::thread;
 use std::thread::{Promise, Threads};
 use std::time::Clock;
+use test_streams::{STREAM_AND_MORE, THREE_TEXTS, feed_of};
 use trace_feed::MemFeed;
 use trace_lane::{LaneIn, lane};
-
-/// What is wrong where a test has no memory.
-const NO_MEMORY: &str = "memory is ample";
 
 #[test]
 fn a_turn_takes_one_item(rt: HostRuntime) -> Result<(), Fail> {
@@ -45,7 +43,7 @@ fn a_turn_takes_one_item(rt: HostRuntime) -> Result<(), Fail> {
         Step::Turn(Turn::Over),
         Step::Heard(2),
     ];
-    let mut rig = plain_rig(rt.alloc(), 4)?.ok_or(NO_MEMORY)?;
+    let mut rig = ample_rig(rt.alloc(), 4)?;
     expect_steps(&rt, &mut rig, &steps);
     Ok(())
 }
@@ -83,9 +81,9 @@ fn a_failed_checker_takes_and_drops(rt: HostRuntime) -> Result<(), Fail> {
     for turn in 1..100u64 {
         match heard_at(&rt, rt.alloc(), turn, &items)? {
             None => {}
-            Some((heard, true)) => assert_eq!(rt; heard, 1, "turn {turn}"),
+            Some((heard, true)) => expect_eq_at(&rt, turn, heard, 1),
             Some((heard, false)) => {
-                assert_eq!(rt; heard, 3);
+                expect_eq(&rt, heard, 3);
                 return Ok(());
             }
         }
@@ -93,19 +91,25 @@ fn a_failed_checker_takes_and_drops(rt: HostRuntime) -> Result<(), Fail> {
     panic!(rt; "always refused")
 }
 
-/// Puts this many loads and the end into a rig, and runs its checker: the gate hears of each load.
+/// A rig that holds this many loads and the end.
+fn loaded_rig(rt: &impl Abort, alloc: Global, count: u64) -> Result<Rig, Fail> {
+    let load = good_load()?;
+    let mut rig = ample_rig(alloc, 256)?;
+    for _ in 0..count {
+        expect_step(rt, &mut rig, Step::Put(load));
+    }
+    expect_step(rt, &mut rig, Step::Put(CLOSED));
+    Ok(rig)
+}
+
+/// Runs the checker of a rig that holds this many loads and the end: the gate hears of each load.
 fn expect_each_announced<R: Wait + Clock + Abort>(
     rt: &R,
     alloc: Global,
     count: u64,
 ) -> Result<(), Fail> {
-    let load = good_load()?;
-    let mut rig = plain_rig(alloc, 256)?.ok_or(NO_MEMORY)?;
-    for _ in 0..count {
-        expect_step(rt, &mut rig, Step::Put(load));
-    }
-    expect_step(rt, &mut rig, Step::Put(CLOSED));
-    let mut rig = run_rig(rt, alloc, rig)?.ok_or(NO_MEMORY)?;
+    let mut rig = loaded_rig(rt, alloc, count)?;
+    assert!(rt; run_rig(rt, alloc, &mut rig)?);
     expect_steps(rt, &mut rig, &[Step::Heard(count), Step::Turn(Turn::Over)]);
     Ok(())
 }
@@ -134,26 +138,32 @@ impl<'a, R: Wait> Gate for Trying<'a, R> {
     }
 }
 
-#[test]
-fn a_batch_is_announced_before_the_next_bench_takes(rt: HostRuntime) -> Result<(), Fail> {
-    let mut first = plain_rig(rt.alloc(), 4)?.ok_or(NO_MEMORY)?;
-    let mut next = plain_rig(rt.alloc(), 1)?.ok_or(NO_MEMORY)?;
-    expect_steps(
-        &rt,
-        &mut first,
-        &[Step::Put(good_load()?), Step::Put(CLOSED)],
-    );
-    expect_step(&rt, &mut next, Step::Put(CLOSED));
+/// How often a gate that tries this lane finds no room there, where it hears of these benches.
+fn full_of<R: Wait + Clock>(rt: &R, into: LaneIn<Item>, benches: Vec<Bench>) -> u64 {
     let gate = Trying {
-        rt: &rt,
-        into: Mutex::new(next.into),
+        rt,
+        into: Mutex::new(into),
         full: AtomicU64::new(0),
     };
-    let mut benches = Vec::new(rt.alloc());
-    benches.push(first.bench)?;
-    benches.push(next.bench)?;
-    let _benches = run_all(&rt, benches, &gate);
-    assert_eq!(rt; gate.full.load(Ordering::SeqCst), 1);
+    let _benches = run_all(rt, benches, &gate);
+    gate.full.load(Ordering::SeqCst)
+}
+
+/// A rig whose lane has room for this many items, and has these.
+fn rig_with(rt: &impl Abort, alloc: Global, room: usize, items: &[Item]) -> Result<Rig, Fail> {
+    let mut rig = ample_rig(alloc, room)?;
+    for item in items {
+        expect_step(rt, &mut rig, Step::Put(*item));
+    }
+    Ok(rig)
+}
+
+#[test]
+fn a_batch_is_announced_before_the_next_bench_takes(rt: HostRuntime) -> Result<(), Fail> {
+    let mut first = rig_with(&rt, rt.alloc(), 4, &[good_load()?, CLOSED])?;
+    let mut next = rig_with(&rt, rt.alloc(), 1, &[CLOSED])?;
+    let benches = benches_of(rt.alloc(), &mut first, &mut next)?;
+    expect_eq(&rt, full_of(&rt, next.into, benches), 1);
     Ok(())
 }
 
@@ -172,9 +182,9 @@ fn heard_in_a_batch<R: Wait + Clock + Abort>(
     for item in items {
         expect_step(rt, &mut rig, Step::Put(*item));
     }
-    let Some(mut rig) = run_rig(rt, &heap, rig)? else {
+    if !run_rig(rt, &heap, &mut rig)? {
         return Ok(None);
-    };
+    }
     expect_step(rt, &mut rig, Step::Turn(Turn::Over));
     let heard = rig.gate.heard.load(Ordering::SeqCst);
     Ok(Some((heard, heap.has_refused())))
@@ -187,9 +197,9 @@ fn a_checker_that_fails_within_a_batch_announces_no_more(rt: HostRuntime) -> Res
     for turn in 1..100u64 {
         match heard_in_a_batch(&rt, rt.alloc(), turn, &items)? {
             None => {}
-            Some((heard, true)) => assert_eq!(rt; heard, 2, "turn {turn}"),
+            Some((heard, true)) => expect_eq_at(&rt, turn, heard, 2),
             Some((heard, false)) => {
-                assert_eq!(rt; heard, 4);
+                expect_eq(&rt, heard, 4);
                 return Ok(());
             }
         }
@@ -241,8 +251,8 @@ fn three_senders_without_collect(rt: HostRuntime) -> Result<(), Fail> {
         outcome_of(rt, alloc, 2, feed_of(alloc, &[], &[], None)?)?,
     ];
     let (text, status) = text_and_status(alloc, &outcomes)?;
-    assert_eq!(rt; text.as_str(), THREE_TEXTS);
-    assert_eq!(rt; status, 3);
+    expect_eq(&rt, text.as_str(), THREE_TEXTS);
+    expect_eq(&rt, status, 3);
     Ok(())
 }
 

@@ -1,7 +1,8 @@
 //! A bench with the ends of its lanes and its gate, and tables of what is done with it.
 
+use super::expect_eq;
 use asan_check::{Checker, Report};
-use asan_collect::{Bench, Gate, Item, Turn, run_checker};
+use asan_stream::{Bench, Gate, Item, Turn, run_checker};
 use std::alloc::{AllocError, Allocator, Global};
 use std::process::Abort;
 use std::sync::Wait;
@@ -10,6 +11,9 @@ use std::test::Fail;
 use std::time::Clock;
 use trace_lane::{LaneIn, LaneOut, lane};
 use trace_record::{Access, End, Event, Fate, Flaw, Place, Region};
+
+/// What is wrong where a test has no memory.
+pub const NO_MEMORY: &str = "memory is ample";
 
 /// What a gate has heard of where an event came out of order, or twice.
 pub const OUT_OF_ORDER: u64 = u64::MAX;
@@ -62,17 +66,17 @@ pub fn bad_free() -> Result<Item, Flaw> {
 }
 
 /// A bench of process 7, the end of its lane that items are put into, and its gate. Where it has a
-/// report lane, the end that reports are taken from too.
+/// report lane, the end that reports are taken from too. The bench is away while its checker runs.
 #[derive(Drop)]
 pub struct Rig<A: Allocator + Copy = Global> {
     pub into: LaneIn<Item, A>,
-    pub bench: Bench<A>,
+    pub bench: Option<Bench<A>>,
     pub reports: Option<LaneOut<Report, A>>,
     pub gate: Counter,
 }
 
 /// What is done with a rig, and what has to come of it.
-#[derive(Clone, Copy, Debug)]
+#[derive(Clone, Copy)]
 pub enum Step {
     /// An item is put into its lane, which has room.
     Put(Item),
@@ -97,10 +101,15 @@ pub fn plain_rig<A: Allocator + Copy>(alloc: A, room: usize) -> Result<Option<Ri
     let bench = Bench::new(7, out, Checker::new(alloc, 0)?);
     Ok(Some(Rig {
         into,
-        bench,
+        bench: Some(bench),
         reports: None,
         gate: new_counter(),
     }))
+}
+
+/// The same where memory is ample.
+pub fn ample_rig(alloc: Global, room: usize) -> Result<Rig, Fail> {
+    Ok(plain_rig(alloc, room)?.ok_or(NO_MEMORY)?)
 }
 
 /// A rig whose lane has room for eight items, and whose report lane has room for this many reports.
@@ -110,7 +119,7 @@ pub fn reporting_rig(alloc: Global, reports: usize) -> Result<Rig, Fail> {
     let bench = Bench::with_reports(7, out, Checker::new(alloc, 0)?, reports_in);
     Ok(Rig {
         into,
-        bench,
+        bench: Some(bench),
         reports: Some(reports_out),
         gate: new_counter(),
     })
@@ -124,15 +133,25 @@ fn next_report<A: Allocator + Copy>(rig: &mut Rig<A>) -> Option<u64> {
     }
 }
 
+/// What a turn of a rig's bench answers.
+fn turn_of<A: Allocator + Copy>(rig: &mut Rig<A>) -> Option<Turn> {
+    Some(rig.bench.as_mut()?.turn(&rig.gate))
+}
+
+/// Whether an end of a rig's report lane comes of it where its reports are finished.
+fn finish<A: Allocator + Copy>(rig: &mut Rig<A>) -> Option<bool> {
+    Some(rig.bench.as_mut()?.finish_reports().is_some())
+}
+
 /// Takes a step, and asserts what comes of it.
 pub fn expect_step<A: Allocator + Copy>(rt: &impl Abort, rig: &mut Rig<A>, step: Step) {
     match step {
         Step::Put(item) => assert!(rt; rig.into.put(item).is_ok()),
-        Step::Turn(turn) => assert_eq!(rt; rig.bench.turn(&rig.gate), turn),
-        Step::Heard(count) => assert_eq!(rt; rig.gate.heard.load(Ordering::SeqCst), count),
-        Step::Report(number) => assert_eq!(rt; next_report(rig), number),
+        Step::Turn(turn) => expect_eq(rt, turn_of(rig), Some(turn)),
+        Step::Heard(count) => expect_eq(rt, rig.gate.heard.load(Ordering::SeqCst), count),
+        Step::Report(number) => expect_eq(rt, next_report(rig), number),
         Step::Leave => rig.reports = None,
-        Step::Finish(ends) => assert_eq!(rt; rig.bench.finish_reports().is_some(), ends),
+        Step::Finish(ends) => expect_eq(rt, finish(rig), Some(ends)),
     }
 }
 
@@ -152,31 +171,35 @@ pub fn run_all<A: Allocator + Copy, G: Gate, R: Wait + Clock>(
     run_checker(rt, benches, gate)
 }
 
-/// Runs the checker of a rig up to its end, or answers `None` if there is no memory for a list
-/// of it.
+/// Runs the checker of a rig up to its end, and answers whether there was memory for a list of its
+/// bench.
 pub fn run_rig<A: Allocator + Copy, R: Wait + Clock>(
     rt: &R,
     alloc: A,
-    rig: Rig<A>,
-) -> Result<Option<Rig<A>>, AllocError> {
-    let Rig {
-        into,
-        bench,
-        reports,
-        gate,
-    } = rig;
+    rig: &mut Rig<A>,
+) -> Result<bool, AllocError> {
     let Ok(mut benches) = Vec::with_capacity(alloc, 1) else {
-        return Ok(None);
+        return Ok(false);
     };
-    benches.push(bench)?;
-    let mut benches = run_all(rt, benches, &gate);
-    let Some(bench) = benches.pop() else {
-        return Ok(None);
-    };
-    Ok(Some(Rig {
-        into,
-        bench,
-        reports,
-        gate,
-    }))
+    if let Some(bench) = rig.bench.take() {
+        benches.push(bench)?;
+    }
+    rig.bench = run_all(rt, benches, &rig.gate).pop();
+    Ok(true)
+}
+
+/// The benches of two rigs, in this order.
+pub fn benches_of(
+    alloc: Global,
+    first: &mut Rig,
+    second: &mut Rig,
+) -> Result<Vec<Bench>, AllocError> {
+    let mut benches = Vec::new(alloc);
+    if let Some(bench) = first.bench.take() {
+        benches.push(bench)?;
+    }
+    if let Some(bench) = second.bench.take() {
+        benches.push(bench)?;
+    }
+    Ok(benches)
 }

@@ -1,12 +1,15 @@
 //! Tests that refuse each growth in turn.
 
-use super::{THREE_TEXTS, feed_of, outcome_of_feed, three_outcomes};
+use super::{expect_at, expect_eq, expect_eq_at, outcome_of_feed, three_outcomes};
 use asan_check::{Report, end_text, report_text};
-use asan_collect::{Options, Outcome, Why, WriteFault, check_feed, write_outcomes};
+use asan_print::{Why, WriteFault};
+use asan_senders::write_outcomes;
+use asan_stream::{Options, Outcome, check_feed};
 use refusing_allocator::RefusingAllocator;
 use std::alloc::{AllocError, Allocator, Global};
 use std::process::Abort;
 use std::test::Fail;
+use test_streams::{THREE_TEXTS, feed_of};
 use trace_feed::MemFeed;
 use trace_record::Fate;
 
@@ -29,6 +32,19 @@ fn first_of(alloc: Global, reports: &[Report], checked: u64) -> Result<Vec<Repor
     Ok(first)
 }
 
+/// Asserts that these are the reports on the first events, this many of them, with ample memory.
+fn expect_first_of(
+    rt: &impl Abort,
+    alloc: Global,
+    ample: &[Report],
+    checked: u64,
+    reports: &[Report],
+) -> Result<(), AllocError> {
+    let first = first_of(alloc, ample, checked)?;
+    assert!(rt; reports == first.as_slice());
+    Ok(())
+}
+
 /// How many events were checked before memory ran out, or `None` where it did not. The end is that
 /// of the stream, and the reports are those of ample memory on the events that were checked.
 fn checked_of<A: Allocator + Copy>(
@@ -39,7 +55,7 @@ fn checked_of<A: Allocator + Copy>(
 ) -> Result<Option<u64>, Fail> {
     match outcome {
         Outcome::Settled { end, reports, .. } => {
-            assert_eq!(rt; (end.events, end.offset), (6, 81));
+            expect_eq(rt, (end.events, end.offset), (6, 81));
             assert!(rt; reports.as_slice() == ample);
             Ok(None)
         }
@@ -49,10 +65,13 @@ fn checked_of<A: Allocator + Copy>(
             reports,
             ..
         } => {
-            assert_eq!(rt; (end.fate, end.events, end.offset), (Fate::Closed, 6, 81));
+            expect_eq(
+                rt,
+                (end.fate, end.events, end.offset),
+                (Fate::Closed, 6, 81),
+            );
             assert!(rt; *checked < 6);
-            let first = first_of(alloc, ample, *checked)?;
-            assert!(rt; reports.as_slice() == first.as_slice());
+            expect_first_of(rt, alloc, ample, *checked, reports)?;
             Ok(Some(*checked))
         }
         _ => panic!(rt; "it was read"),
@@ -70,7 +89,7 @@ fn checked_at(
     let heap = RefusingAllocator::at_turn(alloc, turn);
     let outcome = check_feed(&heap, feed_of(alloc, &FREES, &[], None)?, options);
     let checked = checked_of(rt, alloc, &outcome, ample)?;
-    assert_eq!(rt; heap.has_refused(), checked.is_some(), "turn {turn}");
+    expect_eq_at(rt, turn, heap.has_refused(), checked.is_some());
     Ok(checked)
 }
 
@@ -80,16 +99,16 @@ fn each_growth_of_the_checker_refused_in_turn(rt: HostRuntime) -> Result<(), Fai
     let feed = feed_of(rt.alloc(), &FREES, &[], None)?;
     let ample = outcome_of_feed(rt.alloc(), feed, options);
     let ample = ample.reports();
-    assert_eq!(rt; ample.len(), 2);
+    expect_eq(&rt, ample.len(), 2);
     let mut last = 0;
     for turn in 1..100u64 {
         let Some(checked) = checked_at(&rt, rt.alloc(), turn, options, ample)? else {
-            assert!(rt; turn > 4, "only {turn} turns");
+            expect_at(&rt, turn, turn > 4);
             // The last growth is that of the reports, at the fifth event.
-            assert_eq!(rt; last, 4);
+            expect_eq(&rt, last, 4);
             return Ok(());
         };
-        assert!(rt; last <= checked, "turn {turn}");
+        expect_at(&rt, turn, last <= checked);
         last = checked;
     }
     panic!(rt; "always refused")
@@ -119,12 +138,33 @@ fn written_at(alloc: Global, turn: u64) -> Result<Written, Fail> {
 }
 
 /// A line of the text of the three outcomes, which was written to its own text.
-#[derive(Clone, Copy, Debug)]
+#[derive(Clone, Copy)]
 struct Line {
     /// How many requests for memory were made up to its end.
     requests: u64,
     /// How long the text was before it.
     before: usize,
+}
+
+/// The lines of an outcome, which are added to a text of a process with this number.
+fn add_lines(
+    heap: &RefusingAllocator<Global>,
+    process: u32,
+    outcome: &Outcome<MemFeed>,
+    text: &mut String<&RefusingAllocator<Global>>,
+    lines: &mut Vec<Line>,
+) -> Result<(), Fail> {
+    for report in outcome.reports() {
+        let before = text.len();
+        report_text(process, report, text)?;
+        let requests = heap.requests_made();
+        lines.push(Line { requests, before })?;
+    }
+    let before = text.len();
+    end_text(process, &outcome.ending(), text)?;
+    let requests = heap.requests_made();
+    lines.push(Line { requests, before })?;
+    Ok(())
 }
 
 /// The lines of the three outcomes.
@@ -133,23 +173,19 @@ fn lines_of_three(alloc: Global) -> Result<Vec<Line>, Fail> {
     let mut lines = Vec::new(alloc);
     let mut text = String::new(&heap);
     for (process, outcome) in three_outcomes(alloc, alloc)?.iter().enumerate() {
-        for report in outcome.reports() {
-            let before = text.len();
-            report_text(process as u32, report, &mut text)?;
-            let requests = heap.requests_made();
-            lines.push(Line { requests, before })?;
-        }
-        let before = text.len();
-        end_text(process as u32, &outcome.ending(), &mut text)?;
-        let requests = heap.requests_made();
-        lines.push(Line { requests, before })?;
+        add_lines(&heap, process as u32, outcome, &mut text, &mut lines)?;
     }
     Ok(lines)
 }
 
 /// How long the text is before the line that makes this request, or `None` where none does.
 fn length_before(lines: &[Line], turn: u64) -> Option<usize> {
-    Some(lines.iter().find(|line| turn <= line.requests)?.before)
+    for line in lines {
+        if turn <= line.requests {
+            return Some(line.before);
+        }
+    }
+    None
 }
 
 /// Asserts that a fault is a refusal, and that all lines before that of this request went out.
@@ -157,31 +193,40 @@ fn expect_lines_before(rt: &impl Abort, lines: &[Line], turn: u64, written: &Wri
     let Err(fault) = written.result else {
         panic!(rt; "turn {turn} was refused");
     };
-    assert_eq!(rt; fault.why, Why::NoMemory);
-    assert_eq!(rt; fault.written, written.text.len() as u64);
-    assert_eq!(rt;
+    expect_eq(rt, fault.why, Why::NoMemory);
+    expect_eq(rt, fault.written, written.text.len() as u64);
+    expect_eq_at(
+        rt,
+        turn,
         length_before(lines, turn),
         Some(written.text.len()),
-        "turn {turn}"
     );
     assert!(rt; THREE_TEXTS.as_bytes().starts_with(&written.text));
+}
+
+/// Whether this request for the text's memory is refused. If it is, the lines before that of the
+/// request went out, and else all did.
+fn is_refused_at(rt: &impl Abort, alloc: Global, lines: &[Line], turn: u64) -> Result<bool, Fail> {
+    let written = written_at(alloc, turn)?;
+    expect_eq_at(rt, turn, written.refused, written.result.is_err());
+    if written.refused {
+        expect_lines_before(rt, lines, turn, &written);
+    } else {
+        expect_eq(rt, length_before(lines, turn), None);
+        assert!(rt; written.text.as_slice() == THREE_TEXTS.as_bytes());
+    }
+    Ok(written.refused)
 }
 
 #[test]
 fn each_growth_of_the_text_refused_in_turn(rt: HostRuntime) -> Result<(), Fail> {
     let lines = lines_of_three(rt.alloc())?;
-    assert_eq!(rt; lines.len(), 4);
+    expect_eq(&rt, lines.len(), 4);
     for turn in 1..100u64 {
-        let written = written_at(rt.alloc(), turn)?;
-        assert_eq!(rt; written.refused, written.result.is_err(), "turn {turn}");
-        if written.refused {
-            expect_lines_before(&rt, &lines, turn, &written);
-            continue;
+        if !is_refused_at(&rt, rt.alloc(), &lines, turn)? {
+            expect_at(&rt, turn, turn > 2);
+            return Ok(());
         }
-        assert!(rt; turn > 2, "only {turn} turns");
-        assert_eq!(rt; length_before(&lines, turn), None);
-        assert!(rt; written.text.as_slice() == THREE_TEXTS.as_bytes());
-        return Ok(());
     }
     panic!(rt; "always refused")
 }

@@ -1,21 +1,19 @@
 //! Tests of benches that put their reports into report lanes.
 
+use super::expect_eq;
 use super::rig::{
-    CLOSED, Rig, Step, bad_free, expect_step, expect_steps, good_load, plain_rig, reporting_rig,
-    run_all, run_rig,
+    CLOSED, NO_MEMORY, Rig, Step, ample_rig, bad_free, benches_of, expect_step, expect_steps,
+    good_load, reporting_rig, run_all, run_rig,
 };
 use asan_check::Report;
-use asan_collect::{Bench, Gate, Item, Turn};
-use std::alloc::Global;
+use asan_stream::{Gate, Item, Turn};
+use std::alloc::{AllocError, Global};
 use std::process::Abort;
 use std::sync::atomic::{AtomicU64, Ordering};
 use std::sync::{Mutex, Wait};
 use std::test::Fail;
 use std::time::Clock;
 use trace_lane::{LaneIn, LaneOut};
-
-/// What is wrong where a test has no memory.
-const NO_MEMORY: &str = "memory is ample";
 
 /// A gate that takes a report at each call. It counts the calls for an event whose report it took.
 #[derive(Drop)]
@@ -90,7 +88,7 @@ fn reports_are_finished_once(rt: HostRuntime) -> Result<(), Fail> {
     let mut rig = reporting_rig(rt.alloc(), 4)?;
     let steps = [Step::Put(bad), Step::Put(bad), Step::Put(CLOSED)];
     expect_steps(&rt, &mut rig, &steps);
-    let mut rig = run_rig(&rt, rt.alloc(), rig)?.ok_or(NO_MEMORY)?;
+    assert!(rt; run_rig(&rt, rt.alloc(), &mut rig)?);
     let steps = [
         Step::Finish(true),
         Step::Finish(false),
@@ -99,7 +97,7 @@ fn reports_are_finished_once(rt: HostRuntime) -> Result<(), Fail> {
         Step::Report(None),
     ];
     expect_steps(&rt, &mut rig, &steps);
-    let mut plain = plain_rig(rt.alloc(), 1)?.ok_or(NO_MEMORY)?;
+    let mut plain = ample_rig(rt.alloc(), 1)?;
     expect_step(&rt, &mut plain, Step::Finish(false));
     Ok(())
 }
@@ -119,40 +117,46 @@ fn found_by<R>(gate: &Taker<'_, R>) -> u64 {
 /// call.
 fn expect_found_in_turn<R: Wait + Abort>(
     rt: &R,
-    into: &mut LaneIn<Item>,
-    bench: &mut Bench,
+    rig: &mut Rig,
     gate: &Taker<'_, R>,
 ) -> Result<(), Fail> {
+    let mut bench = rig.bench.take().ok_or(NO_MEMORY)?;
     for turn in 1..=2u64 {
-        put_bad(rt, into)?;
-        assert_eq!(rt; bench.turn(gate), Turn::Took);
-        assert_eq!(rt; found_by(gate), turn);
+        put_bad(rt, &mut rig.into)?;
+        expect_eq(rt, bench.turn(gate), Turn::Took);
+        expect_eq(rt, found_by(gate), turn);
     }
+    rig.bench = Some(bench);
+    Ok(())
+}
+
+/// Gives a bench two more of them and the end, and has its checker take all at once.
+fn find_at_once<R: Wait + Clock + Abort>(
+    rt: &R,
+    alloc: Global,
+    rig: &mut Rig,
+    gate: &Taker<'_, R>,
+) -> Result<(), Fail> {
+    put_bad(rt, &mut rig.into)?;
+    put_bad(rt, &mut rig.into)?;
+    assert!(rt; rig.into.put(CLOSED).is_ok());
+    let mut benches = Vec::new(alloc);
+    benches.push(rig.bench.take().ok_or(NO_MEMORY)?)?;
+    let _benches = run_all(rt, benches, gate);
     Ok(())
 }
 
 #[test]
 fn a_report_is_put_before_its_event_is_announced(rt: HostRuntime) -> Result<(), Fail> {
-    let Rig {
-        mut into,
-        mut bench,
-        reports,
-        gate: _,
-    } = reporting_rig(rt.alloc(), 4)?;
+    let mut rig = reporting_rig(rt.alloc(), 4)?;
     let gate = Taker {
         rt: &rt,
-        reports: Mutex::new(reports.ok_or(NO_MEMORY)?),
+        reports: Mutex::new(rig.reports.take().ok_or(NO_MEMORY)?),
         found: AtomicU64::new(0),
     };
-    expect_found_in_turn(&rt, &mut into, &mut bench, &gate)?;
-    // The same where a checker takes both at once.
-    put_bad(&rt, &mut into)?;
-    put_bad(&rt, &mut into)?;
-    assert!(rt; into.put(CLOSED).is_ok());
-    let mut benches = Vec::new(rt.alloc());
-    benches.push(bench)?;
-    let _benches = run_all(&rt, benches, &gate);
-    assert_eq!(rt; found_by(&gate), 4);
+    expect_found_in_turn(&rt, &mut rig, &gate)?;
+    find_at_once(&rt, rt.alloc(), &mut rig, &gate)?;
+    expect_eq(&rt, found_by(&gate), 4);
     Ok(())
 }
 
@@ -160,39 +164,32 @@ fn a_report_is_put_before_its_event_is_announced(rt: HostRuntime) -> Result<(), 
 fn run_two<R: Wait + Clock>(
     rt: &R,
     alloc: Global,
-    first: Rig,
-    second: Rig,
-) -> Result<(Rig, Rig), Fail> {
-    let mut benches = Vec::new(alloc);
-    benches.push(first.bench)?;
-    benches.push(second.bench)?;
+    first: &mut Rig,
+    second: &mut Rig,
+) -> Result<(), AllocError> {
+    let benches = benches_of(alloc, first, second)?;
     let mut benches = run_all(rt, benches, &first.gate);
-    let last = benches.pop().ok_or(NO_MEMORY)?;
-    let bench = benches.pop().ok_or(NO_MEMORY)?;
-    Ok((
-        Rig { bench, ..first },
-        Rig {
-            bench: last,
-            ..second
-        },
-    ))
+    second.bench = benches.pop();
+    first.bench = benches.pop();
+    Ok(())
+}
+
+/// Two rigs whose report lanes have room for one report. The first has the events of three reports,
+/// and nobody takes its reports. The second has one.
+fn left_and_other(rt: &impl Abort, alloc: Global) -> Result<(Rig, Rig), Fail> {
+    let put = Step::Put(bad_free()?);
+    let close = Step::Put(CLOSED);
+    let mut left = reporting_rig(alloc, 1)?;
+    expect_steps(rt, &mut left, &[put, put, put, close, Step::Leave]);
+    let mut other = reporting_rig(alloc, 1)?;
+    expect_steps(rt, &mut other, &[put, close]);
+    Ok((left, other))
 }
 
 #[test]
 fn a_report_lane_that_was_left_holds_up_no_other(rt: HostRuntime) -> Result<(), Fail> {
-    let bad = bad_free()?;
-    let mut left = reporting_rig(rt.alloc(), 1)?;
-    let mut other = reporting_rig(rt.alloc(), 1)?;
-    let three = [
-        Step::Put(bad),
-        Step::Put(bad),
-        Step::Put(bad),
-        Step::Put(CLOSED),
-    ];
-    expect_steps(&rt, &mut left, &three);
-    expect_steps(&rt, &mut other, &[Step::Put(bad), Step::Put(CLOSED)]);
-    expect_step(&rt, &mut left, Step::Leave);
-    let (mut left, mut other) = run_two(&rt, rt.alloc(), left, other)?;
+    let (mut left, mut other) = left_and_other(&rt, rt.alloc())?;
+    run_two(&rt, rt.alloc(), &mut left, &mut other)?;
     expect_step(&rt, &mut left, Step::Finish(false));
     let rest = [
         Step::Finish(true),

@@ -4,25 +4,24 @@ ghost use Rattle.std.specs.Prelude.{◌≤◌, IfOk, length};
 ghost use Rattle.asan_stream.specs.Ranges.{most_reports};
 ghost use Rattle.asan_stream.specs.Outcomes.{reports_of};
 
-use super::fails_once::FailsOnce;
-use super::{
-    LOADS, STREAM_AND_MORE, TEXT, THREE_TEXTS, feed_of, outcome_of_feed, text_and_status,
-    three_outcomes,
-};
+use super::{expect_at, expect_eq, outcome_of_feed, text_and_status, three_outcomes};
 use asan_check::{Fault, Report};
-use asan_collect::{Options, Outcome, Why, WriteFault, check_feed, exit_status, write_outcomes};
+use asan_print::{Why, WriteFault};
+use asan_senders::{exit_status, write_outcomes};
+use asan_stream::{Options, Outcome, check_feed};
 use std::alloc::{AllocError, Global};
 use std::io::Write;
 use std::process::Abort;
 use std::test::Fail;
-use test_writers::{ShortWriter, WhenFull};
+use test_streams::{LOADS, STREAM_AND_MORE, TEXT, THREE_TEXTS, feed_of};
+use test_writers::{FailsOnce, ShortWriter, WhenFull};
 use trace_record::{End, Fate, Flaw};
 
 #[test]
 fn three_outcomes_are_written(rt: HostRuntime) -> Result<(), Fail> {
     let (text, status) = text_and_status(rt.alloc(), &three_outcomes(rt.alloc(), rt.alloc())?)?;
-    assert_eq!(rt; text.as_str(), THREE_TEXTS);
-    assert_eq!(rt; status, 3);
+    expect_eq(&rt, text.as_str(), THREE_TEXTS);
+    expect_eq(&rt, status, 3);
     Ok(())
 }
 
@@ -61,10 +60,15 @@ fn expect_front(
             why: Why::Write,
         })
     };
-    assert_eq!(rt; write_stream(alloc, &STREAM_AND_MORE, &mut writer)?, wanted);
-    assert!(rt;
+    expect_eq(
+        rt,
+        write_stream(alloc, &STREAM_AND_MORE, &mut writer)?,
+        wanted,
+    );
+    expect_at(
+        rt,
+        room,
         TEXT.as_bytes().get(..room) == Some(writer.held.as_slice()),
-        "{room} bytes"
     );
     Ok(())
 }
@@ -96,15 +100,16 @@ fn thousand_loads(alloc: Global) -> Result<Vec<u8>, AllocError> {
 fn many_lines_go_out_at_one_write(rt: HostRuntime) -> Result<(), Fail> {
     let alloc = rt.alloc();
     let feed = feed_of(alloc, &thousand_loads(alloc)?, &[], None)?;
-    assert_eq!(rt;
+    expect_eq(
+        &rt,
         outcome_of_feed(alloc, feed, Options::usual())
             .reports()
             .len(),
-        1000
+        1000,
     );
     let mut writer = writer_failing_at(alloc, 0);
     write_stream(alloc, &thousand_loads(alloc)?, &mut writer)??;
-    assert_eq!(rt; writer.writes, 3);
+    expect_eq(&rt, writer.writes, 3);
     Ok(())
 }
 
@@ -132,9 +137,9 @@ fn expect_last_write(
         written,
         why: Why::Write,
     };
-    assert_eq!(rt; result, Err(fault));
-    assert_eq!(rt; writer.writes, failing);
-    assert_eq!(rt; writer.held.len() as u64, written);
+    expect_eq(rt, result, Err(fault));
+    expect_eq(rt, writer.writes, failing);
+    expect_eq(rt, writer.held.len() as u64, written);
     assert!(rt; text.starts_with(&writer.held));
     Ok(())
 }
@@ -219,8 +224,8 @@ fn statuses(rt: HostRuntime) -> Result<(), Fail> {
         (&[Outcome::NotStarted][..], 3),
         (&[Outcome::Unsettled][..], 3),
     ] {
-        assert_eq!(rt; exit_status(outcomes, true), status);
-        assert_eq!(rt; exit_status(outcomes, false), 4);
+        expect_eq(&rt, exit_status(outcomes, true), status);
+        expect_eq(&rt, exit_status(outcomes, false), 4);
     }
     Ok(())
 }
@@ -241,6 +246,6 @@ p2 end no-memory checked 7 reports 1
 p3 end unsettled
 ";
     let (text, _) = text_and_status(rt.alloc(), &outcomes)?;
-    assert_eq!(rt; text.as_str(), wanted);
+    expect_eq(&rt, text.as_str(), wanted);
     Ok(())
 }
