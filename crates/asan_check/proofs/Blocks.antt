@@ -1,20 +1,20 @@
 -- Where the blocks of a history lie.
-use Rattle.std.proofs.Common.{◌≡◌, ℕ, ◌%◌, ◌^◌, ◌≤◌, Bool, true, false, eqb, List, [], ◌∷◌, ◌++◌, refl, subst, arith}
+use Rattle.std.proofs.Common.{◌≡◌, ℕ, ◌%◌, ◌^◌, ◌≤◌, true, false, eqb, List, [], ◌∷◌, ◌++◌, refl, subst, arith}
 use Rattle.std.proofs.Common.{inl, inr}
-use Rattle.std.specs.Prelude.{not, filter, Contains, sum_by, nat_le, cond}
+use Rattle.std.specs.Prelude.{not, Contains}
 use Rattle.std.specs.List.{list_any}
 use Rattle.std.specs.List.Sorted.{IsPermutation}
-use Rattle.std.proofs.lemmas.Bool.{and_parts, not-true, eqb-true, leb-true, cases_Bool}
+use Rattle.std.proofs.lemmas.Bool.{and_parts, eqb-true, leb-true, cases_Bool}
 use Rattle.std.proofs.lemmas.Bool.Decides.{nat_tests}
-use Rattle.std.proofs.lemmas.List.Elements.{Contains-append_cases, Contains-push_cases}
+use Rattle.std.proofs.lemmas.List.Elements.{Contains-push_cases}
 use Rattle.std.proofs.lemmas.List.Sorted.{list_any-IsPermutation, IsPermutation-append_left}
 use Rattle.trace_record.specs.declared.event.Event.{Event}
 use Rattle.trace_record.specs.declared.event.Event.TheVariants as event
-use Rattle.heap_book.specs.Spans.{Extent, span_bytes, span_to, meets, may_be_admitted, held_of, starts_at}
+use Rattle.heap_book.specs.Spans.{Extent, span_to, meets, may_be_admitted, starts_at}
 use Rattle.asan_units.specs.Units.{redzone}
-use Rattle.asan_check.specs.History.{block_of, live, freed, held, admits}
-use Rattle.asan_check.proofs.Steps.{live_free, live_malloc, freed_free, freed_malloc}
-use Rattle.asan_check.proofs.Members.{in_none, cons_cases, from_filtered, none_from, in_tail, in_head}
+use Rattle.asan_check.specs.History.{block_of, live, held, admits}
+use Rattle.asan_check.proofs.Steps.{live_free, live_malloc}
+use Rattle.asan_check.proofs.Members.{in_none, from_filtered, none_from}
 
 -- a block starts at a granule, and has room for its redzones below 2^47
 abbrev pub IsPlaced : Extent → Type 0
@@ -27,25 +27,6 @@ admitted_placed taken b ok =
     let below = and_parts _ _ apart.0 in
     let above = and_parts _ _ below.0 in
     (eqb-true _ _ above.0, leb-true _ _ above.1, leb-true _ _ below.1)
-
--- and its span meets none of those beside which it was admitted
-pub admitted_apart : (taken : List Extent) (b : Extent) → may_be_admitted taken b ≡ true
-    → list_any (meets b) taken ≡ false
-admitted_apart taken b ok = not-true _ (and_parts _ _ ok).1
-
--- what is held was freed
-pub held_was_freed : (bound : ℕ) (xs : List Extent) (x : Extent) → Contains (held_of bound xs) x → Contains xs x
-held_was_freed bound [] x has = has
-held_was_freed bound (y ∷ ys) x has = go (nat_le (sum_by span_bytes (y ∷ ys)) bound) has (held_was_freed bound ys x)
-  where
-    go : (t : Bool) → Contains (cond t (y ∷ held_of bound ys) (held_of bound ys)) x
-        → (Contains (held_of bound ys) x → Contains ys x) → Contains (y ∷ ys) x
-    go false h rest = in_tail x y ys (rest h)
-    go true h rest =
-        elim (cons_cases x y (held_of bound ys) h) [
-          | inl same ↦ subst (λ z. Contains (y ∷ ys) z) same (in_head y ys)
-          | inr more ↦ in_tail x y ys (rest more)
-        ]
 
 -- every live block is placed
 pub live_placed : (bound : ℕ) (past : List Event) (b : Extent) → Contains (live bound past) b → IsPlaced b
@@ -65,24 +46,6 @@ live_placed bound (event.Malloc r ∷ past) b has =
       ]
       | inr refused ↦ live_placed bound past b (rw refused at has)
     ]
-
-freed_placed : (bound : ℕ) (past : List Event) (b : Extent) → Contains (freed bound past) b → IsPlaced b
-freed_placed bound [] b has = absurd (in_none b has)
-freed_placed bound (event.Load a ∷ past) b has = freed_placed bound past b has
-freed_placed bound (event.Store a ∷ past) b has = freed_placed bound past b has
-freed_placed bound (event.Poison r ∷ past) b has = freed_placed bound past b has
-freed_placed bound (event.Unpoison r ∷ past) b has = freed_placed bound past b has
-freed_placed bound (event.Malloc r ∷ past) b has = freed_placed bound past b (rw (freed_malloc bound r past) at has)
-freed_placed bound (event.Free p ∷ past) b has =
-    elim (Contains-append_cases (freed bound past) (filter (starts_at p.at) (live bound past)) b
-    (rw (freed_free bound p past) at has)) [
-      | inl old ↦ freed_placed bound past b old
-      | inr now ↦ live_placed bound past b (from_filtered (starts_at p.at) (live bound past) b now).0
-    ]
-
--- and so is every held one
-pub held_placed : (bound : ℕ) (past : List Event) (b : Extent) → Contains (held bound past) b → IsPlaced b
-held_placed bound past b has = freed_placed bound past b (held_was_freed bound (freed bound past) b has)
 
 -- no live block starts at address 0: a free there is of none
 pub none_at_zero : (bound : ℕ) (past : List Event) (at : ℕ) → at ≡ 0 → list_any (starts_at at) (live bound past) ≡ false

@@ -1,12 +1,11 @@
 -- The class of a granule's first byte, from the granule's shadow byte.
 use Rattle.std.proofs.Common.{◌≡◌, ℕ, zero, suc, ◌+◌, ◌*◌, ◌≤◌, ◌<◌, Bool, true, false, cond, leb, ltb, eqb, List, []}
-use Rattle.std.proofs.Common.{◌∷◌, refl, ◌∙◌, arith, add-zero}
+use Rattle.std.proofs.Common.{◌∷◌, refl, ◌∙◌, arith}
 use Rattle.std.specs.List.{list_all}
 use Rattle.std.proofs.lemmas.Bool.{false≢true, and_parts, leb-true}
 use Rattle.std.proofs.lemmas.Bool.Decides.{nat_tests}
 use Rattle.shadow_map.specs.States.{State, Addressable, Coded, is_addressable, code_of, addressable_front, shadow_byte}
 use Rattle.shadow_map.specs.States.{lift}
-use Rattle.shadow_map.specs.Causes.{has_none_addressable}
 use Rattle.asan_check.specs.declared.report.Class.{Class}
 use Rattle.asan_check.specs.declared.report.Class.TheVariants as class
 use Rattle.asan_check.specs.Codes.{classes, class_among, class_of_code}
@@ -61,24 +60,3 @@ module _ (states : ℕ → State) where
   pub class_shown : (granule : ℕ) → class_of_code (lift states granule) ≡ class_of_code (code_of (states (8 * granule)))
   class_shown granule = class_by_front (states (8 * granule)) (addressable_front states (8 * granule) 8)
       (first_is granule) (front_most (8 * granule) 8)
-
-  -- whether a granule has no addressable byte, where none is addressable and where the first one is
-  pub none_is : (granule : ℕ) → ((i : ℕ) → i < 8 → is_addressable (states (8 * granule + i)) ≡ false)
-      → has_none_addressable states granule ≡ true
-  none_is granule bad =
-      rw (
-        bad 0 (omega arith),
-        bad 1 (omega arith),
-        bad 2 (omega arith),
-        bad 3 (omega arith),
-        bad 4 (omega arith),
-        bad 5 (omega arith),
-        bad 6 (omega arith),
-        bad 7 (omega arith),
-      ) refl
-
-  pub some_is : (granule : ℕ) → is_addressable (states (8 * granule)) ≡ true
-      → has_none_addressable states granule ≡ false
-  some_is granule first =
-      let here : is_addressable (states (8 * granule + 0)) ≡ true = rw (add-zero (8 * granule)) first in
-      rw here refl

@@ -1,8 +1,7 @@
 -- Worked histories, each with the reports that it comes to, computed by the definitions.
-use Rattle.std.proofs.Common.{◌≡◌, ℕ, ◌+◌, ◌*◌, ◌/◌, ◌%◌, true, false, [], ◌∷◌, ◌++◌, refl, arith}
-use Rattle.std.specs.Prelude.{◌&&◌, ◌==◌, nat_le, nat_lt, IsTrue, List, reverse}
+use Rattle.std.proofs.Common.{◌≡◌, ℕ, ◌+◌, ◌*◌, ◌/◌, ◌%◌, true, false, [], ◌∷◌, ◌++◌, refl}
+use Rattle.std.specs.Prelude.{◌&&◌, nat_le, nat_lt, IsTrue, List}
 use Rattle.std.proofs.lemmas.Bool.{and_parts, leb-true, ltb-true}
-use Rattle.std.proofs.lemmas.Bool.Decides.{nat_tests}
 use Rattle.trace_record.specs.Ranges.{largest_region}
 use Rattle.asan_units.specs.Units.{is_width, address_end, largest_quarantine}
 use Rattle.trace_record.specs.declared.event.Event.{Event}
@@ -14,18 +13,15 @@ use Rattle.trace_record.specs.declared.shade.Kind.TheVariants as kind
 use Rattle.trace_record.specs.declared.shade.Shade.{Shade}
 use Rattle.trace_record.specs.declared.version.Version.TheVariants as version
 use Rattle.trace_record.specs.Kinds.{kind_number}
-use Rattle.shadow_map.specs.States.{Block, lies_in}
 use Rattle.asan_check.specs.declared.report.Class.TheVariants as class
 use Rattle.asan_check.specs.declared.report.Fault.{Fault}
 use Rattle.asan_check.specs.declared.report.Fault.TheVariants as fault
 use Rattle.asan_check.specs.declared.report.Report.{Report}
 use Rattle.asan_check.specs.Verdicts.{verdicts}
-use Rattle.asan_check.specs.Laws.{since_malloc, since_free, IsPoisonedSince}
-use Rattle.asan_check.specs.Thinning.{faults_of, renumbered, thinned, thinned_events}
 
 -- ---- events, whose ranges compute at written-out numbers
 
-abbrev access : (at width : ℕ) → IsTrue (is_width width && nat_le (at + width) address_end) → Access
+abbrev pub access : (at width : ℕ) → IsTrue (is_width width && nat_le (at + width) address_end) → Access
 access at width ok =
     let parts = and_parts (is_width width) (nat_le (at + width) address_end) ok in
     record { at = at; width = width; known_width = parts.0; in_range = leb-true (at + width) address_end parts.1 }
@@ -57,13 +53,13 @@ abbrev pub unpoison : (at size : ℕ) → IsTrue (nat_le size most && nat_le (at
 unpoison at size ok = event.Unpoison (region at size ok)
 
 -- the number that keeps a size and a kind
-abbrev packed : Kind → ℕ → ℕ
+abbrev pub packed : Kind → ℕ → ℕ
 packed k size = size * 4 + kind_number k
 
 abbrev IsShade : ℕ → ℕ → Type 0
 IsShade at number = IsTrue (nat_lt (number % 4) 3 && nat_le (number / 4) most && nat_le (at + number / 4) address_end)
 
-abbrev shade : (at number : ℕ) → IsShade at number → Shade
+abbrev pub shade : (at number : ℕ) → IsShade at number → Shade
 shade at number ok =
     let parts = and_parts (nat_lt (number % 4) 3 && nat_le (number / 4) most) (nat_le (at + number / 4) address_end)
     ok in
@@ -334,75 +330,6 @@ empty_malloc_at_the_end :
     ∷ [])
     ≡ (report 1 (fault.BadMalloc 0x800000000000 0)) ∷ []
 empty_malloc_at_the_end = refl
-
--- ---- since when
-
--- a block that was handed out twice, and then asked for once more in vain: since the second malloc
-since_the_malloc_that_was_admitted :
-    since_malloc 71 (reverse ((malloc 0x1000 8 refl) ∷ (poison 0x1000 8 refl) ∷ (free 0x1000 refl)
-    ∷ (malloc 0x1000 8 refl) ∷ (malloc 0x1000 8 refl) ∷ (load 0x1000 1 refl)
-    ∷ [])) (record { at = 0x1000; size = 8 })
-    ≡ (load 0x1000 1 refl) ∷ (malloc 0x1000 8 refl) ∷ []
-since_the_malloc_that_was_admitted = refl
-
--- a block that was freed twice: since the first free
-since_the_free_of_the_live_block :
-    since_free usual (reverse ((malloc 0x1000 8 refl) ∷ (poison 0x1000 8 refl) ∷ (free 0x1000 refl)
-    ∷ (poison 0x2000 8 refl) ∷ (free 0x1000 refl) ∷ [])) (record { at = 0x1000; size = 8 })
-    ≡ (free 0x1000 refl) ∷ (poison 0x2000 8 refl) ∷ []
-since_the_free_of_the_live_block = refl
-
--- a granule that was poisoned, and no byte of which a malloc elsewhere covers
-poisoned_beside_a_block :
-    IsPoisonedSince usual ((malloc 0x3000 8 refl) ∷ (poison_of kind.Stack 0x1004 12 refl) ∷ [])
-    (shade 0x1004 (packed kind.Stack 12) refl) 0x201
-poisoned_beside_a_block = record {
-  before = [];
-  since = malloc 0x3000 8 refl ∷ [];
-  split = refl;
-  whole = (omega arith, omega arith);
-  laid = Block 0x3000 8 ∷ [];
-  laid_since = refl;
-  uncovered = (
-    λ byte here. (let off : lies_in 0x2fe0 0x3028 byte ≡ false = grind (arith, nat_tests) in rw off refl),
-    tt,
-  );
-}
-
--- ---- loads and stores that are left out
-
--- a bad store after a malloc, and its fault
-abbrev bad_store : List Event
-bad_store = (store 0x1004 4 refl) ∷ (malloc 0x1000 5 refl) ∷ []
-
-fault_of_the_store :
-    faults_of usual bad_store ≡ fault.Access true 4 0x1004 0x1005 class.HeapBufferOverflow 5 ∷ []
-fault_of_the_store = refl
-
--- where the bad store is left out its fault is lost, so what is left out has to be good
-fault_that_is_lost : faults_of usual (thinned (λ number. true) bad_store) ≡ []
-fault_that_is_lost = refl
-
--- only loads and stores are left out, so the second free is still reported
-frees_stay :
-    faults_of usual (thinned (λ number. true) ((free 0x1000 refl) ∷ (load 0x1000 1 refl) ∷ (free 0x1000 refl)
-    ∷ (malloc 0x1000 8 refl) ∷ []))
-    ≡ fault.DoubleFree 0x1000 ∷ []
-frees_stay = refl
-
--- an event that is the second of what is left, where the load before it is left out, is the third of the whole; the
--- fault plays no part
-number_after_a_load :
-    renumbered (λ number. number == 2) ((store 0x1004 4 refl) ∷ (load 0x1000 1 refl)
-    ∷ (malloc 0x1000 5 refl) ∷ []) (record { number = 2; fault = fault.BadFree 0 })
-    ≡ record { number = 3; fault = fault.BadFree 0 }
-number_after_a_load = refl
-
--- of events in their order the numbers are counted from the oldest: the first load is left out
-first_load_is_left_out :
-    thinned_events (λ number. number == 2) ((malloc 0x1000 5 refl) ∷ (load 0x1000 1 refl) ∷ (load 0x1001 1 refl) ∷ [])
-    ≡ (malloc 0x1000 5 refl) ∷ (load 0x1001 1 refl) ∷ []
-first_load_is_left_out = refl
 
 -- ---- an access that is recorded twice
 

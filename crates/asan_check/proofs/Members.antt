@@ -3,7 +3,7 @@ use Rattle.std.proofs.Common.{◌≡◌, ℕ, zero, suc, Bool, true, false, cond
 use Rattle.std.proofs.Common.{◌∙◌, arith, inl, inr}
 use Rattle.std.specs.Prelude.{◌⊎◌, filter, Contains}
 use Rattle.std.specs.List.{AllByRecursion, IsDistinct, list_any}
-use Rattle.std.proofs.lemmas.Bool.{false≢true, or_parts, or_right, or_left, or_cases, ne_eqb, eq-eqb}
+use Rattle.std.proofs.lemmas.Bool.{false≢true, or_parts, or_right, or_left, ne_eqb, eq-eqb}
 use Rattle.std.proofs.lemmas.Bool.Decides.{nat_tests}
 use Rattle.std.proofs.lemmas.List.Elements.{All-from_recursion, All-contains}
 use Rattle.std.proofs.lemmas.Map.Keys.{IsDistinct-head, IsDistinct-tail}
@@ -48,14 +48,6 @@ module _ {X : Type 0} where
         | inr rest ↦ or_right (p y) (list_any p ys) (passes_any p ys x rest is)
       ]
 
-  pub any_passes : (p : X → Bool) (xs : List X) → list_any p xs ≡ true → (x : X) × Contains xs x × (p x ≡ true)
-  any_passes p [] any = absurd (false≢true any)
-  any_passes p (y ∷ ys) any =
-      elim (or_cases (p y) (list_any p ys) any) [
-        | inl here ↦ (y, in_head y ys, here)
-        | inr rest ↦ let found = any_passes p ys rest in (found.0, in_tail found.0 y ys found.1, found.2)
-      ]
-
   -- no element passes
   pub none_passes : (p : X → Bool) (xs : List X) (x : X) → list_any p xs ≡ false → Contains xs x → p x ≡ false
   none_passes p [] x none has = absurd (in_none x has)
@@ -80,20 +72,7 @@ module _ {X : Type 0} where
   filter_none p [] each = refl
   filter_none p (y ∷ ys) each = rw (each y (in_head y ys)) (filter_none p ys (λ x has. each x (in_tail x y ys has)))
 
-  -- an element that passes is in the filter
-  pub filtered : (p : X → Bool) (xs : List X) (x : X) → Contains xs x → p x ≡ true → Contains (filter p xs) x
-  filtered p [] x has is = absurd (in_none x has)
-  filtered p (y ∷ ys) x has is =
-      elim (cons_cases x y ys has) [
-        | inl same ↦ rw (ap p same ∙ is) (subst (λ z. Contains (y ∷ filter p ys) z) same (in_head y (filter p ys)))
-        | inr rest ↦ go (p y) (filtered p ys x rest is)
-      ]
-    where
-      go : (t : Bool) → Contains (filter p ys) x → Contains (cond t (y ∷ filter p ys) (filter p ys)) x
-      go true rest = in_tail x y (filter p ys) rest
-      go false rest = rest
-
-  -- and those of the filter are elements that pass
+  -- the elements of a filter are those that pass
   pub from_filtered : (p : X → Bool) (xs : List X) (x : X) → Contains (filter p xs) x → Contains xs x × (p x ≡ true)
   from_filtered p [] x has = absurd (in_none x has)
   from_filtered p (y ∷ ys) x has = go (p y) refl has (from_filtered p ys x)
@@ -147,24 +126,6 @@ apart_left (x ∷ xs) ys apart = (front xs apart.0, apart_left xs ys apart.1)
 pub apart_right : (xs ys : List Extent) → IsDistinct meets (xs ++ ys) → IsDistinct meets ys
 apart_right [] ys apart = apart
 apart_right (x ∷ xs) ys apart = apart_right xs ys (IsDistinct-tail meets x (xs ++ ys) apart)
-
--- two blocks of a list that start at different addresses don't meet
-pub apart_beside : (xs : List Extent) (x y : Extent) → IsDistinct meets xs → Contains xs x → Contains xs y
-    → starts_at x.at y ≡ false → meets x y ≡ false
-apart_beside [] x y apart has_x has_y other = absurd (in_none x has_x)
-apart_beside (z ∷ zs) x y apart has_x has_y other =
-    let first = IsDistinct-head meets z zs apart in
-    elim (cons_cases x z zs has_x) [
-      | inl is_x ↦ elim (cons_cases y z zs has_y) [
-        | inl is_y ↦ absurd (false≢true (sym other ∙ eq-eqb y.at x.at (ap (λ w. w.at) (sym is_y ∙ is_x))))
-        | inr rest ↦ ap (λ w. meets w y) (sym is_x) ∙ at_element (λ w. meets z w ≡ false) zs y first rest
-      ]
-      | inr in_x ↦ elim (cons_cases y z zs has_y) [
-        | inl is_y ↦ meets-flip x y ∙ ap (λ w. meets w x) (sym is_y)
-            ∙ at_element (λ w. meets z w ≡ false) zs x first in_x
-        | inr in_y ↦ apart_beside zs x y (IsDistinct-tail meets z zs apart) in_x in_y other
-      ]
-    ]
 
 -- the blocks of a list that start where one of them does are that one alone
 pub starts_once : (xs : List Extent) (x : Extent) (at : ℕ) → IsDistinct meets xs → Contains xs x

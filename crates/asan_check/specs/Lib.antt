@@ -5,6 +5,3 @@ pub mod Lines
 pub mod Appending
 pub mod Standing
 pub mod Freeing
-pub mod Laws
-pub mod Thinning
-pub mod Restating

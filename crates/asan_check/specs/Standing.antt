@@ -6,8 +6,7 @@ use Rattle.shadow_map.specs.Shows.{Shows}
 use Rattle.asan_check.specs.declared.checker.Checker.{Checker}
 use Rattle.asan_check.specs.declared.report.Report.{Report}
 use Rattle.asan_check.specs.History.{live, held, marks}
-use Rattle.asan_check.specs.Verdicts.{fault_of, verdicts_of}
-use Rattle.asan_check.specs.Thinning.{is_access}
+use Rattle.asan_check.specs.Verdicts.{fault_of, is_access, verdicts_of}
 
 module _ {A : Type 0} where
   -- what a contract sees of a checker: whether it has failed, how many events it has checked, its

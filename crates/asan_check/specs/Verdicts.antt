@@ -56,6 +56,12 @@ fault_of bound past (event.Free p) = free_fault bound past p.at
 fault_of bound past (event.Poison s) = None
 fault_of bound past (event.Unpoison r) = None
 
+-- whether an event is a load or a store
+abbrev pub is_access : Event → Bool
+is_access (event.Load a) = true
+is_access (event.Store a) = true
+is_access e = false
+
 -- whether an event lays no mark whatever came before it: a load, a store, a malloc or a free at
 -- address 0, and a poison or an unpoison of no bytes
 abbrev pub marks_none : Event → Bool

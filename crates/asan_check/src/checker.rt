@@ -13,8 +13,7 @@ ghost use Rattle.shadow_map.specs.States.{is_addressable, state_of, least_unaddr
 ghost use Rattle.shadow_map.specs.States.{bad_byte_of};
 ghost use Rattle.asan_check.specs.History.{marks};
 ghost use Rattle.asan_check.specs.Verdicts.{verdict, fault_of, access_fault, malloc_fault};
-ghost use Rattle.asan_check.specs.Verdicts.{free_fault, marks_none};
-ghost use Rattle.asan_check.specs.Thinning.{is_access};
+ghost use Rattle.asan_check.specs.Verdicts.{free_fault, is_access, marks_none};
 
 use crate::NoMemory;
 use crate::codes::{FREED, class_by, poison_code};

@@ -7,7 +7,7 @@ ghost use Rattle.asan_senders.specs.Arrivals.{Pairwise};
 ghost use Rattle.asan_senders.specs.Live.{ArePrinted};
 ghost use Rattle.asan_senders.specs.Ranges.{most_senders};
 ghost use Rattle.asan_senders.specs.ReportLanes.{AllFit, lanes_of};
-ghost use Rattle.asan_senders.specs.Senders.{AllJoined, Gets};
+ghost use Rattle.asan_senders.specs.Senders.{AllJoined, AllSayHowFar, Gets};
 
 use asan_senders::{Live, Printers, Sender, close};
 use asan_stream::Outcome;
@@ -31,6 +31,7 @@ pub(crate) fn close_all<F: Feed + Drop, W: Write, A: Allocator + Copy>(
     requires ports { length printers.ports.items ≡ length senders.items }
     requires fits { AllFit (lanes_of printers.ports.items) senders.items }
     ensures outcomes { Pairwise (Gets F.seen) senders.items result.outcomes.items }
+    ensures far { AllSayHowFar printers.ports.items senders.items result.outcomes.items }
     ensures printed { (start : Option (List ℕ)) →
         Follows start (W.contents w.old) printers.printer printers.ports.items →
         ArePrinted start (W.contents w.new) result.outcomes.items result.wrote }
@@ -39,12 +40,10 @@ pub(crate) fn close_all<F: Feed + Drop, W: Write, A: Allocator + Copy>(
     let (mut printer, mut ports) = (printer, ports);
     let (mut senders, mut outcomes) = (senders, room);
     for i in 0..senders.len() {
-        let sender = mem::replace(&mut senders[i], Sender::NotStarted);
+        let sender = mem::replace(&mut senders[i], Sender::NotOpened);
         let port = mem::replace(&mut ports[i], None);
         let outcome = close(&mut printer, w, i as u32, sender, port);
-        let Ok(()) = outcomes.push(outcome) else {
-            unreachable!()
-        };
+        outcomes.push_reserved(outcome);
     }
     let wrote = printer.finish(w);
     Live { outcomes, wrote }

@@ -4,14 +4,17 @@
 ghost use Rattle.std.specs.Prelude.{◌≡◌, ◌≤◌, ◌^◌, All, IfOk, OnErr, length};
 ghost use Rattle.asan_collect.specs.Rooms.{AreEmptyRooms};
 ghost use Rattle.asan_senders.specs.Arrivals.{IsAnswerTo, IsArrived, Pairwise};
-ghost use Rattle.asan_senders.specs.Collected.{AreCollected};
+ghost use Rattle.asan_senders.specs.Collected.{AreCollected, IsReadIfAlone};
+ghost use Rattle.asan_senders.specs.Missing.{HaveCauses};
 ghost use Rattle.asan_senders.specs.Ranges.{most_senders};
 
 use crate::NoMemory;
 use crate::arrivals::let_in;
 use crate::rooms::Rooms;
 use crate::threads::{Work, run_all};
-use asan_senders::{Heaps, Seats, check_alone, only_feed, open_all, place_all, settle_all};
+use asan_senders::{
+    Heaps, Missing, Seats, check_alone, missing_among, only_feed, open_all, place_all, settle_all,
+};
 use asan_stream::{Gate, OpenGate, Options, Outcome};
 use std::alloc::Allocator;
 use std::sync::Wait;
@@ -40,9 +43,9 @@ pub struct Collector<'a, R, G, A: Allocator + Copy> {
 /// from `alloc`.
 ///
 /// The outcomes stand in the order of the answers: `NotOpened` for each sender that the door
-/// refused, `NotStarted` where a thread or a lane was missing, `Unsettled` where the bench or the
-/// end of the lane was missing when all threads had ended, and else `Settled` or `NoMemory`. What
-/// becomes of one sender changes nothing of the others.
+/// refused, `NotStarted` where a thread or a lane was missing, `Unsettled` where the end of the
+/// lane was missing when all threads had ended, and else `Settled` or `NoMemory`. The bytes of one
+/// sender change nothing of the others, but all share the threads and the memory of `alloc`.
 ///
 /// The gate is called after each event that was checked. The door must have refused at most 2^32
 /// senders before.
@@ -98,20 +101,45 @@ where
             (D.seen door.old) (D.seen door.new) outcomes.items) }
         ensures unasked { OnErr result (door.new ≡ door.old) }
     {
+        Ok(self.collect_counting(door)?.0)
+    }
+
+    /// Does what [`collect`](crate::collect) does, and counts what was missing: as many senders are
+    /// `NotStarted` or `Unsettled`.
+    ///
+    /// # Errors
+    ///
+    /// `NoMemory` where there was no room for the lists of 256 senders. The door was not asked
+    /// then.
+    pub fn collect_counting<D: Door>(
+        &self,
+        door: &mut D,
+    ) -> Result<(Vec<Outcome<D::Feed, A>, A>, Missing), NoMemory>
+    where
+        D::Feed: Send + Drop,
+        requires { (D.seen door.old).refusals ≤ 2 ^ 32 }
+        ensures collected { IfOk result (λ both. AreCollected D.Feed.seen self.now.options
+            (D.seen door.old) (D.seen door.new) both.0.items) }
+        ensures causes { IfOk result (λ both. HaveCauses both.0.items both.1) }
+        ensures unasked { OnErr result (door.new ≡ door.old) }
+    {
         let (arrivals, rooms) = let_in(self.heaps.shared, door, self.options)?;
         Ok(self.check_all(arrivals, rooms))
     }
 
-    /// What became of these senders, in order, which are read and checked over threads.
+    /// What became of these senders, in order, which are read and checked over threads, and what
+    /// was missing.
     fn check_all<F: Feed + Send + Drop>(
         &self,
         arrivals: Vec<Arrival<F>, A>,
         rooms: Rooms<F, A>,
-    ) -> Vec<Outcome<F, A>, A>
+    ) -> (Vec<Outcome<F, A>, A>, Missing)
         requires arrived { All (IsArrived F.seen) arrivals.items }
         requires few { length arrivals.items ≤ most_senders }
         requires room { AreEmptyRooms rooms }
-        ensures { Pairwise (IsAnswerTo F.seen self.now.options) arrivals.items result.items }
+        ensures answers { Pairwise (IsAnswerTo F.seen self.now.options)
+            arrivals.items result.0.items }
+        ensures causes { HaveCauses result.0.items result.1 }
     {
         let Rooms {
             seats,
@@ -128,7 +156,8 @@ where
         let Work { senders, shares } = back;
         let mut senders = senders;
         place_all(&mut senders, shares, self.options.quarantine);
-        settle_all(senders, outcomes)
+        let missing = missing_among(&senders, false);
+        (settle_all(senders, outcomes), missing)
     }
 }
 
@@ -137,8 +166,9 @@ where
     R: Threads + Wait + Clock + Sync,
     A: Allocator + Copy + Send,
 {
-    /// Does what [`collect`](crate::collect) does. Where one sender came and no other, it is read
-    /// and checked on the calling thread, and no thread is started.
+    /// Does what [`collect_counting`](Collector::collect_counting) does. Where one sender came and
+    /// no other, it is read and checked on the calling thread, and no thread is started: nothing
+    /// can be missing then.
     ///
     /// No contract says on which thread a feed is read: tests show it.
     ///
@@ -149,32 +179,40 @@ where
     pub fn collect_openly<D: Door>(
         &self,
         door: &mut D,
-    ) -> Result<Vec<Outcome<D::Feed, A>, A>, NoMemory>
+    ) -> Result<(Vec<Outcome<D::Feed, A>, A>, Missing), NoMemory>
     where
         D::Feed: Send + Drop,
         requires { (D.seen door.old).refusals ≤ 2 ^ 32 }
-        ensures collected { IfOk result (λ outcomes. AreCollected D.Feed.seen self.now.options
-            (D.seen door.old) (D.seen door.new) outcomes.items) }
+        ensures collected { IfOk result (λ both. AreCollected D.Feed.seen self.now.options
+            (D.seen door.old) (D.seen door.new) both.0.items) }
+        ensures causes { IfOk result (λ both. HaveCauses both.0.items both.1) }
+        ensures alone { IfOk result (λ both. IsReadIfAlone both.0.items) }
         ensures unasked { OnErr result (door.new ≡ door.old) }
     {
         let (arrivals, rooms) = let_in(self.heaps.shared, door, self.options)?;
         Ok(self.check_openly(arrivals, rooms))
     }
 
-    /// What became of these senders, in order: of the only one on the calling thread, and of any
-    /// others over threads.
+    /// What became of these senders, in order, of the only one on the calling thread and of any
+    /// others over threads; and what was missing.
     fn check_openly<F: Feed + Send + Drop>(
         &self,
         arrivals: Vec<Arrival<F>, A>,
         rooms: Rooms<F, A>,
-    ) -> Vec<Outcome<F, A>, A>
+    ) -> (Vec<Outcome<F, A>, A>, Missing)
         requires arrived { All (IsArrived F.seen) arrivals.items }
         requires few { length arrivals.items ≤ most_senders }
         requires room { AreEmptyRooms rooms }
-        ensures { Pairwise (IsAnswerTo F.seen self.now.options) arrivals.items result.items }
+        ensures answers { Pairwise (IsAnswerTo F.seen self.now.options)
+            arrivals.items result.0.items }
+        ensures causes { HaveCauses result.0.items result.1 }
+        ensures alone { IsReadIfAlone result.0.items }
     {
         match only_feed(arrivals) {
-            Ok(feed) => check_alone(&self.heaps, feed, self.options, rooms.outcomes),
+            Ok(feed) => {
+                let outcomes = check_alone(&self.heaps, feed, self.options, rooms.outcomes);
+                (outcomes, Missing::nothing())
+            }
             Err(arrivals) => self.check_all(arrivals, rooms),
         }
     }

@@ -16,7 +16,7 @@ mod worker_threads;
 
 pub use asan_print::{Why, WriteFault};
 pub use asan_senders::{
-    Heaps, Live, MAX_SENDERS, UNCHECKED, UNWRITTEN, answers_are_outcomes, exit_status,
+    Heaps, Live, MAX_SENDERS, Missing, UNCHECKED, UNWRITTEN, answers_are_outcomes, exit_status,
     write_outcomes,
 };
 pub use asan_stream::{

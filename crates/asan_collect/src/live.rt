@@ -3,8 +3,9 @@
 ghost use Rattle.std.specs.Prelude.{◌≡◌, ◌≤◌, ◌^◌, All, IfOk, OnErr, length};
 ghost use Rattle.asan_collect.specs.Rooms.{AreEmptyRooms};
 ghost use Rattle.asan_senders.specs.Arrivals.{IsAnswerTo, IsArrived, Pairwise};
-ghost use Rattle.asan_senders.specs.Collected.{AreCollected};
+ghost use Rattle.asan_senders.specs.Collected.{AreCollected, IsReadIfAlone};
 ghost use Rattle.asan_senders.specs.Live.{ArePrinted};
+ghost use Rattle.asan_senders.specs.Missing.{HaveCauses};
 ghost use Rattle.asan_senders.specs.Ranges.{most_senders};
 
 use crate::NoMemory;
@@ -15,7 +16,8 @@ use crate::rooms::Rooms;
 use crate::threads::{Work, run_printing};
 use asan_print::LivePrinter;
 use asan_senders::{
-    Heaps, Live, Printers, Seats, check_alone_live, only_feed, open_all, place_all,
+    Heaps, Live, Missing, Printers, Seats, check_alone_live, missing_among, only_feed, open_all,
+    place_all,
 };
 use asan_stream::{Gate, OpenGate, Options};
 use std::alloc::Allocator;
@@ -102,25 +104,52 @@ where
         ensures unasked { OnErr result (door.new ≡ door.old) }
         ensures unwritten { OnErr result (w.new ≡ w.old) }
     {
+        Ok(self.collect_live_counting(door, w)?.0)
+    }
+
+    /// Does what [`collect_live`](crate::collect_live) does, and counts what was missing: as many
+    /// senders are `NotStarted` or `Unsettled`.
+    ///
+    /// # Errors
+    ///
+    /// `NoMemory` where there was no room for the lists of 256 senders. The door was not asked
+    /// then, and nothing was written.
+    pub fn collect_live_counting<D: Door, W: Write>(
+        &self,
+        door: &mut D,
+        w: &mut W,
+    ) -> Result<(Live<D::Feed, A>, Missing), NoMemory>
+    where
+        D::Feed: Send + Drop,
+        requires { (D.seen door.old).refusals ≤ 2 ^ 32 }
+        ensures collected { IfOk result (λ both. AreCollected D.Feed.seen self.now.options
+            (D.seen door.old) (D.seen door.new) both.0.outcomes.items) }
+        ensures causes { IfOk result (λ both. HaveCauses both.0.outcomes.items both.1) }
+        ensures printed { IfOk result (λ both. ArePrinted (W.contents w.old) (W.contents w.new)
+            both.0.outcomes.items both.0.wrote) }
+        ensures unasked { OnErr result (door.new ≡ door.old) }
+        ensures unwritten { OnErr result (w.new ≡ w.old) }
+    {
         let (arrivals, rooms) = let_in(self.heaps.shared, door, self.options)?;
         Ok(self.check_all_live(arrivals, rooms, w))
     }
 
     /// What became of these senders, in order, which are read and checked over threads, and whose
-    /// lines are printed.
+    /// lines are printed; and what was missing.
     fn check_all_live<F: Feed + Send + Drop, W: Write>(
         &self,
         arrivals: Vec<Arrival<F>, A>,
         rooms: Rooms<F, A>,
         w: &mut W,
-    ) -> Live<F, A>
+    ) -> (Live<F, A>, Missing)
         requires arrived { All (IsArrived F.seen) arrivals.items }
         requires few { length arrivals.items ≤ most_senders }
         requires room { AreEmptyRooms rooms }
         ensures answers { Pairwise (IsAnswerTo F.seen self.now.options)
-            arrivals.items result.outcomes.items }
+            arrivals.items result.0.outcomes.items }
+        ensures causes { HaveCauses result.0.outcomes.items result.1 }
         ensures printed { ArePrinted (W.contents w.old) (W.contents w.new)
-            result.outcomes.items result.wrote }
+            result.0.outcomes.items result.0.wrote }
     {
         let Rooms {
             seats,
@@ -139,7 +168,8 @@ where
         let Work { senders, shares } = back;
         let mut senders = senders;
         place_all(&mut senders, shares, self.options.quarantine);
-        close_all(w, senders, printers, outcomes)
+        let missing = missing_among(&senders, true);
+        (close_all(w, senders, printers, outcomes), missing)
     }
 }
 
@@ -148,9 +178,10 @@ where
     R: Threads + Wait + Clock + Sync,
     A: Allocator + Copy + Send,
 {
-    /// Does what [`collect_live`](crate::collect_live) does. Where one sender came and no other, it
-    /// is read, checked and printed on the calling thread, and no thread is started. Each of its
-    /// reports is then printed once the batch of its event is checked.
+    /// Does what [`collect_live_counting`](Collector::collect_live_counting) does. Where one sender
+    /// came and no other, it is read, checked and printed on the calling thread, and no thread is
+    /// started: nothing can be missing then. Each of its reports is printed once the batch of its
+    /// event is checked.
     ///
     /// No contract says on which thread a feed is read: tests show it.
     ///
@@ -162,14 +193,16 @@ where
         &self,
         door: &mut D,
         w: &mut W,
-    ) -> Result<Live<D::Feed, A>, NoMemory>
+    ) -> Result<(Live<D::Feed, A>, Missing), NoMemory>
     where
         D::Feed: Send + Drop,
         requires { (D.seen door.old).refusals ≤ 2 ^ 32 }
-        ensures collected { IfOk result (λ live. AreCollected D.Feed.seen self.now.options
-            (D.seen door.old) (D.seen door.new) live.outcomes.items) }
-        ensures printed { IfOk result (λ live.
-            ArePrinted (W.contents w.old) (W.contents w.new) live.outcomes.items live.wrote) }
+        ensures collected { IfOk result (λ both. AreCollected D.Feed.seen self.now.options
+            (D.seen door.old) (D.seen door.new) both.0.outcomes.items) }
+        ensures causes { IfOk result (λ both. HaveCauses both.0.outcomes.items both.1) }
+        ensures alone { IfOk result (λ both. IsReadIfAlone both.0.outcomes.items) }
+        ensures printed { IfOk result (λ both. ArePrinted (W.contents w.old) (W.contents w.new)
+            both.0.outcomes.items both.0.wrote) }
         ensures unasked { OnErr result (door.new ≡ door.old) }
         ensures unwritten { OnErr result (w.new ≡ w.old) }
     {
@@ -177,24 +210,29 @@ where
         Ok(self.check_openly_live(arrivals, rooms, w))
     }
 
-    /// What became of these senders, in order, whose lines are printed: of the only one on the
-    /// calling thread, and of any others over threads.
+    /// What became of these senders, in order, whose lines are printed, of the only one on the
+    /// calling thread and of any others over threads; and what was missing.
     fn check_openly_live<F: Feed + Send + Drop, W: Write>(
         &self,
         arrivals: Vec<Arrival<F>, A>,
         rooms: Rooms<F, A>,
         w: &mut W,
-    ) -> Live<F, A>
+    ) -> (Live<F, A>, Missing)
         requires arrived { All (IsArrived F.seen) arrivals.items }
         requires few { length arrivals.items ≤ most_senders }
         requires room { AreEmptyRooms rooms }
         ensures answers { Pairwise (IsAnswerTo F.seen self.now.options)
-            arrivals.items result.outcomes.items }
+            arrivals.items result.0.outcomes.items }
+        ensures causes { HaveCauses result.0.outcomes.items result.1 }
+        ensures alone { IsReadIfAlone result.0.outcomes.items }
         ensures printed { ArePrinted (W.contents w.old) (W.contents w.new)
-            result.outcomes.items result.wrote }
+            result.0.outcomes.items result.0.wrote }
     {
         match only_feed(arrivals) {
-            Ok(feed) => check_alone_live(&self.heaps, feed, self.options, w, rooms.outcomes),
+            Ok(feed) => {
+                let live = check_alone_live(&self.heaps, feed, self.options, w, rooms.outcomes);
+                (live, Missing::nothing())
+            }
             Err(arrivals) => self.check_all_live(arrivals, rooms, w),
         }
     }

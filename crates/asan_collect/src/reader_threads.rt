@@ -3,10 +3,10 @@
 ghost use Rattle.std.specs.Prelude.{◌≡◌, ◌<◌, ◌≤◌};
 ghost use Rattle.asan_stream.specs.Ranges.{most_events};
 ghost use Rattle.asan_stream.specs.Readers.{IsReaderOf};
-ghost use Rattle.asan_senders.specs.Senders.{AllFresh, Each, IsFresh, WillBe};
+ghost use Rattle.asan_senders.specs.Senders.{AllFresh, Each, IsFresh, Starts};
 
 use crate::crew::Crew;
-use asan_senders::{Reading, Sender};
+use asan_senders::{Part, Reading, Sender};
 use asan_stream::{Gate, ReaderDone, run_reader};
 use std::alloc::Allocator;
 use std::mem;
@@ -26,7 +26,7 @@ fn start<
     R: Threads + Wait + Clock + Sync,
 >(crew: &Crew<'s, 'e, G, R, A>, sender: Sender<F, A>) -> Sender<F, A>
     requires fresh { IsFresh F.seen sender }
-    ensures { WillBe F.seen crew.now.options.limit sender result }
+    ensures { Starts F.seen crew.now.options.limit sender result }
 {
     let (feed, lane) = match sender {
         Sender::Ready(feed, lane) => (feed, lane),
@@ -45,7 +45,7 @@ fn start<
     { run_reader(rt, feed, lane, limit) };
     match crew.scope.spawn_with(promise, work) {
         Ok(handle) => Sender::Running(handle),
-        Err(_) => Sender::NotStarted,
+        Err(_) => Sender::NotStarted(Part::Reader),
     }
 }
 
@@ -59,9 +59,9 @@ fn start_at<
     R: Threads + Wait + Clock + Sync,
 >(crew: &Crew<'s, 'e, G, R, A>, sender: &mut Sender<F, A>)
     requires fresh { IsFresh F.seen sender.old }
-    ensures { WillBe F.seen crew.now.options.limit sender.old sender.new }
+    ensures { Starts F.seen crew.now.options.limit sender.old sender.new }
 {
-    let was = mem::replace(sender, Sender::NotStarted);
+    let was = mem::replace(sender, Sender::NotOpened);
     let _ = mem::replace(sender, start(crew, was));
 }
 
@@ -75,7 +75,7 @@ pub(crate) fn start_readers<
     R: Threads + Wait + Clock + Sync,
 >(crew: &Crew<'s, 'e, G, R, A>, senders: &mut Vec<Sender<F, A>, A>)
     requires fresh { AllFresh F.seen senders.old.items }
-    ensures { Each (WillBe F.seen crew.now.options.limit) senders.old.items senders.new.items }
+    ensures { Each (Starts F.seen crew.now.options.limit) senders.old.items senders.new.items }
 {
     for i in 0..senders.len() {
         start_at(crew, &mut senders[i]);

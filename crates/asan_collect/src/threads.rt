@@ -5,7 +5,7 @@ ghost use Rattle.asan_collect.specs.FirstWorker.{FirstHasWorked};
 ghost use Rattle.asan_senders.specs.Arrivals.{Pairwise};
 ghost use Rattle.asan_senders.specs.Closings.{HasPrinted};
 ghost use Rattle.asan_senders.specs.Senders.{AllFresh, Becomes, Each, WillBe};
-ghost use Rattle.asan_senders.specs.Shares.{ComesBack, WillComeBack};
+ghost use Rattle.asan_senders.specs.Shares.{AreKept, ComesBack, HaveWorkedForRead, WillComeBack};
 
 use crate::at_work::AtWork;
 use crate::collector::Collector;
@@ -51,6 +51,7 @@ fn start_all<
         work.old.senders.items work.new.senders.items }
     ensures same { vec_len work.new.shares ≡ vec_len work.old.shares }
     ensures shares { Pairwise WillComeBack work.old.shares.items result.items }
+    ensures kept { AreKept result.items work.old.senders.items work.new.senders.items }
 {
     let workers = start_workers(crew, &mut work.shares, room);
     give_up_senders(&mut work.senders, &workers);
@@ -75,6 +76,8 @@ fn run_in<
     ensures senders { Each (Becomes F.seen crew.now.options.limit)
         work.old.senders.items work.new.senders.items }
     ensures shares { Each ComesBack work.old.shares.items work.new.shares.items }
+    ensures worked { HaveWorkedForRead work.old.senders.items work.new.senders.items
+        work.old.shares.items work.new.shares.items }
     ensures first { FirstHasWorked work.old.shares.items work.new.shares.items }
 {
     // The first share is empty then, and gets no thread.
@@ -103,6 +106,8 @@ pub(crate) fn run_all<
     ensures senders { Each (Becomes F.seen collector.now.options.limit)
         work.senders.items result.senders.items }
     ensures shares { Each ComesBack work.shares.items result.shares.items }
+    ensures worked { HaveWorkedForRead work.senders.items result.senders.items
+        work.shares.items result.shares.items }
     ensures first { FirstHasWorked work.shares.items result.shares.items }
 {
     let at_work = &AtWork::new();
@@ -117,6 +122,8 @@ pub(crate) fn run_all<
             ensures senders { Each (Becomes F.seen options.limit)
                 work.senders.items result.senders.items }
             ensures shares { Each ComesBack work.shares.items result.shares.items }
+            ensures worked { HaveWorkedForRead work.senders.items result.senders.items
+                work.shares.items result.shares.items }
             ensures first { FirstHasWorked work.shares.items result.shares.items }
         {
             let mut work = work;
@@ -157,6 +164,8 @@ fn print_in<
     ensures senders { Each (Becomes F.seen crew.now.options.limit)
         work.old.senders.items work.new.senders.items }
     ensures shares { Each ComesBack work.old.shares.items work.new.shares.items }
+    ensures worked { HaveWorkedForRead work.old.senders.items work.new.senders.items
+        work.old.shares.items work.new.shares.items }
     ensures printed { HasPrinted (W.contents w.old) (W.contents w.new) printers.old printers.new }
 {
     let workers = start_all(crew, work, room);
@@ -190,6 +199,8 @@ pub(crate) fn run_printing<
     ensures senders { Each (Becomes F.seen collector.now.options.limit)
         work.senders.items result.0.senders.items }
     ensures shares { Each ComesBack work.shares.items result.0.shares.items }
+    ensures worked { HaveWorkedForRead work.senders.items result.0.senders.items
+        work.shares.items result.0.shares.items }
     ensures printed { HasPrinted (W.contents w.old) (W.contents w.new) printers result.1 }
 {
     let at_work = &AtWork::new();
@@ -205,6 +216,8 @@ pub(crate) fn run_printing<
             ensures senders { Each (Becomes F.seen options.limit)
                 work.senders.items result.1.senders.items }
             ensures shares { Each ComesBack work.shares.items result.1.shares.items }
+            ensures worked { HaveWorkedForRead work.senders.items result.1.senders.items
+                work.shares.items result.1.shares.items }
             ensures printed { HasPrinted (W.contents w.entry.now) (W.contents result.0.now)
                 printers result.2 }
         {

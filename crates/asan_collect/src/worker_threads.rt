@@ -68,9 +68,7 @@ pub(crate) fn start_workers<
     let mut workers = room;
     for k in 0..shares.len() {
         let share = mem::replace(&mut shares[k], Vec::new(crew.alloc));
-        let Ok(()) = workers.push(begin(crew, share)) else {
-            unreachable!()
-        };
+        workers.push_reserved(begin(crew, share));
     }
     workers
 }

@@ -1,6 +1,6 @@
 -- The status of a session is one of those of traces: at most that of a print that failed, and not that of a refused
 -- command line.
-use Rattle.std.proofs.Common.{arith, ◌≡◌, ◌≤◌, ℕ, Bool, true, false, List, [], ◌∷◌, Option, inl, inr}
+use Rattle.std.proofs.Common.{arith, ◌≡◌, ◌≤◌, ℕ, Bool, true, false, List, Option, inl, inr}
 use Rattle.std.specs.Prelude.{◌≢◌, ◌⊎◌, if◌then◌else◌, not}
 use Rattle.std.specs.List.{list_all, list_any}
 use Rattle.trace_feed.specs.Doors.{DoorState}
@@ -8,7 +8,7 @@ use Rattle.trace_feed.specs.Feeds.{FeedState}
 use Rattle.asan_stream.specs.declared.outcome.Outcome.{Outcome}
 use Rattle.asan_senders.specs.Statuses.{clean, has_report, is_closed, reported, status_of, unchecked, unwritten}
 use Rattle.asan_session.specs.declared.session.Checking.{Checking}
-use Rattle.asan_session.specs.Printed.{AreSendersPrinted, IsFeedPrinted, IsPrintedAs}
+use Rattle.asan_session.specs.Printed.{AreSendersPrinted, IsPrintedAs}
 use Rattle.asan_request.specs.Refusals.{refused}
 
 pub record IsOfTraces (status : ℕ) : Type 0 where
@@ -40,9 +40,3 @@ pub of_senders : {F : Type 0} (A : Type 0) (seen : F → FeedState) (checking : 
     → AreSendersPrinted seen A checking old new before after status → IsOfTraces status
 of_senders A seen checking old new before after status (outcomes, all) =
     of_printed checking.is_live before after outcomes status all.printed
-
--- and that of one feed
-pub of_feed : {F : Type 0} (seen : F → FeedState) (feed : F) (before after : Option (List ℕ)) (status : ℕ)
-    → IsFeedPrinted seen feed before after status → IsOfTraces status
-of_feed seen feed before after status (options, outcome, usual, of, printed) =
-    of_outcomes (outcome ∷ []) status printed.status_is

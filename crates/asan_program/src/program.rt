@@ -1,13 +1,15 @@
 //! The program, over the words of its command line, a reader and two writers.
 
-ghost use Rattle.std.specs.Prelude.{◌≡◌, ◌≢◌, ◌≤◌, ◌⊎◌, [], false};
+ghost use Rattle.std.specs.Prelude.{◌≡◌, ◌≢◌, ◌≤◌, ◌⊎◌, [], Err, IfOk, OnErr, false};
 ghost use Rattle.asan_senders.specs.Statuses.{unchecked, unwritten};
 ghost use Rattle.asan_inputs.specs.Verbose.{is_verbose};
 ghost use Rattle.asan_session.specs.Printed.{IsInputPrinted};
 ghost use Rattle.asan_request.specs.Refusals.{IsStatusFor, refused};
+ghost use Rattle.asan_program.specs.Carried.{AreFilesPrinted, ArePeersPrinted};
+ghost use Rattle.asan_program.specs.declared.program.Unable.TheVariants.{NoMemory, ToServe};
 
-use asan_inputs::{door_of, listen};
-use asan_request::{Refusal, Request, read_arguments};
+use asan_inputs::{CannotServe, InputDoor, InputFeed, Serving, door_of, listen};
+use asan_request::{Refusal, Request, TraceFiles, read_arguments};
 use asan_senders::{UNCHECKED, UNWRITTEN};
 use asan_session::{Checking, Session, no_memory, report_feed, say};
 use clap::error::ErrorKind;
@@ -15,11 +17,12 @@ use std::alloc::AllocError;
 use std::fs::File;
 use std::io::{Read, Write};
 use std::net::Net;
+use std::os::unix::net::UnixStream;
 use std::rt::Files;
 use std::sync::Wait;
 use std::thread::Threads;
 use std::time::Clock;
-use trace_feed::{Feed, ReadFeed};
+use trace_feed::{Door, Feed, ReadFeed, UnixDoor};
 
 /// The status where help or the release was asked for and printed.
 const HELPED: u8 = 0;
@@ -50,39 +53,135 @@ where
         (output.new ≡ output.old) ⊎ (faults.new ≡ faults.old) }
     ensures known { result ≤ unwritten }
 {
-    let alloc = rt.alloc();
-    let request = match read_arguments(alloc, words) {
+    let request = match read_arguments(rt.alloc(), words) {
         Ok(request) => request,
         Err(refusal) => return refuse(refusal, words, output, faults),
     };
-    let reported = match request {
-        Request::Input => report_feed(alloc, ReadFeed::new(input), output),
-        Request::Files(files) => match door_of(rt, alloc, &files.names, input) {
-            Ok(mut door) => {
-                let names = files.verbose.then_some(files.names.as_slice());
-                let checking = Checking {
-                    options: files.options,
-                    is_live: files.is_live,
-                };
-                Session { rt, checking }.report_each(&mut door, output, names, faults)
-            }
-            Err(error) => Err(error),
-        },
-        Request::Serve(serving) => match listen(rt, &serving) {
-            Ok(mut door) => {
-                let checking = Checking {
-                    options: serving.options,
-                    is_live: serving.is_live,
-                };
-                Session { rt, checking }.report_each(&mut door, output, None, faults)
-            }
-            Err(error) => return say(faults, &error, UNCHECKED),
-        },
-    };
-    match reported {
+    match carry_out(rt, request, input, output, faults) {
         Ok(status) => status,
-        Err(AllocError) => no_memory(faults),
+        Err(Unable::NoMemory) => no_memory(faults),
+        Err(Unable::ToServe(error)) => say(faults, &error, UNCHECKED),
     }
+}
+
+/// Why a request was not carried out.
+#[derive(Drop)]
+enum Unable {
+    /// There was no memory to start.
+    NoMemory,
+    /// The socket can't be served.
+    ToServe(CannotServe),
+}
+
+impl From<AllocError> for Unable {
+    ghost from_gives = { λ _ unable. unable ≡ NoMemory };
+
+    fn from(_error: AllocError) -> Unable {
+        Unable::NoMemory
+    }
+}
+
+impl From<CannotServe> for Unable {
+    ghost from_gives = { λ error unable. unable ≡ ToServe error };
+
+    fn from(error: CannotServe) -> Unable {
+        Unable::ToServe(error)
+    }
+}
+
+/// Checks the traces that are asked for, prints what became of each, and gives the status to end
+/// with.
+///
+/// # Errors
+///
+/// There is no memory to start, or the socket can't be served. No trace was read then.
+fn carry_out<'a, R, I, O, E>(
+    rt: &'a R,
+    request: Request,
+    input: I,
+    output: &mut O,
+    stderr: &mut E,
+) -> Result<u8, Unable>
+where
+    R: Files<File = File> + Net + Threads + Wait + Clock + Sync + AllocGlobal,
+    I: Read + Send + Drop,
+    O: Write,
+    E: Write,
+    ensures input { request ≡ Request.Input → IfOk result (IsInputPrinted
+        ⟦<ReadFeed<I> as Feed>⟧.seen
+        (I.remaining input) (O.contents output.old) (O.contents output.new)) }
+    ensures files { (files : TraceFiles) → request ≡ Request.Files files →
+        IfOk result (AreFilesPrinted
+        ⟦<InputFeed<ReadFeed<File>, ReadFeed<I>> as Feed>⟧.seen
+        ⟦<InputDoor<'a, R, I> as Door>⟧.seen
+        files (I.remaining input) (O.contents output.old) (O.contents output.new)) }
+    ensures serve { (serving : Serving) → request ≡ Request.Serve serving →
+        IfOk result (ArePeersPrinted
+        ⟦<ReadFeed<UnixStream> as Feed>⟧.seen ⟦<UnixDoor as Door>⟧.seen
+        serving (O.contents output.old) (O.contents output.new)) }
+    ensures status { IfOk result (λ status. (status ≤ unwritten) × (status ≢ refused)) }
+    ensures unprinted { OnErr result (output.new ≡ output.old) }
+    ensures unable { (error : CannotServe) → result ≡ Err (ToServe error) →
+        (serving : Serving) × (request ≡ Request.Serve serving) }
+    ensures quiet { ((files : TraceFiles) → request ≡ Request.Files files → files.verbose ≡ false)
+        → stderr.new ≡ stderr.old }
+{
+    match request {
+        Request::Input => Ok(report_feed(rt.alloc(), ReadFeed::new(input), output)?),
+        Request::Files(files) => Ok(check_files(rt, &files, input, output, stderr)?),
+        Request::Serve(serving) => serve(rt, &serving, output, stderr),
+    }
+}
+
+/// Checks the traces in these files. One of them may be the input.
+fn check_files<'a, R, I, O, E>(
+    rt: &'a R,
+    files: &TraceFiles,
+    input: I,
+    output: &mut O,
+    stderr: &mut E,
+) -> Result<u8, AllocError>
+where
+    R: Files<File = File> + Threads + Wait + Clock + Sync + AllocGlobal,
+    I: Read + Send + Drop,
+    O: Write,
+    E: Write,
+    ensures files { IfOk result (AreFilesPrinted
+        ⟦<InputFeed<ReadFeed<File>, ReadFeed<I>> as Feed>⟧.seen
+        ⟦<InputDoor<'a, R, I> as Door>⟧.seen
+        files.now (I.remaining input) (O.contents output.old) (O.contents output.new)) }
+    ensures status { IfOk result (λ status. (status ≤ unwritten) × (status ≢ refused)) }
+    ensures unprinted { OnErr result (output.new ≡ output.old) }
+    ensures quiet { files.now.verbose ≡ false → stderr.new ≡ stderr.old }
+{
+    let mut door = door_of(rt, rt.alloc(), &files.names, input)?;
+    let names = files.verbose.then_some(files.names.as_slice());
+    let checking = Checking {
+        options: files.options,
+        is_live: files.is_live,
+    };
+    Session { rt, checking }.report_each(&mut door, output, names, stderr)
+}
+
+/// Checks the traces that come through a socket, which is made first.
+fn serve<R, O, E>(rt: &R, serving: &Serving, output: &mut O, stderr: &mut E) -> Result<u8, Unable>
+where
+    R: Files<File = File> + Net + Threads + Wait + Clock + Sync + AllocGlobal,
+    O: Write,
+    E: Write,
+    ensures peers { IfOk result (ArePeersPrinted
+        ⟦<ReadFeed<UnixStream> as Feed>⟧.seen ⟦<UnixDoor as Door>⟧.seen
+        serving.now (O.contents output.old) (O.contents output.new)) }
+    ensures status { IfOk result (λ status. (status ≤ unwritten) × (status ≢ refused)) }
+    ensures unprinted { OnErr result (output.new ≡ output.old) }
+    ensures quiet { stderr.new ≡ stderr.old }
+{
+    let mut door = listen(rt, serving)?;
+    let checking = Checking {
+        options: serving.options,
+        is_live: serving.is_live,
+    };
+    Ok(Session { rt, checking }.report_each(&mut door, output, None, stderr)?)
 }
 
 /// Says why the arguments are not carried out, and gives the status to end with.

@@ -4,6 +4,7 @@ ghost use Rattle.std.specs.Prelude.{◌≡◌, ◌↔◌, [], Ok, IfOk, IfSome, 
 ghost use Rattle.std.specs.Prelude.{option_map, string_bytes};
 ghost use Rattle.clap.specs.Words.{first_value, found_of, one_text};
 ghost use Rattle.asan_inputs.specs.Verbose.{is_verbose as is_verbose_of};
+ghost use Rattle.asan_request.specs.Requests.{IsAskedInWords, IsQuiet};
 ghost use Rattle.asan_request.specs.Settings.{AreFilesOf, AreOptionsOf, IsFlag, IsGiven};
 
 use crate::arguments::{
@@ -26,20 +27,43 @@ pub fn read_arguments(alloc: Global, arguments: &[String]) -> Result<Request, Re
     if arguments.is_empty() {
         return Ok(Request::Input);
     }
+    read_words(alloc, arguments)
+}
+
+/// What arguments ask for if there are any, or why they are not carried out.
+fn read_words(alloc: Global, arguments: &[String]) -> Result<Request, Refusal>
+    ensures asks { IfOk result IsAskedInWords }
+    ensures quiet { is_verbose_of arguments.now ≡ false → IfOk result IsQuiet }
+{
     let texts = HelpTexts::new(alloc)?;
     let mut command = command(alloc, &texts)?;
     let matches = command.try_get_matches_from_mut(arguments)?;
-    let request = match matches.subcommand() {
-        Some((CHECK, of_check)) => Some(Request::Files(files_of(alloc, of_check, arguments)?)),
-        Some((SERVE, of_serve)) => serving_of(alloc, of_serve)?.map(Request::Serve),
-        _ => None,
-    };
-    match request {
+    match request_of(alloc, &matches, arguments)? {
         Some(request) => Ok(request),
         None => Err(Refusal::Mistake(command.error(
             ErrorKind::MissingSubcommand,
             "a command is missing",
         )?)),
+    }
+}
+
+/// What the command that was found asks for, unless there is none.
+fn request_of(
+    alloc: Global,
+    matches: &ArgMatches<'_>,
+    arguments: &[String],
+) -> Result<Option<Request>, Refusal>
+    ensures asks { IfOk result (λ request. IfSome request IsAskedInWords) }
+    ensures quiet { is_verbose_of arguments.now ≡ false →
+        IfOk result (λ request. IfSome request IsQuiet) }
+{
+    match matches.subcommand() {
+        Some((CHECK, of_check)) => {
+            let files = files_of(alloc, of_check, arguments)?;
+            Ok(Some(Request::Files(files)))
+        }
+        Some((SERVE, of_serve)) => Ok(serving_of(alloc, of_serve)?.map(Request::Serve)),
+        _ => Ok(None),
     }
 }
 

@@ -1,13 +1,13 @@
 -- What comes of asking, reading, checking, placing and settling.
 use Rattle.std.proofs.Common.{◌≡◌, ◌+◌, ◌≤◌, ◌⊎◌, ◌∙◌, List, length, ap, arith, sym}
-use Rattle.std.specs.Prelude.{IsTrue}
+use Rattle.std.specs.Prelude.{All, IsTrue}
 use Rattle.trace_feed.specs.declared.door.Arrival.{Arrival}
 use Rattle.trace_feed.specs.Doors.{DoorState}
 use Rattle.trace_feed.specs.Feeds.{FeedState}
 use Rattle.asan_stream.specs.declared.options.Options.{Options}
 use Rattle.asan_stream.specs.declared.outcome.Outcome.{Outcome}
 use Rattle.asan_senders.specs.declared.sender.Sender.{Sender}
-use Rattle.asan_senders.specs.Arrivals.{Arrived, IsAllThatCame, IsAnswerTo, Pairwise}
+use Rattle.asan_senders.specs.Arrivals.{Arrived, IsAllThatCame, IsAnswerTo, IsArrived, Pairwise}
 use Rattle.asan_senders.specs.Collected.{AreCollected}
 use Rattle.asan_senders.specs.Counts.{refused_among}
 use Rattle.asan_senders.specs.Ranges.{most_senders}
@@ -22,11 +22,11 @@ pub collected_by_answers : {F A : Type 0} (seen : F → FeedState) (options : Op
     → Arrived old.to_arrive new.to_arrive arrivals → IsTrue new.is_shut ⊎ (length arrivals ≡ most_senders)
     → new.refusals ≡ refused_among arrivals + old.refusals → IsAllThatCame old.left (length arrivals)
     → length arrivals ≤ most_senders
-    → Pairwise (IsAnswerTo seen options) arrivals outcomes
+    → Pairwise (IsAnswerTo seen options) arrivals outcomes → All (IsArrived seen) arrivals
     → AreCollected seen options old new outcomes
-collected_by_answers seen options old new arrivals outcomes arrived all refusals count few fit =
+collected_by_answers seen options old new arrivals outcomes arrived all refusals count few fit fresh =
     record {
-      answers = (arrivals, arrived, all, fit);
+      answers = (arrivals, arrived, all, fit, fresh);
       count = rw fit.same_length count;
       refused = refusals ∙ ap (λ n. n + old.refusals) (sym (all_counted seen options arrivals outcomes fit));
       few = (let same = fit.same_length in omega arith);

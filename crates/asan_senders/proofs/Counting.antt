@@ -21,10 +21,10 @@ refused-push [] a = refl
 refused-push (x ∷ xs) a = let rest = refused-push xs a in omega arith
 
 module _ {X Y : Type 0} (R : X → Y → Type 0) where
-  pairs_first : (x : X) (xs : List X) (y : Y) (ys : List Y) → Pairwise R (x ∷ xs) (y ∷ ys) → R x y
+  pub pairs_first : (x : X) (xs : List X) (y : Y) (ys : List Y) → Pairwise R (x ∷ xs) (y ∷ ys) → R x y
   pairs_first x xs y ys b = b.each 0 x y (omega arith)
 
-  pairs_rest : (x : X) (xs : List X) (y : Y) (ys : List Y) → Pairwise R (x ∷ xs) (y ∷ ys) → Pairwise R xs ys
+  pub pairs_rest : (x : X) (xs : List X) (y : Y) (ys : List Y) → Pairwise R (x ∷ xs) (y ∷ ys) → Pairwise R xs ys
   pairs_rest x xs y ys b = record {
     same_length = let same = b.same_length in omega arith;
     each = λ i d e below. b.each (suc i) d e (omega arith);

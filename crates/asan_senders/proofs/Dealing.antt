@@ -16,7 +16,7 @@ use Rattle.asan_senders.specs.Arrivals.{Pairwise}
 use Rattle.asan_senders.specs.Shares.{Share, ComesBack, GivesUp, Returns, SharesAt, AreEmpty, HasRoom, Deals}
 use Rattle.asan_senders.specs.Shares.{WillComeBack, GivesUpWith, EachGivesUp}
 use Rattle.asan_senders.specs.Ranges.{most_senders}
-use Rattle.asan_senders.specs.Senders.{Each, Becomes, Ends, Keeps, IsAt, AreAt, IsFresh, AllFresh, WillBe}
+use Rattle.asan_senders.specs.Senders.{Each, Becomes, Ends, Keeps, IsAt, AreAt, IsFresh, AllFresh, IsReady, WillBe}
 use Rattle.asan_senders.proofs.Senders.{at_kept, at_later, at_more, at_push, each_after}
 
 -- a worker has fewer benches than it has senders up to this one
@@ -252,8 +252,8 @@ module _ {F A : Type 0} (seen : F → FeedState) where
       → Becomes seen limit x z
   becomes_after limit x y z (inl same) q = rw same at q
   becomes_after limit sender.NotOpened y z (inr p) q = rw p at q
-  becomes_after limit sender.NotStarted y z (inr p) q = rw p at q
-  becomes_after limit (sender.Ready feed lane) y z (inr p) q = rw (rw p at q) tt
+  becomes_after limit (sender.NotStarted missing) y z (inr p) q = rw p at q
+  becomes_after limit (sender.Ready feed lane) y z (inr p) q = rw (rw p at q) (inl refl)
   becomes_after limit (sender.Running h) y z (inr p) q = rw p at q
   becomes_after limit (sender.Read d) y z (inr p) q = rw p at q
   becomes_after limit (sender.Joined d b reports) y z (inr p) q = rw p at q
@@ -261,7 +261,7 @@ module _ {F A : Type 0} (seen : F → FeedState) where
   gives_up_fresh : (x y : Sender F A) → StaysOrGivesUp x y → IsFresh seen x → IsFresh seen y
   gives_up_fresh x y (inl same) h = rw same h
   gives_up_fresh sender.NotOpened y (inr p) h = rw p tt
-  gives_up_fresh sender.NotStarted y (inr p) h = rw p tt
+  gives_up_fresh (sender.NotStarted missing) y (inr p) h = rw p tt
   gives_up_fresh (sender.Ready feed lane) y (inr p) h = rw p tt
   gives_up_fresh (sender.Running k) y (inr p) h = elim h [ ]
   gives_up_fresh (sender.Read d) y (inr p) h = rw p tt
@@ -274,12 +274,22 @@ module _ {F A : Type 0} (seen : F → FeedState) where
         gives_up_fresh (slice_index_or xs i d) (slice_index_or ys i d) (r.each i d low) (h.each i d low);
   }
 
+  ready_after : (x y : Sender F A) → StaysOrGivesUp x y → IsReady y → IsReady x
+  ready_after x y (inl same) h = rw same at h
+  ready_after sender.NotOpened y (inr p) h = rw p at h
+  ready_after (sender.NotStarted missing) y (inr p) h = rw p at h
+  ready_after (sender.Ready feed lane) y (inr p) h = tt
+  ready_after (sender.Running k) y (inr p) h = rw p at h
+  ready_after (sender.Read d) y (inr p) h = rw p at h
+  ready_after (sender.Joined d b reports) y (inr p) h = rw p at h
+
   -- and while the readers run
   pub will_after : (limit : ℕ) (x y z : Sender F A) → StaysOrGivesUp x y → WillBe seen limit y z → WillBe seen limit x z
   will_after limit x y sender.NotOpened p q = becomes_after limit x y sender.NotOpened p q
-  will_after limit x y sender.NotStarted p q = becomes_after limit x y sender.NotStarted p q
+  will_after limit x y (sender.NotStarted missing) p q = becomes_after limit x y (sender.NotStarted missing) p q
   will_after limit x y (sender.Ready feed lane) p q = becomes_after limit x y (sender.Ready feed lane) p q
-  will_after limit x y (sender.Running h) p q = λ d kept. becomes_after limit x y (sender.Read d) p (q d kept)
+  will_after limit x y (sender.Running h) p q =
+      (ready_after x y p q.0, λ d kept. becomes_after limit x y (sender.Read d) p (q.1 d kept))
   will_after limit x y (sender.Read d) p q = becomes_after limit x y (sender.Read d) p q
   will_after limit x y (sender.Joined d b reports) p q = becomes_after limit x y (sender.Joined d b reports) p q
 
@@ -290,11 +300,18 @@ module _ {F A : Type 0} (seen : F → FeedState) where
       xs ys zs
 
 module _ {A : Type 0} where
+  comes_back : (c : WorkerThread A) (before after : Share A) → WillComeBack before c → Returns c after
+      → ComesBack before after
+  comes_back (running.Idle benches) before after will returns = inl (returns before will)
+  comes_back (running.Running h) before after will returns = inl (returns before will)
+  comes_back running.Lost before after will returns = inr returns
+
   -- all workers were started and have ended
   pub checked_all : (xs zs : List (Share A)) (workers : List (WorkerThread A)) → Pairwise WillComeBack xs workers
       → Pairwise Returns workers zs → Each ComesBack xs zs
   checked_all xs zs workers p q = record {
     same_length = q.same_length ∙ p.same_length;
-    each = λ i d below. q.each i running.Lost d (let e = p.same_length in
-        omega arith) (slice_index_or xs i d) (p.each i d running.Lost below);
+    each = λ i d below. comes_back (slice_index_or workers i running.Lost) (slice_index_or xs i d)
+        (slice_index_or zs i d) (p.each i d running.Lost below)
+        (q.each i running.Lost d (let e = p.same_length in omega arith));
   }

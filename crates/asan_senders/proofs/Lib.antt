@@ -1,5 +1,5 @@
 pub mod Back
-mod Only
+pub mod Only
 pub mod Senders
 pub mod Dealing
 pub mod ReportLanes
@@ -8,6 +8,7 @@ pub mod Going
 mod Arriving
 mod Counting
 pub mod Collected
+pub mod Causes
 pub mod Rights
 mod Prints
 mod Answering

@@ -1,10 +1,12 @@
 -- What becomes of the only sender, and what is printed of it.
-use Rattle.std.proofs.Common.{◌≡◌, ℕ, ◌<◌, List, [], ◌∷◌, ◌++◌, ◌-◌, length, take, drop, Option, None, refl, ap, ◌∙◌}
+use Rattle.std.proofs.Common.{◌≡◌, ℕ, ◌<◌, List, [], ◌∷◌, ◌++◌, ◌-◌, length, take, drop, Option}
+use Rattle.std.proofs.Common.{None, refl, ap, inl, inr, ◌∙◌}
 use Rattle.std.proofs.Common.{arith, append-nil}
-use Rattle.std.specs.Prelude.{IfErr, OnOk, Result}
+use Rattle.std.specs.Prelude.{◌≢◌, IfErr, IsTrue, OnOk, Result}
 use Rattle.std.specs.Io.KnownBytes.{Appends}
 use Rattle.std.proofs.lemmas.List.{take_rest}
 use Rattle.asan_check.specs.declared.report.Report.{Report}
+use Rattle.trace_feed.specs.declared.door.Arrival.{Arrival}
 use Rattle.trace_feed.specs.declared.door.Arrival.TheVariants as arrival
 use Rattle.trace_feed.specs.Feeds.{FeedState}
 use Rattle.asan_check.specs.Lines.{end_line}
@@ -14,9 +16,10 @@ use Rattle.asan_print.specs.Logs.{Adds, Line, Printed, joined, lines_of, report_
 use Rattle.asan_stream.specs.declared.options.Options.{Options}
 use Rattle.asan_stream.specs.declared.outcome.Outcome.{Outcome}
 use Rattle.asan_stream.specs.declared.outcome.Outcome.TheVariants as outcome
-use Rattle.asan_stream.specs.Outcomes.{IsOutcomeOf, ending_of, reports_of}
+use Rattle.asan_stream.specs.Outcomes.{IsOutcomeOf, ending_of, is_read, reports_of}
 use Rattle.asan_senders.specs.Arrivals.{IsAnswerTo, IsAnswerToFeed, Pairwise}
 use Rattle.asan_senders.specs.Closings.{HasClosed}
+use Rattle.asan_senders.specs.Collected.{IsReadIfAlone}
 use Rattle.asan_senders.specs.Live.{ArePrinted}
 use Rattle.asan_senders.proofs.LastLines.{all_closed, lines_whole}
 
@@ -42,6 +45,32 @@ module _ {F A : Type 0} (seen : F → FeedState) (options : Options) where
       → outcomes ≡ room ++ result ∷ [] → IsOutcomeOf seen options feed result
       → Pairwise (IsAnswerTo seen options) (arrival.Came feed ∷ []) outcomes
   one_answer feed result room outcomes none more right = rw (more, none) (one_pair feed result right)
+
+  is_read_of : (feed : F) (result : Outcome F A) → IsOutcomeOf seen options feed result → IsTrue (is_read result)
+  is_read_of feed (outcome.Settled f end reports) right = refl
+  is_read_of feed (outcome.NoMemory f end checked reports) right = refl
+  is_read_of feed outcome.NotOpened right = absurd right.4
+  is_read_of feed outcome.NotStarted right = absurd right.4
+  is_read_of feed outcome.Unsettled right = absurd right.4
+
+  -- which was read
+  pub one_read : (feed : F) (result : Outcome F A) (room outcomes : List (Outcome F A)) → room ≡ []
+      → outcomes ≡ room ++ result ∷ [] → IsOutcomeOf seen options feed result → IsReadIfAlone outcomes
+  one_read feed result room outcomes none more right = rw (more, none) (inr (is_read_of feed result right))
+
+  -- if several came, or one that was refused, no feed came alone
+  pub read_if_alone : (arrivals : List (Arrival F)) (outcomes : List (Outcome F A))
+      → Pairwise (IsAnswerTo seen options) arrivals outcomes
+      → ((feed : F) → arrivals ≢ arrival.Came feed ∷ []) → IsReadIfAlone outcomes
+  read_if_alone arrivals [] fit several = tt
+  read_if_alone arrivals (first ∷ second ∷ rest) fit several = tt
+  read_if_alone [] (result ∷ []) fit several = absurd (let same = fit.same_length in omega arith)
+  read_if_alone (a ∷ b ∷ rest) (result ∷ []) fit several = absurd (let same = fit.same_length in omega arith)
+  read_if_alone (arrival.Came feed ∷ []) (result ∷ []) fit several = absurd (several feed refl)
+  read_if_alone (arrival.Refused ∷ []) (result ∷ []) fit several =
+      inl (fit.each 0 arrival.Refused result (omega arith))
+  read_if_alone (arrival.Over ∷ []) (result ∷ []) fit several =
+      absurd (fit.each 0 arrival.Over result (omega arith))
 
 module _ {A : Type 0} where
   -- the lines of more reports were added

@@ -20,6 +20,7 @@ use Rattle.asan_stream.specs.declared.outcome.Outcome.TheVariants as outcome
 use Rattle.asan_stream.specs.declared.item.Item.{Item}
 use Rattle.asan_stream.specs.declared.reader.ReaderDone.{ReaderDone}
 use Rattle.asan_senders.specs.declared.worker_thread.WorkerThread.TheVariants as running
+use Rattle.asan_senders.specs.declared.missing.Part.TheVariants as part
 use Rattle.asan_senders.specs.declared.sender.Sender.{Sender}
 use Rattle.asan_senders.specs.declared.sender.Sender.TheVariants as sender
 use Rattle.asan_senders.specs.Arrivals.{IsAnswerTo}
@@ -66,17 +67,17 @@ module _ {F A : Type 0} (feed : F) (lane : LaneIn Item A) where
       ¬ EachGivesUp {F = F} {A = A} (running.Lost ∷ []) (sender.Ready feed lane ∷ [])
       (sender.Ready feed lane ∷ [])
   nobody_gives_up p =
-      let gone : ◌≡◌ {A = Sender F A} (sender.Ready feed lane) sender.NotStarted =
-      p.each 0 sender.NotStarted running.Lost (omega arith) in absurd cc
+      let gone : ◌≡◌ {A = Sender F A} (sender.Ready feed lane) (sender.NotStarted part.Worker) =
+      p.each 0 sender.NotOpened running.Lost (omega arith) in absurd cc
 
   -- the second worker was lost, and the first one's sender gives up
   sender_of_another_checker_gives_up :
       (benches : Share A) →
       ¬ EachGivesUp {F = F} {A = A} (running.Idle benches ∷ running.Lost ∷ [])
-      (sender.Ready feed lane ∷ []) (sender.NotStarted ∷ [])
+      (sender.Ready feed lane ∷ []) (sender.NotStarted part.Worker ∷ [])
   sender_of_another_checker_gives_up benches p =
-      let same : ◌≡◌ {A = Sender F A} sender.NotStarted (sender.Ready feed lane) =
-      p.each 0 sender.NotStarted running.Lost (omega arith) in absurd cc
+      let same : ◌≡◌ {A = Sender F A} (sender.NotStarted part.Worker) (sender.Ready feed lane) =
+      p.each 0 sender.NotOpened running.Lost (omega arith) in absurd cc
 
 -- ---- settling
 

@@ -195,9 +195,9 @@ module _ {F A : Type 0} (seen : F → FeedState) where
   becomes_fit : (limit : ℕ) (lane : Option (Lane A)) (s t : Sender F A) → Becomes seen limit s t → Fits lane s
       → Fits lane t
   becomes_fit limit lane sender.NotOpened t h f = rw h f
-  becomes_fit limit lane sender.NotStarted t h f = rw h tt
+  becomes_fit limit lane (sender.NotStarted missing) t h f = rw h tt
   becomes_fit limit lane (sender.Ready feed into) sender.NotOpened h f = elim h [ ]
-  becomes_fit limit lane (sender.Ready feed into) sender.NotStarted h f = tt
+  becomes_fit limit lane (sender.Ready feed into) (sender.NotStarted missing) h f = tt
   becomes_fit limit lane (sender.Ready feed into) (sender.Ready g other) h f = elim h [ ]
   becomes_fit limit lane (sender.Ready feed into) (sender.Read d) h f = tt
   becomes_fit limit lane (sender.Ready feed into) (sender.Running k) h f = elim h [ ]

@@ -75,7 +75,7 @@ module _ {F A : Type 0} (seen : F → FeedState) where
 
   abbrev was_refused : Sender F A → Bool
   was_refused sender.NotOpened = true
-  was_refused sender.NotStarted = false
+  was_refused (sender.NotStarted missing) = false
   was_refused (sender.Ready feed lane) = false
   was_refused (sender.Running h) = false
   was_refused (sender.Read done) = false
@@ -96,7 +96,7 @@ module _ {F A : Type 0} (seen : F → FeedState) where
   -- a bench that came back fits
   came_met : (options : Options) (a : Arrival F) (s : Sender F A) → Came seen options a s → IsJoined s
   came_met options a sender.NotOpened h = tt
-  came_met options a sender.NotStarted h = tt
+  came_met options a (sender.NotStarted missing) h = tt
   came_met options a (sender.Ready feed lane) h = tt
   came_met options arrival.Over (sender.Running k) h = absurd h
   came_met options arrival.Refused (sender.Running k) h = absurd (false≢true (ap was_refused h))

@@ -189,8 +189,8 @@ module _ {F A : Type 0} (seen : F → FeedState) where
 
   pub becomes_keeps : (limit : ℕ) (s t : Sender F A) → Becomes seen limit s t → Keeps s t
   becomes_keeps limit sender.NotOpened t h x l = rw h tt
-  becomes_keeps limit sender.NotStarted t h x l = rw h tt
-  becomes_keeps limit (sender.Ready f lane) sender.NotStarted h x l = tt
+  becomes_keeps limit (sender.NotStarted missing) t h x l = rw h tt
+  becomes_keeps limit (sender.Ready f lane) (sender.NotStarted missing) h x l = tt
   becomes_keeps limit (sender.Ready f lane) sender.NotOpened h x l = elim h [ ]
   becomes_keeps limit (sender.Ready f lane) (sender.Ready g other) h x l = elim h [ ]
   becomes_keeps limit (sender.Ready f lane) (sender.Running k) h x l = elim h [ ]
@@ -205,12 +205,12 @@ module _ {F A : Type 0} (seen : F → FeedState) where
   came_on options arrival.Over s t h b = absurd h
   came_on options arrival.Refused s t h b = rw (rw h at b) refl
   came_on options (arrival.Came feed) sender.NotOpened t h b = elim h [ ]
-  came_on options (arrival.Came feed) sender.NotStarted t h b = rw b tt
+  came_on options (arrival.Came feed) (sender.NotStarted missing) t h b = rw b tt
   came_on options (arrival.Came feed) (sender.Ready f lane) sender.NotOpened h b = elim b [ ]
   came_on options (arrival.Came feed) (sender.Ready f lane) (sender.Ready g other) h b = elim b [ ]
   came_on options (arrival.Came feed) (sender.Ready f lane) (sender.Running k) h b = elim b [ ]
   came_on options (arrival.Came feed) (sender.Ready f lane) (sender.Joined d bench reports) h b = elim b [ ]
-  came_on options (arrival.Came feed) (sender.Ready f lane) sender.NotStarted h b = tt
+  came_on options (arrival.Came feed) (sender.Ready f lane) (sender.NotStarted missing) h b = tt
   came_on options (arrival.Came feed) (sender.Ready f lane) (sender.Read d) h b =
       if_some d.lane_end _ _ b (λ e k. rw (h.0, h.1) at k.1)
   came_on options (arrival.Came feed) (sender.Running k) t h b = elim h [ ]

@@ -1,6 +1,6 @@
 -- Who arrived at a door.
 use Rattle.std.specs.Prelude.{◌≡◌, ℕ, ◌<◌, List, ◌++◌, Option, None, Some, length, min}
-use Rattle.std.specs.Prelude.{slice_index_or, IsTrue, ◌⊎◌}
+use Rattle.std.specs.Prelude.{slice_index_or, IsTrue, ◌⊎◌, All}
 use Rattle.trace_feed.specs.declared.door.Arrival.{Arrival}
 use Rattle.trace_feed.specs.declared.door.Arrival.TheVariants as arrival
 use Rattle.trace_feed.specs.Doors.{DoorState}
@@ -60,4 +60,4 @@ module _ {F A : Type 0} (seen : F → FeedState) (options : Options) where
       (arrivals : List (Arrival F))
       × Arrived before.to_arrive after.to_arrive arrivals
       × (IsTrue after.is_shut ⊎ (length arrivals ≡ most_senders))
-      × Pairwise IsAnswerTo arrivals outcomes
+      × Pairwise IsAnswerTo arrivals outcomes × All (IsArrived seen) arrivals

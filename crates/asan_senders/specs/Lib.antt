@@ -4,6 +4,7 @@ pub mod Senders
 pub mod Shares
 pub mod ReportLanes
 pub mod Counts
+pub mod Missing
 pub mod Collected
 pub mod Statuses
 pub mod Texts

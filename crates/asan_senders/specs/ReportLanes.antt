@@ -41,7 +41,7 @@ module _ {F A : Type 0} where
   -- end that came back with a bench is of it, and carries the first of the bench's reports
   abbrev pub Fits : Option (Lane A) → Sender F A → Type 0
   Fits lane sender.NotOpened = lane ≡ None
-  Fits lane sender.NotStarted = Unit {0}
+  Fits lane (sender.NotStarted missing) = Unit {0}
   Fits lane (sender.Ready feed into) = Unit {0}
   Fits lane (sender.Running h) = Unit {0}
   Fits lane (sender.Read d) = Unit {0}
@@ -57,7 +57,7 @@ module _ {F A : Type 0} where
   -- reports are printed as they come, and one that is not has none
   abbrev pub HasPort : Bool → Sender F A → Option (Port A) → Type 0
   HasPort is_live sender.NotOpened port = port ≡ None
-  HasPort is_live sender.NotStarted port = port ≡ None
+  HasPort is_live (sender.NotStarted missing) port = port ≡ None
   HasPort is_live (sender.Ready feed into) port = is_some port ≡ is_live
   HasPort is_live (sender.Running h) port = ⊥
   HasPort is_live (sender.Read d) port = ⊥

@@ -4,17 +4,24 @@ use Rattle.std.specs.Prelude.{All, slice_index_or, slice_set, vec_capacity}
 use Rattle.asan_stream.specs.declared.bench.Bench.{Bench}
 use Rattle.asan_senders.specs.declared.worker_thread.WorkerThread.{WorkerThread}
 use Rattle.asan_senders.specs.declared.worker_thread.WorkerThread.TheVariants as running
+use Rattle.asan_senders.specs.declared.missing.Part.TheVariants as part
 use Rattle.asan_senders.specs.declared.sender.Sender.{Sender}
 use Rattle.asan_senders.specs.declared.sender.Sender.TheVariants as sender
 use Rattle.asan_senders.specs.Ranges.{most_senders}
-use Rattle.asan_stream.specs.Benches.{EachLater, EachTakesNoMore}
-use Rattle.asan_senders.specs.Senders.{AreAt, IsBack}
+use Rattle.asan_stream.specs.Benches.{EachLater, EachTakesNoMore, process_of}
+use Rattle.asan_senders.specs.Senders.{AreAt, IsBack, IsRead, IsReady, IsStarted}
 
 -- the benches of one worker
 abbrev pub Share : Type 0 → Type 0
 Share A = Vec (Bench A) A
 
 module _ {A : Type 0} where
+  -- one of these benches is that of this process
+  abbrev pub HasBenchOf : ℕ → List (Bench A) → Type 0
+  HasBenchOf process benches =
+      (k : ℕ) × (k < length benches)
+      × ((d : Bench A) → process_of (slice_index_or benches k d) ≡ process)
+
   -- benches have worked to the end
   abbrev pub HaveWorked : List (Bench A) → List (Bench A) → Type 0
   HaveWorked before after = EachLater before after × EachTakesNoMore after
@@ -23,17 +30,31 @@ module _ {A : Type 0} where
   abbrev pub ComesBack : Share A → Share A → Type 0
   ComesBack before after = HaveWorked before.items after.items ⊎ (after.items ≡ [])
 
-  -- what became of the benches that a worker was to be started with
+  -- what becomes of the benches that a worker was to be started with: unless the worker was lost,
+  -- they come back and have worked to the end
   abbrev pub WillComeBack : Share A → WorkerThread A → Type 0
-  WillComeBack share (running.Idle benches) = ComesBack share benches
+  WillComeBack share (running.Idle benches) = HaveWorked share.items benches.items
   WillComeBack share (running.Running h) =
       (benches : Share A) → HaveWorked h.promise.benches.value.items benches.items →
-      ComesBack share benches
+      HaveWorked share.items benches.items
   WillComeBack share running.Lost = Unit {0}
 
-  -- a worker has ended, if one was started, and its promise was kept
+  -- a worker has ended, if one was started, and its promise was kept; of one that was lost no bench
+  -- comes back
   abbrev pub Returns : WorkerThread A → Share A → Type 0
-  Returns checker after = (before : Share A) → WillComeBack before checker → ComesBack before after
+  Returns (running.Idle benches) after =
+      (before : Share A) → WillComeBack before (running.Idle benches) →
+      HaveWorked before.items after.items
+  Returns (running.Running h) after =
+      (before : Share A) → WillComeBack before (running.Running h) →
+      HaveWorked before.items after.items
+  Returns running.Lost after = after.items ≡ []
+
+  -- a worker was not lost
+  abbrev pub IsKept : WorkerThread A → Type 0
+  IsKept (running.Idle benches) = Unit {0}
+  IsKept (running.Running h) = Unit {0}
+  IsKept running.Lost = ⊥
 
   -- each worker has no bench yet, and together they have room for one for each sender
   pub record AreEmpty (workers : ℕ) (shares : List (Share A)) : Type 0 where
@@ -62,11 +83,12 @@ module _ {A : Type 0} where
     pub capacity : vec_capacity (slice_index_or before at share) ≤ vec_capacity share
 
 module _ {F A : Type 0} where
-  -- a sender that is ready gets no reader, and any other stays as it is
+  -- a sender that is ready gets no reader, since its worker is missing, and any other stays as it
+  -- is
   abbrev pub GivesUp : Sender F A → Sender F A → Type 0
   GivesUp sender.NotOpened s = s ≡ sender.NotOpened
-  GivesUp sender.NotStarted s = s ≡ sender.NotStarted
-  GivesUp (sender.Ready feed lane) s = s ≡ sender.NotStarted
+  GivesUp (sender.NotStarted missing) s = s ≡ sender.NotStarted missing
+  GivesUp (sender.Ready feed lane) s = s ≡ sender.NotStarted part.Worker
   GivesUp (sender.Running h) s = s ≡ sender.Running h
   GivesUp (sender.Read d) s = s ≡ sender.Read d
   GivesUp (sender.Joined d b reports) s = s ≡ sender.Joined d b reports
@@ -85,6 +107,31 @@ module _ {F A : Type 0} where
         (i : ℕ) (d : Sender F A) (c : WorkerThread A) → i < length before →
         GivesUpWith (slice_index_or workers (i % length workers) c)
         (slice_index_or before i d) (slice_index_or after i d)
+
+  -- the worker of each sender that was ready, and has a reader or was read, is kept
+  pub record AreKept
+      (workers : List (WorkerThread A)) (before after : List (Sender F A)) : Type 0 where
+    pub each :
+        (i : ℕ) (d : Sender F A) (c : WorkerThread A) → i < length before →
+        IsReady (slice_index_or before i d) → IsStarted (slice_index_or after i d) →
+        IsKept (slice_index_or workers (i % length workers) c)
+
+  -- each sender that waits for its reader has a bench in the share of its worker
+  pub record HaveSeats (senders : List (Sender F A)) (shares : List (Share A)) : Type 0 where
+    pub each :
+        (i : ℕ) (d : Sender F A) (e : Share A) → i < length senders →
+        IsReady (slice_index_or senders i d) →
+        HasBenchOf i (slice_index_or shares (i % length shares) e).items
+
+  -- the benches of the worker of each sender that was ready, and was read, came back and have
+  -- worked to the end
+  pub record HaveWorkedForRead
+      (xs ys : List (Sender F A)) (before after : List (Share A)) : Type 0 where
+    pub each :
+        (i : ℕ) (d : Sender F A) (e : Share A) → i < length xs →
+        IsReady (slice_index_or xs i d) → IsRead (slice_index_or ys i d) →
+        HaveWorked (slice_index_or before (i % length before) e).items
+        (slice_index_or after (i % length before) e).items
 
   -- each bench of each worker has the lane of its sender, and this bound
   pub record SharesAt

@@ -5,6 +5,7 @@ ghost use Rattle.trace_feed.specs.declared.door.Arrival.TheVariants as arrival;
 ghost use Rattle.asan_print.specs.Logs.{Adds, Printed, report_lines};
 ghost use Rattle.asan_stream.specs.Outcomes.{IsOutcomeOf, reports_of};
 ghost use Rattle.asan_senders.specs.Arrivals.{IsAnswerTo, Pairwise};
+ghost use Rattle.asan_senders.specs.Collected.{IsReadIfAlone};
 ghost use Rattle.asan_senders.specs.Live.{ArePrinted};
 
 use crate::heaps::Heaps;
@@ -48,11 +49,12 @@ pub fn check_alone<F: Feed + Drop, A: Allocator + Copy>(
     requires fresh { (F.seen feed).faults ≡ 0 }
     requires empty { room.items ≡ [] }
     requires room { 1 ≤ vec_capacity room }
-    ensures { Pairwise (IsAnswerTo F.seen options) (arrival.Came feed ∷ []) result.items }
+    ensures answers { Pairwise (IsAnswerTo F.seen options) (arrival.Came feed ∷ []) result.items }
+    ensures read { IsReadIfAlone result.items }
 {
     let mut outcomes = room;
     let outcome = check_feed(heaps.of_checker(0), feed, options);
-    outcomes.push(outcome).unwrap();
+    outcomes.push_reserved(outcome);
     outcomes
 }
 
@@ -71,6 +73,7 @@ pub fn check_alone_live<F: Feed + Drop, W: Write, A: Allocator + Copy>(
     requires room { 1 ≤ vec_capacity room }
     ensures answers { Pairwise (IsAnswerTo F.seen options)
         (arrival.Came feed ∷ []) result.outcomes.items }
+    ensures read { IsReadIfAlone result.outcomes.items }
     ensures printed { ArePrinted (W.contents w.old) (W.contents w.new)
         result.outcomes.items result.wrote }
 {
@@ -79,7 +82,7 @@ pub fn check_alone_live<F: Feed + Drop, W: Write, A: Allocator + Copy>(
     printer.close(w, 0, &[], &outcome.ending());
     let wrote = printer.finish(w);
     let mut outcomes = room;
-    outcomes.push(outcome).unwrap();
+    outcomes.push_reserved(outcome);
     Live { outcomes, wrote }
 }
 

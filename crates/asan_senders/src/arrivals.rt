@@ -35,7 +35,7 @@ pub fn ask<D: Door, A: Allocator + Copy>(
             Arrival::Refused => Arrival::Refused,
             Arrival::Over => break,
         };
-        arrivals.push(arrival).unwrap();
+        arrivals.push_reserved(arrival);
     }
     arrivals
 }

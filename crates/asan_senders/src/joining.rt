@@ -30,7 +30,7 @@ fn finish<F: Feed + Drop, A: Allocator + Copy, R: Threads>(
 fn finish_at<F: Feed + Drop, A: Allocator + Copy, R: Threads>(rt: &R, sender: &mut Sender<F, A>)
     ensures { Ends F.seen sender.old sender.new }
 {
-    let was = mem::replace(sender, Sender::NotStarted);
+    let was = mem::replace(sender, Sender::NotOpened);
     let _ = mem::replace(sender, finish(rt, was));
 }
 

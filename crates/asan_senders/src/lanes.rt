@@ -11,11 +11,12 @@ ghost use Rattle.asan_senders.specs.Ranges.{most_senders};
 ghost use Rattle.asan_senders.specs.ReportLanes.{AllFit, AreEmptySeats, Fits, HasPort, NoneTaken};
 ghost use Rattle.asan_senders.specs.ReportLanes.{SharesHave, lanes_of};
 ghost use Rattle.asan_senders.specs.Senders.{AllFresh, Came, HasLane, IsFresh, IsSeated};
-ghost use Rattle.asan_senders.specs.Shares.{AreEmpty, Deals, HasRoom, SharesAt};
+ghost use Rattle.asan_senders.specs.Shares.{AreEmpty, Deals, HasRoom, HaveSeats, SharesAt};
 
 use crate::NoMemory;
 use crate::arrivals::MAX_SENDERS;
 use crate::heaps::Heaps;
+use crate::missing::Part;
 use crate::sender::Sender;
 use asan_check::Checker;
 use asan_print::Port;
@@ -38,7 +39,7 @@ pub(crate) fn no_shares<A: Allocator + Copy>(
     let mut shares = Vec::with_capacity(alloc, workers)?;
     for _ in 0..workers {
         let share = Vec::with_capacity(alloc, room)?;
-        shares.push(share).unwrap();
+        shares.push_reserved(share);
     }
     Ok(shares)
 }
@@ -97,7 +98,7 @@ fn open<F: Feed + Drop, A: Allocator + Copy>(
     };
     let alloc = heaps.shared;
     let Ok((into, out)) = lane(alloc, options.ring as usize) else {
-        return Seat::without_bench(Sender::NotStarted);
+        return Seat::without_bench(Sender::NotStarted(Part::Lane));
     };
     let own = heaps.of_checker(process as usize);
     let checker = Checker::new(own, options.quarantine).unwrap();
@@ -109,7 +110,7 @@ fn open<F: Feed + Drop, A: Allocator + Copy>(
         };
     }
     let Ok((reports, taken)) = lane(alloc, options.ring as usize) else {
-        return Seat::without_bench(Sender::NotStarted);
+        return Seat::without_bench(Sender::NotStarted(Part::Lane));
     };
     Seat {
         sender: Sender::Ready(feed, into),
@@ -125,7 +126,7 @@ fn deal<A: Allocator + Copy>(shares: &mut Vec<Vec<Bench<A>, A>, A>, process: usi
     ensures { Deals (process % vec_len shares.old) bench shares.old.items shares.new.items }
 {
     let at = process % shares.len();
-    shares[at].push(bench).unwrap();
+    shares[at].push_reserved(bench);
 }
 
 /// What there is for all senders at the start.
@@ -141,7 +142,8 @@ pub struct Seats<F: Feed, A: Allocator + Copy> {
 impl<F: Feed + Drop, A: Allocator + Copy> Seats<F, A> {
     /// Room for 256 senders, and no sender yet.
     pub fn new(alloc: A, options: Options) -> Result<Seats<F, A>, NoMemory>
-        ensures { IfOk result AreEmptySeats }
+        ensures empty { IfOk result AreEmptySeats }
+        ensures workers { IfOk result (λ seats. vec_len seats.shares ≡ options.workers) }
     {
         let senders = Vec::with_capacity(alloc, MAX_SENDERS)?;
         let shares = no_shares(alloc, options.workers as usize)?;
@@ -170,6 +172,7 @@ pub fn open_all<F: Feed + Drop, A: Allocator + Copy>(
     ensures fresh { AllFresh F.seen result.senders.items }
     ensures shares { SharesAt options.quarantine result.senders.items result.shares.items }
     ensures same { vec_len result.shares ≡ vec_len seats.shares }
+    ensures seated { HaveSeats result.senders.items result.shares.items }
     ensures ports { length result.ports.items ≡ length result.senders.items }
     ensures live { Pairwise (HasPort is_live) result.senders.items result.ports.items }
     ensures untaken { NoneTaken result.ports.items }
@@ -190,8 +193,8 @@ pub fn open_all<F: Feed + Drop, A: Allocator + Copy>(
             bench,
             port,
         } = seat;
-        senders.push(sender).unwrap();
-        ports.push(port).unwrap();
+        senders.push_reserved(sender);
+        ports.push_reserved(port);
         if let Some(bench) = bench {
             deal(&mut shares, i, bench);
         }

@@ -12,6 +12,7 @@ ghost use Rattle.asan_stream.specs.Outboxes.{KeepsLane};
 ghost use Rattle.asan_senders.specs.ReportLanes.{AllFit, AllHave, Fits, SharesHave};
 ghost use Rattle.asan_senders.specs.Senders.{AllJoined, AreAt, Each, Gets, HasBench, HasLane};
 ghost use Rattle.asan_senders.specs.Senders.{IsBack, IsJoined, Rejoins, SaysHowFar};
+ghost use Rattle.asan_senders.specs.Senders.{StaysOrJoins, TakesBack};
 ghost use Rattle.asan_senders.specs.Shares.{AreBack, SharesAt};
 
 use crate::sender::Sender;
@@ -32,6 +33,7 @@ fn rejoin<F: Feed + Drop, A: Allocator + Copy>(
     requires { HasLane sender (lane_of bench) }
     ensures rejoins { Rejoins F.seen (bench_bound bench) sender result }
     ensures back { HasBench result }
+    ensures takes { TakesBack bench sender result }
     ensures fits { (lane : Option (Lane A)) → Fits lane sender →
         KeepsLane lane (report_lane_of bench) → Fits lane result }
 {
@@ -50,10 +52,11 @@ fn rejoin_at<F: Feed + Drop, A: Allocator + Copy>(sender: &mut Sender<F, A>, ben
     requires { HasLane sender.old (lane_of bench) }
     ensures rejoins { Rejoins F.seen (bench_bound bench) sender.old sender.new }
     ensures back { HasBench sender.new }
+    ensures takes { TakesBack bench sender.old sender.new }
     ensures fits { (lane : Option (Lane A)) → Fits lane sender.old →
         KeepsLane lane (report_lane_of bench) → Fits lane sender.new }
 {
-    let was = mem::replace(sender, Sender::NotStarted);
+    let was = mem::replace(sender, Sender::NotOpened);
     let _ = mem::replace(sender, rejoin(was, bench));
 }
 
@@ -65,6 +68,7 @@ pub(crate) fn place<F: Feed + Drop, A: Allocator + Copy>(
 )
     requires { AreAt bound senders.old.items benches.items }
     ensures rejoins { Each (Rejoins F.seen bound) senders.old.items senders.new.items }
+    ensures takes { Each StaysOrJoins senders.old.items senders.new.items }
     ensures fit { (lanes : ℕ → Option (Lane A)) → AllFit lanes senders.old.items →
         AllHave lanes benches.items → AllFit lanes senders.new.items }
     ensures back { All (IsBack senders.new.items) benches.items }
@@ -86,6 +90,7 @@ pub fn place_all<F: Feed + Drop, A: Allocator + Copy>(
 )
     requires { SharesAt bound senders.old.items shares.items }
     ensures rejoins { Each (Rejoins F.seen bound) senders.old.items senders.new.items }
+    ensures takes { Each StaysOrJoins senders.old.items senders.new.items }
     ensures fit { (lanes : ℕ → Option (Lane A)) → AllFit lanes senders.old.items →
         SharesHave lanes shares.items → AllFit lanes senders.new.items }
     ensures back { AreBack senders.new.items shares.items }
@@ -157,7 +162,7 @@ pub(crate) fn settle_sender<F: Feed + Drop, A: Allocator + Copy>(
 {
     match sender {
         Sender::NotOpened => Answer::without_reports(Outcome::NotOpened),
-        Sender::NotStarted | Sender::Ready(_, _) => Answer::without_reports(Outcome::NotStarted),
+        Sender::NotStarted(_) | Sender::Ready(_, _) => Answer::without_reports(Outcome::NotStarted),
         Sender::Running(_) => unreachable!(),
         Sender::Read(_) => Answer::without_reports(Outcome::Unsettled),
         Sender::Joined(done, bench, reports) => settle_joined(done, bench, reports, port),
@@ -177,10 +182,8 @@ pub fn settle_all<F: Feed + Drop, A: Allocator + Copy>(
 {
     let (mut senders, mut outcomes) = (senders, room);
     for i in 0..senders.len() {
-        let sender = mem::replace(&mut senders[i], Sender::NotStarted);
-        let Ok(()) = outcomes.push(settle_sender(sender, None).outcome) else {
-            unreachable!()
-        };
+        let sender = mem::replace(&mut senders[i], Sender::NotOpened);
+        outcomes.push_reserved(settle_sender(sender, None).outcome);
     }
     outcomes
 }

@@ -1,5 +1,6 @@
 //! A sender, from its arrival until it is settled.
 
+use crate::missing::Part;
 use crate::reading::Reading;
 use asan_check::Report;
 use asan_stream::{Bench, Item, ReaderDone};
@@ -13,8 +14,8 @@ use trace_lane::{LaneEnd, LaneIn};
 pub enum Sender<F: Feed, A: Allocator + Copy> {
     /// Its feed could not be opened.
     NotOpened,
-    /// A thread or a lane was missing.
-    NotStarted,
+    /// A lane or a thread was missing.
+    NotStarted(Part),
     /// It has a feed and a lane, and no reader yet.
     Ready(F, LaneIn<Item, A>),
     /// Its reader runs.

@@ -3,6 +3,7 @@
 ghost use Rattle.std.specs.Prelude.{◌<◌, vec_len};
 ghost use Rattle.asan_senders.specs.Shares.{GivesUp, EachGivesUp, HaveWorked};
 
+use crate::missing::Part;
 use crate::sender::Sender;
 use asan_stream::Bench;
 use std::alloc::Allocator;
@@ -36,7 +37,7 @@ fn give_up<F: Feed + Drop, A: Allocator + Copy>(sender: &mut Sender<F, A>)
     ensures { GivesUp sender.old sender.new }
 {
     if let Sender::Ready(_, _) = sender {
-        *sender = Sender::NotStarted;
+        *sender = Sender::NotStarted(Part::Worker);
     }
 }
 

@@ -10,7 +10,7 @@ use Rattle.trace_feed.specs.Doors.{DoorState}
 use Rattle.trace_feed.specs.Feeds.{FeedState}
 use Rattle.asan_stream.specs.declared.options.Options.{Options}
 use Rattle.asan_stream.specs.declared.outcome.Outcome.{Outcome}
-use Rattle.asan_senders.specs.Collected.{AreCollected}
+use Rattle.asan_senders.specs.Collected.{AreCollected, IsReadIfAlone}
 use Rattle.asan_senders.specs.Live.{AreLinesOf}
 use Rattle.asan_stream.specs.Outcomes.{IsOutcomeOf}
 use Rattle.asan_senders.specs.Statuses.{status_of, unwritten}
@@ -64,10 +64,11 @@ module _ {F : Type 0} (seen : F → FeedState) where
       × AreUsual options × IsOutcomeOf seen options feed outcome
       × IsPrinted before after (outcome ∷ []) status
 
-  -- the same of a feed that had these bytes to come
+  -- the same of a feed that had these bytes to come, and no read of which had failed
   abbrev pub IsInputPrinted : Option (List ℕ) → Option (List ℕ) → Option (List ℕ) → ℕ → Type 0
   IsInputPrinted bytes before after status =
-      (feed : F) × ((seen feed).to_come ≡ bytes) × IsFeedPrinted feed before after status
+      (feed : F) × ((seen feed).to_come ≡ bytes) × ((seen feed).faults ≡ 0)
+      × IsFeedPrinted feed before after status
 
 -- The reports of the outcomes lie in memory of this kind.
 module _ {F : Type 0} (seen : F → FeedState) (A : Type 0) where
@@ -76,6 +77,7 @@ module _ {F : Type 0} (seen : F → FeedState) (A : Type 0) where
       (checking : Checking) (old new : DoorState F) (before after : Option (List ℕ))
       (outcomes : List (Outcome F A)) (status : ℕ) : Type 0 where
     pub collected : AreCollected seen checking.options old new outcomes
+    pub alone : IsReadIfAlone outcomes
     pub printed : IsPrintedAs checking.is_live before after outcomes status
 
   -- the senders that came through a door have such outcomes

@@ -145,12 +145,12 @@ impl<R: Threads + Wait + Clock + Sync + AllocGlobal> Session<'_, R> {
             options,
         };
         if is_live {
-            let live = collector.collect_live_openly(door, output)?;
+            let (live, _) = collector.collect_live_openly(door, output)?;
             let Live { outcomes, wrote } = live;
             let status = flush(output, &outcomes, wrote);
             return Ok(Reported { outcomes, status });
         }
-        let outcomes = collector.collect_openly(door)?;
+        let (outcomes, _) = collector.collect_openly(door)?;
         let status = print(alloc, output, &outcomes);
         Ok(Reported { outcomes, status })
     }

@@ -3,8 +3,11 @@ use Rattle.std.proofs.Common.{ℕ, ◌≡◌, ◌+◌, ◌<◌, ◌++◌, List, 
 use Rattle.std.proofs.Common.{append-nil, slice_index_or, slice_set, subst, inl, inr}
 use Rattle.std.proofs.lemmas.Bool.{cases_eq}
 use Rattle.std.proofs.lemmas.List.{length-set, get_or-set_same, get_or-set_other, get_or_default}
+use Rattle.trace_lane.specs.Lanes.{out_lane, taken_list}
+use Rattle.asan_check.specs.Standing.{bound_of, reports_of}
 use Rattle.asan_stream.specs.declared.bench.Bench.{Bench}
-use Rattle.asan_stream.specs.Benches.{Later, EachLater, HasReported, TakesNoMore, found_of}
+use Rattle.asan_stream.specs.Benches.{Later, EachLater, HasReported, TakesNoMore, found_of, report_lane_of, taken_of}
+use Rattle.asan_stream.specs.Outboxes.{IsFront, KeepsLane}
 use Rattle.asan_stream.proofs.Reporting.{front_same, front_trans, keeps_same, keeps_trans}
 
 module _ {A : Type 0} where
@@ -28,6 +31,19 @@ module _ {A : Type 0} where
     found = front_same _;
     more = [];
     taken = sym (append-nil _);
+  }
+
+  -- a bench has put some reports, and nothing else
+  pub later_reported : (a b : Bench A) → KeepsLane (report_lane_of a) (report_lane_of b) → b.process ≡ a.process
+      → b.lane ≡ a.lane → b.checker ≡ a.checker → Later a b
+  later_reported a b keeps process lane checker = record {
+    process = process;
+    lane = ap out_lane lane;
+    bound = ap bound_of checker;
+    report_lane = keeps;
+    found = subst (λ c. IsFront (found_of a) (reports_of c)) (sym checker) (front_same (found_of a));
+    more = [];
+    taken = ap taken_list lane ∙ sym (append-nil (taken_of a));
   }
 
   pub each_refl : (xs : List (Bench A)) → EachLater xs xs

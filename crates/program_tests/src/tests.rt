@@ -7,16 +7,22 @@ use test_writers::{ShortWriter, WhenFull};
 
 #[test]
 fn output_that_is_not_flushed(rt: HostRuntime) -> Result<(), Fail> {
-    let mut help = Vec::new(rt.alloc());
-    help.push(String::from_str(rt.alloc(), "--help")?)?;
-    let mut check = Vec::new(rt.alloc());
-    check.push(String::from_str(rt.alloc(), "check")?)?;
-    check.push(String::from_str(rt.alloc(), "-")?)?;
-    for words in [&[], help.as_slice(), check.as_slice()] {
+    for line in [
+        "",
+        "--help",
+        "check -",
+        "check - missing",
+        "check --live -",
+        "check --live - missing",
+    ] {
+        let mut words = Vec::new(rt.alloc());
+        for word in line.split_whitespace() {
+            words.push(String::from_str(rt.alloc(), word)?)?;
+        }
         let mut output = writer(rt.alloc());
         output.flushes = false;
         let mut faults = writer(rt.alloc());
-        let status = run(&rt, words, b"".as_slice(), &mut output, &mut faults);
+        let status = run(&rt, &words, b"".as_slice(), &mut output, &mut faults);
         assert_eq!(rt; status, 4);
         assert!(rt; !output.held.is_empty());
         assert!(rt; faults.held.is_empty());

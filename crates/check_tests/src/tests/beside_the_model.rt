@@ -2,7 +2,8 @@
 
 use super::model::{Model, State, state_of};
 use super::{
-    USUAL, free, load, malloc, new_checker, poison_of, reports_of, step, store, tally, unpoison,
+    USUAL, expect_at, expect_eq, expect_eq_at, free, load, malloc, new_checker, poison_of,
+    reports_of, step, store, tally, unpoison,
 };
 use asan_check::{Checker, NoMemory, Report, report_text};
 use std::alloc::Global;
@@ -74,15 +75,15 @@ fn agreed_reports(
     for _ in 0..EVENTS {
         if let Ok(event) = drawn_event(draws, base) {
             let report = step(rt, checker, &event)?;
-            assert_eq!(rt; report, model.step(event)?, "{event:?}");
+            expect_eq_at(rt, event, report, model.step(event)?);
             if let Some(report) = report {
                 reports.push(report)?;
             }
         }
     }
     let (checked, _) = tally(checker);
-    assert_eq!(rt; checked, model.events.len() as u64);
-    assert_eq!(rt; reports_of(checker), reports.as_slice());
+    expect_eq(rt, checked, model.events.len() as u64);
+    expect_eq(rt, reports_of(checker), reports.as_slice());
     Ok(reports)
 }
 
@@ -110,12 +111,12 @@ fn expect_same_bytes(
     for place in (0..WINDOW).rev() {
         let at = base.saturating_add(place);
         let poisoned = state_of(&marks, at) != State::Addressable;
-        assert_eq!(rt; is_poisoned(checker, at), Some(poisoned), "byte {at}");
+        expect_eq_at(rt, at, is_poisoned(checker, at), Some(poisoned));
         if poisoned {
             first = Some(at);
         }
     }
-    assert_eq!(rt; first_of_window(rt, checker, base), Some(first));
+    expect_eq(rt, first_of_window(rt, checker, base), Some(first));
     Ok(())
 }
 
@@ -170,7 +171,7 @@ fn checker_agrees_with_the_model(rt: HostRuntime) -> Result<(), Fail> {
         "bad-free",
         "bad-malloc",
     ] {
-        assert!(rt; text.contains(word), "no report was drawn of {word}");
+        expect_at(&rt, word, text.contains(word));
     }
     Ok(())
 }

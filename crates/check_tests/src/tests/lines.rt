@@ -1,4 +1,5 @@
 //! Lines, and texts that have no room for one.
+use super::{expect_eq, expect_eq_at};
 use asan_check::{Class, Ending, Fault, NoMemory, Report, end_text, ending_text, report_text};
 use refusing_allocator::RefusingAllocator;
 use std::alloc::{Allocator, Global};
@@ -57,7 +58,7 @@ fn expect_lines(
     for report in reports {
         report_text(process, report, &mut text)?;
     }
-    assert_eq!(rt; text.as_str(), lines);
+    expect_eq(rt, text.as_str(), lines);
     Ok(())
 }
 
@@ -73,7 +74,7 @@ fn expect_ends(
     for ending in endings {
         end_text(process, ending, &mut text)?;
     }
-    assert_eq!(rt; text.as_str(), lines);
+    expect_eq(rt, text.as_str(), lines);
     Ok(())
 }
 
@@ -227,9 +228,10 @@ fn what_became_of_a_process(rt: HostRuntime) -> Result<(), Fail> {
     ending_text(&ran(Fate::Malformed(Flaw::Code), 2, 36), &mut text)?;
     text.push_str(", ")?;
     ending_text(&Ending::NotOpened, &mut text)?;
-    assert_eq!(rt;
+    expect_eq(
+        &rt,
         text.as_str(),
-        "malformed code events 2 offset 36 reports 1, not-opened"
+        "malformed code events 2 offset 36 reports 1, not-opened",
     );
     Ok(())
 }
@@ -248,7 +250,7 @@ fn each_growth_of_a_line_refused_in_turn(rt: HostRuntime) -> Result<(), Fail> {
         let heap = RefusingAllocator::at_turn(rt.alloc(), turn);
         let mut text = String::new(&heap);
         let answer = add_lines(&bad, &mut text);
-        assert_eq!(rt; answer.is_err(), heap.has_refused(), "turn {turn}");
+        expect_eq_at(&rt, turn, answer.is_err(), heap.has_refused());
         if answer.is_ok() {
             assert!(rt; turn > 1);
             return Ok(());

@@ -1,6 +1,7 @@
 //! Which events a checker passes at once.
 use super::{
-    Made, USUAL, free, load, malloc, new_checker, pass, poison, step, store, tally, unpoison,
+    Made, USUAL, expect_eq, free, load, malloc, new_checker, pass, poison, step, store, tally,
+    unpoison,
 };
 use asan_check::{Checker, Failed};
 use refusing_allocator::RefusingAllocator;
@@ -18,8 +19,8 @@ fn good_accesses() -> Result<[Event; 2], Fail> {
 fn expect_two_passed(rt: &impl Abort, checker: &mut Checker, other: Made) -> Result<(), Fail> {
     let [load, store] = good_accesses()?;
     let events = [load, store, other?, load];
-    assert_eq!(rt; pass(rt, checker, &events), 2);
-    assert_eq!(rt; pass(rt, checker, &events[2..]), 0);
+    expect_eq(rt, pass(rt, checker, &events), 2);
+    expect_eq(rt, pass(rt, checker, &events[2..]), 0);
     Ok(())
 }
 
@@ -38,9 +39,9 @@ fn good_accesses_are_passed(rt: HostRuntime) -> Result<(), Fail> {
     ] {
         expect_two_passed(&rt, &mut checker, other)?;
     }
-    assert_eq!(rt; pass(&rt, &mut checker, &good_accesses()?), 2);
-    assert_eq!(rt; pass(&rt, &mut checker, &[]), 0);
-    assert_eq!(rt; tally(&checker), (17, 0));
+    expect_eq(&rt, pass(&rt, &mut checker, &good_accesses()?), 2);
+    expect_eq(&rt, pass(&rt, &mut checker, &[]), 0);
+    expect_eq(&rt, tally(&checker), (17, 0));
     Ok(())
 }
 
@@ -51,11 +52,11 @@ fn expect_passed_once<A: Allocator + Copy>(
     checker: &mut Checker<A>,
 ) -> Result<(), Fail> {
     let good = [load(1, 0x1000)?];
-    assert_eq!(rt; pass(rt, checker, &good), 1);
-    assert_eq!(rt; step(rt, checker, &malloc(0x1000, 8)?), Err(Failed));
-    assert_eq!(rt; pass(rt, checker, &good), 0);
+    expect_eq(rt, pass(rt, checker, &good), 1);
+    expect_eq(rt, step(rt, checker, &malloc(0x1000, 8)?), Err(Failed));
+    expect_eq(rt, pass(rt, checker, &good), 0);
     let (checked, _) = tally(checker);
-    assert_eq!(rt; checked, 1);
+    expect_eq(rt, checked, 1);
     Ok(())
 }
 

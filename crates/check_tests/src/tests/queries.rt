@@ -1,5 +1,5 @@
 //! What a checker answers about bytes, which bounds it refuses, and a long run.
-use super::{USUAL, load, malloc, new_checker, step, store, tally};
+use super::{USUAL, expect_eq, expect_eq_at, load, malloc, new_checker, step, store, tally};
 use asan_check::{Bound, Checker, Failed};
 use std::process::Abort;
 use std::test::Fail;
@@ -8,7 +8,7 @@ use trace_record::Event;
 #[test]
 fn refused_bound_of_a_checker(rt: HostRuntime) {
     for (bound, refusal) in [(1 << 40, None), ((1 << 40) + 1, Some(Bound))] {
-        assert_eq!(rt; Checker::new(rt.alloc(), bound).err(), refusal);
+        expect_eq(&rt, Checker::new(rt.alloc(), bound).err(), refusal);
     }
 }
 
@@ -20,7 +20,7 @@ fn is_poisoned(checker: &Checker, at: u64) -> Option<bool> {
 /// Asserts what a checker says of these bytes.
 fn expect_poisoned(rt: &impl Abort, checker: &Checker, bytes: &[(u64, bool)]) {
     for (at, poisoned) in bytes {
-        assert_eq!(rt; is_poisoned(checker, *at), Some(*poisoned), "byte {at}");
+        expect_eq_at(rt, at, is_poisoned(checker, *at), Some(*poisoned));
     }
 }
 
@@ -29,7 +29,7 @@ fn expect_first_poisoned(rt: &impl Abort, checker: &Checker, regions: &[(u64, u6
     for (at, size, first) in regions {
         assert!(rt; *size <= 64 && *at <= (1 << 47) - *size);
         let found = checker.first_poisoned(*at, *size);
-        assert_eq!(rt; found, Some(*first), "{size} bytes at {at}");
+        expect_eq_at(rt, (size, at), found, Some(*first));
     }
 }
 
@@ -82,7 +82,7 @@ fn run_long(
         } else {
             (good, None)
         };
-        assert_eq!(rt; number_of_report(rt, checker, event)?, wanted);
+        expect_eq(rt, number_of_report(rt, checker, event)?, wanted);
     }
     Ok(())
 }
@@ -94,6 +94,6 @@ fn long_run(rt: HostRuntime) -> Result<(), Fail> {
     step(&rt, &mut checker, &malloc(0x1000, 1 << 28)?)?;
     let events = [load(8, 0x1000)?, store(1, 0xfff)?];
     run_long(&rt, &mut checker, &events, 80_000)?;
-    assert_eq!(rt; tally(&checker), (80_000, 2_500));
+    expect_eq(&rt, tally(&checker), (80_000, 2_500));
     Ok(())
 }

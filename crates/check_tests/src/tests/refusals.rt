@@ -1,5 +1,8 @@
 //! Each growth of a checker refused in turn.
-use super::{free, load, malloc, new_checker, poison, reports_of, step, tally, unpoison};
+use super::{
+    expect_at, expect_eq_at, free, load, malloc, new_checker, poison, reports_of, step, tally,
+    unpoison,
+};
 use asan_check::{Checker, Failed, Report};
 use refusing_allocator::RefusingAllocator;
 use std::alloc::{Allocator, Global};
@@ -48,12 +51,12 @@ fn has_failed<A: Allocator + Copy>(
     let before = tally(checker);
     match step(rt, checker, event) {
         Ok(report) => {
-            assert_eq!(rt; report, verdict, "turn {turn}");
+            expect_eq_at(rt, turn, report, verdict);
             false
         }
         Err(Failed) => {
-            assert_eq!(rt; tally(checker), before, "turn {turn}");
-            assert_eq!(rt; said_of_bytes(checker), (None, None), "turn {turn}");
+            expect_eq_at(rt, turn, tally(checker), before);
+            expect_eq_at(rt, turn, said_of_bytes(checker), (None, None));
             true
         }
     }
@@ -89,12 +92,12 @@ fn fails_once<A: Allocator + Copy>(
     let mut failed = false;
     for (event, verdict) in events.iter().zip(&ample.verdicts) {
         let fails = has_failed(rt, checker, event, *verdict, turn);
-        assert!(rt; fails || !failed, "turn {turn}");
+        expect_at(rt, turn, fails || !failed);
         failed = fails;
     }
     let kept = reports_of(checker);
-    assert!(rt; ample.reports.starts_with(kept), "turn {turn}");
-    assert!(rt; failed || kept.len() == ample.reports.len(), "turn {turn}");
+    expect_at(rt, turn, ample.reports.starts_with(kept));
+    expect_at(rt, turn, failed || kept.len() == ample.reports.len());
     failed
 }
 
@@ -109,7 +112,7 @@ fn fails_at(
 ) -> Result<bool, Fail> {
     let heap = RefusingAllocator::at_turn(alloc, turn);
     let failed = fails_once(rt, &mut new_checker(&heap, 72)?, turn, events, ample);
-    assert_eq!(rt; failed, heap.has_refused(), "turn {turn}");
+    expect_eq_at(rt, turn, failed, heap.has_refused());
     Ok(failed)
 }
 
@@ -119,7 +122,7 @@ fn each_growth_in_a_step_refused_in_turn(rt: HostRuntime) -> Result<(), Fail> {
     let ample = ample_of(&rt, rt.alloc(), &events)?;
     for turn in 1..100u64 {
         if !fails_at(&rt, rt.alloc(), turn, &events, &ample)? {
-            assert!(rt; turn > 20, "only {turn} turns");
+            expect_at(&rt, turn, turn > 20);
             return Ok(());
         }
     }

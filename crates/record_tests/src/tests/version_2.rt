@@ -1,18 +1,15 @@
 //! Tests of version 2: poison with a kind, larger regions, what a header says, and what both
 //! versions share.
 
-ghost use Rattle.std.specs.Prelude.{◌≤◌};
-
 use super::{
-    LOADS, Made, STREAM, an_end, at_end, at_fault, end_in, expect_cut_anywhere, expect_record,
-    load, malloc, new_decoder, next, poison, read, read_by_bytes, store, unpoison,
+    LOADS, Made, STREAM, an_end, encoded, end_in, end_of, end_of_fault, events_of, expect_at,
+    expect_by_bytes, expect_cut_anywhere, expect_eq, expect_eq_at, expect_record, load, malloc,
+    new_decoder, next, poison, store, unpoison,
 };
 use std::alloc::Global;
 use std::process::Abort;
 use std::test::Fail;
-use trace_record::{
-    Ahead, End, Event, Fate, Flaw, HEADER, HEADER_2, Kind, Out, RECORD_ROOM, Shade, Version, encode,
-};
+use trace_record::{Ahead, End, Event, Fate, Flaw, HEADER, HEADER_2, Kind, Out, Shade, Version};
 
 /// Poison of kind 1 of 16 bytes at 0x2000 and of kind 2 of 16 bytes at 0x2010, a load of a byte at
 /// 0x2008, a store of 4 bytes at 0x2010, an unpoison of 32 bytes at 0x2000, a load of 8 bytes
@@ -60,39 +57,44 @@ fn redzones_cut_anywhere(rt: HostRuntime) -> Result<(), Fail> {
     ];
     let closed = an_end(Fate::Closed, 6, 92);
     expect_cut_anywhere(&rt, rt.alloc(), &REDZONES, &events, closed)?;
-    let (decoder, got) = read_by_bytes(rt.alloc(), &REDZONES)?;
-    assert_eq!(rt; got.as_slice(), events.as_slice());
-    assert_eq!(rt; at_fault(decoder), closed);
+    expect_by_bytes(&rt, rt.alloc(), &REDZONES, &events, closed)?;
     let (answer, ahead) = read_ahead(&REDZONES, events[5])?;
-    assert_eq!(rt; answer, Ahead { count: 6, used: 83 });
+    expect_eq(&rt, answer, Ahead { count: 6, used: 83 });
     assert!(rt; ahead.starts_with(&events));
     Ok(())
+}
+
+/// How the first bytes of the stream of a poison end, this many of them, where nothing more comes.
+fn end_of_prefix(length: usize) -> End {
+    match length {
+        0..=7 => an_end(Fate::Truncated, 0, 0),
+        8 => an_end(Fate::NoClose, 0, 8),
+        9..=25 => an_end(Fate::Truncated, 0, 8),
+        26 => an_end(Fate::NoClose, 1, 26),
+        27..=35 => an_end(Fate::Truncated, 1, 26),
+        36 => an_end(Fate::NoClose, 2, 36),
+        _ => an_end(Fate::Closed, 2, 37),
+    }
+}
+
+/// How they end where a read fails after them.
+fn fault_of_prefix(length: usize) -> End {
+    let end = end_of_prefix(length);
+    match end.fate {
+        Fate::Closed => end,
+        _ => an_end(Fate::ReadFailed, end.events, end.offset),
+    }
 }
 
 /// What each prefix of a stream comes to where nothing more comes, and where a read fails.
 #[test]
 fn each_prefix_of_a_poison(rt: HostRuntime) -> Result<(), Fail> {
     for length in 0..=HALF_A_GRANULE.len() {
-        let (fate, events, offset) = match length {
-            0..=7 => (Fate::Truncated, 0, 0),
-            8 => (Fate::NoClose, 0, 8),
-            9..=25 => (Fate::Truncated, 0, 8),
-            26 => (Fate::NoClose, 1, 26),
-            27..=35 => (Fate::Truncated, 1, 26),
-            36 => (Fate::NoClose, 2, 36),
-            _ => (Fate::Closed, 2, 37),
-        };
-        let failed = match fate {
-            Fate::Closed => Fate::Closed,
-            _ => Fate::ReadFailed,
-        };
         let prefix = &HALF_A_GRANULE[..length];
-        let (decoder, _) = read(rt.alloc(), 1 << 24, prefix, 0)?;
-        let end = an_end(fate, events, offset);
-        assert_eq!(rt; at_end(decoder), end, "{length} bytes");
-        let (decoder, _) = read(rt.alloc(), 1 << 24, prefix, 0)?;
-        let end = an_end(failed, events, offset);
-        assert_eq!(rt; at_fault(decoder), end, "{length} bytes");
+        let end = end_of(&rt, rt.alloc(), 1 << 24, prefix, 0)?;
+        expect_eq_at(&rt, length, end, end_of_prefix(length));
+        let end = end_of_fault(&rt, rt.alloc(), 1 << 24, prefix, 0)?;
+        expect_eq_at(&rt, length, end, fault_of_prefix(length));
     }
     Ok(())
 }
@@ -135,27 +137,40 @@ const MAX_REGIONS: [(Version, u64, u64, Fate); 5] = [
     ),
 ];
 
+/// Asserts that a region of a record of each code has this fate, behind the header of a version.
+fn expect_fate(
+    rt: &impl Abort,
+    alloc: Global,
+    version: Version,
+    (at, size): (u64, u64),
+    fate: Fate,
+) -> Result<(), Fail> {
+    for code in [3, 5, 6] {
+        let record = region_record(alloc, version, code, at, size)?;
+        let want = match fate {
+            Fate::Closed => an_end(fate, 1, 9 + record.len() as u64),
+            _ => an_end(fate, 0, 8),
+        };
+        let end = end_in(rt, alloc, &header_of(version), &record)?;
+        expect_eq_at(rt, (version, code, size, at), end, want);
+    }
+    Ok(())
+}
+
 #[test]
 fn largest_region_of_each_version(rt: HostRuntime) -> Result<(), Fail> {
-    for (version, size, last, fate) in MAX_REGIONS {
-        let header = header_of(version);
+    for (version, size, last, fate) in &MAX_REGIONS {
         let past = match fate {
             Fate::Closed => Fate::Malformed(Flaw::Range),
-            _ => fate,
+            _ => *fate,
         };
-        for code in [3, 5, 6] {
-            for (at, fate) in [(0, fate), (last, fate), (last + 1, past), (u64::MAX, past)] {
-                let record = region_record(rt.alloc(), version, code, at, size)?;
-                let want = match fate {
-                    Fate::Closed => an_end(fate, 1, 9 + record.len() as u64),
-                    _ => an_end(fate, 0, 8),
-                };
-                assert_eq!(rt;
-                    end_in(rt.alloc(), &header, &record)?,
-                    want,
-                    "{version:?}, code {code}, {size} bytes at {at}"
-                );
-            }
+        for (at, fate) in [
+            (0, *fate),
+            (*last, *fate),
+            (*last + 1, past),
+            (u64::MAX, past),
+        ] {
+            expect_fate(&rt, rt.alloc(), *version, (at, *size), fate)?;
         }
     }
     Ok(())
@@ -165,11 +180,23 @@ fn largest_region_of_each_version(rt: HostRuntime) -> Result<(), Fail> {
 fn expect_spells(rt: &impl Abort, cases: &[(Made, Version, bool)]) -> Result<(), Fail> {
     for (made, version, want) in cases {
         let event = (*made)?;
-        assert_eq!(rt;
-            event.spells_in(*version),
-            *want,
-            "{event:?} in {version:?}"
-        );
+        expect_eq_at(rt, (event, version), event.spells_in(*version), *want);
+    }
+    Ok(())
+}
+
+/// Asserts that regions of a size spell in version 2, and whether they do in version 1.
+fn expect_larger(rt: &impl Abort, size: u64, in_version_1: bool) -> Result<(), Fail> {
+    for made in [
+        malloc(0x1000, size),
+        unpoison(0x1000, size),
+        poison(0, 0x1000, size),
+    ] {
+        let cases = [
+            (made, Version::One, in_version_1),
+            (made, Version::Two, true),
+        ];
+        expect_spells(rt, &cases)?;
     }
     Ok(())
 }
@@ -177,15 +204,7 @@ fn expect_spells(rt: &impl Abort, cases: &[(Made, Version, bool)]) -> Result<(),
 #[test]
 fn larger_regions_spell_in_version_2_alone(rt: HostRuntime) -> Result<(), Fail> {
     for (size, in_version_1) in [(1 << 28, true), ((1 << 28) + 1, false), (1 << 32, false)] {
-        let events = [
-            (malloc(0x1000, size), Version::One, in_version_1),
-            (malloc(0x1000, size), Version::Two, true),
-            (unpoison(0x1000, size), Version::One, in_version_1),
-            (unpoison(0x1000, size), Version::Two, true),
-            (poison(0, 0x1000, size), Version::One, in_version_1),
-            (poison(0, 0x1000, size), Version::Two, true),
-        ];
-        expect_spells(&rt, &events)?;
+        expect_larger(&rt, size, in_version_1)?;
     }
     let malloc = malloc(0x1000, 1 << 32)?;
     let record = [3, 0, 0x10, 0, 0, 0, 0, 0, 0, 0, 0, 0, 0, 1, 0, 0, 0];
@@ -209,51 +228,71 @@ fn poison_parts(at: u64, size: u64, kind: u8) -> Result<(u64, u64, Kind), Flaw> 
     Ok((shade.at(), shade.size(), shade.kind()))
 }
 
-#[test]
-fn each_kind(rt: HostRuntime) -> Result<(), Fail> {
-    for number in 0..=255u8 {
-        let mut text = HALF_A_GRANULE;
-        text[9] = number;
-        let (decoder, events) = read(rt.alloc(), 1 << 24, &text, 20)?;
-        let end = at_end(decoder);
-        let parts = poison_parts(0x1004, 12, number);
-        match kind_of(number) {
-            Some(kind) => {
-                assert_eq!(rt; end, an_end(Fate::Closed, 2, 37));
-                assert_eq!(rt; parts, Ok((0x1004, 12, kind)));
-                assert_eq!(rt; events.first(), Some(&poison(number, 0x1004, 12)?));
-            }
-            None => {
-                assert_eq!(rt; end, an_end(Fate::Malformed(Flaw::Kind), 0, 8));
-                assert_eq!(rt; parts, Err(Flaw::Kind));
-            }
+/// Asserts what a poison of a kind of this number comes to, in a stream and by its parts.
+fn expect_kind(rt: &impl Abort, alloc: Global, number: u8) -> Result<(), Fail> {
+    let mut text = HALF_A_GRANULE;
+    text[9] = number;
+    let end = end_of(rt, alloc, 1 << 24, &text, 20)?;
+    let parts = poison_parts(0x1004, 12, number);
+    match kind_of(number) {
+        Some(kind) => {
+            expect_eq(rt, end, an_end(Fate::Closed, 2, 37));
+            expect_eq(rt, parts, Ok((0x1004, 12, kind)));
+        }
+        None => {
+            expect_eq(rt, end, an_end(Fate::Malformed(Flaw::Kind), 0, 8));
+            expect_eq(rt, parts, Err(Flaw::Kind));
         }
     }
     Ok(())
 }
 
+/// Asserts that the first event of a stream is a poison of the kind of this number.
+fn expect_first_kind(rt: &impl Abort, alloc: Global, number: u8) -> Result<(), Fail> {
+    let mut text = HALF_A_GRANULE;
+    text[9] = number;
+    let events = events_of(alloc, &text, 20)?;
+    expect_eq(rt, events.first(), Some(&poison(number, 0x1004, 12)?));
+    Ok(())
+}
+
+#[test]
+fn each_kind(rt: HostRuntime) -> Result<(), Fail> {
+    for number in 0..=255u8 {
+        expect_kind(&rt, rt.alloc(), number)?;
+        if kind_of(number).is_some() {
+            expect_first_kind(&rt, rt.alloc(), number)?;
+        }
+    }
+    Ok(())
+}
+
+/// How three loads end behind a header.
+fn end_behind(rt: &impl Abort, alloc: Global, header: &[u8; 8]) -> Result<End, Fail> {
+    let mut text = LOADS;
+    for (place, byte) in text.iter_mut().zip(header) {
+        *place = *byte;
+    }
+    end_of(rt, alloc, 1 << 24, &text, 4)
+}
+
 #[test]
 fn each_version(rt: HostRuntime) -> Result<(), Fail> {
+    let refused = an_end(Fate::Malformed(Flaw::Header), 0, 0);
     for version in 0..=255u8 {
-        let mut text = LOADS;
-        text[4] = version;
-        let (decoder, events) = read(rt.alloc(), 1 << 24, &text, 4)?;
-        let (count, want) = match version {
-            1 | 2 => (3, an_end(Fate::Closed, 3, 39)),
-            _ => (0, an_end(Fate::Malformed(Flaw::Header), 0, 0)),
+        let mut header = HEADER;
+        header[4] = version;
+        let want = match version {
+            1 | 2 => an_end(Fate::Closed, 3, 39),
+            _ => refused,
         };
-        assert_eq!(rt; events.len(), count, "version {version}");
-        assert_eq!(rt; at_end(decoder), want, "version {version}");
+        let end = end_behind(&rt, rt.alloc(), &header)?;
+        expect_eq_at(&rt, version, end, want);
     }
     for place in 5..8 {
-        let mut text = LOADS;
-        text[4] = 2;
-        text[place] = 1;
-        let (decoder, _) = read(rt.alloc(), 1 << 24, &text, 4)?;
-        assert_eq!(rt;
-            at_end(decoder),
-            an_end(Fate::Malformed(Flaw::Header), 0, 0)
-        );
+        let mut header = HEADER_2;
+        header[place] = 1;
+        expect_eq(&rt, end_behind(&rt, rt.alloc(), &header)?, refused);
     }
     Ok(())
 }
@@ -264,10 +303,14 @@ fn other_records_are_those_of_version_1(rt: HostRuntime) -> Result<(), Fail> {
     let mut text = STREAM;
     text[4] = 2;
     for cut in 0..=STREAM.len() {
-        let (first, events) = read(rt.alloc(), 1 << 24, &STREAM, cut)?;
-        let (second, others) = read(rt.alloc(), 1 << 24, &text, cut)?;
-        assert!(rt; events == others, "cut at {cut}");
-        assert_eq!(rt; at_end(first), at_end(second), "cut at {cut}");
+        let events = events_of(rt.alloc(), &STREAM, cut)?;
+        let others = events_of(rt.alloc(), &text, cut)?;
+        expect_at(&rt, cut, events == others);
+    }
+    for cut in 0..=STREAM.len() {
+        let first = end_of(&rt, rt.alloc(), 1 << 24, &STREAM, cut)?;
+        let second = end_of(&rt, rt.alloc(), 1 << 24, &text, cut)?;
+        expect_eq_at(&rt, cut, first, second);
     }
     Ok(())
 }
@@ -284,7 +327,7 @@ fn version_1_behind_the_header_of_version_2(rt: HostRuntime) -> Result<(), Fail>
         (&HEADER, an_end(Fate::Closed, 3, 53)),
         (&HEADER_2, an_end(Fate::Malformed(Flaw::Size), 1, 25)),
     ] {
-        assert_eq!(rt; end_in(rt.alloc(), header, &body)?, end);
+        expect_eq(&rt, end_in(&rt, rt.alloc(), header, &body)?, end);
     }
     Ok(())
 }
@@ -296,19 +339,9 @@ fn version_2_behind_the_header_of_version_1(rt: HostRuntime) -> Result<(), Fail>
         (&HEADER_2, an_end(Fate::Closed, 1, 27)),
         (&HEADER, an_end(Fate::Malformed(Flaw::Code), 1, 25)),
     ] {
-        assert_eq!(rt; end_in(rt.alloc(), header, &poison)?, end);
+        expect_eq(&rt, end_in(&rt, rt.alloc(), header, &poison)?, end);
     }
     Ok(())
-}
-
-/// The record of an event in a version that it spells in, and how many bytes it has.
-fn encoded(rt: &impl Abort, version: Version, event: &Event) -> ([u8; RECORD_ROOM], usize)
-    ensures { result.1 ≤ 18 }
-{
-    assert!(rt; event.spells_in(version));
-    let mut out = [0; RECORD_ROOM];
-    let length = encode(version, event, &mut out);
-    (out, length)
 }
 
 /// Asserts that a decoder behind the header of a version needs more than the first of these pieces,
@@ -323,10 +356,10 @@ fn expect_in_two(
     let mut decoder = new_decoder(1)?;
     let _ = next(&mut decoder, &header_of(version));
     let cut = first.len();
-    assert_eq!(rt; next(&mut decoder, first).out, Out::Need, "cut at {cut}");
+    expect_eq_at(rt, cut, next(&mut decoder, first).out, Out::Need);
     let step = next(&mut decoder, last);
-    assert_eq!(rt; step.out, Out::Got(event), "cut at {cut}");
-    assert_eq!(rt; step.used, used, "cut at {cut}");
+    expect_eq_at(rt, cut, step.out, Out::Got(event));
+    expect_eq_at(rt, cut, step.used, used);
     Ok(())
 }
 
@@ -398,7 +431,7 @@ fn size_and_kind_are_kept_apart(rt: HostRuntime) -> Result<(), Fail> {
             (9, 1 << 32),
             ((1 << 47) - (1 << 32), 1 << 32),
         ] {
-            assert_eq!(rt; poison_parts(at, size, number), Ok((at, size, kind)));
+            expect_eq(&rt, poison_parts(at, size, number), Ok((at, size, kind)));
         }
     }
     for (size, number, flaw) in [
@@ -407,7 +440,7 @@ fn size_and_kind_are_kept_apart(rt: HostRuntime) -> Result<(), Fail> {
         ((1 << 32) + 1, 1, Flaw::Size),
         (1 << 32, 0, Flaw::Range),
     ] {
-        assert_eq!(rt; poison_parts(u64::MAX, size, number), Err(flaw));
+        expect_eq(&rt, poison_parts(u64::MAX, size, number), Err(flaw));
     }
     Ok(())
 }

@@ -1,5 +1,6 @@
 //! Calls of a book on worked examples, and a book whose memory is refused.
 
+use super::{expect_eq, expect_eq_at};
 use asan_units::ADDRESS_END;
 use heap_book::{Admit, Block, Book, Bound, Freed, NoMemory};
 use refusing_allocator::RefusingAllocator;
@@ -73,7 +74,7 @@ fn ask<A: Allocator + Copy>(
 /// Makes calls of a book in order, and compares what it answers.
 fn expect(rt: &impl Abort, book: &mut Book, cases: &[Case]) -> Result<(), NoMemory> {
     for (call, answer) in cases {
-        assert_eq!(rt; ask(rt, book, *call)?, *answer, "{call:?}");
+        expect_eq_at(rt, call, ask(rt, book, *call)?, *answer);
     }
     Ok(())
 }
@@ -99,7 +100,7 @@ fn block(rt: &impl Abort, alloc: Global, at: u64, size: u64) -> Result<Block, Fa
 #[test]
 fn refused_bound(rt: HostRuntime) {
     assert!(rt; Book::new(rt.alloc(), 1 << 40).is_ok());
-    assert_eq!(rt; Book::new(rt.alloc(), (1 << 40) + 1).err(), Some(Bound));
+    expect_eq(&rt, Book::new(rt.alloc(), (1 << 40) + 1).err(), Some(Bound));
 }
 
 /// The ends of a block's span, if an empty book admits it.
@@ -129,11 +130,7 @@ fn spans(rt: HostRuntime) -> Result<(), Fail> {
         (0x1004, 8, None),
     ];
     for (at, size, span) in cases {
-        assert_eq!(rt;
-            span_of(&rt, rt.alloc(), at, size)?,
-            span,
-            "{size} bytes at {at}"
-        );
+        expect_eq_at(&rt, (size, at), span_of(&rt, rt.alloc(), at, size)?, span);
     }
     Ok(())
 }
@@ -274,7 +271,7 @@ fn ask_both<A: Allocator + Copy>(
         let wanted = ask(rt, ample, *call)?;
         let (given, is_refused) = ask_again(rt, book, *call)?;
         refused |= is_refused;
-        assert_eq!(rt; given, wanted, "turn {turn}, {call:?}");
+        expect_eq_at(rt, (turn, call), given, wanted);
     }
     Ok(refused)
 }
@@ -285,7 +282,7 @@ fn refuse_one(rt: &impl Abort, alloc: Global, turn: u64, calls: &[Call]) -> Resu
     let mut book = Book::new(&heap, 72)?;
     let mut ample = Book::new(alloc, 72)?;
     let refused = ask_both(rt, &mut book, &mut ample, turn, calls)?;
-    assert_eq!(rt; refused, heap.has_refused(), "turn {turn}");
+    expect_eq_at(rt, turn, refused, heap.has_refused());
     Ok(refused)
 }
 

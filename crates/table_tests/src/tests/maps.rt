@@ -7,6 +7,7 @@ mod beside;
 mod memory;
 mod refusals;
 
+use super::expect_eq_at;
 use line_map::{LineMap, Slot};
 use std::alloc::{AllocError, Allocator, Global};
 use std::process::Abort;
@@ -139,7 +140,7 @@ fn ask(map: &mut LineMap, call: Call) -> Result<Answer, AllocError> {
 fn expect(rt: &impl Abort, alloc: Global, cases: &[Case]) -> Result<(), AllocError> {
     let mut map = LineMap::new(alloc);
     for (call, answer) in cases {
-        assert_eq!(rt; ask(&mut map, *call)?, *answer, "{call:?}");
+        expect_eq_at(rt, call, ask(&mut map, *call)?, *answer);
     }
     Ok(())
 }

@@ -2,6 +2,7 @@
 ghost use Rattle.std.specs.Prelude.{◌≡◌, ◌+◌, ◌≤◌};
 ghost use Rattle.asan_units.specs.Units.{granule_count};
 
+use super::{expect_eq, expect_eq_at};
 use asan_units::GRANULES;
 use page_table::{PageTable, Run};
 use std::alloc::{AllocError, Global};
@@ -102,11 +103,7 @@ fn runs_are_fills(rt: HostRuntime) -> Result<(), Fail> {
         (1 << 44) - 24,
     ];
     for first in places {
-        assert_eq!(rt;
-            first_difference(&rt, rt.alloc(), first)?,
-            None,
-            "from {first} on"
-        );
+        expect_eq_at(&rt, first, first_difference(&rt, rt.alloc(), first)?, None);
     }
     Ok(())
 }
@@ -117,7 +114,7 @@ fn runs_without_granules(rt: HostRuntime) -> Result<(), Fail> {
     table.fill_runs(1 << 44, &[])?;
     table.fill_runs(1 << 44, &[run(0, 3), run(0, 5)])?;
     table.fill_runs(0, &[run(0, 3), run(1 << 44, 5)])?;
-    assert_eq!(rt; bytes(&rt, &table, &[0, (1 << 44) - 1]), [5, 5]);
+    expect_eq(&rt, bytes(&rt, &table, &[0, (1 << 44) - 1]), [5, 5]);
     Ok(())
 }
 
@@ -141,15 +138,16 @@ fn fills_of_any_width(rt: HostRuntime) -> Result<(), Fail> {
         (1 << 44) - 1,
     ];
     for width in widths {
-        assert_eq!(rt;
+        expect_eq_at(
+            &rt,
+            width,
             around_fill(&rt, rt.alloc(), width)?,
             [0, 7, 7, 0],
-            "width {width}"
         );
     }
     let mut table = PageTable::new(rt.alloc());
     fill(&rt, &mut table, 0, 1 << 44, 7)?;
-    assert_eq!(rt; bytes(&rt, &table, &[0, (1 << 44) - 1]), [7, 7]);
+    expect_eq(&rt, bytes(&rt, &table, &[0, (1 << 44) - 1]), [7, 7]);
     Ok(())
 }
 
@@ -172,25 +170,29 @@ fn a_reader_goes_from_part_to_part(rt: HostRuntime) -> Result<(), Fail> {
     fill(&rt, &mut table, 3 << 26, 4 << 26, 9)?;
     fill(&rt, &mut table, 1 << 43, (1 << 43) + 1, 5)?;
     let last_of_first = (1 << 26) - 1;
-    assert_eq!(rt;
+    expect_eq(
+        &rt,
         read_in_turn(
             &table,
-            &[last_of_first - 2, last_of_first - 1, last_of_first]
+            &[last_of_first - 2, last_of_first - 1, last_of_first],
         ),
-        [0, 7, 7]
+        [0, 7, 7],
     );
-    assert_eq!(rt;
+    expect_eq(
+        &rt,
         read_in_turn(
             &table,
-            &[last_of_first, 1 << 26, (1 << 26) + 1, (1 << 26) + 2, 0]
+            &[last_of_first, 1 << 26, (1 << 26) + 1, (1 << 26) + 2, 0],
         ),
-        [7, 7, 7, 0, 0]
+        [7, 7, 7, 0, 0],
     );
-    assert_eq!(rt;
+    expect_eq(
+        &rt,
         read_in_turn(&table, &[2 << 26, 3 << 26, (4 << 26) - 1, 4 << 26, 1 << 26]),
-        [0, 9, 9, 0, 7]
+        [0, 9, 9, 0, 7],
     );
-    assert_eq!(rt;
+    expect_eq(
+        &rt,
         read_in_turn(
             &table,
             &[
@@ -198,10 +200,10 @@ fn a_reader_goes_from_part_to_part(rt: HostRuntime) -> Result<(), Fail> {
                 (1 << 43) + 1,
                 (1 << 44) - 1,
                 last_of_first,
-                1 << 43
-            ]
+                1 << 43,
+            ],
         ),
-        [5, 0, 0, 7, 5]
+        [5, 0, 0, 7, 5],
     );
     Ok(())
 }

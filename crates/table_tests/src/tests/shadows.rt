@@ -7,6 +7,7 @@ mod memory;
 mod model;
 mod refusals;
 
+use super::expect_eq;
 use calls::{Mark, bad_byte, cause, expect, first_poisoned, mark_each, unpoisoned, value};
 use shadow_map::Shadow;
 use std::alloc::Allocator;
@@ -34,9 +35,10 @@ fn values<const COUNT: usize, A: Allocator + Copy>(shadow: &Shadow<A>, first: u6
 fn shadow_calls(rt: HostRuntime) -> Result<(), Fail> {
     let mut shadow = Shadow::new(rt.alloc());
     mark_each(&rt, &mut shadow, &[Mark::Block(0x1000, 5)])?;
-    assert_eq!(rt;
+    expect_eq(
+        &rt,
         values(&shadow, 0x1fb),
-        [0, 0xfa, 0xfa, 0xfa, 0xfa, 0x05, 0xfa, 0xfa, 0xfa, 0xfa, 0]
+        [0, 0xfa, 0xfa, 0xfa, 0xfa, 0x05, 0xfa, 0xfa, 0xfa, 0xfa, 0],
     );
     let cases = [
         first_poisoned(0x1000, 8, Some(0x1005)),
@@ -99,22 +101,25 @@ fn a_reader_finds_bad_bytes(rt: HostRuntime) -> Result<(), Fail> {
         Mark::Poison(1 << 40, 16, USER_POISON),
     ];
     mark_each(&rt, &mut shadow, &marks)?;
-    assert_eq!(rt;
+    expect_eq(
+        &rt,
         bad_in_turn(&shadow, &[0xfd8, 0xff8, 0x1000, 0x1008, 0x1028]),
-        [None, Some(0xff8), Some(0x1005), Some(0x1008), None]
+        [None, Some(0xff8), Some(0x1005), Some(0x1008), None],
     );
-    assert_eq!(rt;
+    expect_eq(
+        &rt,
         bad_in_turn(&shadow, &[(1 << 29) - 8, 1 << 29, (1 << 29) + 24, 0x1000]),
         [
             Some((1 << 29) - 8),
             None,
             Some((1 << 29) + 24),
-            Some(0x1005)
-        ]
+            Some(0x1005),
+        ],
     );
-    assert_eq!(rt;
+    expect_eq(
+        &rt,
         bad_in_turn(&shadow, &[1 << 40, (1 << 40) + 16, (1 << 47) - 8, 1 << 29]),
-        [Some(1 << 40), None, None, None]
+        [Some(1 << 40), None, None, None],
     );
     Ok(())
 }

@@ -1,5 +1,6 @@
 //! Tests of doors over a list and over files, and the tables of arrivals by which a door is tested.
 
+use super::expect_eq_at;
 use super::feeds::{TRACE, expect_reads};
 use std::process::Abort;
 use std::test::Fail;
@@ -50,7 +51,7 @@ where
 {
     for (number, (coming, refusals)) in comings.iter().enumerate() {
         expect_arrival(rt, next_of(rt, door), *coming);
-        assert_eq!(rt; door.refusals(), *refusals, "arrival {number}");
+        expect_eq_at(rt, number, door.refusals(), *refusals);
     }
 }
 

@@ -1,5 +1,6 @@
 //! Tests of feeds, and the tables of reads by which a feed is tested.
 
+use super::expect_eq_at;
 use std::alloc::{AllocError, Global};
 use std::io;
 use std::io::{Error, ErrorKind, Read, Write};
@@ -35,8 +36,8 @@ pub fn expect_reads<F: Feed>(rt: &impl Abort, feed: &mut F, readings: &[Reading]
         let mut buf = [0u8; 64];
         let given = read(rt, feed, buf.get_mut(..*room).unwrap_or(&mut []));
         let given = given.map(|count| buf.get(..count).unwrap_or(&[]));
-        assert_eq!(rt; given, *wanted, "read {number}");
-        assert_eq!(rt; feed.faults(), *faults, "read {number}");
+        expect_eq_at(rt, number, given, *wanted);
+        expect_eq_at(rt, number, feed.faults(), *faults);
     }
 }
 

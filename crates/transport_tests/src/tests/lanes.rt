@@ -9,6 +9,7 @@ mod making;
 mod moving;
 mod threads;
 
+use super::expect_eq_at;
 use std::alloc::{Allocator, Global};
 use std::fmt::Debug;
 use std::process::Abort;
@@ -157,18 +158,18 @@ fn expect_step<T: Copy + Send + PartialEq + Debug, A: Allocator + Copy>(
     step: &Step<'_, T>,
 ) {
     match step {
-        Step::Put(item) => assert_eq!(rt; put(rt, ends, *item), Ok(()), "step {number}"),
-        Step::GiveBack(item) => assert_eq!(rt; put(rt, ends, *item), Err(*item), "step {number}"),
+        Step::Put(item) => expect_eq_at(rt, number, put(rt, ends, *item), Ok(())),
+        Step::GiveBack(item) => expect_eq_at(rt, number, put(rt, ends, *item), Err(*item)),
         Step::PutSome(items, count) => {
-            assert_eq!(rt; put_some(rt, ends, items), *count, "step {number}");
+            expect_eq_at(rt, number, put_some(rt, ends, items), *count);
         }
-        Step::Take(item) => assert_eq!(rt; take(rt, ends), *item, "step {number}"),
-        Step::IsTakerGone(is) => assert_eq!(rt; is_taker_gone(rt, ends), *is, "step {number}"),
-        Step::IsPutterGone(is) => assert_eq!(rt; is_putter_gone(rt, ends), *is, "step {number}"),
+        Step::Take(item) => expect_eq_at(rt, number, take(rt, ends), *item),
+        Step::IsTakerGone(is) => expect_eq_at(rt, number, is_taker_gone(rt, ends), *is),
+        Step::IsPutterGone(is) => expect_eq_at(rt, number, is_putter_gone(rt, ends), *is),
         Step::DropTaker => ends.out = None,
         Step::DropPutter => ends.into = None,
-        Step::Finish(is_left) => assert_eq!(rt; finish(rt, ends), *is_left, "step {number}"),
-        Step::Settle(left) => assert_eq!(rt; settle(rt, ends), *left, "step {number}"),
+        Step::Finish(is_left) => expect_eq_at(rt, number, finish(rt, ends), *is_left),
+        Step::Settle(left) => expect_eq_at(rt, number, settle(rt, ends), *left),
     }
 }
 

@@ -1,6 +1,7 @@
 //! Tests of `UnixDoor`, over real sockets.
 
 use super::doors::{Coming, came, expect_arrivals};
+use super::expect_eq;
 use std::io::Write;
 use std::os::unix::net::{UnixListener, UnixStream};
 use std::test::Fail;
@@ -74,7 +75,7 @@ fn a_failed_accept_uses_up_one_of_the_count(rt: HostRuntime) -> Result<(), Fail>
     expect_arrivals(&rt, &mut door, &[(Coming::Refused, 1)]);
     let peer = connect(rt, "refused")?;
     drop(came(&rt, &mut door));
-    assert_eq!(rt; door.refusals(), 1);
+    expect_eq(&rt, door.refusals(), 1);
     drop(peer);
     expect_arrivals(&rt, &mut door, &[(Coming::Refused, 2), (Coming::Over, 2)]);
     remove(rt, "refused")?;

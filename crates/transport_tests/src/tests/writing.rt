@@ -1,5 +1,6 @@
 //! Tests of writing that knows how far it got.
 
+use super::expect_eq;
 use super::feeds::{EverySecond, KINDS};
 use std::alloc::Global;
 use std::io::Write;
@@ -19,8 +20,8 @@ fn put<W: Write>(writer: &mut W, bytes: &[u8]) -> Result<(), PutFault> {
 fn no_write_follows_one_that_fails(rt: HostRuntime) {
     for kind in KINDS {
         let mut writer = EverySecond { kind, calls: 0 };
-        assert_eq!(rt; put(&mut writer, TEXT), Err(PutFault { written: 1 }));
-        assert_eq!(rt; writer.calls, 2);
+        expect_eq(&rt, put(&mut writer, TEXT), Err(PutFault { written: 1 }));
+        expect_eq(&rt, writer.calls, 2);
     }
 }
 
@@ -39,7 +40,7 @@ fn expect_front(rt: &impl Abort, alloc: Global, room: usize, step: usize, when_f
     } else {
         Ok(())
     };
-    assert_eq!(rt; put(&mut writer, TEXT), wanted);
+    expect_eq(rt, put(&mut writer, TEXT), wanted);
     assert!(rt; TEXT.get(..room) == Some(writer.held.as_slice()));
 }
 
@@ -61,7 +62,7 @@ fn the_first_bytes_go_out(rt: HostRuntime) {
 fn all_goes_out_to_a_vec(rt: HostRuntime) {
     let mut bytes = Vec::new(rt.alloc());
     for part in ["hello ", "", "world"] {
-        assert_eq!(rt; put(&mut bytes, part.as_bytes()), Ok(()));
+        expect_eq(&rt, put(&mut bytes, part.as_bytes()), Ok(()));
     }
     assert!(rt; bytes.as_slice() == TEXT.as_slice());
 }

@@ -1,11 +1,11 @@
 use Rattle.std.proofs.Common.{◌≡◌, ◌<◌, ◌≤◌, ◌∙◌, sym, subst, length, arith, rules, slice_index_or}
 use Rattle.std.proofs.lemmas.List.{get_or_default}
-use Rattle.asan_senders.specs.Senders.{IsFresh, WillBe}
+use Rattle.asan_senders.specs.Senders.{IsFresh, Starts}
 use Rattle.asan_senders.proofs.Senders.{upto_all, upto_none, upto_set}
 use Rattle.asan_collect.proofs.reader_threads.start_readers.Goals as goal
 
 pub loop-i-init : goal.loop-i-init
-loop-i-init g c = upto_none (WillBe g.F.Feed.seen c.args.crew.now.options.limit) c.args.senders.now.items
+loop-i-init g c = upto_none (Starts g.F.Feed.seen c.args.crew.now.options.limit) c.args.senders.now.items
 
 pub start_at-requires-clause-fresh : goal.start_at-requires-clause-fresh
 start_at-requires-clause-fresh g c κs within =
@@ -21,7 +21,7 @@ pub loop-i-preserved : goal.loop-i-preserved
 loop-i-preserved g c =
     let ys = c.loop-i.senders.items in
     let low : c.loop-i.i < length ys = search rules in
-    upto_set (WillBe g.F.Feed.seen c.args.crew.now.options.limit) c.loop-i.i c.args.senders.now.items ys
+    upto_set (Starts g.F.Feed.seen c.args.crew.now.options.limit) c.loop-i.i c.args.senders.now.items ys
     c.start_at.new.sender low
     (λ d. rw (sym (c.index_mut.ensures.value ∙ get_or_default ys c.loop-i.i c.index_mut.result.now d low))
     c.start_at.ensures) c.loop-i.invariant
@@ -32,4 +32,4 @@ returns g c =
     let ys = c.loop-i.senders.items in
     let len : length ys ≡ length xs = c.loop-i.invariant.same_length in
     let all : length xs ≤ c.loop-i.i = search rules in
-    upto_all (WillBe g.F.Feed.seen c.args.crew.now.options.limit) c.loop-i.i xs ys all c.loop-i.invariant
+    upto_all (Starts g.F.Feed.seen c.args.crew.now.options.limit) c.loop-i.i xs ys all c.loop-i.invariant

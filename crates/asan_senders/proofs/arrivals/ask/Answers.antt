@@ -1,4 +1,5 @@
 use Rattle.std.proofs.Common.{rules, ◌∙◌, ◌≡◌, ◌≤◌, ◌+◌, [], ◌∷◌, ◌++◌, length, arith, inl, inr, refl}
+use Rattle.std.proofs.lemmas.List.{length_push}
 use Rattle.std.proofs.lemmas.List.Elements.{All-push}
 use Rattle.asan_senders.specs.Counts.{refused}
 use Rattle.asan_senders.proofs.Counting.{refused-after, refused-push}
@@ -22,12 +23,12 @@ loop-init g c = record {
 pub next-requires : goal.next-requires
 next-requires g c = let few = c.loop.invariant.refusals in let turns = c.loop-test.true in omega arith
 
-pub unwrap-requires : goal.unwrap-requires
-unwrap-requires g c =
+pub push_reserved-requires : goal.push_reserved-requires
+push_reserved-requires g c =
     let count = c.loop.invariant.count in
     let room = c.loop.invariant.room in
     let turns = c.loop-test.true in
-    c.push.ensures.succeeds (omega arith)
+    omega arith
 
 pub loop-preserved : goal.loop-preserved
 loop-preserved g c =
@@ -57,10 +58,10 @@ loop-preserved g c =
       | in-Came w ↦ left_came _ _ _ _ _ c.loop.invariant.left (rw w.in-Came.is at c.next.ensures.turn)
       | in-Refused w ↦ left_refused _ _ _ _ _ c.loop.invariant.left (rw w.in-Refused.is at c.next.ensures.turn)
     ] in
-    let pushed : c.push.new.self.items ≡ xs ++ a ∷ [] = search rules in
+    let pushed = c.push_reserved.ensures.items in
     record {
-      count = search rules;
-      room = search rules;
+      count = omega (arith, c.push_reserved.ensures.len);
+      room = omega (arith, c.push_reserved.ensures.capacity);
       refusals =
           let most = c.loop.invariant.refusals in
           let now = c.next.ensures.count in
@@ -73,7 +74,7 @@ loop-preserved g c =
           let more = refused-push xs a in
           omega arith);
       arrived = rw pushed arrived;
-      left = (let more : length (xs ++ a ∷ []) ≡ length xs + 1 = search rules in rw (pushed, more) left);
+      left = rw (pushed, length_push xs a) left;
       fresh = rw pushed (All-push (IsArrived g.D.Feed.Feed.seen) xs a c.loop.invariant.fresh fresh);
     }
 

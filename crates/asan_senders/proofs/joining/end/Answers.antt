@@ -1,8 +1,7 @@
-use Rattle.std.proofs.Common.{inr}
 use Rattle.asan_senders.proofs.joining.end.Goals as goal
 
 pub returns-in-Running : goal.returns-in-Running
-returns-in-Running g c share will = (rw c.in-Running.is at will) c.join.result c.join.ensures
+returns-in-Running g c = rw c.in-Running.is (λ share will. will c.join.result c.join.ensures)
 
 pub returns-in-Lost : goal.returns-in-Lost
-returns-in-Lost g c share will = inr c.new.ensures.items
+returns-in-Lost g c = rw c.in-Lost.is c.new.ensures.items

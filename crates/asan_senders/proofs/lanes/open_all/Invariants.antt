@@ -2,7 +2,7 @@ use Rattle.std.proofs.Common.{◌≡◌, ◌≤◌, ◌<◌, ℕ, vec_len, slice
 use Rattle.std.specs.Vec.{vec_capacity}
 use Rattle.asan_senders.specs.Arrivals.{Pairwise}
 use Rattle.asan_senders.specs.ReportLanes.{AllFit, HasPort, NoneTaken, SharesHave, lanes_of}
-use Rattle.asan_senders.specs.Shares.{SharesAt, HasRoom}
+use Rattle.asan_senders.specs.Shares.{SharesAt, HasRoom, HaveSeats}
 use Rattle.asan_senders.specs.Senders.{Came, AllFresh}
 use Rattle.asan_senders.proofs.lanes.open_all.Given as goal
 
@@ -27,4 +27,5 @@ invariant-loop-i g l = record {
   untaken : NoneTaken l.ports.items;
   fits : AllFit (lanes_of l.ports.items) l.senders.items;
   have : SharesHave (lanes_of l.ports.items) l.shares.items;
+  seated : HaveSeats l.senders.items l.shares.items;
 }

@@ -5,8 +5,8 @@ use Rattle.asan_stream.specs.Benches.{lane_of}
 use Rattle.asan_stream.specs.Benches.{report_lane_of}
 use Rattle.asan_stream.specs.Outboxes.{KeepsLane}
 use Rattle.asan_senders.specs.ReportLanes.{Fits}
-use Rattle.asan_senders.specs.Senders.{HasLane, IsAt, IsBack, Rejoins}
-use Rattle.asan_senders.proofs.Back.{all_cons, back_at, back_on, moved}
+use Rattle.asan_senders.specs.Senders.{HasLane, IsAt, IsBack, Rejoins, StaysOrJoins}
+use Rattle.asan_senders.proofs.Back.{all_cons, back_at, back_on, joins_of, joins_on, joins_same, moved}
 use Rattle.asan_senders.proofs.ReportLanes.{fit_set, have_front, have_last}
 use Rattle.asan_senders.proofs.Senders.{each_refl, each_set, rejoins_on, rejoins_same, at_front, at_last}
 use Rattle.asan_senders.proofs.returns.place.Goals as goal
@@ -70,6 +70,10 @@ loop-bench-preserved g c =
             c.rejoin_at.ensures.back (c.loop-bench.invariant.3.2 k b below)),
       ),
       λ b back. back_on ys at c.rejoin_at.new.sender b low c.rejoin_at.ensures.back (c.loop-bench.invariant.4 b back),
+      each_set StaysOrJoins joins_on at xs ys c.rejoin_at.new.sender first
+          (λ d. rw (c.index_mut.ensures.value ∙ get_or_default ys at c.index_mut.result.now d low)
+          at (joins_of bench c.index_mut.result.now c.rejoin_at.new.sender c.rejoin_at.ensures.takes))
+          c.loop-bench.invariant.5,
     )
 
 pub index_mut-requires : goal.index_mut-requires
@@ -93,10 +97,14 @@ loop-bench-init g c = (
   λ lanes fit have. (fit, have),
   ([], sym (append-nil c.args.benches.items), λ k d below. absurd (omega arith)),
   λ b back. back,
+  each_refl StaysOrJoins joins_same c.args.senders.now.items,
 )
 
 pub returns-clause-fit : goal.returns-clause-fit
 returns-clause-fit g c = λ lanes fit have. (c.loop-bench.invariant.2 lanes fit have).0
+
+pub returns-clause-takes : goal.returns-clause-takes
+returns-clause-takes g c = c.loop-bench.invariant.5
 
 pub returns-clause-back : goal.returns-clause-back
 returns-clause-back g c =
@@ -104,3 +112,9 @@ returns-clause-back g c =
     let zero : length benches.items ≡ 0 =
     (let whole = benches.ok.0 in let none = c.in_default.ensures.cases.0 in omega arith) in
     rw (rw (nil_from_length benches.items zero) at c.loop-bench.invariant.3.1) c.loop-bench.invariant.3.2
+
+pub returns-clause-rejoins : goal.returns-clause-rejoins
+returns-clause-rejoins g c = c.loop-bench.invariant.0
+
+pub returns-clause-stays : goal.returns-clause-stays
+returns-clause-stays g c = c.loop-bench.invariant.4

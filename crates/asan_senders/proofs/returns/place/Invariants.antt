@@ -3,7 +3,7 @@ use Rattle.std.specs.Prelude.{All}
 use Rattle.asan_stream.specs.declared.bench.Bench.{Bench}
 use Rattle.trace_lane.specs.Lanes.{Lane}
 use Rattle.asan_senders.specs.ReportLanes.{AllFit, AllHave}
-use Rattle.asan_senders.specs.Senders.{AreAt, Each, IsBack, Rejoins}
+use Rattle.asan_senders.specs.Senders.{AreAt, Each, IsBack, Rejoins, StaysOrJoins}
 use Rattle.asan_senders.proofs.returns.place.Given as goal
 
 abbrev pub invariant-loop-bench : goal.invariant-loop-bench
@@ -16,6 +16,7 @@ invariant-loop-bench g l =
     × ((placed : List (Bench g.row.A.Denot)) × (l.initial.benches.items ≡ l.benches.items ++ placed)
     × All (IsBack l.senders.items) placed)
     × ((bench : Bench g.row.A.Denot) → IsBack l.initial.senders.items bench → IsBack l.senders.items bench)
+    × Each StaysOrJoins l.initial.senders.items l.senders.items
 
 abbrev pub decreases-loop-bench : goal.decreases-loop-bench
 decreases-loop-bench g l = vec_len l.benches

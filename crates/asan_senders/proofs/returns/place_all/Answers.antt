@@ -1,8 +1,8 @@
 use Rattle.std.proofs.Common.{◌≡◌, ◌∷◌, [], sym, append-nil, arith, length}
 use Rattle.std.proofs.lemmas.List.{nil_from_length}
 use Rattle.std.specs.Prelude.{All}
-use Rattle.asan_senders.specs.Senders.{IsBack, Rejoins}
-use Rattle.asan_senders.proofs.Back.{all_cons, moved, shares_stay}
+use Rattle.asan_senders.specs.Senders.{IsBack, Rejoins, StaysOrJoins}
+use Rattle.asan_senders.proofs.Back.{all_cons, joins_on, joins_same, moved, shares_stay}
 use Rattle.asan_senders.proofs.Dealing.{shares_front, shares_last}
 use Rattle.asan_senders.proofs.ReportLanes.{shares_have_front, shares_have_last}
 use Rattle.asan_senders.proofs.Senders.{at_kept, each_after, each_refl, rejoins_on, rejoins_same}
@@ -15,6 +15,7 @@ loop-share-init g c = (
   c.requires,
   λ lanes fit have. (fit, have),
   ([], sym (append-nil c.args.shares.items), λ k d below. absurd (omega arith)),
+  each_refl StaysOrJoins joins_same c.args.senders.now.items,
 )
 
 pub place-requires : goal.place-requires
@@ -49,10 +50,15 @@ loop-share-preserved g c =
             (shares_stay c.loop-share.senders.items c.place.new.senders.items c.place.ensures.stays
             c.loop-share.invariant.3.0 c.loop-share.invariant.3.2),
       ),
+      each_after StaysOrJoins StaysOrJoins StaysOrJoins joins_on xs c.loop-share.senders.items
+          c.place.new.senders.items c.loop-share.invariant.4 c.place.ensures.takes,
     )
 
 pub returns-clause-fit : goal.returns-clause-fit
 returns-clause-fit g c = λ lanes fit have. (c.loop-share.invariant.2 lanes fit have).0
+
+pub returns-clause-takes : goal.returns-clause-takes
+returns-clause-takes g c = c.loop-share.invariant.4
 
 pub returns-clause-back : goal.returns-clause-back
 returns-clause-back g c =
@@ -60,3 +66,6 @@ returns-clause-back g c =
     let zero : length shares.items ≡ 0 =
     (let whole = shares.ok.0 in let none = c.in_default.ensures.cases.0 in omega arith) in
     rw (rw (nil_from_length shares.items zero) at c.loop-share.invariant.3.1) c.loop-share.invariant.3.2
+
+pub returns-clause-rejoins : goal.returns-clause-rejoins
+returns-clause-rejoins g c = c.loop-share.invariant.0

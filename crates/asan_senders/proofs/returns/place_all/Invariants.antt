@@ -2,7 +2,7 @@ use Rattle.std.proofs.Common.{◌≡◌, ◌++◌, List, vec_len, ℕ, Option}
 use Rattle.trace_lane.specs.Lanes.{Lane}
 use Rattle.asan_senders.specs.ReportLanes.{AllFit, SharesHave}
 use Rattle.asan_senders.specs.Shares.{AreBack, Share, SharesAt}
-use Rattle.asan_senders.specs.Senders.{Each, Rejoins}
+use Rattle.asan_senders.specs.Senders.{Each, Rejoins, StaysOrJoins}
 use Rattle.asan_senders.proofs.returns.place_all.Given as goal
 
 abbrev pub invariant-loop-share : goal.invariant-loop-share
@@ -14,6 +14,7 @@ invariant-loop-share g l =
     AllFit lanes l.senders.items × SharesHave lanes l.shares.items)
     × ((placed : List (Share g.row.A.Denot)) × (l.initial.shares.items ≡ l.shares.items ++ placed)
     × AreBack l.senders.items placed)
+    × Each StaysOrJoins l.initial.senders.items l.senders.items
 
 abbrev pub decreases-loop-share : goal.decreases-loop-share
 decreases-loop-share g l = vec_len l.shares

@@ -6,3 +6,6 @@ returns-clause-back g c = rw c.replace.ensures.after c.rejoin.ensures.back
 pub returns-clause-fits : goal.returns-clause-fits
 returns-clause-fits g c = λ lane fits keeps.
     rw c.replace.ensures.after (c.rejoin.ensures.fits lane (rw c.replace-was.ensures.value fits) keeps)
+
+pub returns-clause-takes : goal.returns-clause-takes
+returns-clause-takes g c = rw (c.replace.ensures.after, ← c.replace-was.ensures.value) c.rejoin.ensures.takes

@@ -1,6 +1,9 @@
-use Rattle.std.proofs.Common.{◌≡◌, take, arith, [], ◌++◌}
+use Rattle.std.proofs.Common.{◌≡◌, ◌≤◌, take, length, arith, [], ◌++◌, sym, subst}
+use Rattle.std.proofs.lemmas.Grind.{common_steps}
 use Rattle.std.proofs.lemmas.List.{take_all, append-nil}
 use Rattle.std.proofs.lemmas.Result.{err_from_is_err_and}
+use Rattle.asan_stream.specs.Outcomes.{reports_of}
+use Rattle.asan_stream.specs.Ranges.{most_reports}
 use Rattle.asan_senders.specs.Texts.{texts_from, outcome_text}
 use Rattle.asan_print.proofs.Prints.{prints_then, breaks_then, breaks_more, front_out, if_err}
 use Rattle.asan_senders.proofs.Prints.{texts_more, texts_rest}
@@ -56,3 +59,18 @@ returns-in_err-print_outcome-clause-short g c =
     c.loop-process.invariant.prints c.in_err-print_outcome.ensures.fault) in
     rw (p.1, p.2, rest.1) (front_out _ _ c.new-printer.result _ _ c.loop-process.invariant.empty
     c.loop-process.invariant.fresh off).1
+
+pub loop-process-init : goal.loop-process-init
+loop-process-init g c = grind (arith, common_steps)
+
+pub print_outcome-requires-clause-few : goal.print_outcome-requires-clause-few
+print_outcome-requires-clause-few g c =
+    let x = c.index-outcomes-process.result in
+    subst (λ o. length (reports_of o) ≤ most_reports) (sym c.index-outcomes-process.is)
+    (c.requires.reports c.loop-process.process x c.loop-process-test.true)
+
+pub returns-clause-ok : goal.returns-clause-ok
+returns-clause-ok g c = grind (arith, common_steps)
+
+pub returns-clause-short : goal.returns-clause-short
+returns-clause-short g c = grind (arith, common_steps)

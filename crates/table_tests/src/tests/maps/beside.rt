@@ -1,6 +1,7 @@
 //! A map beside a plain ordered map, to which the same drawn calls are made.
 
 use super::{WIDTHS, insert, live, remove};
+use crate::tests::{expect_at, expect_eq};
 use line_map::{LineMap, Slot};
 use std::alloc::{AllocError, Global};
 use std::collections::BTreeMap;
@@ -80,7 +81,7 @@ fn map_agrees_with_a_plain_one(rt: HostRuntime) -> Result<(), Fail> {
         both.call(at, size)?;
         most = both.plain.len().max(most);
         for near in [at, drawn_address(&mut draws), drawn_address(&mut draws)] {
-            assert!(rt; both.agree(near), "call {call}, address {near}");
+            expect_at(&rt, (call, near), both.agree(near));
         }
     }
     // The draws filled most of the lines that they reach, and emptied them again.
@@ -90,11 +91,11 @@ fn map_agrees_with_a_plain_one(rt: HostRuntime) -> Result<(), Fail> {
             Some((at, _)) => {
                 both.plain.remove(&at);
                 remove(&mut both.lines, at);
-                assert!(rt; both.agree(at) && both.agree(u64::MAX), "address {at}");
+                expect_at(&rt, at, both.agree(at) && both.agree(u64::MAX));
             }
             None => {}
         }
     }
-    assert_eq!(rt; both.lines.last_before(u64::MAX), None);
+    expect_eq(&rt, both.lines.last_before(u64::MAX), None);
     Ok(())
 }

@@ -2,6 +2,7 @@
 ghost use Rattle.std.specs.Prelude.{◌^◌, ◌≤◌};
 
 use super::{WIDTHS, insert, live, remove};
+use crate::tests::{expect_at, expect_eq, expect_eq_at};
 use line_map::LineMap;
 use refusing_allocator::RefusingAllocator;
 use std::alloc::{AllocError, Global};
@@ -85,9 +86,9 @@ fn expect(
                 asked(heap, &mut map, at)?;
             }
             Step::Asks(at, wanted) => {
-                assert_eq!(rt; asked(heap, &mut map, at)?, wanted, "{step:?}");
+                expect_eq_at(rt, step, asked(heap, &mut map, at)?, wanted);
             }
-            Step::Refused(at) => assert!(rt; asked(heap, &mut map, at).is_err(), "{step:?}"),
+            Step::Refused(at) => expect_at(rt, step, asked(heap, &mut map, at).is_err()),
             Step::Removed(at) => remove(&mut map, at),
         }
     }
@@ -108,7 +109,7 @@ fn memory_of_a_lone_slot(rt: HostRuntime) -> Result<(), Fail> {
             expect_granted(&rt, rt.alloc(), &steps)?;
         }
     }
-    assert_eq!(rt; chain(LEVELS), 208 + LEVELS * HANDLE);
+    expect_eq(&rt, chain(LEVELS), 208 + LEVELS * HANDLE);
     Ok(())
 }
 
@@ -153,9 +154,10 @@ fn memory_of_a_slot_that_makes_a_branch_grow(rt: HostRuntime) -> Result<(), Fail
         let steps = [Step::Inserted(first), Step::Asks(second, wanted)];
         expect_granted(&rt, rt.alloc(), &steps)?;
     }
-    assert_eq!(rt;
+    expect_eq(
+        &rt,
         NODES * BRANCH + chain(LEVELS - 1),
-        4_272 + (NODES + LEVELS - 1) * HANDLE
+        4_272 + (NODES + LEVELS - 1) * HANDLE,
     );
     Ok(())
 }

@@ -1,5 +1,6 @@
 //! A growth that is refused.
 use super::{WIDTHS, insert, live, remove};
+use crate::tests::expect_at;
 use line_map::{LineMap, Slot};
 use refusing_allocator::RefusingAllocator;
 use std::alloc::{AllocError, Allocator, Global};
@@ -100,12 +101,12 @@ fn each_growth_of_a_map_refused_in_turn(rt: HostRuntime) -> Result<(), Fail> {
         let mut refusals = 0;
         for turn in 1..200u64 {
             let outcome = calls_refused_at(rt.alloc(), turn, is_upward)?;
-            assert!(rt; outcome.right, "turn {turn}");
+            expect_at(&rt, turn, outcome.right);
             if outcome.refused {
                 refusals = turn;
             }
         }
-        assert!(rt; refusals > 40 && refusals < 199, "{refusals}");
+        expect_at(&rt, refusals, refusals > 40 && refusals < 199);
     }
     Ok(())
 }

@@ -4,6 +4,7 @@
 ghost use Rattle.std.specs.Prelude.{◌≡◌, ◌+◌, ◌≤◌, true};
 ghost use Rattle.asan_units.specs.Units.{address_end};
 
+use crate::tests::expect_eq_at;
 use asan_units::{ADDRESS_END, GRANULE, REDZONE, is_width, round_up};
 use shadow_map::{Cause, NoMemory, Shadow};
 use std::alloc::Allocator;
@@ -140,6 +141,6 @@ fn ask(rt: &impl Abort, shadow: &Shadow, question: Question) -> Answer {
 /// Asks a shadow each question, and compares what it answers.
 pub fn expect(rt: &impl Abort, shadow: &Shadow, cases: &[Case]) {
     for (question, answer) in cases {
-        assert_eq!(rt; ask(rt, shadow, *question), *answer, "{question:?}");
+        expect_eq_at(rt, question, ask(rt, shadow, *question), *answer);
     }
 }

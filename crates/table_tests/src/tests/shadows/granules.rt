@@ -3,6 +3,7 @@ ghost use Rattle.std.specs.Prelude.{◌≤◌};
 ghost use Rattle.shadow_map.specs.States.{IsCode};
 
 use super::{FREED, GLOBAL_REDZONE, STACK_REDZONE, USER_POISON, values};
+use crate::tests::expect_eq_at;
 use shadow_map::{HEAP_REDZONE, NoMemory, Shadow};
 use std::alloc::Global;
 use std::test::Fail;
@@ -110,11 +111,7 @@ fn wrong_places(alloc: Global, byte: u8) -> Result<Option<(u8, u8)>, NoMemory> {
 #[test]
 fn one_granule(rt: HostRuntime) -> Result<(), Fail> {
     for byte in SHADOWS {
-        assert_eq!(rt;
-            wrong_places(rt.alloc(), byte)?,
-            None,
-            "in a granule of {byte}"
-        );
+        expect_eq_at(&rt, byte, wrong_places(rt.alloc(), byte)?, None);
     }
     Ok(())
 }
@@ -193,10 +190,11 @@ fn ragged_regions(rt: HostRuntime) -> Result<(), Fail> {
     for to in 0..=BYTES {
         for from in 0..=to {
             change_both(&mut shadow, &mut bytes, from, to)?;
-            assert_eq!(rt;
+            expect_eq_at(
+                &rt,
+                (from, to),
                 values(&shadow, 0x400),
                 shadow_bytes(&bytes),
-                "{from} to {to}"
             );
         }
     }

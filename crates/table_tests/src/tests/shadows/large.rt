@@ -2,6 +2,7 @@
 ghost use Rattle.std.specs.Prelude.{◌+◌, ◌^◌, ◌≤◌};
 
 use super::model::Both;
+use crate::tests::expect_eq;
 use shadow_map::NoMemory;
 use std::alloc::Global;
 use std::test::Fail;
@@ -56,7 +57,8 @@ fn first_wrong(alloc: Global, end: u64) -> Result<Option<u64>, NoMemory>
 #[test]
 fn largest_regions_at_ends_of_leaves_and_branches(rt: HostRuntime) -> Result<(), Fail> {
     // An end of an eighth of a leaf, of a leaf, and of a branch of each level, of no level above.
-    assert_eq!(rt;
+    expect_eq(
+        &rt,
         [
             first_wrong(rt.alloc(), (1 << 43) + (1 << 9))?,
             first_wrong(rt.alloc(), (1 << 43) + (1 << 12))?,
@@ -65,7 +67,7 @@ fn largest_regions_at_ends_of_leaves_and_branches(rt: HostRuntime) -> Result<(),
             first_wrong(rt.alloc(), (1 << 43) + (1 << 33))?,
             first_wrong(rt.alloc(), (1 << 43) + (1 << 40))?,
         ],
-        [None; 6]
+        [None; 6],
     );
     Ok(())
 }

@@ -2,6 +2,7 @@
 use super::calls::{Mark, bad_byte, expect, first_poisoned, mark_each};
 use super::model::Both;
 use super::{FREED, USER_POISON, values};
+use crate::tests::{expect_eq, expect_eq_at};
 use shadow_map::{HEAP_REDZONE, NoMemory, Shadow};
 use std::alloc::Global;
 use std::test::Fail;
@@ -40,7 +41,7 @@ fn first_wrong(alloc: Global, low: u64) -> Result<Option<u64>, NoMemory> {
 fn ends_of_leaves_and_branches(rt: HostRuntime) -> Result<(), Fail> {
     for width in WIDTHS {
         let wrong = first_wrong(rt.alloc(), width.max(1024) - 1024)?;
-        assert_eq!(rt; wrong, None, "width {width}");
+        expect_eq_at(&rt, width, wrong, None);
     }
     Ok(())
 }
@@ -71,7 +72,7 @@ fn first_wrong_of_whole(alloc: Global, low: u64, high: u64) -> Result<Option<u64
 fn whole_leaves_and_branches(rt: HostRuntime) -> Result<(), Fail> {
     for width in [1 << 12, 1 << 19u64] {
         let wrong = first_wrong_of_whole(rt.alloc(), width - 1, width * 2 - 1)?;
-        assert_eq!(rt; wrong, None, "width {width}");
+        expect_eq_at(&rt, width, wrong, None);
     }
     Ok(())
 }
@@ -82,7 +83,7 @@ fn widest_poison(rt: HostRuntime) -> Result<(), Fail> {
     let mut shadow = Shadow::new(rt.alloc());
     let poison = Mark::Poison(0x4000_0000, 1 << 32, USER_POISON);
     mark_each(&rt, &mut shadow, &[poison])?;
-    assert_eq!(rt; values(&shadow, 0x27ff_ffff), [0xf7, 0]);
+    expect_eq(&rt, values(&shadow, 0x27ff_ffff), [0xf7, 0]);
     let cases = [
         bad_byte(0x1_3fff_ffff, 1, Some(0x1_3fff_ffff)),
         bad_byte(0x1_4000_0000, 1, None),
@@ -108,12 +109,12 @@ fn largest_block(rt: HostRuntime) -> Result<(), Fail> {
     ];
     expect(&rt, &shadow, &cases);
     mark_each(&rt, &mut shadow, &[Mark::Fill(at, end, FREED)])?;
-    assert_eq!(rt; values(&shadow, at / 8 - 1), [HEAP_REDZONE, FREED]);
-    assert_eq!(rt; values(&shadow, end / 8 - 1), [FREED, HEAP_REDZONE]);
+    expect_eq(&rt, values(&shadow, at / 8 - 1), [HEAP_REDZONE, FREED]);
+    expect_eq(&rt, values(&shadow, end / 8 - 1), [FREED, HEAP_REDZONE]);
     let released = Mark::Fill(at - 32, end + 32, HEAP_REDZONE);
     mark_each(&rt, &mut shadow, &[released])?;
-    assert_eq!(rt; values(&shadow, at / 8 - 5), [0, HEAP_REDZONE]);
-    assert_eq!(rt; values(&shadow, end / 8 + 3), [HEAP_REDZONE, 0]);
+    expect_eq(&rt, values(&shadow, at / 8 - 5), [0, HEAP_REDZONE]);
+    expect_eq(&rt, values(&shadow, end / 8 + 3), [HEAP_REDZONE, 0]);
     Ok(())
 }
 

@@ -2,6 +2,7 @@
 
 use super::calls::{Mark, mark_each};
 use super::{FREED, USER_POISON};
+use crate::tests::{expect_at, expect_eq_at};
 use refusing_allocator::RefusingAllocator;
 use shadow_map::{NoMemory, Shadow};
 use std::alloc::{Allocator, Global};
@@ -170,15 +171,16 @@ fn memory_of_a_record(rt: HostRuntime) -> Result<(), Fail> {
     for (record, (branches, lowest, leaves)) in RECORDS.iter().enumerate() {
         let (branches, lowest, leaves) = (*branches as u64, *lowest as u64, *leaves as u64);
         let bytes = branches * BRANCH + lowest * LOWEST_BRANCH + leaves * LEAF;
-        assert_eq!(rt;
+        expect_eq_at(
+            &rt,
+            record,
             asked(&rt, rt.alloc(), record)?,
             (
                 branches + lowest + leaves,
-                bytes + (branches + lowest) * HANDLES
+                bytes + (branches + lowest) * HANDLES,
             ),
-            "record {record}"
         );
-        assert!(rt; bytes <= 64 * 1024, "record {record}");
+        expect_at(&rt, record, bytes <= 64 * 1024);
     }
     Ok(())
 }
@@ -214,11 +216,7 @@ fn memory_of_what_was_filled_whole_is_given_back(rt: HostRuntime) -> Result<(), 
     // A part of a leaf stays in its bytes; a leaf gives them back; a branch gives back its nodes
     // too, and so does one of the second level.
     for (size, requests) in [(0x1000, 0), (0x8000, 1), (0x40_0000, 2), (0x2000_0000, 3)] {
-        assert_eq!(rt;
-            asked_after(&rt, rt.alloc(), size)?,
-            requests,
-            "{size} bytes"
-        );
+        expect_eq_at(&rt, size, asked_after(&rt, rt.alloc(), size)?, requests);
     }
     Ok(())
 }

@@ -1,6 +1,7 @@
 //! A growth that is refused.
 use super::calls::Mark;
 use super::{FREED, USER_POISON, values};
+use crate::tests::{expect_at, expect_eq};
 use refusing_allocator::RefusingAllocator;
 use shadow_map::{HEAP_REDZONE, NoMemory, Shadow};
 use std::alloc::{Allocator, Global};
@@ -157,7 +158,7 @@ fn calls_refused_at(
 fn growths(rt: &impl Abort, alloc: Global, calls: Calls) -> Result<u64, Fail> {
     for turn in 1..100u64 {
         let outcome = calls_refused_at(rt, alloc, calls, turn)?;
-        assert!(rt; outcome.right, "turn {turn}");
+        expect_at(rt, turn, outcome.right);
         if !outcome.refused {
             return Ok(turn - 1);
         }
@@ -168,8 +169,8 @@ fn growths(rt: &impl Abort, alloc: Global, calls: Calls) -> Result<u64, Fail> {
 #[test]
 fn each_growth_of_a_shadow_refused_in_turn(rt: HostRuntime) -> Result<(), Fail> {
     // From turn 7 on, the left redzone is marked, and the block after it isn't.
-    assert_eq!(rt; growths(&rt, rt.alloc(), Calls::Small)?, 11);
+    expect_eq(&rt, growths(&rt, rt.alloc(), Calls::Small)?, 11);
     // As many for the block, which has nothing around it, and six for its free and its release.
-    assert_eq!(rt; growths(&rt, rt.alloc(), Calls::Large)?, 23);
+    expect_eq(&rt, growths(&rt, rt.alloc(), Calls::Large)?, 23);
     Ok(())
 }

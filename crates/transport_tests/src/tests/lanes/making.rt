@@ -1,6 +1,7 @@
 //! Tests of the making of lanes.
 
 use super::{Ends, Step, ends_of, expect_steps, put_some, settle, take};
+use crate::tests::{expect_at, expect_eq, expect_eq_at};
 use refusing_allocator::RefusingAllocator;
 use std::alloc::{Allocator, Global};
 use std::process::Abort;
@@ -21,7 +22,7 @@ fn capacities(rt: HostRuntime) {
         (65_537, Some(LaneError::Capacity)),
         (usize::MAX, Some(LaneError::Capacity)),
     ] {
-        assert_eq!(rt; refusal_of(rt.alloc(), capacity), refused, "{capacity}");
+        expect_eq_at(&rt, capacity, refusal_of(rt.alloc(), capacity), refused);
     }
 }
 
@@ -29,7 +30,7 @@ fn capacities(rt: HostRuntime) {
 fn the_buffer_of_a_long_lane_is_short(rt: HostRuntime) {
     // The ring takes 262,144 bytes, and a buffer as long would take as many.
     let heap = RefusingAllocator::with_bound(rt.alloc(), 300_000);
-    assert_eq!(rt; refusal_of(&heap, 65_536), None);
+    expect_eq(&rt, refusal_of(&heap, 65_536), None);
 }
 
 #[test]
@@ -39,7 +40,7 @@ fn texts_of_errors(rt: HostRuntime) -> Result<(), Fail> {
         (LaneError::NoMemory, "there was no memory for a lane"),
     ] {
         let text = format!(in rt.alloc(); "{error}")?;
-        assert_eq!(rt; text.as_str(), wanted);
+        expect_eq(&rt, text.as_str(), wanted);
     }
     Ok(())
 }
@@ -54,7 +55,7 @@ fn is_refused_at(rt: &impl Abort, alloc: Global, capacity: usize, turn: u64) -> 
     } else {
         None
     };
-    assert_eq!(rt; refusal, wanted, "{capacity}, turn {turn}");
+    expect_eq_at(rt, (capacity, turn), refusal, wanted);
     heap.has_refused()
 }
 
@@ -73,15 +74,15 @@ fn each_allocation_refused_in_turn(rt: HostRuntime) {
     for capacity in [1, 64, 65_536] {
         let refusals = count_refusals(&rt, rt.alloc(), capacity);
         // the ring and the buffer, at least, and never all ten
-        assert!(rt; (2..10).contains(&refusals), "{capacity}");
+        expect_at(&rt, capacity, (2..10).contains(&refusals));
     }
 }
 
 #[test]
 fn refused_memory_is_not_asked_for_a_wrong_capacity(rt: HostRuntime) {
     let heap = RefusingAllocator::at_turn(rt.alloc(), 1);
-    assert_eq!(rt; refusal_of(&heap, 0), Some(LaneError::Capacity));
-    assert_eq!(rt; heap.requests_made(), 0);
+    expect_eq(&rt, refusal_of(&heap, 0), Some(LaneError::Capacity));
+    expect_eq(&rt, heap.requests_made(), 0);
 }
 
 /// How many requests were made of an allocator, and for how many bytes.
@@ -118,6 +119,6 @@ fn only_the_making_takes_memory(rt: HostRuntime) -> Result<(), Fail> {
     let mut ends = ends_of(&heap, 200)?;
     let asked = asked_of(&heap);
     move_sevens(&rt, &mut ends);
-    assert_eq!(rt; asked_of(&heap), asked);
+    expect_eq(&rt, asked_of(&heap), asked);
     Ok(())
 }

@@ -4,6 +4,7 @@ use super::{
     Ends, Step, ends_of, expect_of_new, expect_steps, finish, put, put_some, settle, take,
     take_some,
 };
+use crate::tests::{expect_at, expect_eq, expect_eq_at};
 use std::alloc::Global;
 use std::ops::Range;
 use std::process::Abort;
@@ -21,22 +22,22 @@ fn numbers() -> [u32; 1_000] {
 /// Puts these numbers, in order.
 fn put_numbers(rt: &impl Abort, ends: &mut Ends<u32>, numbers: Range<u32>) {
     for number in numbers {
-        assert_eq!(rt; put(rt, ends, number), Ok(()));
+        expect_eq(rt, put(rt, ends, number), Ok(()));
     }
 }
 
 /// Takes these numbers, in order.
 fn take_numbers(rt: &impl Abort, ends: &mut Ends<u32>, numbers: Range<u32>) {
     for number in numbers {
-        assert_eq!(rt; take(rt, ends), Some(number));
+        expect_eq(rt, take(rt, ends), Some(number));
     }
 }
 
 /// Takes these numbers together, into this room.
 fn take_into(rt: &impl Abort, ends: &mut Ends<u32>, room: &mut [u32], numbers: Range<u32>) {
-    assert_eq!(rt; take_some(rt, ends, room), numbers.len());
+    expect_eq(rt, take_some(rt, ends, room), numbers.len());
     for (place, number) in numbers.enumerate() {
-        assert_eq!(rt; room.get(place), Some(&number));
+        expect_eq(rt, room.get(place), Some(&number));
     }
 }
 
@@ -71,11 +72,11 @@ fn filled(
 fn expect_more(rt: &impl Abort, ends: &mut Ends<u32>, capacity: usize, items: &[u32]) {
     let more = put_some(rt, ends, items.get(capacity..).unwrap_or(&[]));
     // The take made room for one item at least, and for no more than the ring holds.
-    assert!(rt; (1..=capacity).contains(&more), "{capacity}");
+    expect_at(rt, capacity, (1..=capacity).contains(&more));
     for item in items.iter().take(capacity.saturating_add(more)).skip(1) {
-        assert_eq!(rt; take(rt, ends), Some(*item), "{capacity}");
+        expect_eq_at(rt, capacity, take(rt, ends), Some(*item));
     }
-    assert_eq!(rt; take(rt, ends), None, "{capacity}");
+    expect_eq_at(rt, capacity, take(rt, ends), None);
 }
 
 #[test]
@@ -144,7 +145,7 @@ fn take_rest(rt: &impl Abort, ends: &mut Ends<u32>, taken: &mut Vec<u32>) -> Res
     for _ in 0..settle(rt, ends) {
         taken.push(take(rt, ends).ok_or("an item is left")?)?;
     }
-    assert_eq!(rt; take(rt, ends), None);
+    expect_eq(rt, take(rt, ends), None);
     Ok(())
 }
 
@@ -166,7 +167,7 @@ fn what_was_taken_is_what_was_put(rt: HostRuntime) -> Result<(), Fail> {
     let items = numbers();
     for capacity in [1, 2, 64, 65_536] {
         let taken = taken_of(&rt, rt.alloc(), capacity, &items)?;
-        assert!(rt; taken.as_slice() == items.as_slice(), "{capacity}");
+        expect_at(&rt, capacity, taken.as_slice() == items.as_slice());
     }
     Ok(())
 }
@@ -201,7 +202,7 @@ fn expect_some(rt: &impl Abort, alloc: Global, capacity: u32) -> Result<(), Fail
     let mut ends = ends_of(alloc, capacity as usize)?;
     take_together(rt, &mut ends, 0..0);
     put_numbers(rt, &mut ends, 0..capacity);
-    assert_eq!(rt; take_some(rt, &mut ends, &mut []), 0, "{capacity}");
+    expect_eq_at(rt, capacity, take_some(rt, &mut ends, &mut []), 0);
     take_into(rt, &mut ends, &mut [0; 30], 0..capacity.min(30));
     take_together(rt, &mut ends, capacity.min(30)..capacity.min(130));
     Ok(())
@@ -227,7 +228,7 @@ fn what_waits_is_taken_first(rt: HostRuntime) -> Result<(), Fail> {
     take_together(&rt, &mut ends, 66..166);
     take_together(&rt, &mut ends, 166..200);
     take_together(&rt, &mut ends, 200..200);
-    assert_eq!(rt; take(&rt, &mut ends), None);
+    expect_eq(&rt, take(&rt, &mut ends), None);
     Ok(())
 }
 

@@ -1,5 +1,6 @@
 //! A test of a lane between two threads.
 
+use crate::tests::{expect_at, expect_eq};
 use std::alloc::{AllocError, Global};
 use std::process::Abort;
 use std::sync::Wait;
@@ -53,14 +54,14 @@ fn take_waiting(rt: &impl Wait, out: &mut LaneOut<u32>) -> u32 {
 /// Takes all numbers in order, once they come.
 fn expect_numbers<R: Wait + Abort>(rt: &R, out: &mut LaneOut<u32>) {
     for number in 0..COUNT {
-        assert_eq!(rt; take_waiting(rt, out), number);
+        expect_eq(rt, take_waiting(rt, out), number);
     }
 }
 
 /// Asserts that the putting end is gone and that no item is left.
 fn expect_left(rt: &impl Abort, out: &mut LaneOut<u32>) {
     assert!(rt; out.is_left());
-    assert_eq!(rt; out.take(), None);
+    expect_eq(rt, out.take(), None);
 }
 
 #[test]
@@ -72,7 +73,7 @@ fn numbers_come_in_order_to_another_thread(rt: HostRuntime) -> Result<(), Fail> 
             .ok()
             .expect(&rt, "a thread starts");
         expect_numbers(&rt, &mut out);
-        assert!(rt; producer.join(&rt), "{capacity}");
+        expect_at(&rt, capacity, producer.join(&rt));
         expect_left(&rt, &mut out);
     }
     Ok(())

@@ -5,5 +5,5 @@ pub returns-clause-collected : goal.returns-clause-collected
 returns-clause-collected g c =
     let came = c.in_ok-arrivals.ensures.came in
     collected_by_answers g.D.Feed.Feed.seen c.args.self.now.options (g.D.Door.seen c.args.door.now)
-    (g.D.Door.seen c.let_in.new.door) c.in_ok-arrivals.arrivals.items c.check_openly.result.items
-    came.arrived came.all came.refused came.count came.few c.check_openly.ensures
+    (g.D.Door.seen c.let_in.new.door) c.in_ok-arrivals.arrivals.items c.check_openly.result.0.items
+    came.arrived came.all came.refused came.count came.few c.check_openly.ensures.answers came.fresh

@@ -1,4 +1,5 @@
-use Rattle.std.proofs.Common.{arith, rules}
+use Rattle.std.proofs.Common.{◌<◌, None, arith, length, rules, slice_index_or, true}
+use Rattle.asan_senders.proofs.Causes.{causes, port_kept}
 use Rattle.asan_senders.specs.Senders.{Becomes}
 use Rattle.asan_senders.proofs.Rights.{pairs_joined}
 use Rattle.asan_senders.proofs.Dealing.{shares_back, shares_kept}
@@ -16,6 +17,49 @@ returns-clause-answers g c =
     c.place_all.new.senders.items c.close_all.result.outcomes.items
     c.open_all-opened.ensures.came c.run_printing-back.ensures.senders c.place_all.ensures.rejoins
     c.close_all.ensures.outcomes
+
+pub returns-clause-causes : goal.returns-clause-causes
+returns-clause-causes g c =
+    let opened = c.open_all-opened.result in
+    let back = c.run_printing-back.result in
+    let came = c.open_all-opened.ensures in
+    let some : 0 < length opened.shares.items =
+    (let first = c.requires.room.seats.some_shares in let same = came.same in search rules) in
+    causes g.F.Feed.seen true c.args.self.now.options.limit (λ i. slice_index_or back.1.ports.items i None)
+    opened.senders.items back.0.senders.items c.place_all.new.senders.items c.close_all.result.outcomes.items
+    opened.shares.items back.0.shares.items c.missing_among-missing.result some
+    c.run_printing-back.ensures.shares.same_length
+    (λ i d below. port_kept true (slice_index_or opened.senders.items i d) (slice_index_or opened.ports.items i None)
+    (slice_index_or back.1.ports.items i None)
+    (c.run_printing-back.ensures.printed.lanes.each i None (let wide = came.ports in omega arith))
+    (came.live.each i d None below))
+    came.seated c.run_printing-back.ensures.senders c.run_printing-back.ensures.worked c.place_all.ensures.takes
+    c.place_all.ensures.back c.close_all.ensures.outcomes.same_length c.close_all.ensures.far.each
+    (rw c.deref.ensures.value at c.missing_among-missing.ensures)
+
+pub missing_among-missing-requires : goal.missing_among-missing-requires
+missing_among-missing-requires g c =
+    let a = c.open_all-opened.ensures.came.same_length in
+    let few = c.requires.few in
+    let b = c.run_printing-back.ensures.senders.same_length in
+    let d = c.place_all.ensures.rejoins.same_length in
+    rw c.deref.ensures.value (omega arith)
+
+pub close_all-requires-clause-few : goal.close_all-requires-clause-few
+close_all-requires-clause-few g c =
+    let a = c.open_all-opened.ensures.came.same_length in
+    let few = c.requires.few in
+    let b = c.run_printing-back.ensures.senders.same_length in
+    let d = c.place_all.ensures.rejoins.same_length in
+    omega arith
+
+pub close_all-requires-clause-ports : goal.close_all-requires-clause-ports
+close_all-requires-clause-ports g c =
+    let a = c.open_all-opened.ensures.ports in
+    let b = c.run_printing-back.ensures.senders.same_length in
+    let d = c.place_all.ensures.rejoins.same_length in
+    let e = c.run_printing-back.ensures.printed.lanes.same_length in
+    omega arith
 
 pub place_all-requires : goal.place_all-requires
 place_all-requires g c =
@@ -67,3 +111,15 @@ returns-clause-printed g c =
     c.close_all.ensures.printed start (c.run_printing-back.ensures.printed.lines start
     (follows_start start c.new-printer.result c.open_all-opened.result.ports.items (c.new-printer.ensures start)
     c.open_all-opened.ensures.untaken))
+
+pub open_all-opened-requires-clause-arrived : goal.open_all-opened-requires-clause-arrived
+open_all-opened-requires-clause-arrived g c = c.requires.arrived
+
+pub open_all-opened-requires-clause-few : goal.open_all-opened-requires-clause-few
+open_all-opened-requires-clause-few g c = c.requires.few
+
+pub open_all-opened-requires-clause-empty : goal.open_all-opened-requires-clause-empty
+open_all-opened-requires-clause-empty g c = c.requires.room.seats
+
+pub close_all-requires-clause-empty : goal.close_all-requires-clause-empty
+close_all-requires-clause-empty g c = c.requires.room.no_outcomes

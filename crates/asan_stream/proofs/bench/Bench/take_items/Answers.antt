@@ -2,7 +2,7 @@ use Rattle.std.proofs.Common.{◌≡◌, ◌≤◌, ◌++◌, length, take, sym,
 use Rattle.std.specs.Prelude.{◌||◌}
 use Rattle.std.proofs.lemmas.List.{take-append-le, length-take-le}
 use Rattle.std.proofs.lemmas.List.Folds.{list_any-append}
-use Rattle.trace_lane.specs.Lanes.{taken_list}
+use Rattle.trace_lane.specs.Lanes.{taken_list, waiting}
 use Rattle.asan_stream.specs.Items.{events_of, has_end, is_end}
 use Rattle.asan_stream.specs.Checking.{StandsAfter}
 use Rattle.asan_stream.proofs.Reporting.{holds_more}
@@ -53,3 +53,21 @@ invariant_of-self-2 g c =
 pub returns-clause-found : goal.returns-clause-found
 returns-clause-found g c = let old = c.args.self.now in
     front_batch old.checker c.check_each.new.checker (taken_list old.lane) c.check_each.ensures.found old.stands
+
+pub returns-clause-takes : goal.returns-clause-takes
+returns-clause-takes g c =
+    let count = c.take_some-count.result in
+    let room = c.take_some-count.new.room in
+    let fits : count ≤ length room = (let most = c.take_some-count.ensures.most in
+    let same = c.take_some-count.ensures.room in omega arith) in
+    c.take_some-count.ensures.some
+    ∙ ap (λ more. taken_list c.args.self.now.lane ++ more) (sym (take-append-le count room _ fits))
+
+pub returns-clause-waits : goal.returns-clause-waits
+returns-clause-waits g c = λ some.
+    let count = c.take_some-count.result in
+    let room = c.take_some-count.new.room in
+    let fits : count ≤ length room = (let most = c.take_some-count.ensures.most in
+    let same = c.take_some-count.ensures.room in omega arith) in
+    c.take_some-count.ensures.known some
+    ∙ ap (λ more. more ++ waiting c.take_some-count.new.self) (sym (take-append-le count room _ fits))

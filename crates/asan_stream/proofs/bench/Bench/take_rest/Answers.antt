@@ -1,4 +1,5 @@
 use Rattle.std.proofs.Common.{◌≡◌, ◌<◌, ◌≤◌, [], length, length-append, take, refl, ap, ◌∙◌, inl, inr, arith, rules}
+use Rattle.std.proofs.lemmas.Grind.{common_steps}
 use Rattle.std.proofs.lemmas.List.{length-take-le, nil_from_length}
 use Rattle.trace_lane.specs.Lanes.{taken_list, waiting, end_list}
 use Rattle.asan_stream.specs.Ranges.{most_events}
@@ -51,3 +52,6 @@ returns-else-self-lt-MAX_EVENTS g c =
     let all : most_events ≤ b.events = search rules in
     checked_first c.args.self.now.checker b.checker b.events (taken_list b.lane) (waiting b.lane) (end_list c.args.end)
     inv.whole (inr all) b.stands b.counted b.few inv.bound inv.found
+
+pub overflow_sub-left : goal.overflow_sub-left
+overflow_sub-left g c = grind (arith, common_steps)

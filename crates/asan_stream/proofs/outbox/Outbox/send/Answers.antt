@@ -1,5 +1,6 @@
 use Rattle.std.proofs.Common.{◌≡◌, ◌++◌, take, drop, ap, sym, ◌∙◌, arith}
 use Rattle.std.proofs.Math.Seq.{take-add}
+use Rattle.std.proofs.lemmas.Grind.{common_steps}
 use Rattle.std.proofs.lemmas.List.{take_rest, length-drop}
 use Rattle.trace_lane.specs.Lanes.{put_list}
 use Rattle.asan_stream.proofs.outbox.Outbox.send.Goals as goal
@@ -19,3 +20,9 @@ returns-clause-holds g c =
       first = c.is_left.ensures.put ∙ after ∙ ap (λ xs. xs ++ take some (drop put reports)) before
           ∙ sym (take-add put some reports);
     }
+
+pub returns-clause-all : goal.returns-clause-all
+returns-clause-all g c = grind (arith, common_steps)
+
+pub returns-clause-stays : goal.returns-clause-stays
+returns-clause-stays g c = grind (arith, common_steps)

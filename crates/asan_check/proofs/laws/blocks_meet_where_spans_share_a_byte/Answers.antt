@@ -1,5 +1,0 @@
-use Rattle.asan_check.proofs.Order.{meet_where_shared}
-use Rattle.asan_check.proofs.laws.blocks_meet_where_spans_share_a_byte.Goals as goal
-
-pub returns : goal.returns
-returns c = meet_where_shared

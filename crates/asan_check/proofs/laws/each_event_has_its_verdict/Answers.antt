@@ -1,5 +1,0 @@
-use Rattle.asan_check.proofs.Order.{each_in_place}
-use Rattle.asan_check.proofs.laws.each_event_has_its_verdict.Goals as goal
-
-pub returns : goal.returns
-returns c = each_in_place

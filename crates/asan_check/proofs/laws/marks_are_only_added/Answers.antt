@@ -1,5 +1,0 @@
-use Rattle.asan_check.proofs.Poisons as poisons
-use Rattle.asan_check.proofs.laws.marks_are_only_added.Goals as goal
-
-pub returns : goal.returns
-returns c = poisons.only_added

@@ -1,5 +1,0 @@
-use Rattle.asan_check.proofs.Accesses as accesses
-use Rattle.asan_check.proofs.laws.use_after_free_is_reported.Goals as goal
-
-pub returns : goal.returns
-returns c = accesses.late
