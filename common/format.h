@@ -73,7 +73,7 @@ static inline uint64_t span_bytes(uint64_t size)
     return (size + GRANULE - 1) / GRANULE * GRANULE + 2 * REDZONE;
 }
 
-/* What stands beside a trace: the memory that a process shares with a hub, or the file TRACE.where. docs/FORMAT.md says
+/* What stands beside a trace: the memory that a process shares with a hub, or the file TRACE.where. README.md says
    it in words. */
 #define SIDE_HEADER "ASWH\5\0\0\0"
 /* The byte of it with the version. A reader takes these versions: the oldest has no findings, and zeros for them. */
@@ -176,7 +176,7 @@ struct side_build {
 struct side_progress {
     uint64_t needed;   /* one more than the number of the last event that may be bad; 0: it is not noted */
     uint64_t segment;  /* how many segments of this process came before; these have the same process and start */
-    uint64_t restated; /* how many events at its beginning restate what stood at the end of the segment before */
+    uint64_t restated; /* how many events state what stood before: at its beginning, or in lean recording at a fault */
     uint64_t noted;    /* how many bad accesses and frees are being noted just now, which have no event yet */
     uint64_t forks;    /* how many children it has made by fork in this segment: each has a stream or leaves word */
     uint64_t of_parent, of_parent_started; /* the process and the start of whoever has forked it; 0: nobody recorded */
@@ -188,6 +188,7 @@ struct side_progress {
     uint64_t findings_lost; /* and how often there was no room for one */
     uint64_t leaks; /* how many of the findings are leaks */
     uint64_t leaks_missed; /* 1: it was to look for leaks, and could not the last time */
+    uint64_t left_good; /* how many good mallocs, frees and poisons of its blocks it has left out */
 };
 
 /* What its environment has set for it, beside the quarantine. */

@@ -115,7 +115,7 @@ def function_of(program: Program) -> str:
 def filled(text: str, program: Program, **values: str) -> List[str]:
     """Returns the lines of a text, with what stands for its names in capitals."""
     for name, value in {"NAME": function_of(program)[1:], "PROGRAM": program.name, **values}.items():
-        text = re.sub(rf"\b{name}\b|(?<=_){name}(?=_|\b)", lambda _, value=value: value, text)
+        text = value.join(re.split(rf"\b{name}\b|(?<=_){name}(?=_|\b)", text))
     return text.split("\n")
 
 
@@ -214,8 +214,8 @@ def bash_of(program: Program, commands: List[Program]) -> List[str]:
                         COUNT=str(len(program.before_command)))
     if commands:
         local += " command='' at"
-        words = [it.name.split()[1] for it in commands]
-        lines += filled(BASH_FIND_COMMAND, program, COMMANDS=" | ".join(words))
+        names = [it.name.split()[1] for it in commands]
+        lines += filled(BASH_FIND_COMMAND, program, COMMANDS=" | ".join(names))
         options += [it for command in commands for it in command.shown]
     lines += ["    if [[ $before == = ]]; then", "        before=${COMP_WORDS[COMP_CWORD - 2]}",
               "    elif [[ $word == = ]]; then", "        word=", "    fi"]
@@ -224,7 +224,7 @@ def bash_of(program: Program, commands: List[Program]) -> List[str]:
         lines.append("    case $command in")
         for command in commands:
             lines += [f"    {command.name.split()[1]})", *(f"        {it}" for it in bash_words(command)), "        ;;"]
-        lines += [f"    *) {it} ;;" for it in bash_of_value("words", [*words, *names_of(program.shown)])]
+        lines += [f"    *) {it} ;;" for it in bash_of_value("words", [*names, *names_of(program.shown)])]
         lines.append("    esac")
     else:
         lines += [f"    {it}" for it in bash_words(program)]
@@ -290,8 +290,8 @@ def zsh_of(program: Program, commands: List[Program]) -> List[str]:
     lines += ["local context state line", *" \\\n    ".join(["_arguments -S", *options]).split("\n"),
               "[[ $state == rest ]] && case $line[1] in"]
     for it in commands:
-        own = " \\\n        ".join(["_arguments -S", *zsh_options(it), *zsh_operands(it)])
-        lines += [*f"{it.name.split()[1]})\n    {own}\n    ;;".split("\n")]
+        asked = " \\\n        ".join(["_arguments -S", *zsh_options(it), *zsh_operands(it)])
+        lines += [*f"{it.name.split()[1]})\n    {asked}\n    ;;".split("\n")]
     return [*lines, "esac"]
 
 

@@ -3,7 +3,7 @@
 from __future__ import annotations
 
 import re
-from typing import Iterator, List
+from typing import Iterator, List, Set
 
 from table import Option, Program, Wrong
 
@@ -44,8 +44,9 @@ def marked_up(text: str, is_mdoc: bool) -> Iterator[str]:
         match = MARKED.search(text, at)
         if not match:
             break
-        plain, before = GLUED.fullmatch(text[at : match.start()]).groups()
-        after = re.match(r"\S*", text[match.end() :])[0]
+        glued = GLUED.fullmatch(text[at : match.start()])
+        plain, before = glued.groups() if glued else ("", "")
+        after = re.split(r"\s", text[match.end() :], maxsplit=1)[0]
         if plain.strip():
             yield plain.strip()
         yield line_of(match, before, after, is_mdoc)
@@ -76,16 +77,16 @@ def page_of(text: str, programs: List[Program]) -> str:
     """Returns a page with its lists written anew. Each list stands between `.\\" options: GROUP`, or `.\\" options:
     PROGRAM: GROUP`, and `.\\" end of options`."""
     by_name = {it.name: it for it in programs}
-    done = set()
+    done: Set[str] = set()
 
     def region(match: "re.Match[str]") -> str:
         program = by_name[match[1] or programs[0].name]
-        done.update((program.name, it.name) for it in program.in_group(match[2]))
+        done.update(it.name for it in program.in_group(match[2]))
         head = match[0].partition("\n")[0]
         return f"{head}\n{list_of(program.in_group(match[2]), program.name, '.Dd ' in text)}"
 
     made = REGION.sub(region, text)
     for it in {option.name: option for program in programs for option in program.shown}.values():
-        if not any(name == it.name for _, name in done):
+        if it.name not in done:
             raise Wrong(f"{programs[0].name}: the page has no list with {it.name}")
     return made

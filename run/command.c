@@ -26,6 +26,8 @@ static void set_environment(const struct options *options, const char *hub)
         setenv("ASANCOL_QUARANTINE", options->quarantine, 1);
     if (options->no_mismatches)
         setenv("ASANCOL_MISMATCHES", "0", 1);
+    if (options->records_full)
+        setenv("ASANCOL_FULL", "1", 1);
     if (options->preloaded != NULL)
         setenv("LD_PRELOAD", options->preloaded, 1);
 }

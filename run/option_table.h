@@ -37,6 +37,7 @@
     "Checking and others:\n" \
     "  --quarantine B           how many bytes of freed blocks are held (268435456)\n" \
     "  --no-mismatches          malloc may be freed by delete, and so on\n" \
+    "  --full                   records each malloc and free, not those near faults\n" \
     "  --preload                records modules of programs not built so\n" \
     "  --memory B               how many bytes each checker may hold (no bound)\n" \
     "  --limit N                how many events of a process are checked (16777216)\n" \
@@ -80,6 +81,7 @@
     {"baseline", 0, PASS_INPUT, 0, 0, 0, NULL}, \
     {"quarantine", 0, PASS_CHECK, AT(quarantine), 0, 1099511627776, NULL}, \
     {"no-mismatches", 0, SET_FLAG, AT(no_mismatches), 0, 0, NULL}, \
+    {"full", 0, SET_FLAG, AT(records_full), 0, 0, NULL}, \
     {"preload", 0, SET_FLAG, AT(preloads), 0, 0, NULL}, \
     {"memory", 0, PASS_CHECK, 0, 1048576, 1099511627776, NULL}, \
     {"limit", 0, PASS_CHECK, 0, 1, 16777216, NULL}, \

@@ -20,6 +20,7 @@ struct options {
     double timeout; /* 0: none */
     bool quiet, verbose, live;
     bool no_mismatches;     /* of families of functions that allocate: they are not noted */
+    bool records_full;      /* each malloc and free */
     bool preloads;          /* the recorder into programs that asancol-cc did not build */
     const char *preloaded;  /* LD_PRELOAD with that, or null */
     enum unchecked unchecked;

@@ -167,6 +167,12 @@ static bool is_flawed(struct process *joined, const struct process *front)
     return false;
 }
 
+/* How many events the process had: of these, lean recording sends those near a fault alone. */
+static uint64_t events_of(const struct process *segment)
+{
+    return segment->events - segment->restated + segment->left_good;
+}
+
 /* Adds up what all have, and answers the last. */
 static const struct process *add_up(struct process *joined, const struct process *front)
 {
@@ -177,7 +183,7 @@ static const struct process *add_up(struct process *joined, const struct process
     joined->kept = NULL;
     joined->side = NULL;
     for (const struct process *at = front; at != NULL; last = at, at = at->next) {
-        joined->events += at->events - at->restated;
+        joined->events += events_of(at);
         joined->reports += at->reports;
         joined->findings += at->findings;
         joined->leaks += at->leaks;
@@ -198,6 +204,7 @@ struct process segments_joined(const struct process *process)
     process_number(lead);
     struct process joined = *lead;
     joined.segments = 1;
+    joined.events = events_of(lead);
     if (!segments_are_several(lead))
         return joined;
     const struct process *last = add_up(&joined, lead->front);

@@ -98,5 +98,5 @@ struct side_progress side_progress(const struct side *side)
                                   progress->forks, progress->of_parent, progress->of_parent_started,
                                   progress->becomes, progress->calls, progress->starts,
                                   progress->has_begun, progress->findings, progress->findings_lost,
-                                  progress->leaks, progress->leaks_missed};
+                                  progress->leaks, progress->leaks_missed, progress->left_good};
 }

@@ -50,7 +50,7 @@ enum {
 
 enum { ANY = (1 << 9) - 1 };
 
-/* What else is known. docs/FORMAT.md says it in words. */
+/* What else is known. README.md says it in words. */
 enum {
     BY_WAIT = 1 << 0,
     BY_TIMEOUT = 1 << 1,
@@ -79,7 +79,7 @@ struct row {
     const char *why; /* say_why fills in its words in capitals */
 };
 
-/* The judgement: the first row that applies counts. docs/FORMAT.md has the same rows, and each has a test
+/* The judgement: the first row that applies counts. README.md has the same rows, and each has a test
    (tests/judge.py). */
 static const struct row rows[] = {
     {ANY, ANY, BY_WAIT, ALL_CAME, NOT_WHOLE,
@@ -342,6 +342,9 @@ void verdict_counts_leaks(bool do_count)
     leaks_count = do_count;
 }
 
+/* No process comes so far. What says more is no memory of a recorder's. */
+#define MAX_LEFT_GOOD (UINT64_C(1) << 48)
+
 /* Takes what the recorder says of its end, and of what the stream has. */
 static void read_side(struct process *process)
 {
@@ -352,6 +355,7 @@ static void read_side(struct process *process)
     process->signal = process->ending == ENDING_SIGNAL ? side->signal : 0;
     struct side_progress progress = side != NULL ? side_progress(side) : (struct side_progress){0};
     process->restated = progress.restated;
+    process->left_good = progress.left_good <= MAX_LEFT_GOOD ? progress.left_good : 0;
     process->findings = progress.findings < SIDE_FAULTS ? progress.findings : SIDE_FAULTS;
     process->leaks = leaks_count ? 0 : progress.leaks < process->findings ? progress.leaks : process->findings;
     process->findings -= process->leaks;

@@ -20,11 +20,11 @@ REPLACES int mallopt(int parameter, int value)
     return 1;
 }
 
-/* 0: no memory could be given back. */
+/* 0: no memory could be given back. None is kept, whatever the program wants to keep. */
 REPLACES int malloc_trim(size_t pad)
 {
     (void)pad;
-    return 0;
+    return heap_trim();
 }
 
 /* Blocks in quarantine count as free. */

@@ -1,3 +1,20 @@
+/* A unit is in one of these states:
+
+   new      from `top` on. It has no memory, and its bytes are zeros.
+   taken    it is a slab, or in the run of a block.
+   waiting  it is in a free run, and is stale: it has the memory and the bytes of what was there.
+   back     it is in a free run, and its memory was given back to the system. Its bytes are zeros.
+
+   To give memory back takes a call of the system, and to use it again a fault for each page. So it waits for one period
+   at least and two at most, in which most of it is taken again. What still waits then is given back with one call for
+   each row of such units. No thread does that: the calls of the allocator look at the clock.
+
+   What waits is no more than MOST_WAITING, and with what is taken no more than EXTRA beyond the most that was ever
+   taken. Before one of these is exceeded, or if the system has no more memory, all of it is given back. A run of
+   AT_ONCE units does not wait.
+
+   Which run is taken next depends neither on the clock nor on what waits, and a free run may have units of both kinds.
+   So a program gets the same addresses each time. */
 #define _GNU_SOURCE
 #include "heap/arena.h"
 #include "shadow/mapping.h"
@@ -5,8 +22,10 @@
 
 #include <string.h>
 #include <sys/mman.h>
+#include <time.h>
 
 #include "base/system.h"
+#include "calls/library.h"
 
 /* For how many units notes are asked for: they then fill whole pages. */
 enum { NOTE_STEP = 256 };
@@ -15,6 +34,15 @@ enum { NOTE_STEP = 256 };
 enum { LEAST_STEP = 4, MOST_STEP = 16 };
 /* Where the range begins: shadow.h says why there. */
 #define RANGE ((uint64_t)ARENA_NUMBER << ARENA_SHIFT)
+
+enum { PERIOD_MS = 1000 };
+/* Of a unit often a part alone has memory: half a gigabyte of them holds about as much as the quarantine. */
+enum { MOST_WAITING = 2 * QUARANTINE_BOUND / UNIT };
+enum { EXTRA = (16 << 20) / UNIT };
+/* As many bytes as the C library's malloc unmaps at once, whatever it has learned of a program. */
+enum { AT_ONCE = (32 << 20) / UNIT };
+/* More bytes than this become zeros by new pages, which take no memory until they are used. */
+enum { MOST_BY_HAND = 1 << 17 };
 
 struct arena arena;
 
@@ -33,8 +61,9 @@ static bool note(uint32_t units)
         void *start;
         size_t bytes;
     } parts[] = {{arena.units + from, count * sizeof(struct unit)},
-                 {arena.blocks + from * SLOTS, count * SLOTS * sizeof(struct block)}};
-    for (int i = 0; i < 2; i++) {
+                 {block_at(arena.noted, 0), count * sizeof(struct block)},
+                 {block_at(arena.noted, 1), count * (SLOTS - 1) * sizeof(struct block)}};
+    for (int i = 0; i < (int)(sizeof parts / sizeof *parts); i++) {
         if (arena_give_memory(parts[i].start, parts[i].bytes)) {
             system_madvise(parts[i].start, parts[i].bytes, MADV_DONTDUMP); /* a core has the blocks alone */
             continue;
@@ -76,6 +105,7 @@ bool arena_find(void)
     unsigned char *bytes = (unsigned char *)(arena.units + UNITS);
     arena.spare = bytes + (size_t)UNITS * UNIT;
     SET_NOTE(arena.top, 1);
+    arena.period = 1;
     __atomic_store_n(&arena.bytes, bytes, __ATOMIC_RELEASE);
     if (commit(1))
         return true;
@@ -125,7 +155,85 @@ static void unlist_run(uint32_t first)
         SET_NOTE(arena.units[run->next].previous, run->previous);
 }
 
-uint32_t arena_take_run(uint32_t count)
+/* Giving back. */
+
+static void give_back(uint32_t first, uint32_t count)
+{
+    /* Memory that the process has locked can't be given back to the system. */
+    if (system_madvise(unit_start(first), (size_t)count * UNIT, MADV_DONTNEED) != 0)
+        memset(unit_start(first), 0, (size_t)count * UNIT);
+}
+
+/* In the place of a period: whichever it was. */
+enum { ANY_PERIOD = 0 };
+
+static bool is_stale_since(uint32_t unit, uint8_t period)
+{
+    uint8_t since = arena.units[unit].stale;
+    return since != 0 && (period == ANY_PERIOD || since == period);
+}
+
+/* Of these units those that are stale, each row of them at once. Returns how many they were. */
+static uint32_t give_back_stale(uint32_t first, uint32_t count, uint8_t period)
+{
+    uint32_t given = 0;
+    for (uint32_t at = first, end = first + count; at < end; at++) {
+        uint32_t from = at;
+        for (; at < end && is_stale_since(at, period); at++)
+            arena.units[at].stale = 0;
+        if (at != from)
+            give_back(from, at - from);
+        given += at - from;
+    }
+    return given;
+}
+
+static void give_back_since(uint8_t period)
+{
+    for (uint32_t unit = 1; unit < arena.top && arena.waiting != 0; unit += arena.units[unit].count)
+        if (arena.units[unit].kind == UNIT_FREE)
+            arena.waiting -= give_back_stale(unit, arena.units[unit].count, period);
+}
+
+bool arena_give_back(void)
+{
+    bool has_any = arena.waiting != 0;
+    give_back_since(ANY_PERIOD);
+    return has_any;
+}
+
+void arena_look_at_clock(void)
+{
+    struct timespec now;
+    library.clock_gettime(CLOCK_MONOTONIC_COARSE, &now);
+    int64_t now_ms = (int64_t)now.tv_sec * 1000 + now.tv_nsec / 1000000, passed = now_ms - arena.period_start_ms;
+    if (passed < PERIOD_MS)
+        return;
+    uint8_t before = arena.period == 1 ? 2 : 1;
+    give_back_since(passed < 2 * PERIOD_MS ? before : ANY_PERIOD);
+    arena.period = before;
+    arena.period_start_ms = now_ms;
+}
+
+void arena_clear(void *start, size_t size)
+{
+    size_t distance = (size_t)((unsigned char *)start - arena.bytes);
+    uint32_t first = (uint32_t)(distance / UNIT), end = (uint32_t)((distance + size - 1) / UNIT) + 1;
+    if (size > MOST_BY_HAND) {
+        give_back_stale(first, end - first, ANY_PERIOD);
+        return;
+    }
+    for (uint32_t unit = first; unit < end; unit++)
+        if (arena.units[unit].stale != 0) {
+            memset(start, 0, size);
+            return;
+        }
+}
+
+/* Taking and giving. */
+
+/* Takes free units out of the lists; 0: there are none. */
+static uint32_t find_run(uint32_t count)
 {
     for (uint32_t bin = count < BINS ? count : BINS; bin <= BINS; bin++) {
         for (uint32_t first = arena.bins[bin]; first != 0; first = arena.units[first].next) {
@@ -138,17 +246,52 @@ uint32_t arena_take_run(uint32_t count)
             return first;
         }
     }
-    if (count > UNITS - arena.top || !commit(arena.top + count))
+    return 0;
+}
+
+static uint32_t take_new(uint32_t count)
+{
+    if (count > UNITS - arena.top)
+        return 0;
+    if (!commit(arena.top + count) && !(arena_give_back() && commit(arena.top + count)))
         return 0;
     SET_NOTE(arena.top, arena.top + count);
     return arena.top - count;
 }
 
+uint32_t arena_take_run(uint32_t count)
+{
+    uint32_t first = find_run(count);
+    if (first == 0)
+        first = take_new(count);
+    if (first == 0)
+        return 0;
+    for (uint32_t i = 0; i < count; i++) {
+        arena.waiting -= arena.units[first + i].stale != 0;
+        unit_write(first + i, (struct unit){.kind = i == 0 ? UNIT_RUN : UNIT_RUN_BODY, .count = i == 0 ? count : i});
+    }
+    arena.taken += count;
+    if (arena.taken + arena.waiting > arena.most_taken + EXTRA)
+        arena_give_back();
+    if (arena.taken > arena.most_taken)
+        arena.most_taken = arena.taken;
+    return first;
+}
+
+static void leave_run(uint32_t first, uint32_t count)
+{
+    bool is_much = count >= AT_ONCE;
+    if (is_much)
+        give_back(first, count);
+    for (uint32_t i = 0; i < count; i++)
+        arena.units[first + i].stale = is_much ? 0 : arena.period;
+    arena.waiting += is_much ? 0 : count;
+    arena.taken -= count;
+}
+
 void arena_give_run(uint32_t first, uint32_t count)
 {
-    /* Memory that the process has locked can't be given back to the system. */
-    if (system_madvise(unit_start(first), (size_t)count * UNIT, MADV_DONTNEED) != 0)
-        memset(unit_start(first), 0, (size_t)count * UNIT);
+    leave_run(first, count);
     uint32_t after = first + count;
     if (after < arena.top && arena.units[after].kind == UNIT_FREE) {
         count += arena.units[after].count;
@@ -162,4 +305,6 @@ void arena_give_run(uint32_t first, uint32_t count)
         count += back;
     }
     list_run(first, count);
+    if (arena.waiting > MOST_WAITING)
+        arena_give_back();
 }

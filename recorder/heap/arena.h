@@ -63,7 +63,8 @@ struct places {
 enum unit_kind { UNIT_NEW, UNIT_SLAB, UNIT_RUN, UNIT_RUN_BODY, UNIT_FREE, UNIT_FREE_END };
 
 struct unit {
-    uint16_t kind;
+    uint8_t kind;
+    uint8_t stale;  /* the period since which it has bytes of what was there; 0: it got new memory, of zeros */
     uint16_t lead;  /* of a slab: how many bytes come before its first slot */
     uint32_t count; /* of a run or a free run: its units; in its body or at its end: how far back it begins */
     union {
@@ -80,18 +81,36 @@ extern struct arena {
     /* Null until the first allocation. It is released, and without the lock it is acquired; so is `places`. */
     unsigned char *bytes;
     struct unit *units;
-    struct block *blocks; /* SLOTS for each unit */
+    struct block *blocks; /* SLOTS for each unit, by block_number */
     unsigned char *spare; /* memory for signal handlers */
     struct places *places; /* one for each of `blocks`; or null: they are not noted */
     uint32_t noted;       /* units that have notes, */
     uint32_t committed;   /* and memory */
     uint32_t top;         /* units used so far, with unit 0, which is never used: it is the first block's neighbour */
     uint32_t bins[BINS + 1];
+    /* Of giving back (arena.c). */
+    uint32_t taken, most_taken; /* units, now and at most */
+    uint32_t waiting;
+    uint32_t calls; /* of the allocator, while some waited */
+    uint8_t period; /* 1 or 2, in turn */
+    int64_t period_start_ms;
 } arena;
 
 static inline unsigned char *unit_start(uint32_t unit)
 {
     return arena.bytes + (size_t)unit * UNIT;
+}
+
+/* Where the notes on a slot stand. Those on the first slot of all units come before the others, and a run has no other:
+   so the notes on a thousand runs take some pages, and not a page each. */
+static inline size_t block_number(uint32_t unit, uint32_t slot)
+{
+    return slot == 0 ? unit : UNITS + (size_t)unit * (SLOTS - 1) + slot - 1;
+}
+
+static inline struct block *block_at(uint32_t unit, uint32_t slot)
+{
+    return arena.blocks + block_number(unit, slot);
 }
 
 /* Whether there was an allocation; without the lock. */
@@ -100,6 +119,7 @@ static inline bool arena_is_found(void)
     return __atomic_load_n(&arena.bytes, __ATOMIC_ACQUIRE) != NULL;
 }
 
+/* All but whether it is stale. */
 static inline void unit_write(uint32_t number, struct unit value)
 {
     struct unit *unit = &arena.units[number];
@@ -134,9 +154,24 @@ bool arena_find(void);
 void arena_keep_places(void);
 /* Makes whole pages of the range usable, which are zeros. */
 bool arena_give_memory(void *start, size_t bytes);
-/* Units in a row, all zeros; 0 if there is no memory. */
+/* Units in a row, of any bytes; 0 if there is no memory. */
 uint32_t arena_take_run(uint32_t count);
+/* Their memory waits to be given back to the system. */
 void arena_give_run(uint32_t first, uint32_t count);
+/* Makes zeros of a block's bytes, which lie in a run. Whoever has the block needs no lock. */
+void arena_clear(void *start, size_t size);
+/* Gives back all that waits. False: nothing did. */
+bool arena_give_back(void);
+/* Looks at the clock, and gives back what has waited for a period. */
+void arena_look_at_clock(void);
+
+/* At each call of the allocator. */
+static inline void arena_count_call(void)
+{
+    enum { CALLS = 16 }; /* a look at the clock takes longer than the rest of a call that does little */
+    if (UNLIKELY(arena.waiting != 0) && ++arena.calls % CALLS == 0)
+        arena_look_at_clock();
+}
 
 /* The block that is nearest to an address, and not far from it. */
 struct nearest {
@@ -148,5 +183,7 @@ struct nearest {
 /* Without a lock, at any time: the notes may change meanwhile, and then what it answers is of no use. False: no block
    is near. */
 bool arena_find_nearest(uintptr_t address, struct nearest *found);
+/* Likewise the block in whose slot or run an address is, live or held, and where it begins. */
+bool arena_find_around(uintptr_t address, struct block *block, uintptr_t *start);
 
 #endif

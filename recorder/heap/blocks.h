@@ -31,7 +31,14 @@ extern struct heap {
 
 static inline uint32_t unit_of(const struct block *block)
 {
-    return (uint32_t)((size_t)(block - arena.blocks) / SLOTS);
+    size_t number = (size_t)(block - arena.blocks);
+    return (uint32_t)(number < UNITS ? number : (number - UNITS) / (SLOTS - 1));
+}
+
+static inline uint32_t slot_of(const struct block *block)
+{
+    size_t number = (size_t)(block - arena.blocks);
+    return number < UNITS ? 0 : (uint32_t)((number - UNITS) % (SLOTS - 1)) + 1;
 }
 
 /* Where the slot or the run of a block begins. */
@@ -39,8 +46,7 @@ static inline unsigned char *slot_start(const struct block *block)
 {
     uint32_t number = unit_of(block);
     const struct unit *unit = &arena.units[number];
-    size_t slot = (size_t)(block - arena.blocks) % SLOTS;
-    return unit_start(number) + (unit->kind == UNIT_SLAB ? unit->lead + slot * unit->slot_size : 0);
+    return unit_start(number) + (unit->kind == UNIT_SLAB ? unit->lead + (size_t)slot_of(block) * unit->slot_size : 0);
 }
 
 static inline unsigned char *block_start(const struct block *block)
@@ -67,14 +73,13 @@ static inline struct block *block_around(uintptr_t address)
         return NULL;
     uint32_t unit = (uint32_t)(distance / UNIT);
     const struct unit *at = &arena.units[unit];
-    struct block *first = arena.blocks + (size_t)unit * SLOTS;
     if (at->kind == UNIT_SLAB && distance % UNIT >= at->lead) {
         uint32_t slot = ((uint32_t)(distance % UNIT) - at->lead) / at->slot_size;
-        return slot < at->used ? first + slot : NULL;
+        return slot < at->used ? block_at(unit, slot) : NULL;
     }
     if (at->kind == UNIT_RUN_BODY)
-        return first - (size_t)at->count * SLOTS;
-    return at->kind == UNIT_RUN ? first : NULL;
+        return block_at(unit - at->count, 0);
+    return at->kind == UNIT_RUN ? block_at(unit, 0) : NULL;
 }
 
 /* Whether the process has it. */
@@ -93,10 +98,19 @@ static inline struct block *block_in_use(uintptr_t address)
     return distance == 0 || distance < size_of(block) ? block : NULL;
 }
 
+/* The block that starts here, live or held, or null. */
+static inline struct block *block_from(const void *pointer)
+{
+    struct block *block = block_around((uintptr_t)pointer);
+    return block != NULL && block->state != BLOCK_FREE && block_start(block) == pointer ? block : NULL;
+}
+
 /* Every slot and every run that is in use, or was. */
 void heap_for_each(void (*visit)(const struct block *block, void *with), void *with);
 /* Takes the oldest block out of the quarantine. */
 void heap_release_oldest(void);
+/* As many as are needed for this many bytes of spans. */
+void heap_release_down_to(uint64_t bound);
 
 /* What the process calls is made of these, without the lock. Each is recorded with the place of its caller. */
 

@@ -21,11 +21,13 @@
 
 #include "heap/arena.h"
 #include "heap/blocks.h"
+#include "heap/book.h"
 #include "heap/families.h"
 #include "heap/paint.h"
 #include "shadow/shadow.h"
 #include "stream/losing.h"
 #include "stream/record.h"
+#include "stream/side.h"
 #include "stream/state.h"
 
 /* What fits into the notes of a block. The format has one byte more. */
@@ -81,6 +83,11 @@ static uintptr_t caller_or(uintptr_t caller)
         return found;
     borrowed.frame = 0;
     return caller;
+}
+
+void heap_release_down_to_bound(void)
+{
+    heap_release_down_to(atomic_load_explicit(&heap.bound, memory_order_relaxed));
 }
 
 void heap_set_bound(uint64_t bytes)
@@ -143,7 +150,7 @@ static struct block *take_slot(size_t bytes)
         class->slab = unit;
     }
     struct unit *unit = &arena.units[class->slab];
-    block = arena.blocks + (size_t)class->slab * SLOTS + unit->used;
+    block = block_at(class->slab, unit->used);
     SET_NOTE(unit->used, unit->used + 1);
     if (unit->lead + (unit->used + 1) * unit->slot_size > UNIT)
         class->slab = 0;
@@ -153,22 +160,8 @@ static struct block *take_slot(size_t bytes)
 static struct block *take_large(size_t bytes)
 {
     size_t count = (bytes + UNIT - 1) / UNIT;
-    if (count > UNITS)
-        return NULL;
-    uint32_t first = arena_take_run((uint32_t)count);
-    if (first == 0)
-        return NULL;
-    unit_write(first, (struct unit){.kind = UNIT_RUN, .count = (uint32_t)count});
-    for (uint32_t i = 1; i < count; i++)
-        unit_write(first + i, (struct unit){.kind = UNIT_RUN_BODY, .count = i});
-    return arena.blocks + (size_t)first * SLOTS;
-}
-
-/* The block that starts here, or null. */
-static struct block *find(const void *pointer)
-{
-    struct block *block = block_around((uintptr_t)pointer);
-    return block != NULL && block->state != BLOCK_FREE && block_start(block) == pointer ? block : NULL;
+    uint32_t first = count > UNITS ? 0 : arena_take_run((uint32_t)count);
+    return first == 0 ? NULL : block_at(first, 0);
 }
 
 /* The quarantine. */
@@ -196,10 +189,11 @@ void heap_release_oldest(void)
     heap.held_count--;
     if (!heap.is_unpainted)
         paint_released((uintptr_t)block_start(block), block->size);
+    book_release(block);
     release(block);
 }
 
-static void release_down_to(uint64_t bound)
+void heap_release_down_to(uint64_t bound)
 {
     while (heap.held_bytes > bound)
         heap_release_oldest();
@@ -216,7 +210,7 @@ static void hold(struct block *block)
     heap.newest = block;
     heap.held_bytes += span_bytes(block->size);
     heap.held_count++;
-    release_down_to(atomic_load_explicit(&heap.bound, memory_order_relaxed));
+    heap_release_down_to_bound();
 }
 
 static void poison(uintptr_t start, uintptr_t end)
@@ -244,9 +238,21 @@ static void poison_new(const struct block *block, uintptr_t address, size_t size
     poison(hole_end > from ? hole_end : from, to);
 }
 
+/* Whether a malloc or a free is recorded. If not, it is counted, and a child that no fork has announced says so all the
+   same. */
+static bool is_recorded(void)
+{
+    if (!is_lean())
+        return true;
+    if (UNLIKELY(!is_on()))
+        stream_wake();
+    side_note_left_good();
+    return false;
+}
+
 /* Going in and out. A signal handler whose thread is in here already is not let in. */
 
-static _Thread_local volatile bool is_inside;
+static _Thread_local volatile enum { OUTSIDE, AT_THE_LOCK, INSIDE } is_inside;
 
 /* What signal handlers freed while this thread was in here. Where they free more, it stays allocated. */
 enum { DEFERRED = 32 };
@@ -259,25 +265,31 @@ static _Thread_local struct {
 
 bool heap_is_entered(void)
 {
-    return is_inside;
+    return is_inside != OUTSIDE;
+}
+
+bool heap_is_locked_here(void)
+{
+    return is_inside == INSIDE || (is_inside == AT_THE_LOCK && library_is_alone());
 }
 
 static bool enter(void)
 {
-    if (UNLIKELY(is_inside))
+    if (UNLIKELY(is_inside != OUTSIDE))
         return false;
-    is_inside = true;
+    is_inside = AT_THE_LOCK;
     bool alone = library_is_alone();
     if (!alone)
         lock_take(&heap.lock);
     heap.is_locked = !alone;
+    is_inside = INSIDE;
     return true;
 }
 
 /* Returns whether it was one that can be freed. */
 static bool free_block(void *pointer, uintptr_t caller, const char *call, struct use use)
 {
-    struct block *block = find(pointer);
+    struct block *block = block_from(pointer);
     if (block != NULL && is_in_use(block)
         && UNLIKELY(block->family != use.family || use.size_and_one != 0 || alignment_of(block) != use.alignment))
         families_look_at(block, &(struct release){(uintptr_t)pointer, caller, borrowed.frame, call, use.family,
@@ -297,7 +309,8 @@ static bool free_block(void *pointer, uintptr_t caller, const char *call, struct
     }
     if (UNLIKELY(arena.places != NULL))
         SET_NOTE(arena.places[block - arena.blocks].freed, place_from(borrowed.frame, caller));
-    record_free((uintptr_t)pointer);
+    if (is_recorded())
+        record_free((uintptr_t)pointer);
     hold(block);
     return true;
 }
@@ -331,9 +344,10 @@ static void leave(void)
 {
     do {
         free_deferred();
+        is_inside = AT_THE_LOCK;
         if (heap.is_locked)
             lock_give(&heap.lock);
-        is_inside = false;
+        is_inside = OUTSIDE;
     } while (UNLIKELY(atomic_load_explicit(&deferred.count, memory_order_relaxed) != 0) && enter());
 }
 
@@ -404,6 +418,25 @@ static struct block *take_block(size_t bytes, size_t size)
     return bytes <= MAX_SLOT_SIZE ? take_slot(bytes) : take_large(lead_for(size) + bytes);
 }
 
+static uintptr_t rounded_up(uintptr_t address, size_t alignment)
+{
+    return (address + alignment - 1) / alignment * alignment;
+}
+
+/* Where a block begins in its slot or run. A large one begins with a page if its run has room for that: so it has
+   memory for no more pages than it needs. */
+static uintptr_t place_in(const struct block *block, size_t size, size_t alignment)
+{
+    uintptr_t start = (uintptr_t)slot_start(block);
+    if (room_for(size, alignment) <= MAX_SLOT_SIZE)
+        return rounded_up(start + REDZONE, alignment);
+    uintptr_t end = start + (uintptr_t)arena.units[unit_of(block)].count * UNIT;
+    uintptr_t first = start + lead_for(size) + REDZONE;
+    uintptr_t at_page = rounded_up(first, alignment > PAGE ? alignment : PAGE);
+    bool has_room = end - at_page >= rounded_up(size, ALIGNMENT) + gap_for(size) - REDZONE;
+    return has_room ? at_page : rounded_up(first, alignment);
+}
+
 static void note_places(struct places *places, place_word allocated)
 {
     SET_NOTE(places->allocated, allocated);
@@ -441,13 +474,12 @@ static void *place_block(size_t size, size_t alignment, uintptr_t caller, const 
     if (block == NULL && heap.held_bytes != 0 && bytes <= (size_t)UNITS * UNIT) {
         /* Without a recorder the process might have this memory: so no more recording, and nothing held back. */
         stream_stop("no memory");
-        release_down_to(0);
+        heap_release_down_to(0);
         block = take_block(bytes, size);
     }
     if (block == NULL)
         return NULL;
-    uintptr_t start = (uintptr_t)slot_start(block), lead = bytes <= MAX_SLOT_SIZE ? 0 : lead_for(size);
-    uintptr_t address = (start + lead + REDZONE + alignment - 1) / alignment * alignment;
+    uintptr_t start = (uintptr_t)slot_start(block), address = place_in(block, size, alignment);
     struct block now = {.state = block->state, .family = use->family & ((1 << FAMILY_BITS) - 1),
                         .is_ignored = ignoring != 0};
     now.offset = (address - start) / ALIGNMENT & ((1 << OFFSET_BITS) - 1);
@@ -460,7 +492,8 @@ static void *place_block(size_t size, size_t alignment, uintptr_t caller, const 
         SET_NOTE(block->alignment, use->alignment);
         if (!heap.is_unpainted)
             paint_redzones(address, size);
-        record_region(CODE_MALLOC, address, size);
+        if (is_recorded())
+            record_region(CODE_MALLOC, address, size);
         /* The record may be the first of a segment, which restates what is live: this block is not yet. */
         block_go(block, BLOCK_LIVE);
         if (!heap.is_unpainted)
@@ -524,10 +557,12 @@ void *heap_allocate(size_t size, size_t alignment, bool zeroed, uintptr_t caller
     bool fits = size <= PTRDIFF_MAX - UNIT && alignment <= MAX_ALIGNMENT;
     if (!fits || !enter()) {
         address = fits ? take_spare(size, alignment) : NULL;
+        zeroed = false; /* it is zeros */
     } else {
+        arena_count_call();
         if (arena.bytes != NULL || arena_find())
             address = place_block(size, alignment, caller, &use);
-        if (address == NULL)
+        if (address == NULL && is_recorded())
             record_region(CODE_MALLOC, 0, size); /* refused */
         leave();
         if (address != NULL && size > MAX_BLOCK_SIZE)
@@ -538,7 +573,9 @@ void *heap_allocate(size_t size, size_t alignment, bool zeroed, uintptr_t caller
     if (address == NULL)
         errno = ENOMEM;
     else if (zeroed && room_for(size, alignment) <= MAX_SLOT_SIZE)
-        memset(address, 0, size); /* a larger block is zeros: pages that are not used take no memory */
+        memset(address, 0, size);
+    else if (zeroed)
+        arena_clear(address, size);
     if (has_hooks() && address != NULL)
         call_after_malloc(address, size);
     return address;
@@ -559,6 +596,7 @@ static void give_back(void *pointer, uintptr_t caller, const char *call)
         drop_spare(pointer);
     } else if (enter()) {
         is_bad = !free_block(pointer, caller, call, use);
+        arena_count_call();
         leave();
     } else {
         defer(pointer, caller, call);
@@ -585,7 +623,7 @@ size_t heap_live_size(void *pointer)
     if (is_spare(pointer))
         return spare_size(pointer);
     bool alone = enter();
-    const struct block *block = find(pointer);
+    const struct block *block = block_from(pointer);
     if (block != NULL && block->state != BLOCK_HELD)
         size = size_of(block);
     if (alone)
@@ -619,7 +657,7 @@ void heap_for_each(void (*visit)(const struct block *block, void *with), void *w
         const struct unit *at = &arena.units[unit];
         uint32_t count = at->kind == UNIT_SLAB ? at->used : at->kind == UNIT_RUN ? 1 : 0;
         for (uint32_t slot = 0; slot < count; slot++)
-            visit(arena.blocks + (size_t)unit * SLOTS + slot, with);
+            visit(block_at(unit, slot), with);
     }
 }
 
@@ -636,6 +674,15 @@ void heap_paint(bool is_painted)
 void heap_keep_places(void)
 {
     arena_keep_places();
+}
+
+bool heap_trim(void)
+{
+    if (!enter())
+        return false;
+    bool has_any = arena_give_back();
+    leave();
+    return has_any;
 }
 
 void heap_is_poisoned(void)

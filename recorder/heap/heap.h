@@ -11,14 +11,19 @@
 
 /* How many bytes of freed spans are held from now on. */
 void heap_set_bound(uint64_t bytes);
+/* More may be held since before. The heap is locked. */
+void heap_release_down_to_bound(void);
 /* No other thread is in the allocator between these two. A signal handler may come between and do the same. */
 void heap_lock(void);
 void heap_unlock(void);
 /* Whether this thread is in the allocator. */
 bool heap_is_entered(void);
+/* Whether it has the allocator for itself: also in a signal handler that has interrupted it in there. */
+bool heap_is_locked_here(void);
 /* Records what stands: a malloc for each block that is live, a malloc and a free for each that is held, and poison for
    what was released and for what the process has poisoned. Of the held blocks the oldest are released first, as far as
-   they are more than so many, or the events more than there is room for. The heap is locked. */
+   they are more than so many, or the events more than there is room for. In lean recording nothing is recorded, and the
+   book is empty then (book.h). The heap is locked. */
 void heap_restate(uint64_t most_held, uint64_t room);
 /* Whether the shadow shows the state of blocks from now on. If nothing is recorded it need not, */
 void heap_paint(bool is_painted);
@@ -57,6 +62,8 @@ struct heap_numbers {
 };
 
 struct heap_numbers heap_count(void) OWN_NAME(heap_count);
+/* Gives back the memory of free blocks that waits for that. False: there is none. */
+bool heap_trim(void) OWN_NAME(heap_trim);
 /* The size of a block that is live, or SIZE_MAX. */
 size_t heap_live_size(void *pointer) OWN_NAME(heap_live_size);
 

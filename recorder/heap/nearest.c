@@ -6,6 +6,7 @@
 #include "heap/heap.h"
 #include "shadow/shadow.h"
 #include "stream/record.h"
+#include "stream/side.h"
 
 /* So many slots are looked at on either side: in between are free ones, and what has none is passed at once. */
 enum { MOST_SLOTS = 1 << 12 };
@@ -50,13 +51,13 @@ static void find_in_slab(uint32_t number, const struct unit *unit, uintptr_t add
         slot->end = start; /* what is before the first slot */
         return;
     }
-    size_t index = (address - start) / unit->slot_size;
+    uint32_t index = (uint32_t)(address - start) / unit->slot_size;
     bool is_used = index < unit->used;
-    slot->start = start + (is_used ? index : unit->used) * unit->slot_size;
+    slot->start = start + (size_t)(is_used ? index : unit->used) * unit->slot_size;
     if (!is_used || end - slot->start < unit->slot_size)
         return; /* the rest of a unit, in which there is no slot yet */
     slot->end = slot->start + unit->slot_size;
-    slot->block = (size_t)number * SLOTS + index;
+    slot->block = block_number(number, index);
 }
 
 /* Units in a row that are free, by the notes on the first and on the last of them. Between these may stand older notes:
@@ -94,7 +95,7 @@ static bool find_slot(uintptr_t address, struct slot *slot)
     if (unit.kind == UNIT_RUN && unit.count > number - first && unit.count <= UNITS - first) {
         slot->start = (uintptr_t)unit_start(first);
         slot->end = slot->start + (size_t)unit.count * UNIT;
-        slot->block = (size_t)first * SLOTS;
+        slot->block = block_number(first, 0);
     }
     return true;
 }
@@ -143,6 +144,16 @@ bool arena_find_nearest(uintptr_t address, struct nearest *found)
     return found->start != 0;
 }
 
+bool arena_find_around(uintptr_t address, struct block *block, uintptr_t *start)
+{
+    struct slot slot;
+    if (!find_slot(address, &slot) || slot.block == 0)
+        return false;
+    *block = block_now(slot.block);
+    *start = block_address(block, slot.start);
+    return block->state != BLOCK_FREE;
+}
+
 /* Clang has the count before the elements, which begin at a multiple of their alignment. Elsewhere it may be a part of
    what an operator new of the program hands out, and again without a word. */
 void heap_poison_count(uintptr_t address)
@@ -155,7 +166,10 @@ void heap_poison_count(uintptr_t address)
     if (address % GRANULE != 0 || before == 0 || (before & (before - 1)) != 0)
         return;
     shadow_poison(address, GRANULE, SHADE_COOKIE);
-    record_poison(KIND_USER, address, GRANULE);
+    if (is_lean())
+        side_note_left_good();
+    else
+        record_poison(KIND_USER, address, GRANULE);
 }
 
 /* The live block in whose slot an address is. */

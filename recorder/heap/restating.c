@@ -2,6 +2,7 @@
    finds the same wrong from here on. */
 #define _GNU_SOURCE
 #include "heap/blocks.h"
+#include "heap/book.h"
 #include "heap/heap.h"
 #include "shadow/shadow.h"
 #include "stream/record.h"
@@ -81,7 +82,7 @@ static void restate_memory(struct restating *restating)
     for (uint32_t unit = 0; unit < heap.poisoned; unit++) {
         bool is_run = unit < arena.top && arena.units[unit].kind == UNIT_RUN;
         uint32_t count = is_run ? arena.units[unit].count : 1;
-        const struct block *block = arena.blocks + (size_t)unit * SLOTS;
+        const struct block *block = block_at(unit, 0);
         uintptr_t start = (uintptr_t)unit_start(unit), end = start + (uintptr_t)count * UNIT;
         if (is_run && (block->state == BLOCK_LIVE || block->state == BLOCK_UNRECORDED)) {
             add_unused(restating, start, (uintptr_t)block_start(block));
@@ -122,6 +123,9 @@ static void fit_quarantine(uint64_t most_held, uint64_t room)
 void heap_restate(uint64_t most_held, uint64_t room)
 {
     struct restating restating = {0};
+    book_forget();
+    if (is_lean())
+        return;
     fit_quarantine(most_held, room);
     restate_memory(&restating);
     heap_for_each(restate_live, &restating);

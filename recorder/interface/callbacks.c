@@ -26,11 +26,13 @@ __attribute__((constructor(101))) static void say_that_checks_are_here(void)
     CALLBACK void __asan_##name##width(uintptr_t address)                                                              \
     {                                                                                                                  \
         note_checks();                                                                                                 \
+        note_each_access();                                                                                            \
         note_access(code, width, address, CALLER());                                                                   \
     }                                                                                                                  \
     CALLBACK void __asan_##name##width##_noabort(uintptr_t address)                                                    \
     {                                                                                                                  \
         note_checks();                                                                                                 \
+        note_each_access();                                                                                            \
         note_access(code, width, address, CALLER());                                                                   \
     }
 
@@ -38,21 +40,25 @@ __attribute__((constructor(101))) static void say_that_checks_are_here(void)
     CALLBACK void __asan_##name##16(uintptr_t address)                                                                 \
     {                                                                                                                  \
         note_checks();                                                                                                 \
+        note_each_access();                                                                                            \
         note_range(code, address, 16, CALLER());                                                                       \
     }                                                                                                                  \
     CALLBACK void __asan_##name##16_noabort(uintptr_t address)                                                         \
     {                                                                                                                  \
         note_checks();                                                                                                 \
+        note_each_access();                                                                                            \
         note_range(code, address, 16, CALLER());                                                                       \
     }                                                                                                                  \
     CALLBACK void __asan_##name##N(uintptr_t address, size_t size)                                                     \
     {                                                                                                                  \
         note_checks();                                                                                                 \
+        note_each_access();                                                                                            \
         note_range(code, address, size, CALLER());                                                                     \
     }                                                                                                                  \
     CALLBACK void __asan_##name##N_noabort(uintptr_t address, size_t size)                                             \
     {                                                                                                                  \
         note_checks();                                                                                                 \
+        note_each_access();                                                                                            \
         note_range(code, address, size, CALLER());                                                                     \
     }
 

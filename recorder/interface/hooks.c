@@ -8,6 +8,7 @@
 #include "heap/heap.h"
 #include "leaks/leaks.h"
 #include "leaks/root_regions.h"
+#include "process/process.h"
 #include "process/signals.h"
 #include "process/unchecked.h"
 #include "process/waiting.h"
@@ -89,4 +90,5 @@ const struct recorder_hooks asancol_hooks = {
     .vforks = stack_vforks,
     .deeply_bound = unchecked_note_malloc,
     .live_start = heap_start_around,
+    .go_full = recorder_go_full,
 };

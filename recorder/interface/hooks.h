@@ -77,6 +77,7 @@ struct recorder_hooks {
     void (*vforks)(uintptr_t stack);
     void (*deeply_bound)(void *opened);
     uintptr_t (*live_start)(uintptr_t inside);
+    bool (*go_full)(void);
 };
 
 /* What is found of the C library (calls/library.h): there if anything is checked. */
@@ -366,6 +367,14 @@ static inline bool is_first_crash(void)
 }
 
 #endif
+
+/* Each access is noted here, and not a bad one alone: then mallocs and frees are recorded too. */
+static inline void note_each_access(void)
+{
+    static bool is_noted;
+    if (UNLIKELY(!is_noted))
+        is_noted = HAS_HOOK(go_full) && asancol_hooks.go_full();
+}
 
 static inline void note_thread_name(uintptr_t thread, const char *name)
 {

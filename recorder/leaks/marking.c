@@ -30,7 +30,7 @@ bool marking_begin(void)
 {
     size_t count = 1;
     heap_for_each(count_in_use, &count);
-    marking.bytes = (size_t)arena.top * SLOTS;
+    marking.bytes = block_number(arena.top, 1); /* which is greater than all numbers so far */
     marking.found_count = 0;
     marking.found_room = count;
     marking.marks = take_memory(marking.bytes);

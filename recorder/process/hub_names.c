@@ -6,9 +6,9 @@
 void joined_add(struct joined *joined, const char *text, size_t most)
 {
     size_t count = 0;
-    while (text[count] != 0 && count < most && joined->length + 1 < joined->room)
+    while (count < most && text[count] != 0 && joined->length + 1 < joined->room)
         joined->text[joined->length++] = text[count++];
-    joined->is_cut |= text[count] != 0 && count < most;
+    joined->is_cut |= count < most && text[count] != 0;
     joined->text[joined->length] = 0;
 }
 

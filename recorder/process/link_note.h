@@ -1,5 +1,6 @@
 /* The note that a link by asancol-cc leaves in a program or a shared object: what of it asancol-cc did not compile. It
-   is an ELF note, so strip leaves it there, and it is found in a file as in memory. docs/FORMAT.md says it in words. */
+   is an ELF note, so strip leaves it there, and it is found in a file as in memory. common/README.md says it in
+   words. */
 #ifndef ASANCOL_LINK_NOTE_H
 #define ASANCOL_LINK_NOTE_H
 

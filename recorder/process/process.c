@@ -105,14 +105,19 @@ static bool open_stream(void)
 /* A child has the newest of the blocks that its parent holds, and no more of them. */
 enum { HELD_BY_CHILD = 4096 };
 
+/* Something records each access, and not the bad ones alone: so mallocs and frees are recorded too. */
+static _Atomic bool is_to_be_full;
+
 static bool begin(uint64_t most_held)
 {
+    process.settings.is_full |= atomic_load(&is_to_be_full);
     if (process.settings.with_side)
         heap_keep_places();
     heap_check_families(process.settings.mismatches);
     if (!open_stream())
         return false;
     heap_set_bound(process.settings.quarantine);
+    heap_release_down_to_bound();
     heap_restate(most_held, stream_restating_room());
     /* What comes next may be an exec, after all descriptors were closed. */
     stream_look_at_clock(true);
@@ -204,6 +209,33 @@ bool recorder_end_waiting(void)
     if (has_waited && !recorder_is_own_process())
         recorder_say_child();
     return has_begun;
+}
+
+/* Records what stands, in this segment if that has nothing yet, and else in the next one. */
+static bool begin_full(void)
+{
+    bool has_events = atomic_load(&STREAM->cursor) >= (CURSOR_ON | CURSOR_EVENT);
+    if (!has_events)
+        heap_restate(UINT64_MAX, stream_restating_room());
+    return !has_events || switching_begin_anew();
+}
+
+bool recorder_go_full(void)
+{
+    struct disturbance before;
+    atomic_store(&is_to_be_full, true);
+    if (!is_lean() || stream_state() == STATE_OFF)
+        return true;
+    if (!is_on() || heap_is_entered())
+        return false;
+    undisturbed_begin(&before);
+    heap_lock();
+    bool was_lean = atomic_exchange(&lean_is_on, false);
+    bool is_full = !was_lean || begin_full();
+    atomic_store(&lean_is_on, !is_full);
+    heap_unlock();
+    undisturbed_end(&before);
+    return is_full;
 }
 
 bool recorder_checks_libraries(void)

@@ -27,6 +27,8 @@ void recorder_say_who(void);
 bool recorder_halts(void);
 /* The hub that this process has by its settings, or null; also if it does not connect there. */
 const char *recorder_hub(void);
+/* Records each malloc and free from now on, also if the recording is lean. False: not now. */
+bool recorder_go_full(void);
 /* Whether calls that plain libraries make are checked, by its settings. */
 bool recorder_checks_libraries(void);
 void recorder_finish(enum finish finish);

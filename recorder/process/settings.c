@@ -19,6 +19,7 @@ static const char *const names[] = {
     "ASANCOL_LIMIT",    "ASANCOL_PATIENCE", "ASANCOL_LOG",    "ASANCOL_ALL",   "ASANCOL_HALT",
     "ASANCOL_STOP",     "ASANCOL_REPORT",   "ASANCOL_SYMBOLIZER",              "ASANCOL_SEGMENTS",
     "ASANCOL_LEAKS",    "ASANCOL_MISMATCHES", "ASANCOL_USE_AFTER_RETURN",     "ASANCOL_LIBRARIES",
+    "ASANCOL_FULL",
 #define FRONT(name, end, variable, usual, has_new, links_libm) variable,
 #include "wrapper/fronts.def"
 };
@@ -221,6 +222,7 @@ void settings_read(struct settings *settings)
     settings->patience_ms = (int)number_of("ASANCOL_PATIENCE", 0, 86400, 60) * 1000;
     settings->use_after_return = number_of("ASANCOL_USE_AFTER_RETURN", 0, 1, 1) == 1;
     settings->with_side = number_of("ASANCOL_WHERE", 0, 1, 0) == 1 || settings->hub != NULL;
+    settings->is_full = number_of("ASANCOL_FULL", 0, 1, settings->hub == NULL) == 1;
     settings->mismatches = number_of("ASANCOL_MISMATCHES", 0, 1, 1) == 1;
     settings->with_leaks = number_of("ASANCOL_LEAKS", 0, 1, 0) == 1 && settings->with_side;
     settings->halt = (enum halt)number_of("ASANCOL_HALT", HALT_NEVER, HALT_AND_RECORD, HALT_NEVER);

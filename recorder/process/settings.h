@@ -25,6 +25,7 @@ struct settings {
     bool use_after_return; /* is looked for by what was compiled for that */
     bool with_side; /* what stands beside a trace is wanted too, */
     bool with_leaks; /* and with it what leaks */
+    bool is_full; /* each malloc and free is recorded */
     bool mismatches; /* a free by another family of functions, or with another size, is noted */
     enum halt halt;
     bool checks_libraries; /* what plain libraries call, too */

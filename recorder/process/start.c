@@ -6,6 +6,7 @@
 
 #include "base/self.h"
 #include "calls/library.h"
+#include "heap/book.h"
 #include "heap/heap.h"
 #include "interface/interface.h"
 #include "leaks/leaks.h"
@@ -124,9 +125,12 @@ const struct above above = {
     .lock_heap = heap_lock,
     .unlock_heap = heap_unlock,
     .is_in_heap = heap_is_entered,
+    .has_heap = heap_is_locked_here,
     .restate = heap_restate,
     .hold = heap_set_bound,
     .poisons_in_heap = heap_is_poisoned,
+    .state_access = book_state_access,
+    .state_free = book_state_free,
     .start = start_if_ready,
     .say_child = recorder_say_child,
     .list_unchecked = unchecked_list,

@@ -156,7 +156,7 @@ static inline bool shadow_is_clean(uint64_t address, uint64_t size)
 
 /* Makes all granules that a region touches addressable. */
 void shadow_clear(uint64_t address, uint64_t size) OWN_NAME(shadow_clear);
-/* By the rules of a poison and an unpoison (docs/MODEL.md). Other threads see them on return. */
+/* By the rules of a poison and an unpoison (docs/inside/MODEL.md). Other threads see them on return. */
 void shadow_poison(uint64_t address, uint64_t size, unsigned char code) OWN_NAME(shadow_poison);
 void shadow_unpoison(uint64_t address, uint64_t size) OWN_NAME(shadow_unpoison);
 /* The first byte of a region that is not addressable, or its end. */

@@ -154,7 +154,7 @@ void opening_segment(void)
         side_forget();
     else if (is_file())
         begin_side();
-    bool is_watched = locked.has_side || plan.way == WAY_SOCKET || is_hub();
+    bool is_watched = locked.has_side || plan.way == WAY_SOCKET || is_hub() || is_lean();
     atomic_store_explicit(&STREAM->has_side, locked.has_side, memory_order_relaxed);
     atomic_store_explicit(&STREAM->is_watched, is_watched, memory_order_relaxed);
     atomic_store(&STREAM->ready, locked.start + (is_file() ? FILE_STEP : PIECES_STEP));
@@ -175,6 +175,9 @@ static void begin_process(const struct settings *settings)
         segments_begin(&locked.trace);
 }
 
+/* What is stated of one access has to fit into a segment, with what other threads record there meanwhile. */
+enum { LEAST_LEAN_LIMIT = 16 };
+
 bool stream_begin(const struct settings *settings)
 {
     plan.settings = settings;
@@ -187,6 +190,7 @@ bool stream_begin(const struct settings *settings)
         unseen_note(settings->hub, why);
         return false;
     }
+    atomic_store(&lean_is_on, !settings->is_full && has_segments() && settings->limit >= LEAST_LEAN_LIMIT);
     begin_process(settings);
     opening_segment();
     atomic_store(&STREAM->window, locked.window);

@@ -3,6 +3,7 @@
 
 #include "shadow/shadow.h"
 #include "stream/access.h"
+#include "stream/side.h"
 #include "stream/state.h"
 
 /* The widest access at an address that is a multiple of its width, of so many bytes. */
@@ -66,20 +67,24 @@ void record_bad_call(enum code code, uint64_t address, uint64_t size, uint64_t g
 }
 
 /* A poison is first in the shadow, and an unpoison first in the stream, as with blocks (paint.h). Outside the
-   allocator's memory the stream hears of it when an access comes (stated.c). */
+   allocator's memory the stream hears of it when an access comes (stated.c), and in lean recording everywhere. */
 static void record_piece(enum code code, unsigned char shade, uint64_t address, uint64_t size)
 {
     if (code == CODE_POISON) {
         if (is_in_arena(address))
             above.poisons_in_heap();
         shadow_poison(address, size, shade);
-        if (is_in_arena(address))
+        if (is_in_arena(address) && is_lean())
+            side_note_left_good();
+        else if (is_in_arena(address))
             record_poison(KIND_USER, address, size);
     } else {
         unsigned segment;
         do {
             segment = atomic_load(&STREAM->segment);
-            if (is_in_arena(address))
+            if (is_in_arena(address) && is_lean())
+                side_note_left_good();
+            else if (is_in_arena(address))
                 record_region(code, address, size);
             shadow_unpoison(address, size);
             /* A segment that has begun before the shadow was changed does not know of it. */

@@ -1,7 +1,9 @@
 #include "stream/regions.h"
 
+#include "stream/holes.h"
 #include "stream/places.h"
 #include "stream/sending.h"
+#include "stream/side.h"
 #include "stream/state.h"
 #include "stream/writing.h"
 
@@ -55,7 +57,10 @@ void record_unused(uint64_t address, uint64_t size)
 {
     for (uint64_t piece; size > 0; address += piece, size -= piece) {
         piece = region_piece(address, size);
-        put_poison(KIND_USER, address, piece, true);
+        if (is_lean())
+            side_note_left_good();
+        else
+            put_poison(KIND_USER, address, piece, true);
     }
 }
 
@@ -67,4 +72,42 @@ void record_free(uint64_t address)
     put_number(at + 1, address);
     put_code(at, CODE_FREE);
     look_at_clock();
+}
+
+/* The place of a record in this segment, or null. */
+static unsigned char *reserve_here(enum code code)
+{
+    unsigned segment = atomic_load(&STREAM->segment), length = record_length((unsigned char)code);
+    unsigned char *at = stream_reserve(length, true);
+    if (at == NULL || atomic_load(&STREAM->segment) == segment)
+        return at;
+    holes_fill(at, length);
+    return NULL;
+}
+
+bool record_here(enum code code, uint64_t address, uint64_t size)
+{
+    unsigned char *at = reserve_here(code);
+    if (at == NULL)
+        return false;
+    put_number(at + 1, address);
+    if (code != CODE_FREE)
+        put_number(at + 9, size);
+    put_code(at, code);
+    side_note_stated();
+    return true;
+}
+
+bool record_poison_here(enum kind kind, uint64_t address, uint64_t size)
+{
+    unsigned char *at = reserve_here(CODE_POISON);
+    if (at == NULL)
+        return false;
+    at[1] = (unsigned char)kind;
+    put_number(at + 2, address);
+    put_number(at + 10, size);
+    put_code(at, CODE_POISON);
+    if (kind == KIND_USER)
+        side_note_stated();
+    return true;
 }

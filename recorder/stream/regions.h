@@ -2,6 +2,7 @@
 #ifndef ASANCOL_REGIONS_H
 #define ASANCOL_REGIONS_H
 
+#include <stdbool.h>
 #include <stdint.h>
 
 #include "common/format.h"
@@ -13,6 +14,10 @@ void record_poison(enum kind kind, uint64_t address, uint64_t size);
 /* Memory of the allocator that is poison, of any size. */
 void record_unused(uint64_t address, uint64_t size);
 void record_free(uint64_t address);
+/* A malloc, a free or an unpoison, and a poison, in the allocator's memory, of a size that can be spelled. It is
+   recorded in the segment that there is now, or not at all, and then it answers false. The heap is locked. */
+bool record_here(enum code code, uint64_t address, uint64_t size);
+bool record_poison_here(enum kind kind, uint64_t address, uint64_t size);
 /* How many bytes of a region come before the next multiple of the largest one. */
 uint64_t region_piece(uint64_t address, uint64_t size);
 

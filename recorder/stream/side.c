@@ -350,6 +350,25 @@ void side_note_restated(uint64_t events)
         progress_in(side)->restated = events;
 }
 
+static void count_up(uint64_t *number)
+{
+    atomic_fetch_add_explicit((_Atomic uint64_t *)number, 1, memory_order_relaxed);
+}
+
+void side_note_left_good(void)
+{
+    struct side *side = side_now();
+    if (side != NULL)
+        count_up(&progress_in(side)->left_good);
+}
+
+void side_note_stated(void)
+{
+    struct side *side = side_now();
+    if (side != NULL)
+        count_up(&progress_in(side)->restated);
+}
+
 void side_note_fork(void)
 {
     struct side *side = side_now();

@@ -17,6 +17,9 @@ void side_forget(void);
 bool side_is_there(void);
 /* So many events have restated what stood at the end of the segment before. */
 void side_note_restated(uint64_t events);
+/* In lean recording: a good malloc or free is left out, or poison in a block; or an event states what stands. */
+void side_note_left_good(void);
+void side_note_stated(void);
 /* That it has forked a child, which is to be recorded. */
 void side_note_fork(void);
 /* That it becomes a program that is to connect, or does not. False: there is no side memory. */

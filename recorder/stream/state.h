@@ -110,17 +110,30 @@ extern struct shared {
     _Atomic bool is_late;          /* something bad came after the close */
 } shared;
 
+/* What came of stating the blocks at a bad access or free: the stream states them; or the redzone of a frame, which is
+   to be taken back; or nothing is bad any more; or the stream has gone on in its next segment, which knows nothing. */
+enum stating { STATING_DONE, STATING_FRAME, STATING_NOT_NEEDED, STATING_AGAIN };
+
+/* How this thread has the heap: it has locked it here; or a signal handler has interrupted it in there, where something
+   may be in the middle of a change, or at the lock, so that another thread may be in there. */
+enum holding { HEAP_LOCKED, HEAP_INTERRUPTED, HEAP_AT_LOCK };
+
 /* What the stream needs of what stands on it: the allocator, and the process. */
 struct above {
     void (*lock_heap)(void);
     void (*unlock_heap)(void);
     bool (*is_in_heap)(void); /* this thread */
+    bool (*has_heap)(void);   /* likewise, and no other thread is */
     /* Records what the heap has, in at most so many events. It is locked. */
     void (*restate)(uint64_t most_held, uint64_t room);
     /* How many bytes of freed blocks are held from now on; at any time. */
     void (*hold)(uint64_t bytes);
     /* The process poisons a part of a block. */
     void (*poisons_in_heap)(void);
+    /* In lean recording: states what a bad access to a block finds, and what a bad free finds (heap/book.h). The heap
+       is locked. */
+    enum stating (*state_access)(uint64_t address, unsigned width, enum holding holding);
+    enum stating (*state_free)(uint64_t address);
     /* Starts the recorder. False: not here, or not yet. */
     bool (*start)(void);
     /* Says that a child is not recorded, which no fork has announced. */
@@ -137,6 +150,15 @@ extern const struct above above OWN_NAME(above); /* start.c */
 
 /* Whether the process ends at the first access or free that the shadow holds for bad. */
 extern _Atomic bool halt_is_on OWN_NAME(halt_is_on);
+
+/* Lean recording: good mallocs and frees are left out, and what is poisoned in blocks. What a bad access or free has to
+   find is stated when that comes. It changes with the heap locked. */
+extern _Atomic bool lean_is_on OWN_NAME(lean_is_on);
+
+static inline bool is_lean(void)
+{
+    return atomic_load_explicit(&lean_is_on, memory_order_relaxed);
+}
 
 /* The state. */
 

@@ -7,6 +7,7 @@
 #include "base/disturbance.h"
 #include "base/errors.h"
 #include "base/say.h"
+#include "base/self.h"
 #include "stream/ending.h"
 #include "stream/growing.h"
 #include "stream/locked.h"
@@ -172,4 +173,17 @@ bool switching_go_on(void)
         above.unlock_heap();
     undisturbed_end(&before);
     return !is_past || (cursor & CURSOR_ON);
+}
+
+bool switching_begin_anew(void)
+{
+    /* What a child of vfork connects to is no connection of its parent's. */
+    if (!has_segments() || (is_hub() && !recorder_is_own_process()))
+        return false;
+    stream_lock();
+    uint64_t cursor = state_leave(STATE_SWITCHING);
+    if (cursor & CURSOR_ON)
+        switch_segment(cursor);
+    stream_unlock();
+    return (cursor & CURSOR_ON) != 0;
 }

@@ -14,5 +14,8 @@ unsigned char *switching_reserve(unsigned length);
 /* Goes on in the next segment, unless another thread has done so. False: another thread is turning the stream off just
    now. Any thread, with the allocator in order. */
 bool switching_go_on(void);
+/* Goes on in the next segment at any number of events. False: there is none, and will be none. The allocator is locked,
+   and in order. */
+bool switching_begin_anew(void);
 
 #endif

@@ -1,10 +1,12 @@
 #define _GNU_SOURCE
 #include "stream/watched.h"
 
+#include "base/disturbance.h"
 #include "shadow/shadow.h"
 #include "stream/faults.h"
 #include "stream/holes.h"
 #include "stream/places.h"
+#include "stream/regions.h"
 #include "stream/sending.h"
 #include "stream/side.h"
 #include "stream/stated.h"
@@ -27,7 +29,7 @@ static struct moment moment_now(void)
 
 /* Takes the place of a record in a segment, with this in the index, or nothing (0). It is noted before the record is
    written: who reads the record finds it. False: the stream has gone on in its next segment. What was looked at may not
-   stand there, so a record that says nothing has that place. */
+   stand there, so a record that says nothing has that place, and all is to be looked at again. */
 static bool reserve_with(uint32_t entry, struct moment moment, unsigned length, bool is_of_heap, unsigned char **at)
 {
     uint64_t cursor = stream_take(&STREAM->cursor, CURSOR_EVENT + length);
@@ -79,9 +81,61 @@ static bool put_free_in_time(unsigned char *at, uint64_t address)
     return put_code_in_time(at, CODE_FREE);
 }
 
+/* Records an access, or a free, which has no width. `at` is its place, or null. False: look again. */
+static bool record_at(uint32_t entry, struct moment moment, unsigned code_and_width, uint64_t address, bool is_of_heap,
+                      unsigned char **at)
+{
+    bool is_free = code_and_width == CODE_FREE;
+    if (!reserve_with(entry, moment, is_free ? FREE_LENGTH : ACCESS_LENGTH, is_of_heap, at))
+        return false;
+    if (*at == NULL)
+        return true;
+    return is_free ? put_free_in_time(*at, address) : put_access_in_time(*at, code_and_width, address);
+}
+
+static enum holding holding_now(void)
+{
+    if (!above.is_in_heap())
+        return HEAP_LOCKED;
+    return above.has_heap() ? HEAP_INTERRUPTED : HEAP_AT_LOCK;
+}
+
+/* Likewise in lean recording, of a bad access to a block, or of a bad free. What it has to find is stated first, with
+   the allocator locked: so no other thread changes or states a block between the two. No handler comes, which could
+   leave by a jump and leave the lock taken. If nothing is bad any more, nothing is recorded. */
+static bool record_stated(uint32_t entry, struct moment moment, unsigned code_and_width, uint64_t address,
+                          unsigned char **at)
+{
+    struct disturbance before;
+    bool is_free = code_and_width == CODE_FREE;
+    undisturbed_begin(&before);
+    enum holding holding = is_free ? HEAP_LOCKED : holding_now();
+    above.lock_heap();
+    enum stating stating = is_free ? above.state_free(address)
+                                   : above.state_access(address, code_and_width >> 8, holding);
+    bool is_done = stating != STATING_AGAIN;
+    *at = NULL;
+    if (stating == STATING_DONE || stating == STATING_FRAME)
+        is_done = record_at(entry, moment, code_and_width, address, holding != HEAP_AT_LOCK, at);
+    if (stating == STATING_FRAME)
+        record_here(CODE_UNPOISON, address / GRANULE * GRANULE, 2 * GRANULE);
+    above.unlock_heap();
+    undisturbed_end(&before);
+    return is_done;
+}
+
 static bool has_side(void)
 {
     return atomic_load_explicit(&STREAM->has_side, memory_order_relaxed);
+}
+
+/* States what an access finds outside blocks, or of a frame in one. */
+static void state_around(uint64_t address, unsigned width, bool is_in_frame)
+{
+    if (is_in_frame)
+        stated_show_frame(address);
+    else if (!is_in_arena(address) && !is_stated(address, width))
+        stated_bring_up(address, width);
 }
 
 void record_watched_access(unsigned code_and_width, uint64_t address, uintptr_t caller, struct access *whole)
@@ -89,10 +143,14 @@ void record_watched_access(unsigned code_and_width, uint64_t address, uintptr_t 
     unsigned width = code_and_width >> 8;
     struct access itself;
     unsigned char *at;
-    bool is_bad, is_done, is_in_frame = is_frame_in_block(address, width);
+    bool is_bad, is_done, is_of_block = is_lean() && is_in_arena(address);
+    bool is_in_frame = !is_of_block && is_frame_in_block(address, width);
     do {
         struct moment now = moment_now();
-        is_bad = has_side() && shadow_is_bad(address, width);
+        is_bad = shadow_is_bad(address, width);
+        if (is_of_block && !is_bad)
+            return; /* it is left out */
+        is_bad = is_bad && has_side();
         /* What comes next may be refused by a filter of system calls, and end the process. */
         if (is_bad) {
             fault_begin(now.window);
@@ -101,14 +159,10 @@ void record_watched_access(unsigned code_and_width, uint64_t address, uintptr_t 
                 whole = &itself;
             }
         }
-        if (is_in_frame)
-            stated_show_frame(address);
-        else if (!is_in_arena(address) && !is_stated(address, width))
-            stated_bring_up(address, width);
+        state_around(address, width, is_in_frame);
         uint32_t entry = is_bad ? fault_of(now.window, whole, width, address) : 0;
-        is_done = reserve_with(entry, now, ACCESS_LENGTH, false, &at);
-        if (is_done && at != NULL)
-            is_done = put_access_in_time(at, code_and_width, address);
+        is_done = is_of_block ? record_stated(entry, now, code_and_width, address, &at)
+                              : record_at(entry, now, code_and_width, address, false, &at);
         if (is_bad)
             fault_end(now.window);
     } while (!is_done);
@@ -138,9 +192,8 @@ void record_bad_free(uint64_t address, uintptr_t caller, const char *call)
         if (is_noted)
             fault_begin(now.window);
         uint32_t entry = is_noted ? fault_of(now.window, &access, 0, address) : 0;
-        is_done = reserve_with(entry, now, FREE_LENGTH, true, &at);
-        if (is_done && at != NULL)
-            is_done = put_free_in_time(at, address);
+        is_done = is_lean() ? record_stated(entry, now, CODE_FREE, address, &at)
+                            : record_at(entry, now, CODE_FREE, address, true, &at);
         if (is_noted)
             fault_end(now.window);
     } while (!is_done);

@@ -5,7 +5,7 @@ import glob
 import os
 import re
 import signal
-from typing import List, NamedTuple, Tuple
+from typing import Dict, List, NamedTuple, Tuple
 
 from support import TESTS, Compiler, Suite, expect, run, side_of, write
 from testing.lines import lines_of
@@ -60,7 +60,7 @@ def seen_in(suite: Suite, trace: str) -> Seen:
     side = side_of(trace)
     reports: List[Access] = []
     lines: List[int] = []
-    known = {}
+    known: Dict[int, int] = {}
     for line in said:
         number, fault = side.fault_of(line.event), side.fault_at(line.event)
         expect(fault is not None, True, f"the fault of event {line.event}")
@@ -179,6 +179,7 @@ def check_frames(suite: Suite, folder: str, compiler: Compiler) -> None:
     expect(side.lines([first.function + 1])[0][0], "in_frame", "the function")
     found = re.fullmatch(r"2 (\d+) 5 \d+ first(:6)? (\d+) 12 \d+ second(:6)?", first.variables)
     expect(found is not None, True, first.variables)
+    assert found
     expect(first.frame + int(found.group(1)), first.block, "where the frame begins")
     second = next(it for it in faults[1:] if it.variables)
     expect((second.variables, len(side.faults())), (first.variables, 6), "the other call, and all faults")
@@ -188,7 +189,7 @@ def check_frames(suite: Suite, folder: str, compiler: Compiler) -> None:
 
 def tests(suite: Suite, compiler: Compiler) -> None:
     suite.test(f"{compiler} accesses in frames", check_frames, compiler)
-    for where in ([], ["in_library"]):
+    for where in ((), ["in_library"]):
         for every in ("0", "1"):
             name = " ".join([compiler.name, "accesses", *where, *(["every"] if every == "1" else [])])
             suite.test(name, check_one, compiler, where, every)

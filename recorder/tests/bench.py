@@ -4,10 +4,12 @@
 usage: recorder/tests/bench.py [--rounds N] [NAME..]
 
 For each program and compiler: the least processor time of N runs (5), user and system, of the native
-program, AddressSanitizer's (without the search for leaks), the recorded one, and the one that could
-record and does not; then the last two as parts of AddressSanitizer's, and the greatest memory of
-both in MB. Runs are interleaved. Every build has its branches aligned alike: without that, the time
-of a short loop is luck on some processors.
+program, AddressSanitizer's (without the search for leaks), the recorded one, the one that also notes the
+stack of each malloc and free, as under asancol-run --full, the one that notes these alone, as under
+asancol-run, and the one that could record and does not; then the last four as parts of
+AddressSanitizer's, and the greatest memory of both in MB, and for one that frees much what all but the
+native one have at their end. Runs are interleaved. Every build has its branches aligned alike: without
+that, the time of a short loop is luck on some processors.
 
 Small programs, each of which does one thing, and two real ones: bzip2 compresses and decompresses 2 MB
 of words, and Lua's interpreter runs a script. Their sources come from Debian as those of real.py do,
@@ -20,7 +22,6 @@ programs, each of which is built six times.
 import argparse
 import os
 import random
-import shutil
 import subprocess
 import sys
 import tempfile
@@ -48,6 +49,8 @@ class Program(NamedTuple):
     finds_returns: bool = False  # its frames are apart from the stack
     has_leaks: bool = False  # leaks are looked for at its end
     has_library: bool = False  # made of the same source without asancol-cc, and without a sanitizer
+    quarantine_mb: int = 256
+    says_rest: bool = False  # prints how many MB it has at its end
 
 
 PROGRAMS = [
@@ -55,6 +58,12 @@ PROGRAMS = [
     Program("tree", "speed.c", (["tree", "300000"],)),
     Program("sort", "speed.c", (["sort", "2000000"],)),
     Program("blocks", "speed.c", (["blocks", "3000000"],)),
+    Program("40-kb", "speed.c", (["40-kb", "40000"],)),
+    Program("100-kb", "speed.c", (["100-kb", "40000"],)),
+    Program("40-kb-1", "speed.c", (["40-kb", "40000"],), quarantine_mb=1),
+    Program("100-kb-1", "speed.c", (["100-kb", "40000"],), quarantine_mb=1),
+    Program("sawtooth", "speed.c", (["sawtooth", "5"],), says_rest=True),
+    Program("sawtooth-1", "speed.c", (["sawtooth", "5"],), quarantine_mb=1, says_rest=True),
     Program("frames", "speed.c", (["frames", "30000000"],)),
     Program("returns", "speed.c", (["frames", "30000000"],), finds_returns=True),
     Program("calls", "speed.c", (["calls", "50000000"],)),
@@ -69,12 +78,14 @@ PROGRAMS = [
 ]
 
 # Each way to run a program: its build, and what its environment has besides.
-WAYS = ("native", "sanitizer", "recorded", "off")
+WAYS = ("native", "sanitizer", "recorded", "full", "lean", "off")
+RECORDED = WAYS[2:]
 
 
 class Cost(NamedTuple):
     seconds: float
     megabytes: float
+    rest_megabytes: float  # at the end
 
 
 def build_small(compiler: Compiler, program: Program, flags: Sequence[str], is_recorded: bool, path: str) -> None:
@@ -97,8 +108,8 @@ def build_real(compiler: Compiler, program: Program, flags: Sequence[str], is_re
 
 
 def make(compiler: Compiler, program: Program, way: str, folder: str) -> str:
-    """Builds a program and returns its path. The two ways of a recorded one share a build."""
-    is_recorded, is_sanitized = way in ("recorded", "off"), way == "sanitizer"
+    """Builds a program and returns its path. The ways of a recorded one share a build."""
+    is_recorded, is_sanitized = way in RECORDED, way == "sanitizer"
     flags = ["-O2", ALIGNED[compiler.name]] + (["-fsanitize=address"] if is_sanitized else [])
     if program.finds_returns and is_recorded:
         flags.append("-fsanitize-address-use-after-return=runtime")
@@ -115,32 +126,38 @@ def make(compiler: Compiler, program: Program, way: str, folder: str) -> str:
 
 def measure_run(path: str, program: Program, words: Sequence[str], way: str, folder: str) -> Cost:
     """Runs a program once, with the libraries that were built beside it."""
-    asked = {"detect_leaks": program.has_leaks, "detect_stack_use_after_return": program.finds_returns}
+    asked = {"detect_leaks": program.has_leaks, "detect_stack_use_after_return": program.finds_returns,
+             "quarantine_size_mb": program.quarantine_mb}
     options = ":".join(f"{name}={int(value)}" for name, value in asked.items())
     settings = {"ASAN_OPTIONS": f"{options}:exitcode=0", "LD_LIBRARY_PATH": os.path.dirname(path)}
-    if way == "recorded":
+    if way in ("recorded", "full", "lean"):
         settings["ASANCOL_TRACE"] = f"{folder}/%p.trace"
+        settings["ASANCOL_QUARANTINE"] = str(program.quarantine_mb << 20)
+        settings["ASANCOL_WHERE"] = str(int(way != "recorded"))
+        settings["ASANCOL_FULL"] = str(int(way != "lean"))
         if program.has_leaks:
             settings.update(ASANCOL_WHERE="1", ASANCOL_LEAKS="1")
-    with open(os.devnull, "wb") as nothing:
-        process = subprocess.Popen([path, *words], stdout=nothing, cwd=folder, env=environment(**settings))
+    with tempfile.TemporaryFile() as said:
+        process = subprocess.Popen([path, *words], stdout=said, cwd=folder, env=environment(**settings))
         _, status, usage = os.wait4(process.pid, 0)
-    process.returncode = status
+        process.returncode = status
+        said.seek(0)
+        rest = float(said.read()) if program.says_rest and not status else 0
     for name in os.listdir(folder):
         if name.endswith((".trace", ".where")):
             os.unlink(f"{folder}/{name}")
     if status:
         raise Failure(f"{path} {' '.join(words)}: wait status {status}")
-    return Cost(usage.ru_utime + usage.ru_stime, usage.ru_maxrss / 1024)
+    return Cost(usage.ru_utime + usage.ru_stime, usage.ru_maxrss / 1024, rest)
 
 
 def measure(path: str, program: Program, way: str, folder: str) -> Cost:
     costs = [measure_run(path, program, words, way, folder) for words in program.runs]
-    return Cost(sum(it.seconds for it in costs), max(it.megabytes for it in costs))
+    return Cost(sum(it.seconds for it in costs), max(it.megabytes for it in costs), costs[-1].rest_megabytes)
 
 
 def least(costs: Sequence[Cost]) -> Cost:
-    return Cost(min(it.seconds for it in costs), min(it.megabytes for it in costs))
+    return Cost(*(min(values) for values in zip(*costs)))
 
 
 def row(compiler: Compiler, program: Program, rounds: int, folder: str) -> str:
@@ -152,9 +169,10 @@ def row(compiler: Compiler, program: Program, rounds: int, folder: str) -> str:
     best = {way: least(costs[way]) for way in WAYS}
     base = best["sanitizer"]
     seconds = "".join(f"{best[way].seconds:11.3f}" for way in WAYS)
-    parts = "".join(f"{best[way].seconds / base.seconds:10.2f}" for way in ("recorded", "off"))
+    parts = "".join(f"{best[way].seconds / base.seconds:10.2f}" for way in RECORDED)
     memory = f"{base.megabytes:11.0f}{best['recorded'].megabytes:10.0f}"
-    return f"{program.name:<12}{compiler!s:<7}{seconds}{parts}{memory}"
+    rest = "  then" + "".join(f"{best[way].rest_megabytes:5.0f}" for way in WAYS[1:]) if program.says_rest else ""
+    return f"{program.name:<12}{compiler!s:<7}{seconds}{parts}{memory}{rest}"
 
 
 def write_words(folder: str) -> None:
@@ -187,7 +205,8 @@ def main(words: Optional[List[str]] = None) -> int:
     parser.add_argument("names", nargs="*")
     options = parser.parse_args(words)
     programs, found = chosen(options.names), compilers()
-    heads = "".join(f"{way:>11}" for way in WAYS) + f"{'recorded/':>10}{'off/':>10}{'MB sanit.':>11}{'recorded':>10}"
+    heads = "".join(f"{way:>11}" for way in WAYS) + "".join(f"{way + '/':>10}" for way in RECORDED)
+    heads += f"{'MB sanit.':>11}{'recorded':>10}"
     print(f"{'program':<12}{'by':<7}{heads}", flush=True)
     with tempfile.TemporaryDirectory(prefix="asancol-bench-") as folder:
         write_words(folder)

@@ -16,7 +16,7 @@ class Builder:
 
     def cc(self, *words, stdin=None, warning=None, command=None):
         """Runs the wrapper, which gives this warning and no other, and returns what it prints."""
-        made = run([CC, *words], self.folder, stdin=stdin, ASANCOL_CC=command or self.compiler.name)
+        made = run([CC, *words], self.folder, stdin, ASANCOL_CC=command or self.compiler.name)
         if made.returncode != 0:
             raise Failure(f"{words}: {made.stderr.decode()}")
         wanted = f"asancol-cc: warning: {warning}\n" if warning else ""

@@ -8,6 +8,7 @@ import re
 from typing import Dict, List, NamedTuple, Sequence, Set, Tuple, Union
 
 from support import RECORDER, TESTS, Compiler, Suite, Trace, expect, leave_out, placed, reports, run, side_of, write
+from testing.programs import NO_SETTINGS
 from testing.side import GLOBAL, NO_VARIABLE, OF_STACK
 
 ROW = re.compile(r"^(CALL|NO_RESULT|(?:WIDE_)?(?:PRINT|SCAN)|LOG|MESSAGE)\((.*?)\)(?=\n(?! )|\Z)", re.M | re.S)
@@ -735,7 +736,7 @@ def names_there() -> List[str]:
 def found_by(suite: Suite, folder: str, less: int, alone: Sequence[int]) -> Tuple[Set[str], Set[int]]:
     """The lines that are found with so many bytes less, and the numbers of the uses that were left out."""
     lines, left_out = set(), set()
-    for words in [[], *([str(number)] for number in alone)]:
+    for words in [(), *([str(number)] for number in alone)]:
         trace = f"{folder}/calls.trace"
         ran = run(["./calls", str(less), *words], folder, ASANCOL_TRACE=trace, ASANCOL_WHERE="1")
         end = reports(suite.asancol, trace)[2]
@@ -775,7 +776,7 @@ def first_by_sanitizer(folder: str, ending: Sequence[int]) -> Dict[str, Tuple[st
     """What AddressSanitizer says first of each line: a load or a store, and the first bad byte."""
     found: Dict[str, Tuple[str, int]] = {}
     options = "detect_leaks=0:halt_on_error=0:suppress_equal_pcs=0:handle_abort=0:alloc_dealloc_mismatch=0"
-    for words in [[], *([str(number)] for number in ending)]:
+    for words in [(), *([str(number)] for number in ending)]:
         ran = run(["./sanitized", "1", *words], folder, ASAN_OPTIONS=options)
         expect(ran.returncode, 0, f"status with AddressSanitizer, {words}")
         for text in re.split(r"^={65}$", ran.stderr.decode(errors="replace"), flags=re.M):
@@ -798,7 +799,7 @@ def check_rows_beside(suite: Suite, folder: str, compiler: Compiler) -> None:
                native=True)
     ending = [number for number, use in enumerate(tried.values()) if use.split("(")[0] in ENDING_FORMS]
     found: Dict[str, Tuple[str, int]] = {}
-    for words in [[], *([str(number)] for number in ending)]:
+    for words in [(), *([str(number)] for number in ending)]:
         run(["./calls", "1", *words], folder, ASANCOL_TRACE="calls.trace", ASANCOL_WHERE="1")
         _, texts, _ = reports(suite.asancol, f"{folder}/calls.trace", most=1 << 20)
         for it, text in zip(placed(suite.asancol, f"{folder}/calls.trace")[0], texts):
@@ -831,7 +832,7 @@ def innermost(module: str, places: Sequence[int]) -> List[str]:
     """The line of each place of a module, beside those of the headers' inline functions that it is in."""
     asked = "\n".join(hex(place - 1) for place in places)
     # Of each place: its address, and then a function and its line, from the innermost on.
-    said = run(["addr2line", "-a", "-f", "-i", "-e", module], ".", stdin=asked.encode()).stdout.decode()
+    said = run(["addr2line", "-a", "-f", "-i", "-e", module], ".", asked.encode()).stdout.decode()
     ends = [part.rstrip().split("\n")[-1] for part in re.split(r"^0x[0-9a-f]+\n", said, flags=re.M)[1:]]
     return [os.path.basename(end.split(" (")[0]) for end in ends]
 
@@ -897,7 +898,7 @@ def check_fortified(suite: Suite, folder: str, compiler: Compiler, flags: Sequen
     with open(source, encoding="ascii") as file:
         lines = list(enumerate(file, 1))
     wanted = {f"fortified.c:{number}": line.strip() for number, line in lines if line.startswith("USES(")}
-    for words in ([], ["good"]):
+    for words in ((), ["good"]):
         trace = f"{folder}/fortified{len(words)}.trace"
         ran = run(["./fortified", *words], folder, ASANCOL_TRACE=trace, ASANCOL_WHERE="1")
         expect((ran.returncode, Trace(trace).is_closed), (0, True), f"status, and the close: {words}")
@@ -927,7 +928,7 @@ def check_good_calls(suite: Suite, folder: str, compiler: Compiler, flags: Seque
     compiler.c(folder, [source], f"{folder}/plain", "-w", "-pthread", *flags, native=True)
     compiler.c(folder, [source], f"{folder}/good", "-w", "-pthread", *flags)
     plain = run(["./plain"], folder)
-    for settings in ({}, {"ASANCOL_TRACE": "good.trace"}, {"ASANCOL_HALT": "1"}):
+    for settings in (NO_SETTINGS, {"ASANCOL_TRACE": "good.trace"}, {"ASANCOL_HALT": "1"}):
         ran = run(["./good"], folder, **settings)
         expect((ran.returncode, ran.stderr, ran.stdout), (0, b"", plain.stdout), f"with {settings}")
     _, texts, end = reports(suite.asancol, f"{folder}/good.trace")
@@ -938,7 +939,7 @@ def check_own_names(suite: Suite, folder: str, compiler: Compiler) -> None:
     """Functions and variables of a program that have names of the C library's, in one object and in a shared one."""
     source = f"{TESTS}/own_calls.c"
     wanted = b"5 8 abc 16 3.5 1 2 3 4 5 6 7 8 9\n"
-    for flags in ([], ["-s"], ["-fvisibility=hidden"], ["-O2"], ["-no-pie", "-fno-pie"]):
+    for flags in ((), ["-s"], ["-fvisibility=hidden"], ["-O2"], ["-no-pie", "-fno-pie"]):
         compiler.c(folder, ["-c", source], f"{folder}/own.o", "-w", "-DOWN", "-fno-builtin", *flags[:1])
         compiler.c(folder, [source, "own.o"], f"{folder}/own", "-w", "-fno-builtin", *flags)
         ran = run(["./own"], folder, ASANCOL_TRACE="own.trace")
@@ -982,7 +983,7 @@ def check_objects(suite: Suite, folder: str, compiler: Compiler) -> None:
     compiler.c(folder, ["used.c"], f"{folder}/libused.so", "-fPIC", "-shared", "-w", "-Wl,-z,defs")
     for flags in (["-L.", "-lused", "-Wl,-rpath,$ORIGIN"], ["-DOPENS", "-ldl"]):
         compiler.c(folder, ["uses.c", *flags], f"{folder}/uses", "-w")
-        for words, wanted in (([], ["used.c:8", "used.c:9"]), (["good"], [])):
+        for words, wanted in (((), ["used.c:8", "used.c:9"]), (["good"], [])):
             ran = run(["./uses", *words], folder, ASANCOL_TRACE="u.trace", ASANCOL_WHERE="1")
             expect((ran.returncode, ran.stderr), (0, b""))
             said = {it.line for it in placed(suite.asancol, f"{folder}/u.trace")[0]}
@@ -1040,7 +1041,7 @@ def check_mathematics(suite: Suite, folder: str, compiler: Compiler) -> None:
     for flags in (["turned.o", "-lm"], ["turned.o", "-Wl,--as-needed", "-lm"], ["turned.o", "-l:libm.so.6"],
                   ["-DOPENS", "-ldl"]):
         compiler.c(folder, ["parted.c", *flags], f"{folder}/parted", "-w", "-fno-builtin")
-        for words, wanted in (([], []), (["less"], ["turned.c:9"])):
+        for words, wanted in (((), []), (["less"], ["turned.c:9"])):
             ran = run(["./parted", *words], folder, ASANCOL_TRACE="m.trace", ASANCOL_WHERE="1")
             expect((ran.returncode, ran.stderr), (0, b""), f"{flags} {words}")
             said = {it.line for it in placed(suite.asancol, f"{folder}/m.trace")[0]}
@@ -1054,10 +1055,17 @@ def check_mathematics(suite: Suite, folder: str, compiler: Compiler) -> None:
 
 
 def check_page(suite: Suite, folder: str) -> None:
-    """The page is what the rows say."""
+    """The page can be made. It has a line for each row, in their order, with all names of the row and its
+    parameters, and says of each what is read, written or allocated."""
     made = run([f"{TESTS}/calls_page.py"], folder)
-    with open(f"{RECORDER}/../docs/CALLS.md", "rb") as file:
-        expect((made.returncode, made.stdout == file.read()), (0, True), "docs/CALLS.md, by calls_page.py")
+    expect((made.returncode, made.stderr), (0, b""), "calls_page.py")
+    lines = [it.strip("|").split(" | ") for it in made.stdout.decode().splitlines() if it.startswith("| `")]
+    known = table()
+    expect(len(lines), len(known), "lines of the page")
+    for row, cells in zip(known, lines):
+        names = row.names + [row.rest[0]] * row.has_list()
+        expect((len(cells), re.findall(r"\w+", cells[0]), cells[1]), (4, names, f"`{row.parameters()}`"), "a line")
+        expect(any(re.search(r"\b(reads?|writes|malloc)\b", it) for it in cells[2:]), True, f"what {names} does")
 
 
 FORTIFIED = ["-O2", "-D_FORTIFY_SOURCE=2"]

@@ -1,5 +1,5 @@
 #!/usr/bin/env python3
-"""Prints docs/CALLS.md, which says of each row of recorder/calls/calls.def what is recorded.
+"""Prints docs/CALLS.md, which says of each row of recorder/calls/calls.def what is recorded. `make docs` writes it.
 
 usage: recorder/tests/calls_page.py > docs/CALLS.md
 """
@@ -17,15 +17,24 @@ from support import RECORDER
 HEAD = """# Calls of the C library
 
 What the recorder records of a call, as loads and stores at the place of the call
-([RECORDER.md](RECORDER.md#what-is-recorded)). If all of it is good, that is nothing. Calls that [libraries
-make](RECORDER.md#plain-libraries) count as the program's own, but for those of mathematics. The table is made from
-[calls.def](../recorder/calls/calls.def), by `recorder/tests/calls_page.py`.
+([RECORDER.md](RECORDER.md#calls-of-the-c-library)). If all of it is good, that is nothing. Calls that [libraries
+make](RECORDER.md#plain-libraries) count as the program's own, but for those of mathematics. `make docs` makes this page
+from [calls.def](../recorder/calls/calls.def).
 
 A name that the C library at hand does not have is left out when the recorder is built. Names that begin with `__` are
 those that headers put in the place of a function: `__..._chk` with `_FORTIFY_SOURCE`, `__isoc99_` and `__isoc23_` by
 the standard of C. At the former the C library ends the process if there is less room than a call may take: what the
 call would write is recorded before that. What is read and written after the call counts as far as the result says:
 conditions are about that. What goes out is looked at before the call and recorded after it.
+
+A string that a function takes is looked at up to its end, as AddressSanitizer does with `strict_string_checks`. But if
+it is searched or compared, or has a number (`strtol`, `atoi`), only what is read counts; of `%9s` of `scanf` what was
+stored. Of formats that is not looked at which follows a position (`%1$s`) or a conversion that the program has
+registered, `%ls` with a precision, and a `%n` of `scanf` after its last value and other text than blanks.
+
+Functions that are not here are not recorded, as `fcntl`, `wcstok` and `strverscmp`. Of these AddressSanitizer looks at
+XDR, `crypt`, `tmpnam`, `tempnam`, `ptrace`, `backtrace`, requests of `ioctl` beside the common ones, and `memcpy` that
+`dlsym` has found.
 """
 
 CONDITIONS = {

@@ -1,7 +1,7 @@
 #!/usr/bin/env python3
 """Records small programs under each compiler, checks the traces, and compares.
 
-usage: recorder/tests/check.py [--list] [--junit FILE] ASANCOL [WORD..]
+usage: recorder/tests/check.py [--list] [--junit FILE] [--quick | --rest] ASANCOL [WORD..]
 
 A word chooses the test whose name it is, or else those whose names have it. The last line is 'N passed, M failed', and
 the status is 1 if a test failed. What is not there (a compiler, its AddressSanitizer) is said in a line, and left out.

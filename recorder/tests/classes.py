@@ -11,7 +11,7 @@ from testing.classes import THE_SAME, table_of_classes
 # The archive of the runtime, and which of its members name classes; or a shared object.
 RUNTIMES = {"clang": ("libclang_rt.asan-x86_64.a", ["asan_errors.cpp.o", "asan_report.cpp.o",
                                                     "asan_descriptions.cpp.o"]),
-            "gcc": ("libasan.so", [])}
+            "gcc": ("libasan.so", ())}
 # A class among the texts of a program, as `out-of-memory`.
 CLASS = re.compile(rb"(?<=\0)[a-z_]{3,}(?:-[a-z_]{2,})+(?=\0)")
 # Likewise, but no class: how grave a fault is, and what is run.
@@ -19,7 +19,7 @@ OTHERS = {"default-aligned", "far-from-bounds", "heap-invalid", "llvm-symbolizer
           "wild-addr",
           "wild-addr-read", "wild-addr-write", "wild-jump"}
 # What the comparison calls in another way.
-WORDS = {"CHECK": ["CHECK failed"], "does not build": []}
+WORDS = {"CHECK": ["CHECK failed"], "does not build": ()}
 
 
 def runtime_of(compiler: Compiler) -> bytes:

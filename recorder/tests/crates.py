@@ -1,7 +1,6 @@
 """Crates of Rust with unsafe code, as Debian's packages have their sources."""
 
 import glob
-import json
 import os
 import re
 import shutil

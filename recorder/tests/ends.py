@@ -24,7 +24,7 @@ def build(compiler: Compiler, folder: str) -> None:
     shared = ["-shared", "-fPIC", f"{TESTS}/ends_library.c"]
     flags = ["-w", "-pthread", SOURCE, "-Wl,-fini=last_of_program"]
     names = ["-Dlibrary_at_exit=plugin_at_exit", "-Dlibrary_destructor=plugin_destructor"]
-    for name, words, native in (("", [], False), ("-sanitized", ["-fsanitize=address"], True)):
+    for name, words, native in (("", (), False), ("-sanitized", ["-fsanitize=address"], True)):
         made = f"{folder}/{compiler}{name}"
         os.makedirs(made)
         compiler.c(made, shared, "libends.so", *words, native=native)

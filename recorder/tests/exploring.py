@@ -61,8 +61,8 @@ def check_drawn(_suite: Suite, folder: str, compiler: Compiler) -> None:
 
 
 def tests(suite: Suite, compiler: Compiler) -> None:
-    suite.test(f"{compiler} orders of steps, searched", check_searched, compiler)
-    suite.test(f"{compiler} orders of steps, drawn", check_drawn, compiler)
+    suite.long_test(f"{compiler} orders of steps, searched", check_searched, compiler)
+    suite.long_test(f"{compiler} orders of steps, drawn", check_drawn, compiler)
 
 
 def main() -> int:

@@ -117,7 +117,7 @@ int main(int count, char **) {
     return lines.empty();
 }
 """
-FLAGS = ([], ["-DNEW"], ["-DDELETE"], ["-DNEW_ARRAY"], ["-DNEW", "-DDELETE"], ["-static-libstdc++"],
+FLAGS = ((), ["-DNEW"], ["-DDELETE"], ["-DNEW_ARRAY"], ["-DNEW", "-DDELETE"], ["-static-libstdc++"],
          ["-static-libstdc++", "-DNEW"], ["-static-libstdc++", "-DDELETE"], ["-O2", "-std=c++20"])
 
 

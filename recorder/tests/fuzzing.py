@@ -171,7 +171,7 @@ def has_libfuzzer(compiler: Compiler, folder: str) -> bool:
 
 
 def tests(suite: Suite, compiler: Compiler) -> None:
-    for level, flags in (("-O0", []), ("-O2", []), ("-O1", ["-static"])):
+    for level, flags in (("-O0", ()), ("-O2", ()), ("-O1", ["-static"])):
         words = [level, "-w", "-pthread", *flags]
         program = suite.built(compiler.c, [f"{TESTS}/halts.c"], f"halts-{compiler}{level}", *words)
         for name, wrong in FAULTS.items():

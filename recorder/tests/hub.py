@@ -22,7 +22,7 @@ from support import (
     TESTS, Compiler, Failure, Suite, Trace, environment, expect, leave_out, limited, placed, reports, run, side_of,
     write,
 )
-from testing.programs import PATIENCE
+from testing.programs import NO_SETTINGS, PATIENCE
 from testing.side import EXEC, EXIT, GLOBAL, LOST, NO_ENDING, NO_VARIABLE, OF_STACK, SIGNAL, Calls, Fault, Side
 
 # No call becomes a jump, so each has its place.
@@ -199,6 +199,14 @@ def check_variables(suite: Suite, folder: str, program: str) -> None:
 CPP_BLOCKS = {"past_new": (16, ["past_new", "make"]), "after_delete": (4, ["after_delete", "make", "give_back"])}
 
 
+def matched(text: str, pattern: str) -> "re.Match[str]":
+    """Returns the first match in a text, which has to be there."""
+    match = re.search(pattern, text)
+    if match is None:
+        raise Failure(f"no {pattern} in {text}")
+    return match
+
+
 def check_cpp(suite: Suite, folder: str, compiler: Compiler, level: str) -> None:
     compiler.cpp(folder, [f"{TESTS}/hub.cpp"], f"{folder}/program", level, *FLAGS)
     for name, (offset, functions) in CPP_BLOCKS.items():
@@ -206,10 +214,10 @@ def check_cpp(suite: Suite, folder: str, compiler: Compiler, level: str) -> None
         side, events = peer.side(), peer.trace().events
         ((address, fault),) = [(at, it) for (_, at, _), it in zip(events,
                                                                   map(side.fault_at, range(1, len(events) + 1))) if it]
-        names = [re.search("|".join(functions), it).group() for it in lines_of(side, fault)[1:]]
+        names = [matched(it, "|".join(functions))[0] for it in lines_of(side, fault)[1:]]
         expect((address - fault.block, fault.block_size, names), (offset, 16, functions[1:]), name)
     of_namespace = faults_of(one(folder, ["./program", "of_namespace"]))
-    names = [re.search(r"([a-z]+)E?$", it.name.split(" ")[0]).group(1) for it in of_namespace]
+    names = [matched(it.name.split(" ")[0], r"([a-z]+)E?$")[1] for it in of_namespace]
     expect(names, ["numbers", "kept"], "of a namespace, and static")
     (fault,) = faults_of(one(folder, ["./program", "on_stack"]))
     expect((fault.variable, fault.name, fault.block_size), (OF_STACK, "array", 16), "on the stack")
@@ -357,7 +365,7 @@ def check_no_checks(suite: Suite, folder: str, compiler: Compiler) -> None:
 
 def build_id(path: str) -> str:
     said = subprocess.run(["readelf", "-n", path], stdout=subprocess.PIPE, check=True).stdout.decode()
-    return re.search(r"Build ID: (\w+)", said).group(1)
+    return matched(said, r"Build ID: (\w+)")[1]
 
 
 def check_modules(suite: Suite, folder: str, program: str, compiler: Compiler) -> None:
@@ -536,7 +544,7 @@ def check_last(suite: Suite, folder: str, program: str) -> None:
 def check_handlers_of_threads(suite: Suite, folder: str, program: str) -> None:
     """A thread has a stack for handlers, unless it gives itself another one. The next thread has nothing of it."""
     for name, status in (("handles_on_given", 7), ("handles_on_own", 8), ("jumps_in_threads", 0)):
-        for settings in ({}, {"ASANCOL_TRACE": "t.trace"}):
+        for settings in (NO_SETTINGS, {"ASANCOL_TRACE": "t.trace"}):
             if not settings and name == "handles_on_given":
                 continue
             ran = run([program, name], folder, **settings)
@@ -623,7 +631,7 @@ def check_sent(suite: Suite, folder: str, program: str) -> None:
     """What was recorded some time before a kill was sent, and a fault at once."""
     peer = one(folder, [program, "is_killed_after_fault"], -9)
     expect((check(suite, folder, peer)[1], len(faults_of(peer))), (["store 1 +8 heap-buffer-overflow"], 1), "a fault")
-    peer = one(folder, [program, "is_killed_after_a_while"], -9)
+    peer = one(folder, [program, "is_killed_after_a_while"], -9, ASANCOL_FULL="1")
     expect(peer.trace().count(3), 2, "mallocs")
     # It is there while the process still runs.
     hub = Hub(f"{folder}/running")
@@ -650,7 +658,7 @@ def check_many(suite: Suite, folder: str, program: str) -> None:
     peer = one(folder, [program, "handlers"])
     end = check(suite, folder, peer)[2]
     noted = faults_of(peer)
-    count = int(re.search(r"reports (\d+)", end).group(1))
+    count = int(matched(end, r"reports (\d+)")[1])
     expect((end.split()[0], len(noted)), ("closed", count), "reports under a handler")
 
 
@@ -661,7 +669,7 @@ MAX_CORE_SIZE = 64 << 20
 def check_core(suite: Suite, folder: str, program: str) -> None:
     """A core has the program's heap and stacks, and not the 5 GB that the recorder reserves."""
     script = [*"sh -c".split(), f"ulimit -c unlimited; exec {program} leaves_a_core"]
-    for wanted in ({}, {"ASANCOL_TRACE": "t.trace", "ASANCOL_WHERE": "1"}, None):
+    for wanted in (NO_SETTINGS, {"ASANCOL_TRACE": "t.trace", "ASANCOL_WHERE": "1"}, None):
         if wanted is None:
             one(folder, script, -signal.SIGABRT)
         else:
@@ -701,7 +709,7 @@ def process_tests(suite: Suite, compiler: Compiler) -> None:
     suite.test(f"{compiler} hub stacks through libraries", check_through_libraries, program, list(THROUGH_LIBRARIES))
     static = suite.programs[f"{suite.folder}/hub-{compiler}-static"], ["sorts", "makes_text", "opens_stream", "handles"]
     suite.test(f"{compiler} hub stacks through libraries, static", check_through_libraries, *static)
-    suite.test(f"{compiler} hub stacks of handlers", check_stacks_of_handlers, program)
+    suite.long_test(f"{compiler} hub stacks of handlers", check_stacks_of_handlers, program)
     suite.test(f"{compiler} hub last", check_last, program)
     suite.test(f"{compiler} hub handlers of threads", check_handlers_of_threads, program)
     suite.test(f"{compiler} hub fallback", check_fallback, program)

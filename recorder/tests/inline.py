@@ -3,9 +3,10 @@ wherever the system puts a program, and with everything that leaves frames witho
 
 import os
 import re
-from typing import List, Sequence, Tuple
+from typing import Any, List, Sequence, Tuple
 
 from support import CC, TESTS, Compiler, Suite, Trace, expect, leave_out, placed, reports, run, write
+from testing.programs import NO_SETTINGS
 
 # The kind of an access or free, its class, and its source line.
 Fault = Tuple[str, str, str]
@@ -13,7 +14,7 @@ Fault = Tuple[str, str, str]
 LEVELS = ("-O0", "-O1", "-O2", "-O3")
 
 
-def make(compiler: Compiler, folder: str, source: str, program: str, *flags: str, **settings: str) -> None:
+def make(compiler: Compiler, folder: str, source: str, program: str, *flags: str, **settings: Any) -> None:
     build = compiler.cpp if source.endswith(".cpp") else compiler.c
     build(folder, [f"{TESTS}/inline/{source}"], program, "-w", "-pthread", *flags, **settings)
 
@@ -149,7 +150,7 @@ def check_no_shadow(suite: Suite, folder: str, compiler: Compiler) -> None:
     """Without room for the shadow a program ends at once, with what to do; one that is native runs."""
     make(compiler, folder, "three.c", f"{folder}/three", "-O0")
     words = ["sh", "-c", "ulimit -v 1000000; exec ./three"]
-    for settings in ({}, {"ASANCOL_TRACE": "t.trace"}):
+    for settings in (NO_SETTINGS, {"ASANCOL_TRACE": "t.trace"}):
         ran = run(words, folder, **settings)
         expect((ran.returncode, ran.stderr.count(b"\n")), (127, 1), ran.stderr)
         for piece in (b"asancol: ", b"ulimit -v", b"without asancol-cc"):
@@ -187,7 +188,7 @@ int main(void) {
 def check_poison_after_fork(suite: Suite, folder: str, compiler: Compiler) -> None:
     """What the parent has poisoned, in the heap and elsewhere, is so in its child's trace."""
     write(folder, poison_c=POISON)
-    for flags in ([], ["-static"]):
+    for flags in ((), ["-static"]):
         compiler.c(folder, ["poison.c"], f"{folder}/poison", "-w", *flags)
         ran = run(["./poison"], folder, ASANCOL_TRACE="%p.trace")
         expect((ran.returncode, ran.stderr), (0, b""), "the program")
@@ -353,7 +354,7 @@ def check_fibers(suite: Suite, folder: str, compiler: Compiler) -> None:
 def check_sizes(suite: Suite, folder: str, compiler: Compiler) -> None:
     """A function of memory with a size that is a mistake: some of its bad pieces are recorded, and it takes no time."""
     make(compiler, folder, "sizes.c", f"{folder}/sizes", "-O0")
-    for words in ([], ["wrapped"]):
+    for words in ((), ["wrapped"]):
         ran = run(["timeout", "60", "./sizes", *words], folder, ASANCOL_TRACE=f"t{len(words)}.trace")
         expect(ran.stderr, b"", words)
         status, texts, _ = reports(suite.asancol, f"{folder}/t{len(words)}.trace")

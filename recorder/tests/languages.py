@@ -6,7 +6,7 @@ import re
 import shutil
 import signal
 import sys
-from typing import Dict, List, Optional, Tuple
+from typing import Any, Dict, List, Optional, Tuple
 
 from support import CC, TESTS, TOP, Suite, build, expect, noted, run, write
 from testing.programs import REPORT
@@ -300,7 +300,7 @@ def check_settings(suite: Suite, folder: str) -> None:
     with open(wrapper, "w", encoding="utf-8") as file:
         file.write(f'#!/bin/sh\necho "$*" >> "{folder}/calls"\nexec "$@"\n')
     os.chmod(wrapper, 0o755)
-    named = {"RUSTC_WRAPPER": wrapper, "CARGO_BUILD_TARGET": host_of(folder)}
+    named: Dict[str, Any] = {"RUSTC_WRAPPER": wrapper, "CARGO_BUILD_TARGET": host_of(folder)}
     expect(said_of(suite, folder, [CARGO, "run", "-q"], **named), [], "the flag of the settings")
     with open(f"{folder}/calls", encoding="utf-8") as calls:
         expect("--crate-name bug" in calls.read(), True, "the wrapper")
@@ -346,7 +346,7 @@ end program
 def check_fortran_null(suite: Suite, folder: str) -> None:
     """A null access: its place is said by gfortran's library, or by the report if that makes no backtrace."""
     write(folder, null_f90=NULL_IN_FORTRAN)
-    for flags, where in (([], r"\sat .*null\.f90:4"), (["-fno-backtrace"], r"#0 .* MAIN__ .*null\.f90:4")):
+    for flags, where in (((), r"\sat .*null\.f90:4"), (["-fno-backtrace"], r"#0 .* MAIN__ .*null\.f90:4")):
         build([FC, "-g", *flags, "null.f90", "-o", "null"], folder)
         ran = run([RUN, "--", "./null"], folder, ASANCOL=suite.asancol)
         expect((ran.returncode, bool(re.search(where, ran.stderr.decode()))), (-signal.SIGSEGV, True), str(ran))

@@ -4,6 +4,7 @@ import os
 from typing import Dict, List, Sequence, Tuple
 
 from support import TESTS, Compiler, Suite, expect, reports, run, side_of, write
+from testing.programs import NO_SETTINGS
 from unchecked import LINKERS
 
 # How a library is linked: its calls wait for their first time, or are bound at once, also by pointers, and read-only.
@@ -195,7 +196,7 @@ def check_protection(suite: Suite, folder: str, compiler: Compiler) -> None:
     plain(compiler, folder, "libplain.so", *LINKS["now"])
     compiler.c(folder, ["protected.c", "./libplain.so"], "protected")
     said = [run(["./protected"], folder, **settings).stdout
-            for settings in ({}, {"ASANCOL_TRACE": "t.trace"})]
+            for settings in (NO_SETTINGS, {"ASANCOL_TRACE": "t.trace"})]
     expect(said[0].count(b"read-only") > 1, True, f"pages that are read-only: {said}")
     expect(said[1], said[0], "recorded")
 

@@ -6,13 +6,14 @@ import signal
 import subprocess
 import time
 from functools import partial
+from typing import Dict, List, Tuple
 
 from support import MARK, TESTS, Trace, environment, expect, limited, reports, run, write
 from testing.programs import PATIENCE
 
 
 # What becomes of processes: the status (or minus the signal), the fate of the trace, and its reports.
-LIVES = {
+LIVES: Dict[str, Tuple[int, str, List[str]]] = {
     "ends_normally": (0, "closed", [MARK]),
     "ends_by__exit": (7, "closed", [MARK]),
     "ends_by_quick_exit": (7, "closed", [MARK]),
@@ -88,8 +89,10 @@ def check_fork(suite, folder, program):
 def check_fork_in_a_thread(suite, folder, program):
     ran = run([program, "forks_in_a_thread"], folder, ASANCOL_TRACE="%p.trace")
     expect((ran.returncode, ran.stderr), (0, b""))
-    seen = sorted(reports(suite.asancol, f"{folder}/{name}")[1] for name in traces(folder))
-    expect(seen, [[]] * 10 + [[MARK]], "reports")
+    seen = [reports(suite.asancol, f"{folder}/{name}")[1] for name in traces(folder)]
+    expect([it for it in seen if it], [[MARK]], "reports")
+    # One of each process; on a slow machine the busy threads fill more than one segment.
+    expect(len(seen) >= 11, True, "traces")
 
 
 def check_fork_in_handlers(suite, folder, program):
@@ -253,7 +256,7 @@ def tests(suite, compiler):
     for name, (status, fate, wanted) in LIVES.items():
         suite.test(f"{compiler} {name}", check_life, program, name, status, fate, wanted)
     suite.test(f"{compiler} fork", check_fork, program)
-    suite.test(f"{compiler} fork in a thread", check_fork_in_a_thread, program)
+    suite.long_test(f"{compiler} fork in a thread", check_fork_in_a_thread, program)
     suite.test(f"{compiler} fork in handlers", check_fork_in_handlers, program)
     suite.test(f"{compiler} exec", check_exec, program)
     suite.test(f"{compiler} name that is taken", check_other_name, program)

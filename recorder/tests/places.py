@@ -6,7 +6,7 @@ import shutil
 import signal
 
 from lives import lives_of
-from support import CC, RECORDER, Trace, build, expect, leave_out, placed, reports, run, side_of, write
+from support import CC, RECORDER, Trace, build, expect, leave_out, placed, run, side_of, write
 from testing.side import EXIT
 
 

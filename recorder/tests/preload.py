@@ -7,8 +7,8 @@ import subprocess
 from typing import Dict, List, Optional, Sequence, Tuple
 
 from support import (
-    HELPER, PAST_THE_END, RECORDER, TESTS, Compiler, Suite, expect, leave_out, noted, placed, reports, run, side_of,
-    write,
+    HELPER, PAST_THE_END, RECORDER, TESTS, Compiler, Failure, Suite, expect, leave_out, noted, placed, reports, run,
+    side_of, write,
 )
 
 PRELOADED = f"{RECORDER}/libasancol_preload.so"
@@ -70,6 +70,14 @@ def take_trace(folder: str) -> Optional[str]:
     return f"{folder}/taken.trace"
 
 
+def the_trace(folder: str) -> str:
+    """The only trace, under another name."""
+    trace = take_trace(folder)
+    if trace is None:
+        raise Failure("there is no trace")
+    return trace
+
+
 def check_cases(suite: Suite, folder: str, compiler: Compiler, link: str, **settings: str) -> None:
     """Each case has its reports with their lines, and its trace a close."""
     build_both(folder, compiler, link)
@@ -93,7 +101,7 @@ def check_calls(suite: Suite, folder: str, compiler: Compiler, link: str) -> Non
     build_both(folder, compiler, link)
     for case, wanted in (("call", "preload_module.c"), ("host copies too much", "preload_host.c")):
         expect(preloaded(folder, "./host", "./module.so", case).returncode, 0, case)
-        side = side_of(take_trace(folder))
+        side = side_of(the_trace(folder))
         faults = [(it.call, side.lines([it.place[0]])[0][1].split(":")[0]) for it in side.faults()]
         expect({it for it in faults}, {("memcpy", wanted)}, case)
 
@@ -116,7 +124,7 @@ def check_ends(suite: Suite, folder: str, compiler: Compiler) -> None:
     build_both(folder, compiler)
     for case, number, place in (("abort", signal.SIGABRT, "preload_module.c"), ("term", signal.SIGTERM, "")):
         expect(preloaded(folder, "./host", "./module.so", case).returncode, -number, case)
-        side = side_of(take_trace(folder))
+        side = side_of(the_trace(folder))
         expect(side.signal, number, case)
         lines = [line.split(":")[0] for _, line in side.lines([it for it in side.last().calls if side.path(it)])]
         expect(place in lines or not place, True, f"{case}: {lines}")
@@ -175,7 +183,7 @@ def check_aside(suite: Suite, folder: str, compiler: Compiler) -> None:
         for preload in ("", PRELOADED):
             ran = preloaded(folder, *words, LD_PRELOAD=preload)
             expect((ran.returncode, ran.stderr), (0, b""), f"{words}")
-            trace = take_trace(folder)
+            trace = the_trace(folder)
             unchecked = [it.replace(os.path.basename(PRELOADED), "libc.so.6") for it in side_of(trace).unchecked()]
             seen.append((reports(suite.asancol, trace), unchecked))
         expect(seen[1], seen[0], f"{words}")
@@ -260,13 +268,13 @@ def check_families(suite: Suite, folder: str, compiler: Compiler) -> None:
         return
     write(folder, news_cpp=NEWS, host_cpp=NEWS_HOST)
     compiler.cpp(folder, ["news.cpp"], "news.so", "-shared", "-fPIC")
-    for flags in ([], ["-static-libstdc++", "-static-libgcc"], ["-rdynamic", "-static-libstdc++"]):
+    for flags in ((), ["-static-libstdc++", "-static-libgcc"], ["-rdynamic", "-static-libstdc++"]):
         compiler.cpp(folder, ["host.cpp"], "host", *flags, native=True)
         expect(preloaded(folder, "./host").returncode, 0, f"{flags}")
-        expect(list(side_of(take_trace(folder)).findings()), [], f"{flags}")
+        expect(list(side_of(the_trace(folder)).findings()), [], f"{flags}")
     compiler.cpp(folder, ["host.cpp"], "host", native=True)
     expect(preloaded(folder, "./host", "bad").returncode, 0, "a mismatch")
-    expect(len(list(side_of(take_trace(folder)).findings())), 1, "a mismatch")
+    expect(len(list(side_of(the_trace(folder)).findings())), 1, "a mismatch")
 
 
 def check_linked_otherwise(suite: Suite, folder: str, compiler: Compiler) -> None:

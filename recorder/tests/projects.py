@@ -4,7 +4,6 @@ import glob
 import os
 import re
 import shutil
-import time
 
 from support import (
     CC, HELPER, PAST_THE_END, RECORDER, TESTS, Failure, Trace, build, by_sanitizer, expect, one_mark, placed, reports,
@@ -133,8 +132,8 @@ def check_store(suite, folder, compiler, level):
     source, commands = f"{TESTS}/store.c", store_commands()
     compiler.c(folder, [source], "plain", level, "-w", native=True)
     compiler.c(folder, [source], "store", level, "-w")
-    plain = run(["./plain"], folder, stdin=commands)
-    ran = run(["./store"], folder, stdin=commands, ASANCOL_TRACE="t.trace")
+    plain = run(["./plain"], folder, commands)
+    ran = run(["./store"], folder, commands, ASANCOL_TRACE="t.trace")
     expect((plain.returncode, ran.returncode, ran.stderr), (0, 0, b""))
     expect(ran.stdout, plain.stdout, "what the store prints")
     expect(len(plain.stdout.splitlines()) > 200, True, "that it prints something")
@@ -144,14 +143,14 @@ def check_store(suite, folder, compiler, level):
         compiler.c(folder, [source], "sanitized", level, "-w", "-fsanitize=address", native=True)
     for bug, (wrong, function) in PLANTED.items():
         trace = f"{folder}/{bug}.trace"
-        run(["./store", "--bug", bug], folder, stdin=commands, ASANCOL_TRACE=trace, ASANCOL_WHERE="1")
+        run(["./store", "--bug", bug], folder, commands, ASANCOL_TRACE=trace, ASANCOL_WHERE="1")
         _, texts, _ = reports(suite.asancol, trace, most=1)
         expect(texts[0].split()[-1] if texts else None, wrong, bug)
         if function:
             expect(placed(suite.asancol, trace)[0][0].function, function, bug)
         if os.path.exists(f"{folder}/sanitized"):
             options = "detect_leaks=0"
-            said = run(["./sanitized", "--bug", bug], folder, stdin=commands, ASAN_OPTIONS=options).stderr.decode()
+            said = run(["./sanitized", "--bug", bug], folder, commands, ASAN_OPTIONS=options).stderr.decode()
             said = by_sanitizer(said)
             if said is None or not same_as_sanitizer(texts[0], said):
                 raise Failure(f"{bug}: AddressSanitizer says {said}, the trace {texts[0]!r}")
@@ -160,7 +159,7 @@ def check_store(suite, folder, compiler, level):
 def tests(suite, compiler):
     for level in ("-O0", "-O2"):
         suite.test(f"{compiler} store {level}", check_store, compiler, level)
-    suite.test(f"{compiler} by itself", check_by_itself, compiler)
+    suite.long_test(f"{compiler} by itself", check_by_itself, compiler)
     suite.test(f"{compiler} own names", check_own_names, compiler)
     suite.test(f"{compiler} own malloc", check_own_malloc, compiler)
     suite.test(f"{compiler} make", check_make, compiler)

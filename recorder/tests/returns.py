@@ -125,9 +125,9 @@ def check_words(suite: Suite, folder: str, compiler: Compiler) -> None:
 def check_steps(suite: Suite, folder: str, compiler: Compiler) -> None:
     """In the flags of the link too, which compiles nothing; and of one file of two."""
     write(folder, bug_c=BUG, main_c=MAIN)
-    flags = [[], ["-flto"]] if compiler.name == "gcc" else [[]]
+    flags: List[List[str]] = [[], ["-flto"]] if compiler.name == "gcc" else [[]]
     for more in flags:
-        for words in ([], [ASKED], ["--param", "asan-use-after-return=1"]):
+        for words in ((), [ASKED], ["--param", "asan-use-after-return=1"]):
             build([CC, "-O1", *more, ASKED, "-c", "bug.c"], folder, ASANCOL_CC=compiler.name)
             build([CC, "-O1", *more, "-c", "main.c"], folder, ASANCOL_CC=compiler.name)
             made = run([CC, *more, *words, "bug.o", "main.o", "-o", "program"], folder, ASANCOL_CC=compiler.name)
@@ -187,7 +187,7 @@ def check_off(suite: Suite, folder: str, compiler: Compiler) -> None:
     """If nothing is recorded there is no fake stack, nor in a child that is not recorded."""
     write(folder, bug_c=BUG, main_c=WITHOUT)
     for mode in ("runtime", "always"):
-        for flags in ([], ["-static"]):
+        for flags in ((), ["-static"]):
             compiler.c(folder, ["bug.c", "main.c"], f"{folder}/program", OPTION + mode, *flags)
             ran = run(["./program"], folder)
             expect((ran.returncode, ran.stdout, ran.stderr), (0, b"", b""), f"{mode} {flags}")

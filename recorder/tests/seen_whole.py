@@ -12,7 +12,7 @@ from support import (
     CC, HELPER, MARK, PAST_THE_END, RECORDER, TESTS, Compiler, Failure, Suite, Trace, build, expect, limited, noted,
     one_mark, reports, run, write,
 )
-from testing import traces
+from testing import NO_SETTINGS, traces
 
 # A free of null: the event that is one too many.
 FREE = 4
@@ -192,7 +192,7 @@ def check_plain_objects(suite: Suite, folder: str, compiler: Compiler) -> None:
     names = [f"n{i}" for i in range(6)]
     write(folder, **{f"{name}_c": f"int {name};\n" for name in names})
     build([compiler.name, "-DVALUE=1", "-c", "main.c", "helper.c", *(f"{name}.c" for name in names)], folder)
-    for flags in ([], ["-no-pie"]):
+    for flags in ((), ["-no-pie"]):
         expect_warnings(warned(folder, compiler, *flags, "main.o", "helper.o", "-o", "program"))
         expect_noted(folder, "main.o", "helper.o")
         expect_unseen(suite, folder)
@@ -289,7 +289,7 @@ def check_static(suite: Suite, folder: str, compiler: Compiler) -> None:
         one_mark(suite, folder)
     expect_warnings(warned(folder, compiler, "-static", "-c", "main.c"))
     expect_warnings(warned(folder, compiler, *both, "-Wl,-Bstatic", "-Wl,-Bdynamic", "-o", "program"))
-    for flags, wanted in (([], 1), (["-static"], 0)):
+    for flags, wanted in (((), 1), (["-static"], 0)):
         warned(folder, compiler, *flags, "-fno-builtin", "copy.c", "-o", "program")
         expect(run(["./program"], folder, ASANCOL_TRACE="t.trace").returncode, 0, flags)
         expect(reports(suite.asancol, f"{folder}/t.trace")[0], wanted, flags)
@@ -360,7 +360,7 @@ def seen_tests(suite: Suite, compiler: Compiler) -> None:
 def check_allocation(suite: Suite, folder: str, compiler: Compiler, flags: Sequence[str]) -> None:
     """All of the C library's interface, recorded and not."""
     compiler.c(folder, [f"{TESTS}/allocation.c"], f"{folder}/program", "-w", *flags)
-    for settings in ({}, {"ASANCOL_TRACE": "t.trace"}):
+    for settings in (NO_SETTINGS, {"ASANCOL_TRACE": "t.trace"}):
         ran = run(["./program"], folder, **settings)
         expect((ran.returncode, ran.stderr), (0, b""), settings)
     status, texts, end = reports(suite.asancol, f"{folder}/t.trace")
@@ -379,7 +379,7 @@ def check_asked_for(suite: Suite, folder: str, compiler: Compiler) -> None:
     with open(f"{RECORDER}/out/calls.list", encoding="utf-8") as file:
         others = [f"__interceptor_{name}" for name in re.findall(r"WRAP\((\w+)\)", file.read())]
     allocator = [f"__interceptor_{name}" for name in ("malloc", "calloc", "realloc", "memalign", "free")]
-    for names, flags in ((hooks + others + allocator, []), (hooks + allocator, ["-static"])):
+    for names, flags in ((hooks + others + allocator, ()), (hooks + allocator, ["-static"])):
         text = "".join(f"void {name}(void);\n" for name in names)
         table = ", ".join(sorted(set(names)))
         calls = "".join(f"    {name}();\n" for name in hooks)
@@ -489,7 +489,7 @@ def check_interface(suite: Suite, folder: str, compiler: Compiler) -> None:
     expect([name for name in names if name not in called], [], "functions that interface.c does not call")
     for flags in (["-O0"], ["-O2"], ["-static"]):
         compiler.c(folder, [source], f"{folder}/program", "-w", *flags)
-        for settings in ({}, {"ASANCOL_TRACE": "t.trace"}):
+        for settings in (NO_SETTINGS, {"ASANCOL_TRACE": "t.trace"}):
             ran = run(["./program"], folder, **settings)
             expect((ran.returncode, ran.stderr, ran.stdout), (0, b"", b""), flags)
         expect(reports(suite.asancol, f"{folder}/t.trace")[:2], (0, []), flags)
@@ -527,7 +527,7 @@ int main(void)
 def check_kept_blocks(suite: Suite, folder: str, compiler: Compiler) -> None:
     """A program may say that a free does not count."""
     write(folder, kept_c=KEPT)
-    for flags in ([], ["-static"]):
+    for flags in ((), ["-static"]):
         compiler.c(folder, ["kept.c"], f"{folder}/kept", "-w", *flags)
         ran = run(["./kept"], folder, ASANCOL_TRACE="t.trace")
         expect((ran.returncode, ran.stderr), (0, b""), "the program")
@@ -598,8 +598,8 @@ def check_settings(suite: Suite, folder: str, program: str) -> None:
         ({"ASANCOL_LIMIT": "99999999999999999999"}, ["ASANCOL_LIMIT: 99999999999999999999 is no number"]),
         ({"ASANCOL_QUARANTINE": "1M"}, ["ASANCOL_QUARANTINE: 1M is no number from 0 to 1099511627776"]),
         ({"ASANCOL_PATIENCE": "-1"}, ["ASANCOL_PATIENCE: -1 is no number from 0 to 86400, and 60 holds"]),
-        ({"ASANCOL_WHERE": "", "ASANCOL_LIMIT": "", "ASANCOL_LOG": ""}, []),
-        ({"ASANCOL_CC": "gcc", "ASANCOL_CXX": "g++", "ASANCOL_REPORT": "r", "ASANCOL_SYMBOLIZER": "addr2line"}, []),
+        ({"ASANCOL_WHERE": "", "ASANCOL_LIMIT": "", "ASANCOL_LOG": ""}, ()),
+        ({"ASANCOL_CC": "gcc", "ASANCOL_CXX": "g++", "ASANCOL_REPORT": "r", "ASANCOL_SYMBOLIZER": "addr2line"}, ()),
     ):
         ran = run([program, "ends_normally"], folder, **settings)
         expect(ran.returncode, 0, settings)

@@ -269,7 +269,7 @@ def check_hub(suite: Suite, folder: str, program: str) -> None:
     cases = (("blocks 8000 4000", 3000), ("threads 3000 4", 1000), ("early 900 0", 30))
     for name, limit in cases:
         words = name.split()
-        peers, said = hub.run_under(folder, [program, *words], ASANCOL_LIMIT=str(limit))
+        peers, said = hub.run_under(folder, [program, *words], ASANCOL_LIMIT=str(limit), ASANCOL_FULL="1")
         sides = [it.side() for it in peers]
         expect((said, len(peers) > 5), (b"", True), f"{len(peers)} connections of {words}")
         expect([it.segment for it in sides], list(range(1, len(peers) + 1)), "numbers of segments")
@@ -286,7 +286,7 @@ def check_hub_that_leaves(suite: Suite, folder: str, program: str) -> None:
     """The hub is gone at a switch: the process goes on, and a line says that the recording ends."""
     listening = hub.Hub(f"{folder}/hub", has_abstract=False)
     words = [program, "removes_hub", "8000", "-1"]
-    ran = run(words, folder, ASANCOL_HUB=listening.path, ASANCOL_LIMIT="3000")
+    ran = run(words, folder, ASANCOL_HUB=listening.path, ASANCOL_LIMIT="3000", ASANCOL_FULL="1")
     peers = listening.close()
     expect((ran.returncode, len(peers), len(ran.stderr.splitlines())), (0, 1, 1), ran.stderr)
     side = peers[0].side()

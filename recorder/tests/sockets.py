@@ -6,7 +6,7 @@ import subprocess
 import time
 
 from lives import every_of, lives_of
-from support import Failure, environment, expect, reports, run
+from support import Failure, environment, expect, run
 from testing.programs import PATIENCE
 
 

@@ -159,6 +159,55 @@ static long strings(long count)
     return sum;
 }
 
+static long fill_and_free(long count, size_t size)
+{
+    for (long i = 0; i < count; i++) {
+        char *volatile block = malloc(size);
+        if (block != NULL)
+            memset(block, (int)i, size);
+        free(block);
+    }
+    return count;
+}
+
+static long forty_kb(long count)
+{
+    return fill_and_free(count, 40 << 10);
+}
+
+static long hundred_kb(long count)
+{
+    return fill_and_free(count, 100 << 10);
+}
+
+/* The megabytes that are resident; 0 if nobody says it. */
+static long resident(void)
+{
+    long pages = 0;
+    FILE *file = fopen("/proc/self/statm", "r");
+    if (file == NULL)
+        return 0;
+    if (fscanf(file, "%*d %ld", &pages) != 1)
+        pages = 0;
+    fclose(file);
+    return pages >> 8;
+}
+
+/* 200 MB that are allocated and freed, again and again. Returns what is resident then. */
+static long sawtooth(long count)
+{
+    enum { BLOCKS = 5000, SIZE = 40 << 10 };
+    static char *volatile all[BLOCKS];
+    for (long round = 0; round < count; round++) {
+        for (int i = 0; i < BLOCKS; i++)
+            if ((all[i] = malloc(SIZE)) != NULL)
+                memset(all[i], i, SIZE);
+        for (int i = 0; i < BLOCKS; i++)
+            free(all[i]);
+    }
+    return resident();
+}
+
 /* Blocks that the process still has when it ends, and 100 MB in one. */
 static long live(long count)
 {
@@ -183,9 +232,9 @@ int main(int count, char **words)
     static const struct {
         const char *name;
         long (*run)(long);
-    } programs[] = {{"array", array},   {"tree", tree},   {"sort", sort},     {"blocks", blocks},
-                    {"frames", frames}, {"calls", calls}, {"copies", copies}, {"strings", strings},
-                    {"live", live}};
+    } programs[] = {{"array", array},    {"tree", tree},         {"sort", sort},         {"blocks", blocks},
+                    {"frames", frames},  {"calls", calls},       {"copies", copies},     {"strings", strings},
+                    {"40-kb", forty_kb}, {"100-kb", hundred_kb}, {"sawtooth", sawtooth}, {"live", live}};
     for (size_t i = 0; count == 3 && i < sizeof programs / sizeof *programs; i++) {
         if (strcmp(words[1], programs[i].name) != 0)
             continue;

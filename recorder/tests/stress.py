@@ -15,7 +15,6 @@ The status is 1 if one failed. A thousand times take about a quarter of an hour 
 import argparse
 import collections
 import os
-import re
 import shutil
 import subprocess
 import sys

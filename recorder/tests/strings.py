@@ -96,7 +96,7 @@ def check_objects(suite: Suite, folder: str, compiler: Compiler, flags: "list[st
     for name, words in (("recorded", [CXX]), ("plain", [compiler.cxx])):
         build([compiler.cxx, *flags, "-shared", "-fPIC", "object.cpp", "-o", "libobject.so"], folder)
         build([*words, *flags, "host.cpp", *link, "-o", name], folder, ASANCOL_CXX=compiler.cxx)
-    for more in ([], ["-Wl,--version-script=one.map"], ["-Wl,-Bsymbolic"]):
+    for more in ((), ["-Wl,--version-script=one.map"], ["-Wl,-Bsymbolic"]):
         shared = ["-shared", "-fPIC", "-fvisibility-inlines-hidden", "-Wl,-z,defs", "object.cpp"]
         build([CXX, *flags, *shared, *more, "-o", "libobject.so"], folder, ASANCOL_CXX=compiler.cxx)
         for name in ("recorded", "plain"):
@@ -156,5 +156,5 @@ def tests(suite: Suite, compiler: Compiler) -> None:
         else:
             leave_out(f"{library} is not there for {compiler}")
     suite.test(f"{compiler} strings objects", check_objects, compiler, ["-O0"])
-    suite.test(f"{compiler} strings old objects", check_objects, compiler, ["-O1", "-D_GLIBCXX_USE_CXX11_ABI=0"])
+    suite.long_test(f"{compiler} strings old objects", check_objects, compiler, ["-O1", "-D_GLIBCXX_USE_CXX11_ABI=0"])
     suite.test(f"{compiler} strings texts", check_texts, compiler)

@@ -9,7 +9,7 @@ from typing import NamedTuple
 import testing
 from testing import Failure, Later, compilers_there, expect, fuzzers, leave_out, traces
 from testing.lines import lines_of
-from testing.programs import CC, CXX, TOP, environment, run
+from testing.programs import CC, CXX, TOP, environment, run  # noqa: F401
 from testing.side import side_of
 
 TESTS = os.path.dirname(os.path.abspath(__file__))

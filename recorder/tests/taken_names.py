@@ -4,7 +4,7 @@ recorder calls none of them."""
 import os
 import shutil
 import subprocess
-from typing import Dict, List, Set, Tuple
+from typing import Dict, List, Sequence, Set, Tuple
 
 from support import RECORDER, Compiler, Suite, expect, reports, run, write
 
@@ -102,7 +102,7 @@ int main(void)
 }
 """
 LINKS = (
-    [],
+    (),
     ["-Wl,-z,now", "-Wl,--as-needed", "-Wl,--gc-sections"],
     ["-nodefaultlibs", "-lc"],
     ["-ffreestanding"],
@@ -118,11 +118,11 @@ def check_links(suite: Suite, folder: str, compiler: Compiler) -> None:
     linkers = [it for it in ("bfd", "gold", "lld") if shutil.which(f"ld.{it}")]
     for linker in linkers:
         one = [f"-fuse-ld={linker}", "-fno-builtin", "-w"]
-        bare = [] if linker == "lld" else [["-nostdlib"]]
+        bare: List[Sequence[str]] = [] if linker == "lld" else [["-nostdlib"]]
         for flags in LINKS:
             compiler.c(folder, ["user.c", "./libplain.so"], "user", *one, *flags)
             expect(seen(suite, folder), ["store 1 +8 heap-buffer-overflow"], f"{linker} {flags}")
-        for flags in ([], ["-Wl,-z,defs"], ["-Wl,-Bsymbolic"], *bare):
+        for flags in ((), ["-Wl,-z,defs"], ["-Wl,-Bsymbolic"], *bare):
             compiler.c(folder, ["library.c"], "libuse.so", "-fPIC", "-shared", *one, *flags)
             compiler.c(folder, ["user.c", "./libuse.so"], "user", *one)
             expect(seen(suite, folder), ["store 1 +8 heap-buffer-overflow"], f"{linker} {flags}")

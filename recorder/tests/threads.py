@@ -7,8 +7,9 @@ import signal
 from typing import Dict, List, Optional, Tuple
 
 from support import TESTS, Compiler, Suite, expect, run, write
+from testing import Failure
 from testing.lines import lines_of
-from testing.side import Side, side_of
+from testing.side import Side, Thread, side_of
 
 UNKNOWN = (1 << 32) - 1
 
@@ -26,6 +27,21 @@ def name_of(side: Side, number: int) -> str:
     return f"T{thread.number if thread else 0}" + (f" ({name})" if name else "")
 
 
+def thread_at(side: Side, number: int) -> Thread:
+    thread = side.thread(number)
+    if thread is None:
+        raise Failure(f"thread {number} is in no list")
+    return thread
+
+
+def thread_of_first(side: Side) -> Thread:
+    """Returns the thread of the first fault's access."""
+    fault = side.fault(1)
+    if fault is None:
+        raise Failure("there is no fault")
+    return thread_at(side, fault.threads[0])
+
+
 def seen_in(suite: Suite, path: str) -> Tuple[List[Threads], Creators]:
     """Returns the threads of each report of a trace, and who has created them, up to the first thread."""
     checked = run([suite.asancol, "check", path], ".").stdout
@@ -34,10 +50,11 @@ def seen_in(suite: Suite, path: str) -> Tuple[List[Threads], Creators]:
     creators: Creators = {}
     for line in lines_of(checked)[0]:
         fault = side.fault_at(line.event)
-        found.append(tuple(name_of(side, it) for it in fault.threads))
+        access, allocated, freed = (name_of(side, it) for it in fault.threads)
+        found.append((access, allocated, freed))
         for number in fault.threads:
             while number not in (0, UNKNOWN):
-                thread = side.thread(number)
+                thread = thread_at(side, number)
                 creators[name_of(side, number)] = name_of(side, thread.creator)
                 number = thread.creator
     return found, creators
@@ -96,7 +113,7 @@ def check_fork(suite: Suite, folder: str, program: str) -> None:
     expect((created["T3"], created["T4"]), ("T0", "T3"), "creators")
     path = next(it for it in glob.glob(f"{folder}/*.trace") if seen_in(suite, it)[0])
     side = side_of(path)
-    expect(side.thread(side.fault(1).threads[0]).system_number, int(os.path.basename(path).split(".")[0]), "its number")
+    expect(thread_of_first(side).system_number, int(os.path.basename(path).split(".")[0]), "its number")
 
 
 def check_names(suite: Suite, folder: str, program: str) -> None:
@@ -196,7 +213,7 @@ def check_cpp(suite: Suite, folder: str, compiler: Compiler) -> None:
     compiler.cpp(folder, ["program.cpp"], "program", "-pthread", "-w")
     expect(recorded(suite, folder, "./program"), (WANTED_OF_TWO, {"T2": "T0", "T1 (of a library)": "T0"}), "threads")
     side = side_of(glob.glob(f"{folder}/*.trace")[0])
-    thread = side.thread(side.fault(1).threads[0])
+    thread = thread_of_first(side)
     expect("main" in [function for function, _ in side.lines(thread.created)], True, "where it was created")
 
 

@@ -1,5 +1,5 @@
 """Findings of the recorder: what it knows to be wrong, and no event of the trace shows. No checker has judged them, and
-each output says so. docs/FORMAT.md lists their kinds."""
+each output says so. common/README.md lists their kinds."""
 
 from __future__ import annotations
 

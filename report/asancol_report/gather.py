@@ -167,7 +167,8 @@ class Gatherer:
         if side is None or fault is None:
             return Places()
         function = (self.place(side, fault.function + 1),) if fault.function else ()
-        return Places(*(self.calls(side, it) for it in (fault.place, fault.allocated, fault.freed)), function)
+        place, allocated, freed = (self.calls(side, it) for it in (fault.place, fault.allocated, fault.freed))
+        return Places(place, allocated, freed, function)
 
     def calls(self, side: Side, after_calls: Tuple[int, ...], has_names: bool = True) -> Calls:
         """Returns the places of calls, from the addresses after them. What is no call is no caller, and ends them: code

@@ -1,4 +1,4 @@
-"""Results as JSON lines: what asancol-report writes with --json and merges. docs/REPORTS.md describes each field."""
+"""Results as JSON lines: what asancol-report writes with --json and merges. asancol-results(5) describes each field."""
 
 from __future__ import annotations
 
@@ -357,8 +357,8 @@ def rows_of(entry: object) -> Rows:
 def threads_of(entry: Entry) -> Threads:
     listed = entry.get("threads")
     entries = [it for it in listed if isinstance(it, dict)] if isinstance(listed, list) else []
-    return Threads(*(thread_number_of(entry.get(name)) for name in ("thread", "allocated_thread", "freed_thread")),
-                   tuple(thread_of(it) for it in entries))
+    access, allocated, freed = (thread_number_of(entry.get(f"{of}thread")) for of in ("", "allocated_", "freed_"))
+    return Threads(access, allocated, freed, tuple(thread_of(it) for it in entries))
 
 
 def thread_number_of(value: object) -> int:

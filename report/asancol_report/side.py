@@ -1,6 +1,6 @@
 """The side memory of a recorded process: its module map, and what was seen at each bad event.
 
-The layout is `struct side` of common/format.h, and docs/FORMAT.md says it in words. All of it is the recorded
+The layout is `struct side` of common/format.h, and common/README.md says it in words. All of it is the recorded
 process's own word, and it may write there while this reads. So each number is checked before it is used, and a side
 memory that is cut, or that lies, costs some places and nothing else.
 """
@@ -26,7 +26,7 @@ HAS_ADDRESS, BY_LOAD, BY_STORE, BY_JUMP, STACK_USED_UP = 1, 2, 4, 8, 16
 ACCESSES = {BY_LOAD: "load", BY_STORE: "store", BY_JUMP: "jump"}
 BUILDS_AT = 4096
 BUILD = struct.Struct("<QB23s")
-PROGRESS_AT, PROGRESS = 7680, struct.Struct("<15Q")
+PROGRESS_AT, PROGRESS = 7680, struct.Struct("<16Q")
 BESIDE_THREADS_AT, BESIDE_THREADS = 8160, struct.Struct("<II16s")
 MAPS_AT = 8192
 UNCHECKED_AT, UNCHECKED_ROOM = 245760, 1 << 14
@@ -120,7 +120,7 @@ class Fault(NamedTuple):
     call: str  # the function of the C library that has made the access
     # Of a finding of the recorder:
     kind: int = FINDING_NONE
-    count: int = 0  # how often it came up; of a leak how many blocks are lost
+    count: int = 0  # type: ignore[assignment]  # how often it came up; of a leak how many blocks are lost
     after: int = 0  # how many events came before it
     other: int = 0  # of an overlap where the other range begins; of an overflow what the size is to be taken times
 
@@ -173,9 +173,9 @@ class Side:
         self.stack_words = min(stack_words, MAX_STACK_WORDS)
         progress = read_at(descriptor, PROGRESS_AT, PROGRESS.size) if self.is_good else b""
         has_progress = len(progress) == PROGRESS.size
-        fields = PROGRESS.unpack(progress) if has_progress else (0,) * 15
+        fields = PROGRESS.unpack(progress) if has_progress else (0,) * 16
         self.needed, before, self.restated, self.noted = fields[:4]
-        self.finding_count, self.findings_lost, self.leak_count, self.leaks_missed = fields[11:]
+        self.finding_count, self.findings_lost, self.leak_count, self.leaks_missed = fields[11:15]
         self.segment = before + 1
         self.stacks: Dict[int, Calls] = {}
         self.maps = self.read_maps() if self.is_good else []
@@ -305,10 +305,11 @@ class Side:
         if variable > VARIABLE_DYNAMIC:
             variable = VARIABLE_NONE
         calls = [self.calls(*it) for it in zip((place, allocated, freed), fields[8:11])]
-        return Fault(calls[0], block, block_size, calls[1], calls[2], variable, line, text_of(name), fields[11:14],
-                     start,
-                     size, shadow if shadow_start else b"", shadow_start, frame, function, self.read_text(variables),
-                     text_of(call), kind, *(FOUND.unpack_from(shadow) if kind else (0, 0, 0)))
+        access, allocated_by, freed_by = fields[11:14]
+        found = FOUND.unpack_from(shadow) if kind else (0, 0, 0)
+        return Fault(calls[0], block, block_size, calls[1], calls[2], variable, line, text_of(name),
+                     (access, allocated_by, freed_by), start, size, shadow if shadow_start else b"", shadow_start,
+                     frame, function, self.read_text(variables), text_of(call), kind, *found)
 
     def thread(self, number: int) -> Optional[Thread]:
         """Returns a thread by its number in the list, from 1."""

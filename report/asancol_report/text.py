@@ -131,8 +131,9 @@ class Text:
     def frame_file(self, finding: Finding) -> str:
         """Returns where the function is whose frame has the variable."""
         function = finding.block.function if finding.block else None
-        is_known = function is not None and function.function and function.file
-        return f", {printable(shown_path(place_text(function._replace(column=0)), self.root))}" if is_known else ""
+        if function is None or not function.function or not function.file:
+            return ""
+        return f", {printable(shown_path(place_text(function._replace(column=0)), self.root))}"
 
     def place_of(self, top: Frame) -> str:
         function = f" in {brief(top.function)}" if top.function else ""

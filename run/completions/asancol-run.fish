@@ -58,6 +58,7 @@ complete -c asancol-run -n '_asancol_run_takes option' -l gen-suppressions -d 'p
 complete -c asancol-run -n '_asancol_run_takes option' -l baseline -r -F -d 'reports of this result of --json do not count'
 complete -c asancol-run -n '_asancol_run_takes option' -l quarantine -x -d 'how many bytes of freed blocks are held'
 complete -c asancol-run -n '_asancol_run_takes option' -l no-mismatches -d 'malloc may be freed by delete, and so on'
+complete -c asancol-run -n '_asancol_run_takes option' -l full -d 'records each malloc and free, not those near faults'
 complete -c asancol-run -n '_asancol_run_takes option' -l preload -d 'records modules of programs not built so'
 complete -c asancol-run -n '_asancol_run_takes option' -l memory -x -d 'how many bytes each checker may hold'
 complete -c asancol-run -n '_asancol_run_takes option' -l limit -x -d 'how many events of a process are checked'

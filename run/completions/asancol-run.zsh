@@ -31,6 +31,7 @@ _arguments -S \
     '--baseline=[reports of this result of --json do not count]:file:_files -g "*.jsonl(-.)"' \
     '--quarantine=[how many bytes of freed blocks are held]:number (268435456)' \
     '--no-mismatches[malloc may be freed by delete, and so on]' \
+    '--full[records each malloc and free, not those near faults]' \
     '--preload[records modules of programs not built so]' \
     '--memory=[how many bytes each checker may hold]:number (no bound)' \
     '--limit=[how many events of a process are checked]:number (16777216)' \

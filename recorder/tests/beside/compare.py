@@ -1,6 +1,5 @@
 """What two executions of a program say of each other: with AddressSanitizer's runtime, and recorded."""
 
-import fnmatch
 import os
 from typing import Callable, Dict, Iterator, List, NamedTuple, Sequence, Tuple
 

@@ -156,7 +156,7 @@ def run(words: Sequence[str], folder: str, settings: Dict[str, str], stdout: Any
     has left running is ended."""
     started = subprocess.Popen(words, cwd=folder, env=settings, stdin=subprocess.DEVNULL, stdout=stdout,
                                stderr=subprocess.PIPE, start_new_session=True)
-    errors = []
+    errors: List[bytes] = []
     reader = threading.Thread(target=read_up_to, args=(started.stderr, MOST, errors))
     reader.start()
     try:

@@ -9,12 +9,12 @@ import os
 import shutil
 import subprocess
 import tempfile
-from typing import Any, Callable, Iterator, List, NamedTuple, Sequence
+from typing import Any, Callable, Iterator, List, NamedTuple, Sequence, Tuple
 
 from beside.execute import (HARMLESS, NOT_BUILT, SOURCES, Execution, Report, class_by_sanitizer, execute, first_line,
                             frames, other_option, report_by_sanitizer, stack_after)
 from support import CC, CXX, Compiler, by_sanitizer
-from testing.programs import environment, run
+from testing.programs import run
 
 OUT = os.path.dirname(SOURCES.rstrip("/"))
 
@@ -54,8 +54,9 @@ def read(said: List[Any]) -> Execution:
 
 
 # How a report is read, and which options are nothing to it.
+READERS: Tuple[Callable[..., Any], ...]
 READERS = report_by_sanitizer, class_by_sanitizer, stack_after, frames, first_line, by_sanitizer, other_option
-READING = "".join([*map(inspect.getsource, READERS), *sorted(HARMLESS)])
+READING = "".join([*(inspect.getsource(it) for it in READERS), *sorted(HARMLESS)])
 
 
 @functools.lru_cache(maxsize=None)

@@ -175,6 +175,8 @@ void faults_begin(unsigned char *bytes, unsigned window)
 }
 void side_forget(void) {}
 void side_note_restated(uint64_t events) { (void)events; }
+void side_note_left_good(void) {}
+void side_note_stated(void) {}
 uint64_t side_length(void) { return 0; }
 void side_note_ending(enum ending ending, int number, uint64_t events)
 {
@@ -242,11 +244,15 @@ static bool has_block(unsigned thread)
 /* In the second unit: a block for each line, and then those that are held. */
 static struct unit units[2];
 static struct block blocks[LINES + MAX_HELD];
-struct arena arena = {.bytes = (unsigned char *)(BLOCK_AT - UNIT), .units = units, .blocks = blocks - SLOTS, .top = 2};
+/* They are in the slots of unit 1, from the second on: the notes on all first slots lie elsewhere. */
+struct arena arena = {.bytes = (unsigned char *)(BLOCK_AT - APART - UNIT),
+                      .units = units,
+                      .blocks = blocks - (UNITS + SLOTS - 1),
+                      .top = 2};
 struct heap heap;
 static void heap_begin(void)
 {
-    units[1] = (struct unit){.kind = UNIT_SLAB, .slot_size = APART, .used = LINES + MAX_HELD};
+    units[1] = (struct unit){.kind = UNIT_SLAB, .slot_size = APART, .used = 1 + LINES + MAX_HELD};
     for (unsigned i = 0; i < LINES + MAX_HELD; i++) {
         bool is_held = i >= LINES && i < LINES + scenario->held, is_live = i < MAX_THREADS - 1 && has_block(i);
         blocks[i] = (struct block){.size = BLOCK_SIZE,
@@ -267,6 +273,8 @@ void heap_release_oldest(void)
     heap.oldest = heap.oldest->next;
     heap.held_count--;
 }
+/* All of it is recorded. */
+void book_forget(void) {}
 const struct above above = {
     .lock_heap = heap_lock,
     .unlock_heap = heap_unlock,
@@ -584,7 +592,7 @@ void world_handle(unsigned thread)
 void world_begin(void)
 {
     settings = (struct settings){.trace = "t.trace", .limit = scenario->limit, .segments = ALL_SEGMENTS,
-                                 .with_side = true, .patience_ms = 1};
+                                 .with_side = true, .patience_ms = 1, .is_full = true};
     memset((void *)shadow_of(BAD_AT), 0, PAGE / GRANULE);
     memset((void *)stated_of(BAD_AT), 0, PAGE / GRANULE);
     memset((void *)shadow_of(BLOCK_AT), 0, PAGE / GRANULE);

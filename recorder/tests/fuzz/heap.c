@@ -11,6 +11,7 @@
 #include "calls/library.h"
 #include "heap/families.h"
 #include "heap/blocks.h"
+#include "heap/book.h"
 #include "heap/heap.h"
 #include "shadow/mapping.h"
 #include "stream/losing.h"
@@ -21,14 +22,27 @@ enum { THREADS = 4, BLOCKS = 64, SHARED = 32, STEPS = 20000, LARGEST = 3 * UNIT,
 /* What the other parts of the recorder would do. */
 
 static const char is_alone = 0;
-struct library library = {.__libc_single_threaded = &is_alone};
-_Atomic bool halt_is_on;
+/* Time passes at each look at the clock: what was freed waits only for a few hundred calls. */
+static int look_at_clock(int clock, struct timespec *now)
+{
+    static int looks;
+    (void)clock;
+    looks++;
+    *now = (struct timespec){looks / 10, looks % 10 * 100000000};
+    return 0;
+}
+struct library library = {.__libc_single_threaded = &is_alone, .clock_gettime = look_at_clock};
+_Atomic bool halt_is_on, lean_is_on;
 static void halt_at(enum code code, unsigned width, uint64_t address, uintptr_t caller, struct access *whole)
 {
     (void)code, (void)width, (void)address, (void)caller, (void)whole;
 }
 const struct above above = {.halt_at = halt_at};
 enum state stream_state(void) { return STATE_RECORDING; }
+union stream_page stream_page;
+bool stream_wake(void) { return true; }
+void book_forget(void) {}
+void book_release(const struct block *block) { (void)block; }
 void stream_stop(const char *why) { fprintf(stderr, "%s\n", why), exit(1); }
 /* Of the thread that restates. */
 static _Thread_local uint64_t events;
@@ -98,6 +112,14 @@ static uint64_t draw(struct thread *me, uint64_t below)
     return (me->draws ^= me->draws << 17) % below;
 }
 
+static struct mark *take_block(size_t size, size_t alignment, bool zeroed)
+{
+    unsigned char *block = heap_allocate(size, alignment, zeroed, 1);
+    for (size_t i = 0; zeroed && block != NULL && i < size; i++)
+        expect(block[i] == 0, "that it is zeros");
+    return (struct mark *)block;
+}
+
 static struct mark *mark_it(struct mark *block, size_t size, struct thread *me)
 {
     expect(block != NULL, "the memory");
@@ -153,7 +175,7 @@ static void do_step(struct thread *me, uint64_t step)
     size_t size = sizeof(struct mark) + draw(me, step % 64 == 0 ? LARGEST : 1500);
     look_anywhere(me);
     if (*mine == NULL) {
-        *mine = mark_it(heap_allocate(size, (size_t)ALIGNMENT << step % 4, step % 2, 1), size, me);
+        *mine = mark_it(take_block(size, (size_t)ALIGNMENT << step % 4, step % 2), size, me);
         return;
     }
     look_at(*mine);
@@ -167,6 +189,8 @@ static void do_step(struct thread *me, uint64_t step)
         heap_give_back(*mine, 1), *mine = NULL;
     if (step % 1024 == 0)
         heap_is_poisoned();
+    if (step % 1024 == 512)
+        heap_trim();
     if (step % 1024 == 1)
         expect(heap_count().live_count <= THREADS * BLOCKS + SHARED, "the number of blocks");
 }

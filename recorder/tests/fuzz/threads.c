@@ -71,6 +71,8 @@ _Atomic uint64_t *side_begin_calls(bool for_start) { return for_start ? NULL : N
 void side_end_calls(_Atomic uint64_t *calls) { (void)calls; }
 void side_forget(void) {}
 void side_note_restated(uint64_t events) { (void)events; }
+void side_note_left_good(void) {}
+void side_note_stated(void) {}
 uint64_t side_length(void) { return 0; }
 void side_note_ending(enum ending ending, int number, uint64_t events) { (void)ending, (void)number, (void)events; }
 void side_note_late_signal(int number) { (void)number; }
@@ -175,14 +177,15 @@ static void expect_all(uint64_t count)
 
 static void check_file(void)
 {
-    struct settings settings = {.trace = "threads.trace", .limit = EVENT_LIMIT};
+    struct settings settings = {.trace = "threads.trace", .limit = EVENT_LIMIT, .is_full = true};
     write_all(&settings);
     expect_all(look_at_file(settings.trace));
 }
 
 static void check_segments(void)
 {
-    struct settings settings = {.trace = "threads.trace", .limit = LIMIT, .segments = MAX_SEGMENTS_KEPT};
+    struct settings settings = {.trace = "threads.trace", .limit = LIMIT, .segments = MAX_SEGMENTS_KEPT,
+                                .is_full = true};
     char path[64];
     write_all(&settings);
     uint64_t count = look_at_file(settings.trace);

@@ -1,0 +1,316 @@
+/* In lean recording the stream has no mallocs and frees but those that are stated for a fault. What the checker says of
+   an access depends on its granule alone, and on the next one if it has addressable bytes: so these are brought to what
+   the shadow says, which is what the checker would have if all had been recorded.
+
+   **A byte of the heap's** (a redzone, or freed) comes from a block. That is stated by a malloc, and by a free if it is
+   held. If no block has the granule any more, a malloc of no bytes is stated, whose redzones have it. All other bytes
+   are stated by poison and unpoison of the granule. Of the two granules one at most has a byte of the heap's that is
+   looked at: so one block is enough.
+
+   **The book** has what the checker has got so: entries by their addresses, whose spans have no byte in common. A free
+   of the process need not look at the book: it is stated when the next fault comes near. An entry whose block has left
+   the quarantine is stale. It serves for another block of its size at its place, unless poison was stated in its span.
+
+   What is stated must not meet what the checker has. If another entry is in the way, the stream goes on in its next
+   segment, and the book is empty. So it does if more spans would be held than the checker may hold. Hence the checker
+   never releases a block, and knows of each entry what stands here. */
+#include "heap/book.h"
+
+#include <string.h>
+
+#include "heap/blocks.h"
+#include "shadow/shadow.h"
+#include "stream/record.h"
+#include "stream/switching.h"
+
+enum { ENTRIES = 1 << 16 };
+
+struct entry {
+    uintptr_t start;
+    uint32_t size;
+    bool is_held;     /* and not live, in the checker */
+    bool is_stale;    /* the process has another block there since, or none */
+    bool is_poisoned; /* poison or an unpoison was stated in its span since */
+};
+
+static struct {
+    struct entry entries[ENTRIES];
+    uint32_t count;
+    uint64_t held_bytes;     /* of spans, in the checker */
+    _Atomic bool is_spoiled; /* something was stated past the book, by a handler that had interrupted the allocator */
+} book;
+
+void book_forget(void)
+{
+    book.count = 0;
+    book.held_bytes = 0;
+    atomic_store(&book.is_spoiled, false);
+}
+
+static uintptr_t span_start(uintptr_t start)
+{
+    return start - REDZONE;
+}
+
+static uintptr_t span_end(uintptr_t start, size_t size)
+{
+    return span_start(start) + span_bytes(size);
+}
+
+/* The place of the first entry whose span ends after an address. */
+static uint32_t first_after(uintptr_t address)
+{
+    uint32_t first = 0, end = book.count;
+    while (first < end) {
+        uint32_t middle = first + (end - first) / 2;
+        const struct entry *entry = &book.entries[middle];
+        if (span_end(entry->start, entry->size) <= address)
+            first = middle + 1;
+        else
+            end = middle;
+    }
+    return first;
+}
+
+/* The first entry whose span meets these bytes, or null. */
+static struct entry *entry_in(uintptr_t start, uintptr_t end)
+{
+    uint32_t first = first_after(start);
+    bool meets = first < book.count && span_start(book.entries[first].start) < end;
+    return meets ? &book.entries[first] : NULL;
+}
+
+static struct entry *entry_of_granule(uintptr_t granule)
+{
+    return entry_in(granule, granule + GRANULE);
+}
+
+/* A block of the process that is live or held, by the notes. */
+struct found {
+    uintptr_t start;
+    uint32_t size;
+    bool is_held;
+    bool is_unsure; /* it may be in the middle of a change */
+};
+
+static bool is_of(const struct entry *entry, const struct found *block)
+{
+    return entry->start == block->start && entry->size == block->size;
+}
+
+/* The entry of a block, or another one that is in its way, or null. */
+static struct entry *entry_for(const struct found *block)
+{
+    return entry_in(span_start(block->start), span_end(block->start, block->size));
+}
+
+static struct found found_of(const struct block *block)
+{
+    return (struct found){(uintptr_t)block_start(block), block->size, block->state == BLOCK_HELD, false};
+}
+
+void book_release(const struct block *block)
+{
+    if (book.count == 0)
+        return;
+    struct found found = found_of(block);
+    uint32_t count;
+    do {
+        count = book.count;
+        struct entry *entry = entry_for(&found);
+        if (entry != NULL && is_of(entry, &found))
+            entry->is_stale = true;
+        /* A handler may have moved the entries meanwhile. */
+        atomic_signal_fence(memory_order_seq_cst);
+    } while (book.count != count);
+}
+
+/* States a malloc whose span meets that of no entry. Null: it is not stated. */
+static struct entry *state_malloc(uintptr_t start, uint32_t size)
+{
+    if (book.count == ENTRIES || !record_here(CODE_MALLOC, start, size))
+        return NULL;
+    struct entry *entry = &book.entries[first_after(span_start(start))];
+    memmove(entry + 1, entry, (size_t)(&book.entries[book.count] - entry) * sizeof *entry);
+    *entry = (struct entry){.start = start, .size = size};
+    book.count++;
+    return entry;
+}
+
+static bool state_free(struct entry *entry)
+{
+    uint64_t held = book.held_bytes + span_bytes(entry->size);
+    if (held > atomic_load_explicit(&heap.bound, memory_order_relaxed) || !record_here(CODE_FREE, entry->start, 0))
+        return false;
+    entry->is_held = true;
+    book.held_bytes = held;
+    return true;
+}
+
+/* False: it is not stated, as if something is in the way. */
+static bool state_block(const struct found *block)
+{
+    struct entry *entry = entry_for(block);
+    if (entry == NULL)
+        entry = state_malloc(block->start, block->size);
+    if (entry == NULL || !is_of(entry, block) || (entry->is_stale && entry->is_poisoned))
+        return false;
+    bool is_stated = block->is_held ? entry->is_held || state_free(entry) : !entry->is_held;
+    if (is_stated)
+        entry->is_stale = block->is_unsure;
+    return is_stated;
+}
+
+/* The block whose span has an address. False: there is none. */
+static bool find(uintptr_t address, struct found *found)
+{
+    struct block block;
+    uintptr_t start;
+    if (!arena_find_around(address, &block, &start) || block.state == BLOCK_UNRECORDED)
+        return false;
+    *found = (struct found){start, block.size, block.state == BLOCK_HELD, false};
+    return address >= span_start(start) && address < span_end(start, block.size);
+}
+
+/* Where a block of no bytes begins that has this granule in a redzone; or 0. It meets no entry. If it can be, it meets
+   no block of the process either, and none could begin there: so it will seldom be in the way. */
+static uintptr_t place_in_released(uintptr_t granule)
+{
+    enum { BYTES = 2 * REDZONE };
+    struct found block;
+    uintptr_t found = 0;
+    for (uintptr_t from = granule + GRANULE - BYTES; from <= granule; from += GRANULE) {
+        uintptr_t last = from + BYTES - 1;
+        if (entry_in(from, last + 1) != NULL)
+            continue;
+        found = from + REDZONE;
+        if (found % ALIGNMENT != 0 && !find(from, &block) && !find(last, &block))
+            break;
+    }
+    return found;
+}
+
+/* Memory that was a block's. */
+static bool state_released(uintptr_t granule)
+{
+    uintptr_t start = place_in_released(granule);
+    struct entry *entry = start != 0 ? state_malloc(start, 0) : NULL;
+    if (entry != NULL)
+        entry->is_stale = true;
+    return entry != NULL;
+}
+
+/* The byte that a block leaves in a granule of its span. */
+static unsigned char byte_of(uintptr_t start, size_t size, bool is_held, uintptr_t granule)
+{
+    uintptr_t end = start + size;
+    if (granule < start || granule >= end)
+        return SHADE_HEAP;
+    if (is_held)
+        return SHADE_FREED;
+    return end - granule < GRANULE ? (unsigned char)(end - granule) : 0;
+}
+
+/* Whether the checker has this byte already, as a block has left it there. */
+static bool is_known(const struct entry *entry, uintptr_t granule, unsigned char shade)
+{
+    return !entry->is_poisoned && byte_of(entry->start, entry->size, entry->is_held, granule) == shade;
+}
+
+/* A byte that is not the heap's, from any other. */
+static bool state_byte(struct entry *entry, uintptr_t granule, unsigned has)
+{
+    if (entry != NULL)
+        entry->is_poisoned = true;
+    if (has != 0 && !record_here(CODE_UNPOISON, granule, has))
+        return false;
+    return has == GRANULE || record_poison_here(KIND_USER, granule + has, GRANULE - has);
+}
+
+static bool state_granule(uintptr_t granule, enum holding holding)
+{
+    struct found block;
+    unsigned char shade = *shadow_of(granule);
+    struct entry *entry = entry_of_granule(granule);
+    if (entry != NULL && is_known(entry, granule, shade))
+        return true;
+    if (shade != SHADE_HEAP && shade != SHADE_FREED)
+        return state_byte(entry, granule, addressable_of(shade));
+    if (!find(granule, &block))
+        return shade == SHADE_HEAP && entry == NULL && state_released(granule);
+    block.is_unsure = holding == HEAP_INTERRUPTED;
+    return byte_of(block.start, block.size, block.is_held, granule) == shade && state_block(&block);
+}
+
+/* From the first byte that is bad in a granule on: up to its end, and the next one too if that says the class. */
+static size_t bad_bytes(unsigned has)
+{
+    return has == 0 ? GRANULE : 2 * GRANULE - has;
+}
+
+/* Without a look at blocks and the book, which is of no use afterwards. */
+static enum stating state_as_poison(uintptr_t granule, enum kind kind)
+{
+    unsigned has = addressable_of(*shadow_of(granule));
+    if (has != 0)
+        record_region(CODE_UNPOISON, granule, has);
+    record_poison(kind, granule + has, bad_bytes(has));
+    atomic_store(&book.is_spoiled, true);
+    return STATING_DONE;
+}
+
+/* The redzone of a frame in a block. */
+static bool state_frame(uintptr_t granule)
+{
+    unsigned has = addressable_of(*shadow_of(granule));
+    for (unsigned i = 0; i < 2; i++) {
+        struct entry *entry = entry_of_granule(granule + i * GRANULE);
+        if (entry != NULL)
+            entry->is_stale = entry->is_poisoned = true;
+    }
+    if (has != 0 && !record_here(CODE_UNPOISON, granule, has))
+        return false;
+    return record_poison_here(KIND_STACK, granule + has, bad_bytes(has));
+}
+
+/* What is to be done if something could not be stated in the segment that there was. */
+static enum stating go_on(unsigned segment, bool has_some)
+{
+    if (atomic_load(&STREAM->segment) != segment || (has_some && switching_begin_anew()))
+        return STATING_AGAIN;
+    return STATING_DONE;
+}
+
+enum stating book_state_access(uint64_t address, unsigned width, enum holding holding)
+{
+    uintptr_t granule = address / GRANULE * GRANULE;
+    unsigned segment = atomic_load(&STREAM->segment);
+    bool is_in_frame = is_frame_in_block(address, width);
+    if (!shadow_is_bad(address, width))
+        return STATING_NOT_NEEDED;
+    if (holding == HEAP_AT_LOCK)
+        return state_as_poison(granule, is_in_frame ? KIND_STACK : KIND_USER);
+    if (is_in_frame)
+        return state_frame(granule) ? STATING_FRAME : go_on(segment, false);
+    bool is_spoiled = atomic_exchange(&book.is_spoiled, false) && book.count != 0;
+    bool has_next = addressable_of(*shadow_of(granule)) != 0;
+    if (!is_spoiled && (!has_next || state_granule(granule + GRANULE, holding)) && state_granule(granule, holding))
+        return STATING_DONE;
+    bool is_again = go_on(segment, book.count != 0) == STATING_AGAIN;
+    return is_again ? STATING_AGAIN : state_as_poison(granule, KIND_USER);
+}
+
+enum stating book_state_free(uint64_t address)
+{
+    const struct block *block = block_from((const void *)address);
+    unsigned segment = atomic_load(&STREAM->segment);
+    if (block != NULL && is_in_use(block))
+        return STATING_NOT_NEEDED;
+    const struct entry *entry = entry_in(address, address + 1);
+    bool is_stated = entry == NULL || entry->start != address;
+    if (block != NULL) {
+        struct found found = found_of(block);
+        is_stated = state_block(&found);
+    }
+    return is_stated ? STATING_DONE : go_on(segment, book.count != 0);
+}
