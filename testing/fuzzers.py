@@ -90,8 +90,8 @@ SHARED = [
 
 def run(words: Sequence[str], folder: str, seconds: float = PATIENCE) -> str:
     settings = {**os.environ, "ASAN_OPTIONS": "detect_leaks=0", "UBSAN_OPTIONS": "print_stacktrace=1"}
-    streams = {"stdin": subprocess.DEVNULL, "stdout": subprocess.PIPE, "stderr": subprocess.STDOUT}
-    ran = subprocess.run(words, cwd=folder, env=settings, timeout=seconds, check=False, **streams)
+    ran = subprocess.run(words, cwd=folder, env=settings, stdin=subprocess.DEVNULL, stdout=subprocess.PIPE,
+                         stderr=subprocess.STDOUT, timeout=seconds, check=False)
     text = ran.stdout.decode(errors="replace")
     if ran.returncode != 0:
         raise Failure(f"{os.path.basename(words[0])}: status {ran.returncode}: {text[-3000:]}")

@@ -13,6 +13,9 @@ CC = f"{TOP}/recorder/asancol-cc"
 CXX = f"{TOP}/recorder/asancol-c++"
 REPORT = f"{TOP}/report/asancol-report"
 
+# For a loop over settings, one turn of which has none.
+NO_SETTINGS: Dict[str, str] = {}
+
 # No run may take longer, in seconds. Nothing is measured by it.
 PATIENCE = 300
 # And what is waited for comes within so many.
@@ -35,7 +38,7 @@ class Ran(NamedTuple):
     err: str
 
 
-def run(words: Sequence[str], folder: str, stdin: Optional[bytes] = None,
+def run(words: Sequence[str], folder: str, stdin: Optional[bytes] = None, /,
         **settings: str) -> "subprocess.CompletedProcess[bytes]":
     """Runs a program in a folder, and takes what it prints."""
     return subprocess.run(words, cwd=folder, env=environment(**settings), input=stdin or b"", capture_output=True,
@@ -74,3 +77,14 @@ def write_text(path: str, text: str, mode: int = 0o644) -> None:
     with open(path, "w", encoding="utf-8") as file:
         file.write(text)
     os.chmod(path, mode)
+
+
+def path_without(program: str, folder: str) -> str:
+    """Returns a PATH on which this program isn't: a folder of links to all others."""
+    links = f"{folder}/programs"
+    os.mkdir(links)
+    for place in os.environ["PATH"].split(":"):
+        for name in os.listdir(place) if os.path.isdir(place) else ():
+            if name != program and not os.path.lexists(f"{links}/{name}"):
+                os.symlink(os.path.join(os.path.abspath(place), name), f"{links}/{name}")
+    return links

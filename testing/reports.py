@@ -7,7 +7,7 @@ import os
 import shutil
 import socket
 import subprocess
-from typing import Callable, Dict, Optional
+from typing import Any, Callable, Dict, Optional
 
 from .expectations import LeftOut
 from .programs import REPORT, Ran, environment, write_text
@@ -72,7 +72,7 @@ def write_trace(folder: str, name: str, verdicts: str, parts: Optional[Parts] = 
     return path
 
 
-def freed_block(program: Program, **more: int) -> bytes:
+def freed_block(program: Program, **more: Any) -> bytes:
     places = program.places
     return fault(places["use"], 0x2000, 16, places["make"], places["drop"], **more)
 
@@ -130,7 +130,7 @@ class Feed:
     def __init__(self, folder: str, *words: str, **settings: str) -> None:
         self.ours, theirs = socket.socketpair(socket.AF_UNIX, socket.SOCK_SEQPACKET)
         self.child = subprocess.Popen([REPORT, "--run", *words], cwd=folder, env=settings_in(folder, **settings),
-                                      stdin=theirs, stdout=subprocess.PIPE, stderr=subprocess.PIPE)
+                                      stdin=theirs.fileno(), stdout=subprocess.PIPE, stderr=subprocess.PIPE)
         theirs.close()
 
     def send(self, entry: object, *descriptors: int) -> None:

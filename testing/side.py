@@ -10,7 +10,7 @@ from typing import Any, Dict, List, NamedTuple, Sequence, Tuple
 
 from . import programs
 from asancol_report import side as layout
-from asancol_report.side import FAULTS_AT, INDEX_AT, MAPS_AT, STACKS_AT, THREADS_AT, Calls, Fault  # noqa: F401
+from asancol_report.side import FAULTS_AT, INDEX_AT, MAPS_AT, STACKS_AT, THREADS_AT, Calls, Fault, Thread  # noqa: F401
 from .expectations import Failure
 
 NO_ENDING, EXIT, EXEC, SIGNAL, LOST, SEGMENT = range(6)
@@ -130,7 +130,7 @@ def side(maps: str = "", builds: Sequence[Tuple[int, str]] = (), faults: Sequenc
          stacks: Sequence[int] = (), needed: int = 0, segment: int = 1, restated: int = 0, is_at_limit: bool = False,
          quarantine: int = 1 << 28, noted: int = 0, calls: int = 0, starts: int = 0, has_checks: int = 1,
          has_begun: int = 1, threads: Sequence[bytes] = (), last_thread: int = 0, first_name: str = "",
-         findings: int = 0, findings_lost: int = 0, leaks: int = 0, leaks_missed: int = 0,
+         findings: int = 0, findings_lost: int = 0, leaks: int = 0, leaks_missed: int = 0, left_good: int = 0,
          header: bytes = layout.HEADER) -> Parts:
     """Returns a side memory. The first word of the stacks is of none. Segments are counted from 1."""
     parent = 1
@@ -139,7 +139,7 @@ def side(maps: str = "", builds: Sequence[Tuple[int, str]] = (), faults: Sequenc
     names = b"".join(word.encode("utf-8", "surrogateescape") + b"\0" for word in words) + b"\0"
     ids = b"".join(layout.BUILD.pack(start, len(text) // 2, bytes.fromhex(text)) for start, text in builds)
     progress = layout.PROGRESS.pack(needed, segment - 1, restated, noted, *[0] * 4, calls, starts, has_begun, findings,
-                                    findings_lost, leaks, leaks_missed)
+                                    findings_lost, leaks, leaks_missed, left_good)
     beside = layout.BESIDE_THREADS.pack(last_thread, 0, first_name.encode())
     return [(0, head), (layout.WORDS_AT, names), (layout.BUILDS_AT, ids), (layout.PROGRESS_AT, progress),
             (layout.BESIDE_THREADS_AT, beside),

@@ -7,6 +7,7 @@ side by side, one on each processor, each in its own folder. What several of the
 """
 
 import argparse
+import functools
 import importlib
 import os
 import re
@@ -18,10 +19,12 @@ import threading
 import time
 import xml.etree.ElementTree as xml
 from concurrent.futures import Executor, Future, ThreadPoolExecutor, as_completed
+from enum import Enum
 from types import ModuleType
 from typing import Any, Callable, List, NamedTuple, Optional, Sequence
 
 from .expectations import LeftOut
+from .programs import CC, TOP, compilers_there
 
 HAS_TESTS = re.compile(r"^(?:def tests\(|@\w*test$)", re.M)
 # What no XML may have.
@@ -54,6 +57,7 @@ class Test(NamedTuple):
     name: str
     run: Callable[..., None]
     arguments: Sequence[Any]
+    is_long: bool = False
 
 
 class Result(NamedTuple):
@@ -72,6 +76,25 @@ def test(function: Callable[..., None]) -> Callable[..., None]:
     return function
 
 
+class Which(Enum):
+    """Which tests are run, as the command line says it."""
+
+    ALL = ""
+    QUICK = "--quick"
+    REST = "--rest"
+
+
+# In the name of a test at another level of optimization than that at which most programs are built.
+OTHER_LEVEL = re.compile(r" -O(?!2\b)\w")
+
+
+def is_quick(test: Test) -> bool:
+    """Returns whether a test is short, and neither by another compiler than the first that is there nor at another
+    level than -O2, as its name says."""
+    by_others = set(re.findall(r"[\w+]+", test.name)) & set(compilers_there()[1:])
+    return not (test.is_long or by_others or OTHER_LEVEL.search(test.name))
+
+
 class Suite:
     """Tests, with what they share. A word chooses the test whose name it is, or else those whose names have it; without
     words, all are chosen."""
@@ -80,6 +103,7 @@ class Suite:
 
     def __init__(self, words: Sequence[str] = ()) -> None:
         self.words = words
+        self.which = Which.ALL
         self.tests: List[Test] = []
         self.results: List[Result] = []
 
@@ -99,6 +123,10 @@ class Suite:
 
     def test(self, name: str, run: Callable[..., None], *arguments: Any) -> None:
         self.tests.append(Test(name, run, arguments))
+
+    def long_test(self, name: str, run: Callable[..., None], *arguments: Any) -> None:
+        """Adds a test that takes a processor for more than ten seconds."""
+        self.tests.append(Test(name, run, arguments, True))
 
     def discover(self, folder: str) -> None:
         """Finds the tests in the modules of a folder, which are imported as those of a script there."""
@@ -127,9 +155,10 @@ class Suite:
         names = {it.name for it in self.tests}
 
         def is_asked(name: str) -> bool:
-            return any(word == name if word in names else word in name for word in self.words)
+            return not self.words or any(word == name if word in names else word in name for word in self.words)
 
-        return [it for it in self.tests if not self.words or is_asked(it.name)]
+        asked = [it for it in self.tests if is_asked(it.name)]
+        return [it for it in asked if self.which is Which.ALL or is_quick(it) == (self.which is Which.QUICK)]
 
     # ---- how they run
 
@@ -159,6 +188,8 @@ class Suite:
 
     def run_all(self) -> None:
         chosen = self.chosen()
+        if self.words and not chosen:
+            print(f"no test has a name with {' or '.join(self.words)}: --list prints the names", flush=True)
         self.prepare()
         shared = dict.fromkeys(it for test in chosen for it in test.arguments if isinstance(it, Later))
         with self.executor() as pool:
@@ -187,7 +218,7 @@ class Suite:
         failed = sum(1 for it in self.results if it.wrong)
         passed = sum(1 for it in self.results if not it.wrong and not it.left_out)
         print(f"{passed} passed, {failed} failed", flush=True)
-        return 0 if passed > 0 and failed == 0 else 1
+        return 0 if failed == 0 and (passed > 0 or self.which is Which.REST) else 1
 
     def write_junit(self, path: str) -> None:
         counts = {"tests": len(self.results), "failures": sum(1 for it in self.results if it.wrong),
@@ -210,6 +241,10 @@ def reader_of(about: Optional[str]) -> argparse.ArgumentParser:
                                      formatter_class=argparse.RawDescriptionHelpFormatter, allow_abbrev=False)
     reader.add_argument("--list", action="store_true", help="print the names of the tests, and run none")
     reader.add_argument("--junit", metavar="FILE", help="write what came of each test, as JUnit XML")
+    which = reader.add_mutually_exclusive_group()
+    add = functools.partial(which.add_argument, dest="which", action="store_const", default=Which.ALL)
+    add("--quick", const=Which.QUICK, help="run short tests alone, by one compiler, at -O2 if they have a level")
+    add("--rest", const=Which.REST, help="run all but the quick ones")
     return reader
 
 
@@ -232,6 +267,7 @@ def run(make: Callable[[Sequence[str]], Suite], request: argparse.Namespace) -> 
     """Runs or lists the suite that is made with the words of a command line."""
     handle_ignored()
     with make(request.words) as suite:
+        suite.which = request.which
         if request.list:
             print("\n".join(it.name for it in suite.chosen()))
             return 0
@@ -242,9 +278,18 @@ def run(make: Callable[[Sequence[str]], Suite], request: argparse.Namespace) -> 
         return suite.finish()
 
 
+def expect_built(asancol: str) -> None:
+    """Ends this if a program is not there that all tests of the C parts need."""
+    for path, command in ((asancol, "make"), (CC, "make recorder"), (f"{TOP}/run/asancol-run", "make run")):
+        if not os.access(path, os.X_OK):
+            sys.exit(f"{os.path.relpath(path)} is not built: run `{command}`")
+
+
 def main(make: Callable[[str, Sequence[str]], Suite], about: Optional[str]) -> int:
     """Runs the suite of a program: the first argument is its path."""
     reader = reader_of(about)
     reader.add_argument("asancol", metavar="ASANCOL")
     request = read(reader)
+    if not request.list:
+        expect_built(request.asancol)
     return run(lambda words: make(os.path.abspath(request.asancol), words), request)

@@ -1,14 +1,13 @@
 """Traces, for the tests: their records as docs/FORMAT.md lays them out, built and read, in both versions; and events
-in the letters of docs/MODEL.md, as they stand in the rows of examples/worked.
+in the letters of docs/inside/MODEL.md, as they stand in the rows of examples/worked.
 
 It knows where a number lies in a record, and no more: any number that has room can be built and is read, whether a
 checker takes it or not. What a checker makes of it is in second_reading.py, which shares nothing with this.
 """
 
-import os
 import re
 import struct
-from typing import Dict, Iterator, List, NamedTuple, Optional, Tuple
+from typing import List, NamedTuple, Optional
 
 LOAD, STORE, MALLOC, FREE, POISON, UNPOISON = range(1, 7)
 CLOSE = b"\x07"

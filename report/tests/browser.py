@@ -117,7 +117,8 @@ WANTED = {
 
 
 def find() -> Optional[str]:
-    return next((path for path in map(shutil.which, NAMES) if path), None)
+    paths = (shutil.which(name) for name in NAMES)
+    return next((path for path in paths if path), None)
 
 
 class Browser:
@@ -229,8 +230,8 @@ def picture_of(browser: Browser, session: str, name: str, width: int, is_dark: b
             file.write(png)
     points = points_of(png)
     wrong = result.get("result", {}).get("value", [str(result)])
-    size = struct.unpack(">II", png[16:24])
-    return Picture(name, is_dark, wrong, size, tuple(points[1:4]), len(set(points)))
+    wide, high = struct.unpack(">II", png[16:24])
+    return Picture(name, is_dark, wrong, (wide, high), tuple(points[1:4]), len(set(points)))
 
 
 def points_of(png: bytes) -> bytes:

@@ -174,9 +174,9 @@ def rules(folder: str) -> None:
         ran = report(folder, name, "--suppressions", "rules")
         expect(ran.status, status, rule)
         expect_in(ran.out, text)
-    for rule, text in ((b"", "asancol: leaks: 16 bytes in 2 blocks at 2 places; --leaks=yes shows them\n"),
-                       (b"leak:make\n", "asancol: leaks: 8 bytes in 1 block at 1 place; --leaks=yes shows them\n")):
-        with open(f"{folder}/rules", "wb") as file:
+    for rule, text in (("", "asancol: leaks: 16 bytes in 2 blocks at 2 places; --leaks=yes shows them\n"),
+                       ("leak:make\n", "asancol: leaks: 8 bytes in 1 block at 1 place; --leaks=yes shows them\n")):
+        with open(f"{folder}/rules", "w", encoding="utf-8") as file:
             file.write(rule)
         ran = report(folder, "--trace", "b.trace", "--suppressions", "rules", "--json", "c.json")
         expect((ran.status, ran.out.endswith(text)), (0, True), ran.out)

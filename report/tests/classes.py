@@ -3,7 +3,7 @@
 import json
 import re
 import xml.dom.minidom
-from typing import Dict
+from typing import Any, Dict
 
 from testing import expect, expect_in, expect_not_in
 from testing.reports import build, report, report_test, write_trace
@@ -52,7 +52,7 @@ def line(verdict: str, address: int = 0x2008, words: str = "load 4", event: int 
     return f"p0 #{event} {words} at {address:012x}{bad} {verdict}{' shadow fa' if bad else ''}\n"
 
 
-def rows(text: str) -> Dict[str, object]:
+def rows(text: str) -> Dict[str, Any]:
     """The shadow from 0x1d80 on, with these bytes at 0x2008."""
     return {"shadow": bytes(81) + bytes.fromhex(text), "shadow_start": 0x1D80}
 
@@ -76,7 +76,8 @@ def classes_are_addresssanitizers(folder: str) -> None:
 @report_test
 def classes_without_shadow(folder: str) -> None:
     """The verdict's name stands, where the shadow was not kept, or is of another place."""
-    for more in ({}, {"shadow": bytes.fromhex("f1"), "shadow_start": 0},
+    without: Dict[str, Any] = {}
+    for more in (without, {"shadow": bytes.fromhex("f1"), "shadow_start": 0},
                  {"shadow": b"\xf1" * 176, "shadow_start": 0x2010},
                  {"shadow": b"\xf1" * 176, "shadow_start": 0x2008 - 176 * 8}):
         write_trace(folder, "a.trace", line(STACK) + END, side(faults=[fault(0x10, **more)], index=[1]))
@@ -170,8 +171,8 @@ def two_bugs_in_a_line_are_two(folder: str) -> None:
     """Those of two variables, of blocks from two mallocs, and of two classes; but not of two addresses or processes."""
     program = build(folder)
     places = program.places
-    heap = {"variable": 0, **rows("fa")}
-    stack = {"variable": 1, **rows("f3")}
+    heap: Dict[str, Any] = {"variable": 0, **rows("fa")}
+    stack: Dict[str, Any] = {"variable": 1, **rows("f3")}
     for faults, verdict, count in (
         ([fault(places["use"], 0x2000, 8, name="x", **stack), fault(places["use"], 0x2000, 8, name="y", **stack)],
          STACK, 2),

@@ -154,6 +154,6 @@ def places_of_stacks(folder: str) -> None:
         ([("ours.c", 7, library), own, start], (0, 7)),
         ([stripped, ("ours.c", 7, library), start], (0, 0)),
         ([start], (0, 58)),
-        ([], (0, 0)),
+        ((), (0, 0)),
     ):
         expect(first_own(stack), wanted, str(stack))

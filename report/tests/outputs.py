@@ -6,7 +6,7 @@ import os
 import shutil
 import subprocess
 import xml.dom.minidom
-from typing import Any, List, Optional, Set, Tuple
+from typing import Any, Dict, List, Optional, Set, Tuple
 
 import browser
 from testing import expect, expect_in, expect_not_in, leave_out, reports
@@ -49,13 +49,14 @@ def runs_are_merged(folder: str) -> None:
 def what_was_not_checked(folder: str) -> None:
     """Names of several runs stand once, and what a packet had no room for is counted."""
     both = {"unchecked": ["u.o"], "unchecked_more": 7, "system": ["libz.so.1"]}
-    for name, entry, text in (
+    runs: List[Tuple[str, Dict[str, Any], str]] = [
         ("a", {"system": ["libz.so.1"]}, "all seen whole; not checked: 1 library of the system\n"),
         ("b", {"system": ["libz.so.1"], "system_more": 2}, "all seen whole; not checked: 3 libraries of the system\n"),
         ("c", {"unchecked": ["u.o", "v.o"]}, " events; not checked: u.o, v.o\n"),
         ("d", both, " events; not checked: u.o and 7 more, and 1 library of the system\n"),
         ("e", {"system_more": 0}, " events; all seen whole\n"),
-    ):
+    ]
+    for name, entry, text in runs:
         feed = Feed(folder, "--json", name)
         feed.begin(name)
         feed.process(0)
@@ -349,5 +350,7 @@ def outputs_are_whole(folder: str) -> None:
     with open(f"{folder}/real", "rb") as one, open(f"{folder}/a.jsonl", "rb") as other:
         expect(one.read(), other.read(), "through the link")
     with open("/dev/full", "wb") as full:
-        ran = subprocess.run([reports.REPORT, "a.jsonl"], cwd=folder, stdout=full, stderr=subprocess.PIPE, check=False)
-    expect((ran.returncode, ran.stderr), (4, b"asancol-report: standard output: No space left on device\n"), "the text")
+        filled = subprocess.run([reports.REPORT, "a.jsonl"], cwd=folder, stdout=full, stderr=subprocess.PIPE,
+                                check=False)
+    expect((filled.returncode, filled.stderr), (4, b"asancol-report: standard output: No space left on device\n"),
+           "the text")

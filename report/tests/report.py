@@ -1,5 +1,6 @@
 """Tests of asancol-report, with side memories and verdicts that are written here."""
 
+import functools
 import json
 import os
 import random
@@ -9,8 +10,9 @@ import signal
 import subprocess
 import time
 import xml.dom.minidom
+from typing import Any, Dict, List, Optional, Tuple
 
-from testing import expect, expect_in, expect_not_in, leave_out, reports, wait_until
+from testing import NO_SETTINGS, expect, expect_in, expect_not_in, leave_out, reports, wait_until
 from testing.reports import END, FREED, OVERFLOW, Feed, build, freed_block, one_trace, report, report_test, write_trace
 from testing.side import fault, of_program, side
 
@@ -146,7 +148,7 @@ def trace_is_interrupted(folder: str) -> None:
 def trace_has_failures(folder: str) -> None:
     write_trace(folder, "a.trace", FREED + END)
     for words, settings, text in (
-        (["no.trace"], {}, "no.trace: No such file or directory"),
+        (["no.trace"], NO_SETTINGS, "no.trace: No such file or directory"),
         (["a.trace"], {"ASANCOL": "/nonexistent/asancol"},
          "/nonexistent/asancol: the program that checks is not there"),
         (["a.trace"], {"ASANCOL": "/bin/false"}, "a.trace: its checker printed no verdict, and ended with status 1"),
@@ -218,7 +220,7 @@ def run_is_fed(folder: str) -> None:
 @report_test
 def run_ends(folder: str) -> None:
     """What is not seen is said, and is status 3: as asancol-run says it, or else by the field that has it."""
-    for more, status, text in (
+    ends: List[Tuple[Dict[str, Any], int, str]] = [
         ({}, 0, "asancol: no reports; 1 process, 9 events; all seen whole\n"),
         ({"timed_out": True, "running": True, "troubles": ["NOT ALL SEEN: why", "and why"]}, 3,
          "asancol: NOT ALL SEEN: why\nasancol: and why\nasancol: no reports; 1 process, 9 events; NOT SEEN WHOLE\n"),
@@ -227,7 +229,8 @@ def run_ends(folder: str) -> None:
         ({"running": True}, 3, "asancol: NOT ALL SEEN: running\n"),
         ({"timed_out": True}, 3, "asancol: NOT ALL SEEN: timed_out\n"),
         ({"lost": 1}, 3, "asancol: NOT ALL SEEN: lost\n"),
-    ):
+    ]
+    for more, status, text in ends:
         feed = Feed(folder)
         feed.begin()
         feed.process(0)
@@ -249,13 +252,14 @@ def run_ends(folder: str) -> None:
 @report_test
 def command_fails(folder: str) -> None:
     """A test case passes only if its command ended with 0, and all was seen whole."""
-    for number, (more, status, kind, text, code) in enumerate((
+    ends: List[Tuple[Dict[str, Any], int, str, str, Optional[int]]] = [
         ({}, 0, "", "", 0),
         ({"status": 7}, 0, "failure", "the command ended with status 7", 7),
         ({"signal": 15}, 0, "failure", "the command was ended by SIGTERM", None),
         ({"signal": 15, "timed_out": True}, 3, "error", "NOT ALL SEEN: timed_out", None),
         ({"status": 7, "reports": 1}, 1, "failure", "heap-use-after-free: load of 4 bytes", 7),
-    )):
+    ]
+    for number, (more, status, kind, text, code) in enumerate(ends):
         feed = Feed(folder, "--json", f"{number}.jsonl")
         feed.begin(f"run-{number}")
         feed.process(0, (FREED + END) if "reports" in more else "")
@@ -311,6 +315,10 @@ def run_takes_anything(folder: str) -> None:
     expect_in(ran.err, "missing: No such file or directory")
 
 
+def ignores(process: int, signals: int) -> bool:
+    return ignored_by(process) & signals == signals
+
+
 def ignored_by(process: int) -> int:
     with open(f"/proc/{process}/status", encoding="utf-8") as file:
         return int(re.findall(r"^SigIgn:\s*(\w+)", file.read(), re.M)[0], 16)
@@ -324,7 +332,7 @@ def run_gets_signals(folder: str) -> None:
     program = build(folder)
     for words in (["--live"], ["--json", "out.jsonl"]):
         feed = Feed(folder, *words)
-        wait_until(lambda feed=feed: ignored_by(feed.child.pid) & everything == everything, "that signals are ignored")
+        wait_until(functools.partial(ignores, feed.child.pid, everything), "that signals are ignored")
         for turn in range(30):
             for number in numbers:
                 feed.child.send_signal(number)
@@ -434,7 +442,7 @@ def text_does_nothing_to_a_terminal(folder: str) -> None:
 @report_test
 def words_are_refused(folder: str) -> None:
     for words, text in (
-        ([], "no file was named"),
+        ((), "no file was named"),
         (["--jsn", "x", "y"], "there is no option --jsn; did you mean --json?"),
         (["a.jsonl", "--json"], "--json needs a value"),
         (["--json", "--", "a.jsonl"], "--json needs a value"),

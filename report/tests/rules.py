@@ -4,7 +4,7 @@ import json
 import os
 import re
 
-from testing import expect, expect_in, expect_not_in
+from testing import expect, expect_in, expect_not_in, write_text
 from testing.reports import END, FREED, Feed, one_trace, report, report_test
 
 
@@ -40,14 +40,12 @@ def suppressions(folder: str) -> None:
         ("at:*:make@program.c\n", 1, "4 reports at 2 places"),
         ("at:heap-buffer-overflow:use@program.c\n", 1, "4 reports at 2 places"),
     ):
-        with open(f"{folder}/rules", "w", encoding="utf-8") as file:
-            file.write(rules)
+        write_text(f"{folder}/rules", rules)
         ran = report(folder, "a.jsonl", "--suppressions", "rules")
         expect(ran.status, status, rules)
         expect_in(ran.out, text)
     for rule in ("heap:x", "nothing", "fun:", "memory-leak:x", "at:", "at:*:", "at:heap:f@x.c", "at:*:f;;g", "at:*:@"):
-        with open(f"{folder}/rules", "w", encoding="utf-8") as file:
-            file.write("# one\n" + rule + "\n")
+        write_text(f"{folder}/rules", f"# one\n{rule}\n")
         ran = report(folder, "a.jsonl", "--suppressions=rules")
         expect((ran.status, ran.out), (2, ""), rule)
         expect_in(ran.err, f"asancol-report: rules:2: {rule}: ")

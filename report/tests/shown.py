@@ -4,11 +4,11 @@ import json
 import os
 import re
 import struct
-from typing import List
+from typing import Any, Dict, List
 
 from testing import expect, expect_in, expect_not_in
 from testing.reports import END, FREED, OVERFLOW, Feed, build, freed_block, one_trace, report, report_test, write_trace
-from testing.side import Program, fault, of_program, side
+from testing.side import Parts, Program, fault, of_program, side
 
 STACK = OVERFLOW.replace("heap", "stack")
 SUMMARY = "SUMMARY: asancol: "
@@ -28,7 +28,7 @@ def last_line(text: str) -> str:
 def source_has_a_caret(folder: str) -> None:
     """The line stands under the frame of the place, with its column; and not if the file is newer than the program."""
     one_trace(folder)
-    for tool, caret in (("", ["          | ^"]), ("addr2line", [])):
+    for tool, caret in (("", ["          | ^"]), ("addr2line", ())):
         ran = report(folder, "--trace", "a.trace", "--source-root", ".", "--json", "a.jsonl", ASANCOL_SYMBOLIZER=tool)
         lines = ran.out.splitlines()
         at = next(number for number, text in enumerate(lines) if " in use program.c:7" in text)
@@ -142,11 +142,11 @@ def functions_of_rusts_library_are_one_line(folder: str) -> None:
 VARIABLES = "3 32 16 7 buf:196 64 8 5 other 96 4 11 caf\u00e9 x:12"
 
 
-def frame_of(program: Program, text: str, at: int = 0x2000) -> str:
+def frame_of(program: Program, text: str, at: int = 0x2000) -> Parts:
     """The bad byte 0x2005 is that of a frame that begins so that it is at offset 48."""
     stacks = with_text(text)
-    fields = {"variable": 1, "name": "buf", "line": 196, "frame": (0x2005 - 48, program.places["make"] - 4),
-              "variables": 1}
+    frame = (0x2005 - 48, program.places["make"] - 4)
+    fields: Dict[str, Any] = {"variable": 1, "name": "buf", "line": 196, "frame": frame, "variables": 1}
     return of_program(program, [fault(program.places["use"], at, 16, **fields)], [0, 1], stacks=stacks)
 
 

@@ -1,5 +1,6 @@
 """Lines and functions of places: of programs that have changed or are gone, in C++, through callers."""
 
+import io
 import os
 import re
 import shutil
@@ -50,7 +51,9 @@ def program_is_gone_at_the_end(folder: str) -> None:
     os.unlink(program.path)
     program = build(folder, "program", "\n" + reports.PLACES_C)
     feed.process(1, FREED + END, of_program(program, [freed_block(program)], [0, 0, 0, 0, 1]))
-    while b"seen" not in feed.child.stdout.peek(1) and b"program.c:8" not in feed.child.stdout.readline():
+    printed = feed.child.stdout
+    assert isinstance(printed, io.BufferedReader)
+    while b"seen" not in printed.peek(1) and b"program.c:8" not in printed.readline():
         pass
     os.unlink(program.path)
     ran = feed.end()

@@ -93,17 +93,17 @@ def the_first_thread_is_named(folder: str) -> None:
 @report_test
 def the_thread_of_a_crash_is_said(folder: str) -> None:
     program = build(folder)
-    for thread, text in ((2, " in thread T9 (worker)"), (UNKNOWN, " in an unknown thread"), (0, "")):
-        parts = of_program(program, [], [], ending=SIGNAL, signal=11, threads=listed(program), last_thread=thread,
+    for last, text in ((2, " in thread T9 (worker)"), (UNKNOWN, " in an unknown thread"), (0, "")):
+        parts = of_program(program, [], [], ending=SIGNAL, signal=11, threads=listed(program), last_thread=last,
                            stacks=[0, 2, program.places["drop"], program.places["use"]])
         parts.append((layout.LAST_AT, layout.LAST.pack(program.places["use"], 0x10, 0, layout.HAS_ADDRESS)))
         feed = Feed(folder, "--json", "a.jsonl", "--html", "a.html", "--sarif", "a.sarif")
-        feed.begin(f"run-{thread}")
+        feed.begin(f"run-{last}")
         feed.process(0, END.replace("reports 1", "reports 0"), parts, signal=11, fate="no-close",
                      why="ended by SIGSEGV")
         ran = feed.end()
         expect_in(ran.out, f"./program: ended by SIGSEGV, at address 0x10{text}\n    #0 ")
-        expect(("  Thread T9 (worker) created by T7 at\n" in ran.out), thread == 2, ran.out)
+        expect(("  Thread T9 (worker) created by T7 at\n" in ran.out), last == 2, ran.out)
         expect(report(folder, "a.jsonl").out, ran.out, "read again")
         with open(f"{folder}/a.html", encoding="utf-8") as page, open(f"{folder}/a.sarif", encoding="utf-8") as log:
             expect_in(page.read(), f"<h3>Where it was{text}</h3>")

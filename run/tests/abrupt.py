@@ -7,9 +7,10 @@ import shutil
 import signal
 import subprocess
 import time
-from typing import List
+from typing import Any, List
 
 from support import CC, REPORT, TESTS, Later, Suite, expect, expect_ran, finish, leave_out
+from testing.programs import NO_SETTINGS
 
 NOT_CHECKED = "; not checked: libplain.so"
 SEEN = f"1 ended abruptly{NOT_CHECKED}"
@@ -33,7 +34,7 @@ LIBRARIES = "calls of libraries (ASANCOL_LIBRARIES=0)"
 
 def check_exits(suite: Suite, folder: str, program: str) -> None:
     """By a call of the system, or by one of the C library that is seen or not."""
-    for way, settings in (("call", {}), ("exit", UNSEEN)):
+    for way, settings in (("call", NO_SETTINGS), ("exit", UNSEEN)):
         ran = suite.run("--", program, way, "0", **settings)
         expect_ran(ran, 0, "ended abruptly, with status 0: seen up to there", "1 ended abruptly; not checked: ")
         ran = suite.run("--", program, way, "3", **settings)
@@ -42,7 +43,7 @@ def check_exits(suite: Suite, folder: str, program: str) -> None:
         ran = suite.run("--", program, "exit", str(status))
         expect_ran(ran, status, f"no reports; 1 process, 2 events{NOT_CHECKED}", absent=["abruptly"])
     ran = suite.run("--", program, "child", "4")
-    expect_ran(ran, 0, f"no reports; 2 processes, 4 events{NOT_CHECKED}", absent=["abruptly"])
+    expect_ran(ran, 0, f"no reports; 2 processes, 2 events{NOT_CHECKED}", absent=["abruptly"])
     ran = suite.run("--", program, "child", "4", **UNSEEN)
     expect_ran(ran, 0, "ended abruptly", ": seen up to there", "2 processes", "1 ended abruptly; not checked: ")
 
@@ -123,7 +124,7 @@ def check_daemon(suite: Suite, folder: str, program: str) -> None:
     expect_ran(ran, 99, "in store_past", "2 processes", "1 ended abruptly; not checked: ")
 
 
-def killed(suite: Suite, words: List[str], least: float, most: float, **settings: str) -> List[str]:
+def killed(suite: Suite, words: List[str], least: float, most: float, **settings: Any) -> List[str]:
     """Runs a program, and kills it some time after it is ready: the status, and what was printed."""
     line = f"sh -c 'echo $$; exec {' '.join(words)}' & wait $!; true"
     started = suite.start("--", "setsid", "sh", "-c", line, **settings)
@@ -193,6 +194,6 @@ def tests(suite: Suite) -> None:
         suite.test(f"{compiler} abrupt end by an exec", check_spawns, program)
         suite.test(f"{compiler} abrupt end of a daemon's parent", check_daemon, program)
         suite.test(f"{compiler} abrupt end of threads", check_threads, program)
-        suite.test(f"{compiler} abrupt end of stores", check_stores, program)
+        suite.long_test(f"{compiler} abrupt end of stores", check_stores, program)
         for way in ("forks", "execs"):
             suite.test(f"{compiler} abrupt end in {way}", check_forks, program, way)

@@ -8,6 +8,7 @@ A line has a figure, its unit and what it is of. It takes two or three minutes. 
 measured: merges, results, traces, processes, kept, events, connections, systemd.
 """
 
+import functools
 import os
 import resource
 import shutil
@@ -22,7 +23,7 @@ sys.path.insert(0, f"{os.path.dirname(os.path.realpath(__file__))}/../..")  # wh
 
 import bench_report
 import service
-from support import REPORT, RUN, TESTS, Suite, leave_out, wait_until
+from support import REPORT, RUN, TESTS, Suite, leave_out, wait_until, write_text
 
 MILLION = 1000000
 ROUNDS = 5
@@ -88,7 +89,7 @@ class Bench:
             "the same under an asancol-run for it alone": ["sh", "-c", line % f"{RUN} -q -- {self.suite.program}"],
         }
         for of, words in ways.items():
-            show(1000 * least(lambda words=words: self.run(*words)) / loops, "ms", of)
+            show(1000 * least(functools.partial(self.run, *words)) / loops, "ms", of)
 
     def kept(self) -> None:
         """What asancol-run still holds of processes that have ended."""
@@ -126,7 +127,7 @@ class Bench:
             "mallocs": malloc, "mallocs and frees": malloc_or_free, "bad loads, each with its line": bad_load}
         for number, (kind, record) in enumerate(kinds.items()):
             path = self.write_events(str(number), record)
-            show(least(lambda path=path: self.run(self.asancol, given=path, output=f"{self.folder}/lines")), "s",
+            show(least(functools.partial(self.run, self.asancol, given=path, output=f"{self.folder}/lines")), "s",
                  f"a million {kind}")
         show(os.path.getsize(f"{self.folder}/lines") / MILLION, "bytes", "a line of a report")
 
@@ -163,7 +164,7 @@ while systemctl list-units --all --no-legend 'asancol@*' | grep -q .; do sleep 0
 {ticks}
 systemctl poweroff --force --force
 """
-        service.write(f"{top}/probe", probe, 0o755)
+        write_text(f"{top}/probe", probe, 0o755)
         service.boot(folder, units)
         first, last = (int(it) for it in service.text_of(f"{top}/ticks").split())
         show(1000 * (last - first) / os.sysconf("SC_CLK_TCK") / CONNECTIONS, "ms",

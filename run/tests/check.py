@@ -2,7 +2,7 @@
 """Runs programs under asancol-run, as a user would, and looks at what it prints and how it ends; and the tests of
 asancol-report.
 
-usage: run/tests/check.py [--list] [--junit FILE] ASANCOL [WORD..]
+usage: run/tests/check.py [--list] [--junit FILE] [--quick | --rest] ASANCOL [WORD..]
 
 A word chooses the test whose name it is, or else those whose names have it. The last line is 'N passed, M failed', and
 the status is 1 if a test failed. What is not there, such as bubblewrap, is said in a line, and left out. If SANITIZE is

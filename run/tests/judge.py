@@ -1,8 +1,9 @@
-"""The table by which run/verdict.c judges each process: docs/FORMAT.md has the same, and each row has a test."""
+"""The table by which run/verdict.c judges each process: run/README.md has the same, and each row has a test."""
 
 import importlib
 import inspect
 import re
+import signal
 import subprocess
 from typing import List, NamedTuple, Sequence
 
@@ -10,6 +11,7 @@ from asancol_report.results import CRASHES
 from support import REPORT, TESTS, TOP, Failure, Ran, Suite, expect, expect_ran
 
 ENDED = f"{TESTS}/ended.py"
+PAGE = "run/README.md"
 # What stands for something in a text.
 WORDS = re.compile(r"\b(HOW|MISSING|CHECKER|SIGNAL|EVENTS|LEFT|ALL|FATE|LOST)\b")
 
@@ -87,24 +89,24 @@ def rows_of_program() -> List[Row]:
     table = re.search(r"static const struct row rows\[\] = \{\n(.*?)\n\};", read("run/verdict.c"), re.S)
     if table is None:
         raise Failure("run/verdict.c has no table")
-    rows = [Row(*map(in_words, cells.split(", ")), why)  # type: ignore[arg-type]
+    rows = [Row._make([*map(in_words, cells.split(", ")), why])
             for cells, why in re.findall(r'\{([^"]+),\s*"([^"]*)"\}', table[1])]
     expect(len(rows), table[1].count("{"), "rows that were read")
     return rows
 
 
 def rows_of_page() -> List[Row]:
-    section = read("docs/FORMAT.md").partition("\n## What was seen whole\n")[2].partition("\n## ")[0]
+    section = read(PAGE).partition("\n## How a process is judged\n")[2].partition("\n## ")[0]
     lines = [line for line in section.split("\n") if line.startswith("| ")]
     cells = [[cell.strip() for cell in line.strip("|").split(" |")] for line in lines]
-    return [Row(*it[:5], it[5].strip("`")) for it in cells if len(it) == 6][1:]
+    return [Row._make([*it[:5], it[5].strip("`")]) for it in cells if len(it) == 6][1:]
 
 
 def check_page(suite: Suite, folder: str) -> None:
     program, page = rows_of_program(), [row._replace(fates=row.fates.replace("-", " ")) for row in rows_of_page()]
     for one, other in zip(program, page):
-        expect(other, one, "a row of docs/FORMAT.md")
-    expect(len(page), len(program), "rows of docs/FORMAT.md")
+        expect(other, one, f"a row of {PAGE}")
+    expect(len(page), len(program), f"rows of {PAGE}")
 
 
 def check_each_has_a_test(suite: Suite, folder: str) -> None:
@@ -154,7 +156,7 @@ def check_one_text(suite: Suite, folder: str, end: End) -> None:
 def check_crashes(suite: Suite, folder: str) -> None:
     """What counts as a crash stands in C and in Python."""
     numbers = re.search(r"crashes\[\] = \{(.*?)\}", read("run/verdict.c"))
-    expect(numbers and numbers[1].split(", "), [it.name for it in CRASHES], "signals of crashes")
+    expect(numbers and numbers[1].split(", "), [signal.Signals(it).name for it in CRASHES], "signals of crashes")
 
 
 # What a checker prints last, and the fate, the events, the offset and the reports of it; or nothing, if it is no such

@@ -114,7 +114,8 @@ def check_several(suite: Suite, folder: str, compiler: str) -> None:
     run_it(suite, "--leaks=yes", words[1], "--", "sh", "-c", f"{program}; {program} two")
     merged = suite.run_words([REPORT, f"{folder}/one.json", f"{folder}/two.json"])
     texts = [text.split("asancol: 5 reports")[0] for text in (ran.err, merged.out)]
-    expect(*(re.findall("==ERROR: .*\n.* allocated from:", text) for text in texts), "merged")
+    first, again = (re.findall("==ERROR: .*\n.* allocated from:", text) for text in texts)
+    expect(first, again, "merged")
 
 
 STUCK = """

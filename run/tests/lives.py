@@ -246,8 +246,8 @@ def child_of(number: int) -> int:
 def check_stop(suite: Suite, folder: str) -> None:
     """SIGTSTP stops both, and SIGCONT lets both go on. In a process group that a shell looks after."""
     words = [RUN, "--", suite.program, "handles", "1.5"]
-    pipes = {"stdout": subprocess.PIPE, "stderr": subprocess.PIPE}
-    started = subprocess.Popen(words, env=suite.environment(), text=True, preexec_fn=os.setpgrp, **pipes)
+    started = subprocess.Popen(words, env=suite.environment(), text=True, preexec_fn=os.setpgrp,
+                               stdout=subprocess.PIPE, stderr=subprocess.PIPE)
     expect(started.stdout.readline() if started.stdout else "", "ready\n", "the program")
     command = child_of(started.pid)
     started.send_signal(signal.SIGTSTP)

@@ -69,7 +69,8 @@ def check_each_end(suite: Suite, folder: str) -> None:
 
 
 def check_segments(suite: Suite, folder: str) -> None:
-    ran = run_real(suite, "--json", f"{folder}/a.jsonl", "--", built(folder), "segments", ASANCOL_LIMIT="1000")
+    ran = run_real(suite, "--json", f"{folder}/a.jsonl", "--", built(folder), "segments", ASANCOL_LIMIT="1000",
+                   ASANCOL_FULL="1")
     expect_ran(ran, 99, "2 reports at 1 place (2 by the recorder); 1 process", "all seen whole")
     with open(f"{folder}/a.jsonl", encoding="utf-8") as file:
         lines = [json.loads(line) for line in file]

@@ -111,7 +111,7 @@ def check_own_programs(suite: Suite, folder: str, compiler: str) -> None:
     subprocess.run([*words, f"{folder}/static", "-static"], check=True, env=environment)
     for name in ("bug", "static"):
         said = []
-        for option in ([], ["--preload"]):
+        for option in ((), ["--preload"]):
             ran = suite.run(*option, f"{folder}/{name}", "Alice", ASANCOL_REPORT=REPORT)
             lines = [it for it in ran.err.splitlines() if it.startswith(("asancol:", "SUMMARY"))]
             said.append((ran.status, ran.out, lines))
@@ -172,7 +172,7 @@ def tests(suite: Suite) -> None:
         suite.test(f"preload, processes, {compiler}", check_processes, compiler)
         suite.test(f"preload, programs of asancol-cc, {compiler}", check_own_programs, compiler)
         if has_python():
-            suite.test(f"preload, Python, {compiler}", check_python, compiler)
+            suite.long_test(f"preload, Python, {compiler}", check_python, compiler)
     if not has_python():
         leave_out("Python.h or setuptools is not there")
     suite.test("preload, places", check_places)

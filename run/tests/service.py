@@ -10,7 +10,7 @@ import socket
 import struct
 import subprocess
 import time
-from typing import Callable, Dict, List, NamedTuple, Optional
+from typing import Any, Callable, Dict, List, NamedTuple, Optional
 
 from support import (
     CC, PATIENCE, TESTS, TOP, Failure, Suite, expect, expect_in, leave_out, wait_until, write_text,
@@ -62,7 +62,7 @@ class Service:
             return 0
         return seen.st_mtime_ns if seen.st_mode & 0o200 else 0
 
-    def record(self, *words: str, **settings: str) -> int:
+    def record(self, *words: str, **settings: Any) -> int:
         """Runs a recorded program, and returns the number of its process."""
         return self.start(*words, **settings).pid
 
@@ -138,7 +138,7 @@ def check_killed(suite: Suite, folder: str) -> None:
 
 def check_children(suite: Suite, folder: str) -> None:
     """A forked child is recorded if the socket is named as a hub, and not as a collector for known processes."""
-    for name, reports in (("ASANCOL_HUB", [" heap-use-after-free "]), ("ASANCOL_SOCKET", [])):
+    for name, reports in (("ASANCOL_HUB", [" heap-use-after-free "]), ("ASANCOL_SOCKET", ())):
         service = Service(suite, f"{folder}/{name}")
         service.record(suite.program, "child", **{name: service.socket})
         service.end()
@@ -216,7 +216,7 @@ def check_refused(suite: Suite, folder: str) -> None:
     os.mkdir(results)
     write_text(file, "mine\n")
     for words, status, said in (
-        ([], 2, "there is no SOCKET"),
+        ((), 2, "there is no SOCKET"),
         ([socket_path, results], 2, "there is no COMMAND"),
         (["--mod", "600", socket_path, results, "true"], 2, "there is no option --mod"),
         (["--group", "--", socket_path, results, "true"], 2, "--group needs a value"),
@@ -235,7 +235,7 @@ def check_refused(suite: Suite, folder: str) -> None:
     ):
         ran = suite.run_words([LISTEN, *words])
         expect((ran.status, ran.out, ran.err.count("\n")), (status, "", 1), f"{words}: {ran.err}")
-        expect_in(ran.err, f"asancol-listen: ", said)
+        expect_in(ran.err, "asancol-listen: ", said)
     expect((sorted(os.listdir(folder)), text_of(file)), (["file", "results"], "mine\n"), "what is there")
 
 

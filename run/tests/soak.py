@@ -17,7 +17,6 @@ import os
 import random
 import re
 import signal
-import socket
 import subprocess
 import sys
 import tempfile
@@ -134,8 +133,8 @@ class Soak:
     def start(self, *words: str, as_hub: bool, **settings: str) -> "subprocess.Popen[str]":
         where = {"ASANCOL_HUB" if as_hub else "ASANCOL_SOCKET": self.service.socket}
         self.count("processes")
-        pipes = {"stdout": subprocess.PIPE, "stderr": subprocess.PIPE}
-        return subprocess.Popen([self.program, *words], env=environment(**where, **settings), text=True, **pipes)
+        return subprocess.Popen([self.program, *words], env=environment(**where, **settings), text=True,
+                                stdout=subprocess.PIPE, stderr=subprocess.PIPE)
 
     def verdict(self, process: int, service: Optional[Service] = None) -> Verdict:
         """Waits for the verdict of a process that has ended."""
@@ -333,6 +332,7 @@ class Soak:
             raise Failure(f"on a full disk: {program.returncode}, {verdict}")
 
     def scenarios(self) -> List[Callable[[random.Random], None]]:
+        often: List[Callable[[random.Random], None]]
         often = [self.works, self.crashes, self.threads, self.children, self.execs, self.killed, self.killed]
         return [*often, *often, self.starts, self.flood, self.limit, self.segments, self.silent, self.garbage,
                 self.full_trace, self.full_results]

@@ -78,8 +78,8 @@ class Suite(testing.Suite):
     def start(self, *words: str, user: Optional[int] = None, **settings: str) -> "subprocess.Popen[str]":
         """Starts asancol-run, as another user if one is named."""
         environment = self.environment(**settings)
-        pipes = {"stdout": subprocess.PIPE, "stderr": subprocess.PIPE}
-        return subprocess.Popen([RUN, *words], env=environment, stdin=subprocess.DEVNULL, text=True, user=user, **pipes)
+        return subprocess.Popen([RUN, *words], env=environment, stdin=subprocess.DEVNULL, text=True, user=user,
+                                stdout=subprocess.PIPE, stderr=subprocess.PIPE)
 
     def packets(self, folder: str, *words: str, **settings: str) -> List[Any]:
         """Runs asancol-run, and returns what the report was sent; first its words."""

