@@ -88,13 +88,15 @@ def zip_pages(root: str) -> None:
 
 
 def add_documents(root: str, version: str, maintainer: str, time: int) -> None:
-    """Adds the documents as they lie in the tree, so that their links hold, and the two changelogs."""
+    """Adds the documents as they lie in the tree, so that their links hold, the one that is made, and the two
+    changelogs."""
+    subprocess.run(["make", "-s", "docs"], cwd=TOP, check=True)
     folder = f"{root}/usr/share/doc/asancol"
-    os.makedirs(f"{folder}/docs")
+    os.makedirs(folder)
     write(f"{folder}/README.md", text_of(f"{TOP}/README.md").replace("](CHANGELOG.md)", "](changelog.gz)"))
     shutil.copytree(f"{TOP}/examples", f"{folder}/examples")
-    for page in glob.glob(f"{TOP}/docs/*.md"):
-        shutil.copy(page, f"{folder}/docs")
+    shutil.copy(f"{TOP}/CONTRIBUTING.md", folder)
+    shutil.copytree(f"{TOP}/docs", f"{folder}/docs")
     with open(f"{TOP}/CHANGELOG.md", "rb") as file:
         write_zipped(f"{folder}/changelog.gz", file.read())
     date = email.utils.formatdate(time)
