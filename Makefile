@@ -6,14 +6,16 @@ TOP := .
 include install.mk
 CC ?= cc
 HAS_CC := $(shell command -v $(firstword $(CC)) 2> /dev/null)
+HAS_PYTHON := $(shell command -v python3 2> /dev/null)
 
 SOURCES := crates.txt HANDLES $(shell find crates -name out -prune -o -type f \( -name '*.rt' -o -name '*.antt' \) -print)
 EXAMPLE := examples/one_byte_past_the_end.trace
 REDZONES := examples/stack_and_global_poison.trace
 
-.PHONY: all demo check stress fuzz fuzz-parsers failures bench soak install uninstall clean recorder check-recorder \
-        check-real check-suites bench-record stress-record stress-segments install-recorder run check-run check-farm \
-        bench-run bench-scale install-run install-units options dist deb check-packages
+.PHONY: all demo check check-wrong check-wrong-alone stress fuzz fuzz-parsers failures bench soak install uninstall \
+        clean recorder docs check-recorder check-real check-suites bench-record stress-record stress-segments \
+        install-recorder run check-run check-farm bench-run bench-scale install-run install-units options dist deb \
+        check-packages lint release test
 
 # The program, proved.
 all: asancol
@@ -39,11 +41,30 @@ endif
 
 SHOW = if $(MAKE) -q asancol > /dev/null 2>&1; then program=./asancol; else program=-; fi; tests/demo.py $$program
 
+# Tests of all parts, within eight minutes on four processors from a fresh clone. It proves nothing, and says at the end
+# what it left out. With CHECKED=1, after `make check`, it leaves out what that has run.
+test:
+	tests/quick.py $(if $(CHECKED),--checked)
+
 # Proves everything from nothing, tries the wrong bodies, and runs the tests and the program. What has passed is then
 # the program here, so that nothing is proved again for it.
 check:
 	tests/gate.py
 	@cp crates/asancol/out/asancol asancol
+
+# The wrong bodies, several in one check: the prover has to refuse each. What it refused before is not tried again.
+check-wrong:
+	tests/planted.py
+	tests/wrong.py
+
+# The same bodies, each tried by itself by the toolchain: two hours of one processor.
+check-wrong-alone:
+	tests/wrong_alone.py
+
+# Looks over C, shell scripts, Python and the tree with the linters that are there, within two minutes. Of the layout of
+# C it asks on the lines that differ from where the branch left main, or from BASE=..
+lint:
+	tests/lint.py $(if $(BASE),--base $(BASE))
 
 # Many traces at once, again and again, for as many minutes: each text has to be that of its trace
 # checked alone.
@@ -64,15 +85,23 @@ fuzz: asancol
 failures: asancol
 	tests/failures.py ./asancol
 
-# The recorder: plain C, built with cc, gcc or clang (CC=..). It needs no asancol.
+# The recorder: plain C, built with cc, gcc or clang (CC=..). It needs no asancol. If Python is there, the page of the
+# calls that it checks is made too.
 recorder:
 	$(MAKE) -C recorder
+	$(if $(HAS_PYTHON),-@$(MAKE) -s docs)
+
+# What is made among the documents, and not committed: what is recorded of each function of the C library.
+docs: docs/CALLS.md
+
+docs/CALLS.md: recorder/calls/calls.def recorder/tests/calls_page.py recorder/tests/calls.py
+	recorder/tests/calls_page.py > $@ || { rm -f $@; exit 1; }
 
 # Small programs under each compiler that is there, recorded and checked. Tests that need a compiler, an AddressSanitizer
 # or a symbolizer that is not there are left out, and it says which. With SANITIZE=1 its parsers and its stream also run
-# under the compilers' own sanitizers.
+# under the compilers' own sanitizers. With REST=1 it leaves out what `make test` has run.
 check-recorder: asancol recorder run
-	$(if $(SANITIZE),SANITIZE=1) recorder/tests/check.py ./asancol
+	$(if $(SANITIZE),SANITIZE=1) recorder/tests/check.py $(if $(REST),--rest) ./asancol
 
 # What parses strangers' words, objects, formats, settings and messages, in the recorder and in asancol-run: libFuzzer
 # draws inputs for each of them, for so many seconds.
@@ -95,10 +124,10 @@ run:
 	$(MAKE) -C run
 
 # Programs under it, as a user would run them, within two minutes. Tests of tools that are not there are left out, and
-# it says which. With SANITIZE=1 asancol-run is one that the compiler's own sanitizers watch.
+# it says which. With SANITIZE=1 asancol-run is one that the compiler's own sanitizers watch. REST=1 is as above.
 check-run: asancol recorder run
 	$(if $(SANITIZE),$(MAKE) -C run asancol-run-sanitized)
-	$(if $(SANITIZE),SANITIZE=1) run/tests/check.py ./asancol
+	$(if $(SANITIZE),SANITIZE=1) run/tests/check.py $(if $(REST),--rest) ./asancol
 
 # Small projects under ctest, meson, automake, GNU parallel, ssh, pytest, Slurm and in sandboxes, within two minutes.
 # Recipes whose tool is not there are left out, and it says which.
@@ -171,14 +200,15 @@ uninstall:
 	$(MAKE) -C recorder uninstall PREFIX=$(PREFIX) DESTDIR=$(DESTDIR)
 	rm -rf $(ROOT)/lib/asancol
 	rm -f $(foreach it,$(PROGRAMS),$(ROOT)/bin/$(it) $(ROOT)/share/man/man1/$(it).1)
-	rm -f $(ROOT)/share/man/man5/asancol-trace.5 $(UNITS:%=$(ROOT)/lib/systemd/system/%)
+	rm -f $(ROOT)/share/man/man5/asancol-trace.5 $(ROOT)/share/man/man5/asancol-results.5
+	rm -f $(UNITS:%=$(ROOT)/lib/systemd/system/%)
 	rm -f $(foreach it,$(PROGRAMS),$(call completions-of,$(it)))
 
 # Completions, lists of manual pages and code, from the tables of options.
 options:
 	options/make.py
 
-# The sources as they are committed, in an archive that is the same whoever makes it.
+# The sources as they are committed, and docs/CALLS.md, in an archive that is the same whoever makes it.
 dist:
 	packaging/dist.py
 
@@ -186,12 +216,17 @@ dist:
 deb: asancol recorder run
 	packaging/deb.py
 
+# The tag of what VERSION says, the archive and the package, if the tree is clean and CHANGELOG.md has a section for it.
+# It pushes nothing.
+release:
+	packaging/release.py
+
 # The archive and the package are built, unpacked and used; pages and completions have each option of the help.
 check-packages: asancol recorder run
 	tests/packages.py ./asancol
 
 # Leaves what was proved so far, in crates/*/out, for the next build.
 clean:
-	rm -f asancol bug asancol-*.tar.gz asancol_*.deb
+	rm -f asancol bug docs/CALLS.md asancol-*.tar.gz asancol_*.deb
 	$(MAKE) -C recorder clean
 	$(MAKE) -C run clean

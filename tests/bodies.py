@@ -1,4 +1,4 @@
-"""Functions of an .rt file, read as text, and what a must-fail edit changes of them.
+"""Functions of an .rt file, read as text, and what an edit changes of them.
 
 The text has to be in the layout of `rt fmt`: a function ends at the first line that has its own
 indentation and nothing but its closing brace.
@@ -102,28 +102,38 @@ def read(path: str) -> str:
 
 def read_edit(path: str, crate: str) -> Dict[str, str]:
     """Returns the texts of the files that an edit changes, by their path in the crate's folder."""
+    old_texts: Dict[str, str] = {}
     texts: Dict[str, str] = {}
-    file, old = "", None
-    for line in read(path).splitlines():
-        key, _, value = line.partition(":")
-        value = value[1:] if value.startswith(" ") else value
-        if key == "file":
-            file = value.strip()
-        elif key == "old":
-            old = value
-        elif key == "new":
+    file, old = "", ""
+    for line in read(path).split("\n"):
+        if line.startswith("file: "):
+            file = checked_path(line[len("file: ") :].strip(), crate)
+            old_texts[file] = read(f"{crate}/{file}")
+        elif line.startswith("old: "):
+            old = line[len("old: ") :]
+        elif line.startswith("new:"):
             if not file or not old:
                 raise BadEdit("a line `new:` stands before any `file:` or `old:`")
-            if file not in texts and not os.path.isfile(f"{crate}/{file}"):
-                raise BadEdit(f"no file {file}")
-            text = texts.get(file) or read(f"{crate}/{file}")
+            text = texts.get(file, old_texts[file])
             if text.count(old) != 1:
                 raise BadEdit(f"an `old:` stands {text.count(old)} times in {file}, and not once")
-            texts[file] = text.replace(old, value)
-            old = None
+            new = line[len("new:") :]
+            texts[file] = text.replace(old, new[1:] if new.startswith(" ") else new)
+            old = ""
     if not texts:
         raise BadEdit("it has no `old:` and `new:`")
+    if all(texts[it] == old_texts[it] for it in texts):
+        raise BadEdit("it changes nothing")
     return texts
+
+
+def checked_path(file: str, crate: str) -> str:
+    """Returns the path of a file that an edit may change."""
+    if os.path.normpath(file) != file or not file.startswith(("src/", "specs/", "proofs/")):
+        raise BadEdit(f"{file} is no file below src, specs or proofs")
+    if not os.path.isfile(f"{crate}/{file}"):
+        raise BadEdit(f"no file {file}")
+    return file
 
 
 def without_blanks(text: str) -> str:

@@ -87,7 +87,7 @@ MISTAKES = [
     ("Group of asancol-report: Text\n", "", "--no-machines: no program has it"),
     (", asancol-report: Output files", ": Output files", "--json FILE: asancol-report has no such option"),
     ("Help: where all lines go", "# ", "--log-file FILE: it has no Help or no Page for asancol-run"),
-    ("Help: a line for each process", f"Help: {'x' * 54}", "asancol-run: its help has 40 lines, and 1 too wide"),
+    ("Help: a line for each process", f"Help: {'x' * 54}", "asancol-run: its help has 41 lines, and 1 too wide"),
 ]
 
 # Each prints what is offered by the file $1 for the words after it, of which the first is the program.
@@ -129,7 +129,7 @@ SHELLS = {
 PAGES = (
     "man/asancol.1", "man/asancol-trace.5",
     "recorder/man/asancol-cc.1", "run/man/asancol-run.1", "report/man/asancol-report.1",
-    "listen/man/asancol-listen.1",
+    "report/man/asancol-results.5", "listen/man/asancol-listen.1",
 )
 
 
@@ -184,12 +184,22 @@ def settings_are_there(_: str) -> None:
     expect(options, re.findall(r'"--(asancol-\w+)', text_of("recorder/wrapper/command.c")), "options")
 
 
+def results_are_described(_: str) -> None:
+    """Each field that is written as JSON lines is in the page on them."""
+    source = text_of("report/asancol_report/json_lines.py").partition("# Reading.")[0]
+    found = re.findall(r'"(\w+)":|\["(\w+)"\]|\("(\w+)", \w+\.|, (\w+)=[a-z]', source)
+    fields = {"".join(it) for it in found} - {"separators", "maxsize", "typed"}
+    expect({"events", "build_id", "unchecked_more", "freed", "blocks"} <= fields, True, f"fields: {sorted(fields)}")
+    page = set(re.findall(r"\w+", re.sub(r"\\f[BIP]", "", text_of("report/man/asancol-results.5"))))
+    expect(sorted(fields - page), [], "fields that the page does not have")
+
+
 def pages_have_no_flaw(_: str) -> None:
     """Man sees no flaw in a page."""
     for page in PAGES:
         words = ["man", "-l", "--warnings", "-E", "UTF-8", "-Tutf8", page]
-        pipes = {"stdout": subprocess.DEVNULL, "stderr": subprocess.PIPE}
-        ran = subprocess.run(words, cwd=TOP, env={**os.environ, "MANWIDTH": "80"}, check=False, **pipes)
+        ran = subprocess.run(words, cwd=TOP, env={**os.environ, "MANWIDTH": "80"}, check=False,
+                             stdout=subprocess.DEVNULL, stderr=subprocess.PIPE)
         expect((ran.returncode, ran.stderr), (0, b""), page)
 
 
@@ -240,12 +250,16 @@ def are_installed(_: str) -> None:
         expect(os.path.isfile(f"{folder}/usr/lib/asancol/asancol_report/__init__.py"), True, "the package")
 
 
-# Name, what it does with a built asancol, and the programs that it needs.
+# What a test needs whose program has to print its help, which a fake does not.
+HELP = "--help"
+
+# Name, what it does with a built asancol, and what it needs: programs, but for the above.
 TESTS: List[Tuple[str, Callable[[str], None], Tuple[str, ...]]] = [
-    ("options", tables_are_made, ()),
+    ("options", tables_are_made, (HELP,)),
     ("options: mistakes", mistakes_are_refused, ()),
     ("sample of a trace", sample_is_printed, ()),
     ("settings", settings_are_there, ()),
+    ("fields of results", results_are_described, ()),
     ("pages", pages_have_no_flaw, ("man",)),
     ("pages in mdoc", mandoc_sees_no_flaw, ("mandoc",)),
     ("completions: syntax", files_can_be_read, ()),

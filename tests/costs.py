@@ -1,25 +1,31 @@
 """What checks cost: processor seconds by crate and kind, read from /proc while they run.
 
-The toolchain starts a process for each check, and its words name the crate. One that works in a
-copy of the crate tries a wrong body; else the word `--test` says that it proves the tests. A
-`Meter` looks at these processes twice a second and keeps the last reading of each. So it misses
-what each does after that, a quarter of a second in the middle. The total of a command and all that
-it started is exact: the system counts it. What no reading has is the row `the rest`: that last
-part, and short steps, such as linking and running the tests.
+The toolchain starts a process for each check, and its words name the crate. In the part that tries
+wrong bodies each counts as that; else the word `--test` says that it proves the tests. A `Meter`
+looks at these processes twice a second and keeps the last reading of each. So it misses what each
+does after that, a quarter of a second in the middle. The total of a part and all that it started is
+exact: the system counts it. What no reading has is the row `the rest`: that last part, and short
+steps, such as linking and running the tests.
 
 A meter only reads. Where /proc cannot be read it has no rows, and nothing else changes.
 """
 
+import contextlib
 import os
 import resource
 import threading
 import time
-from typing import Dict, List, Optional, Tuple
+from typing import Dict, Iterator, List, Optional, Tuple
 
 # A crate, and what of it is checked.
 Key = Tuple[str, str]
 
-KINDS = ("proof", "tests", "wrong bodies")
+WRONG = "wrong bodies"
+KINDS = ("proof", "tests", WRONG)
+
+# What all parts together should take at most: processor seconds, and minutes on four processors.
+MOST_SECONDS = 8000
+MOST_MINUTES = 40
 
 # How long a meter waits between two looks, in seconds.
 PAUSE = 0.5
@@ -57,25 +63,26 @@ def checked_by(pid: int) -> Optional[Key]:
     try:
         with open(f"/proc/{pid}/cmdline", "rb") as file:
             words = file.read().decode(errors="replace").split("\0")
-        folder = os.path.basename(os.readlink(f"/proc/{pid}/cwd"))
     except OSError:
         return None
     if "--crate-name" not in words[:-1]:
         return None
     crate = words[words.index("--crate-name") + 1]
-    if folder.startswith("rt-edit"):
-        return crate, "wrong bodies"
     return crate, "tests" if "--test" in words else "proof"
 
 
 class Meter:
-    """Reads what the checks below this process cost, from `with` to the end of its block."""
+    """Reads what the checks below this process cost, from `with` to the end of its block. What is
+    done there has parts, each with a name."""
 
     def __init__(self) -> None:
         self.checks: Dict[Tuple[int, int], Key] = {}
         self.readings: Dict[Tuple[int, int], float] = {}
         self.total = 0.0
         self.wall = 0.0
+        # The processor seconds of each part that has ended, and the part that has not.
+        self.parts: Dict[str, float] = {}
+        self.now = ""
         self.over = threading.Event()
         self.thread = threading.Thread(target=self.watch, daemon=True)
 
@@ -89,6 +96,16 @@ class Meter:
         self.thread.join()
         self.total += seconds_of_children()
         self.wall += time.monotonic()
+
+    @contextlib.contextmanager
+    def part(self, name: str) -> Iterator[None]:
+        """Counts what is done in this block as a part."""
+        self.now, began = name, seconds_of_children()
+        try:
+            yield
+        finally:
+            self.parts[name] = self.parts.get(name, 0.0) + seconds_of_children() - began
+            self.now = ""
 
     def watch(self) -> None:
         while not self.over.wait(PAUSE):
@@ -120,7 +137,7 @@ class Meter:
             if name not in self.checks:
                 key = checked_by(pid)
                 if key:
-                    self.checks[name] = key
+                    self.checks[name] = (key[0], WRONG) if self.now == WRONG else key
             highest = name if name in self.checks else highest
             pid = found[pid].parent
         return highest
@@ -145,6 +162,28 @@ class Meter:
         lines.append(line_of("the rest", {}, max(0.0, self.total - sum(sums.values()))))
         minutes, seconds = divmod(round(self.wall), 60)
         return [*lines, f"{line_of('all', sums, self.total)}  in {minutes} min {seconds} s"]
+
+    def parts_line(self) -> str:
+        """Returns a line with the processor seconds of each part. Those of `rt ci` are of proofs and
+        of tests."""
+        sums = {kind: sum(row[kind] for row in self.by_crate().values()) for kind in KINDS}
+        parts: Dict[str, float] = {}
+        for name, seconds in self.parts.items():
+            if name == "rt ci":
+                parts.update(proofs=sums["proof"], tests=seconds - sums["proof"])
+            else:
+                parts[name] = seconds
+        return "of it " + ", ".join(f"{name} {seconds:,.0f}" for name, seconds in parts.items())
+
+    def excess(self) -> Optional[str]:
+        """Returns a line that says that it took more than it should, if it did."""
+        is_long = self.wall > 60 * MOST_MINUTES and len(os.sched_getaffinity(0)) >= 4
+        if self.total <= MOST_SECONDS and not is_long:
+            return None
+        return (
+            f"note: this took {self.total:,.0f} processor seconds and {self.wall / 60:.0f} minutes;"
+            f" it should take at most {MOST_SECONDS:,}, and {MOST_MINUTES} on four processors"
+        )
 
 
 def line_of(name: str, row: Dict[str, float], whole: float) -> str:

@@ -20,7 +20,7 @@ import subprocess
 import sys
 import tempfile
 import xml.etree.ElementTree
-from typing import Callable, Dict, Iterator, List, NamedTuple, Set, Tuple
+from typing import Callable, Dict, Iterator, List, NamedTuple, Sequence, Set, Tuple
 
 sys.path.insert(0, f"{os.path.dirname(os.path.realpath(__file__))}/..")  # where `testing` is
 
@@ -116,7 +116,8 @@ def free_ports(count: int) -> List[int]:
         made = [stack.enter_context(socket.socket()) for _ in range(count)]
         for each in made:
             each.bind(("127.0.0.1", 0))
-        return [each.getsockname()[1] for each in made]
+        ports = [each.getsockname()[1] for each in made]
+    return ports
 
 
 def listens(port: int) -> bool:
@@ -125,7 +126,7 @@ def listens(port: int) -> bool:
 
 
 @contextlib.contextmanager
-def ssh_nodes(suite: Suite, folder: str) -> Iterator[Dict[str, str]]:
+def ssh_nodes(suite: "Farm", folder: str) -> Iterator[Dict[str, str]]:
     """Two machines, which are this one by ssh on a port of loopback, with keys for this test alone."""
     keys = f"{folder}/ssh"
     os.mkdir(keys, 0o700)
@@ -210,7 +211,7 @@ def slurm_cluster(suite: Suite, folder: str) -> Iterator[Dict[str, str]]:
 
 # The recipes.
 
-Context = Callable[[Suite, str], "contextlib.AbstractContextManager[Dict[str, str]]"]
+Context = Callable[["Farm", str], "contextlib.AbstractContextManager[Dict[str, str]]"]
 
 
 class Recipe(NamedTuple):
@@ -293,7 +294,7 @@ def expect_merged(out: str, page: str) -> None:
     expect(len(re.findall(summary, out, re.M)), 1, "summaries")
 
 
-def check_recipe(suite: Suite, folder: str, recipe: Recipe) -> None:
+def check_recipe(suite: "Farm", folder: str, recipe: Recipe) -> None:
     why = why_not(recipe)
     if why:
         raise LeftOut(why)
@@ -311,14 +312,28 @@ def check_recipe(suite: Suite, folder: str, recipe: Recipe) -> None:
             raise Failure(f"{error!r}\n{ran.out[-2000:]}\n{ran.err[-3000:]}") from None
 
 
+# What each script does as well, and the page says once: it builds the tests, makes a folder, goes over the tests, notes
+# their statuses, and merges the results.
+SAID_ONCE = ("make -f simple.mk\n", "mkdir -p ", "for test in ", "    echo ", "done\n", "asancol-report --html ")
+
+
 def commands_of(script: str) -> str:
-    """Returns what a script does, without the comment before it."""
-    return "".join(line for line in text_of(f"{FARMS}/{script}").splitlines(True) if not line.startswith("#"))
+    """Returns what a script does, without the comment before it and what the page says once."""
+    lines = text_of(f"{FARMS}/{script}").splitlines(True)
+    return "".join(line for line in lines if not line.startswith(("#", *SAID_ONCE)))
 
 
 def check_page(suite: Suite, folder: str, recipe: Recipe) -> None:
     """The page has the commands as they are."""
     expect_in(text_of(f"{TOP}/docs/FARMS.md"), f"```sh\n{commands_of(recipe.script)}```\n")
+
+
+def check_commands(suite: Suite, folder: str) -> None:
+    """The page has no others, and says what all scripts do."""
+    page = text_of(f"{TOP}/docs/FARMS.md")
+    blocks = re.findall(r"^```sh\n(.*?)^```\n", page, re.M | re.S)
+    expect(sorted(blocks), sorted(commands_of(recipe.script) for recipe in RECIPES), "commands of the page")
+    expect_in(page, "`asancol-report --html report.html results/*.jsonl`")
 
 
 def find(tool: str) -> str:
@@ -339,7 +354,7 @@ def why_not(recipe: Recipe) -> str:
 class Farm(Suite):
     """The tests, with the programs of this tree on the path."""
 
-    def __init__(self, asancol: str, words: List[str]) -> None:
+    def __init__(self, asancol: str, words: Sequence[str]) -> None:
         super().__init__(words)
         self.folder = tempfile.mkdtemp(prefix="asancol-tests-")
         signal.signal(signal.SIGTERM, lambda number, frame: sys.exit(143))
@@ -352,6 +367,7 @@ class Farm(Suite):
             "ASANCOL": asancol,
             "ASANCOL_REPORT": REPORT,
         }
+        self.test("page: no other commands", check_commands)
         for recipe in RECIPES:
             name = recipe.script.split(".")[0]
             self.test(f"page: {name}", check_page, recipe)

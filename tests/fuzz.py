@@ -111,7 +111,8 @@ def draw_batch(seed: int, number: int) -> Batch:
 def pieces_of(random: Random, trace: bytes) -> List[bytes]:
     """The trace, cut anywhere."""
     average = random.choice([1, 3, 10, 40, 1000])
-    pieces, at = [], 0
+    pieces: List[bytes] = []
+    at = 0
     while at < len(trace):
         size = min(1 + int(random.expovariate(1 / average)), MAX_PIECE)
         if len(pieces) >= MAX_PIECES:
@@ -267,7 +268,7 @@ def lines_of_each(output: bytes, count: int, is_live: bool) -> List[List[str]]:
 def without_memory(process: int, last: str, verdicts: List[second_reading.Verdict], events: int) -> Optional[List[str]]:
     """The lines of a process whose checker had no more memory, if its end line says so."""
     words = last.split()
-    if words[2:4] != ["no-memory", "checked"] or not words[4].isdigit() or int(words[4]) > events:
+    if words[2:4] != ["no-memory", "checked"] or not words[4].isdigit() or int(words[4]) >= events:
         return None
     checked = [verdict for verdict in verdicts if verdict.number <= int(words[4])]
     lines = [f"p{process} #{verdict.number} {verdict.text}" for verdict in checked]

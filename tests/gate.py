@@ -5,11 +5,12 @@ usage: tests/gate.py                      the gate
        tests/gate.py --changed [BASE]     minutes after a change of one crate
 
 The gate first runs `hygiene.py`, in seconds, and ends there if that finds something. Then comes
-`rt ci`: it proves each crate from nothing, tries the wrong bodies and runs the tests. It builds the
-program with two compilers and leaves both. `runs.py` runs them with words, and `fuzz.py` holds them
-to a second reading of the documents. A table shows the processor seconds of each crate (`costs.py`
-says how they are counted). The last line is 'N passed, M failed', of all of them together. The
-status is 0 where nothing failed.
+`rt ci`: it proves each crate from nothing and runs the tests. It builds the program with two
+compilers and leaves both. `planted.py` and `wrong.py` try the wrong bodies, `runs.py` runs both
+programs with words, and `fuzz.py` holds them to a second reading of the documents. A table shows
+the processor seconds of each crate (`costs.py` says how they are counted), and lines below it those
+of each part, and if all took longer than they should. The last line is 'N passed, M failed', of all
+of them together. The status is 0 where nothing failed.
 
 With `--changed` only the crates with a file that differs from BASE are checked, and those that
 stand on them, over what earlier checks kept. BASE is the commit where the branch left `main`, if
@@ -18,6 +19,7 @@ none is given. The last line says what was left out.
 
 import os
 import re
+import shutil
 import subprocess
 import sys
 import time
@@ -32,6 +34,15 @@ PROGRAMS = ["crates/asancol/out/asancol", "crates/asancol/out/asancol.by-rattle"
 
 # Some thousand traces, the same each time.
 FUZZ = ["tests/fuzz.py", "--draws", "4000", "--seed", "1"]
+
+# What comes after hygiene, each with the part that it counts as.
+STEPS = [
+    ("rt ci", ["rt", "ci"]),
+    (costs.WRONG, [sys.executable, "tests/planted.py"]),
+    (costs.WRONG, [sys.executable, "tests/wrong.py"]),
+    ("runs", [sys.executable, "tests/runs.py", *PROGRAMS]),
+    ("fuzz", [sys.executable, *FUZZ, *PROGRAMS]),
+]
 
 COUNTS = re.compile(r"(\d+) passed, (\d+) failed")
 
@@ -87,18 +98,28 @@ def is_clean() -> bool:
     return subprocess.run([sys.executable, f"{TOP}/tests/hygiene.py"], cwd=TOP).returncode == 0
 
 
+def run_steps(meter: costs.Meter) -> Tuple[int, int]:
+    """Takes the steps until one fails, and returns how many tests passed and failed."""
+    passed, failed = 0, 0
+    for part, words in STEPS:
+        if failed == 0:
+            with meter.part(part):
+                more, failed = counted(words)
+            passed += more
+    return passed, failed
+
+
 def gate() -> int:
-    if not is_clean():
-        print("nothing was proved or run: mend these first")
-        print("0 passed, 1 failed")
-        return 1
     with costs.Meter() as meter:
-        passed, failed = counted(["rt", "ci"])
-        for words in [["tests/runs.py"], FUZZ]:
-            if failed == 0:
-                ran, failed = counted([sys.executable, *words, *PROGRAMS])
-                passed += ran
-    print("\n".join(["", *meter.table(lowest_first(crates_listed())), ""]))
+        with meter.part("hygiene"):
+            is_good = is_clean()
+        passed, failed = run_steps(meter) if is_good else (0, 1)
+    if is_good:
+        print("\n".join(["", *meter.table(lowest_first(crates_listed())), meter.parts_line(), ""]))
+    else:
+        print("nothing was proved or run: mend these first")
+    if meter.excess():
+        print(meter.excess())
     print(f"{passed} passed, {failed} failed")
     return 1 if failed else 0
 
@@ -112,12 +133,34 @@ def git(*words: str) -> str:
 
 
 def base_of_branch() -> str:
-    """Returns the commit where this branch left main, or HEAD if there is no main."""
-    words = ["git", "merge-base", "main", "HEAD"]
-    ran = subprocess.run(
-        words, cwd=TOP, stdout=subprocess.PIPE, stderr=subprocess.DEVNULL, text=True
-    )
-    return ran.stdout.strip() or "HEAD"
+    """Returns the commit where this branch left main, here or as it was cloned. Ends this command
+    if there is neither: then it is to be said."""
+    for main_branch in ("main", "origin/main"):
+        words = ["git", "merge-base", main_branch, "HEAD"]
+        ran = subprocess.run(
+            words, cwd=TOP, stdout=subprocess.PIPE, stderr=subprocess.DEVNULL, text=True
+        )
+        if ran.returncode == 0:
+            return ran.stdout.strip()
+    print("there is no branch main here to compare with: name a commit", file=sys.stderr)
+    sys.exit(2)
+
+
+def commit_of(name: str) -> str:
+    """Returns the commit of this name, and ends this command if there is none."""
+    words = ["git", "rev-parse", "--verify", "--quiet", f"{name}^{{commit}}"]
+    ran = subprocess.run(words, cwd=TOP, stdout=subprocess.PIPE, text=True)
+    if ran.returncode:
+        print(f"there is no commit {name}", file=sys.stderr)
+        sys.exit(2)
+    return ran.stdout.strip()
+
+
+def stop_without_rt() -> None:
+    """Ends this command if the toolchain is not there, with why."""
+    if not shutil.which("rt"):
+        print("this needs the command rt of the toolchain that README.md names", file=sys.stderr)
+        sys.exit(2)
 
 
 def changed_crates(base: str) -> Set[str]:
@@ -152,9 +195,9 @@ def steps_for(changed: Set[str], listed: Dict[str, List[str]]) -> List[Tuple[str
     """Returns the commands for a change of these crates, each with its folder."""
     above = those_above(changed, listed)
     steps = [(f"crates/{it}", ["rt", "check"]) for it in above]
-    edited = [it for it in above if it in changed and os.path.isdir(f"{TOP}/crates/{it}/must-fail")]
+    edited = [it for it in above if it in changed and os.path.isdir(f"{TOP}/crates/{it}/wrong")]
     if edited:
-        steps.append((".", ["rt", "must-fail", *edited]))
+        steps.append((".", [sys.executable, "tests/wrong.py", *edited]))
     steps += [(f"crates/{it}", ["rt", "test"]) for it in above if has_tests(it)]
     if "asancol" in above:
         steps.append(("crates/asancol", ["rt", "run", "--", "--version"]))
@@ -194,7 +237,8 @@ def main(words: List[str]) -> int:
     if not words:
         return gate()
     if words[0] == "--changed" and len(words) <= 2:
-        return check_changed(words[1] if len(words) == 2 else base_of_branch())
+        stop_without_rt()
+        return check_changed(commit_of(words[1]) if len(words) == 2 else base_of_branch())
     print(__doc__.split("\n\n")[1], file=sys.stderr)
     return 2
 

@@ -6,8 +6,9 @@ usage: tests/hygiene.py
 - No line of a crate's proofs has more than 120 columns, and none of its code and definitions more
   than 100. Imports in code and definitions may be longer.
 - No line of C, C++ or Python has more than 120 bytes.
-- Each file is as `rt fmt` lays it out.
+- Each file is as `rt fmt` lays it out. Without `rt` that is left out, and it says so.
 - No file is a link: `rt ci` takes no tree with one in it.
+- Each edit of a wrong body can be made: what it takes away stands once in its file.
 - Each lemma right in a folder `proofs` is cited. `Examples` and `Refuted` are lists of worked
   examples, and are left out.
 - Each name that a file imports is used there (`names.py`). `rt tidy` drops those that are not; it
@@ -33,6 +34,7 @@ from typing import Iterator, List, Tuple
 
 sys.path.insert(0, f"{os.path.dirname(os.path.realpath(__file__))}/..")  # where `testing` is
 
+import bodies
 import names
 import pages
 import worked
@@ -76,14 +78,16 @@ def bad_layouts(files: List[str]) -> Iterator[Finding]:
     """Goes over the files that `rt fmt` would change, or cannot read. The toolchain's `rattle`,
     which lies beside `rt`, finds them."""
     rt = shutil.which("rt")
-    rattle = os.path.join(os.path.dirname(os.path.realpath(rt)), "rattle") if rt else ""
+    if not rt:
+        print("left out: the layout of Rattle, since the toolchain's command rt is not there")
+        return
+    rattle = os.path.join(os.path.dirname(os.path.realpath(rt)), "rattle")
     sources = [it for it in files if width_of(it)]
     if not os.path.isfile(rattle):
         yield "crates", 1, "no rattle beside rt: the layout was not looked at"
         return
     words = [rattle, "fmt", "--check", *sources]
-    both = {"stdout": subprocess.PIPE, "stderr": subprocess.STDOUT}
-    ran = subprocess.run(words, cwd=TOP, text=True, **both)
+    ran = subprocess.run(words, cwd=TOP, text=True, stdout=subprocess.PIPE, stderr=subprocess.STDOUT)
     found = re.findall(r"^(\S+?):? (?:is not in the layout|it does not parse)", ran.stdout, re.M)
     for path in found:
         yield path, 1, "rt fmt would change it, or cannot read it"
@@ -95,6 +99,16 @@ def links(files: List[str]) -> Iterator[Finding]:
     for path in files:
         if os.path.islink(f"{TOP}/{path}"):
             yield path, 1, "it is a link, and rt ci takes no tree with one in it"
+
+
+def bad_edits(files: List[str]) -> Iterator[Finding]:
+    for path in files:
+        crate, wrong, name = path.rpartition("/wrong/")
+        if crate.startswith("crates/") and wrong and not name.endswith(".md"):
+            try:
+                bodies.read_edit(f"{TOP}/{path}", f"{TOP}/{crate}")
+            except bodies.BadEdit as bad:
+                yield path, 1, str(bad)
 
 
 def sources_of(files: List[str]) -> List[names.Source]:
@@ -127,13 +141,13 @@ def other_options() -> Iterator[Finding]:
 
 def other_summaries() -> Iterator[Finding]:
     """Goes over the crates' pages whose first sentence is not the crate's row of ARCHITECTURE.md."""
-    with open(f"{TOP}/docs/ARCHITECTURE.md", encoding="utf-8") as file:
-        rows = re.findall(r"^\| \[`\w+`\]\(\.\./(crates/\w+/README\.md)\) \| (.*) \|$", file.read(), re.M)
+    with open(f"{TOP}/docs/inside/ARCHITECTURE.md", encoding="utf-8") as file:
+        rows = re.findall(r"^\| \[`\w+`\]\(\.\./\.\./(crates/\w+/README\.md)\) \| (.*) \|$", file.read(), re.M)
     for path, does in rows:
         with open(f"{TOP}/{path}", encoding="utf-8") as file:
             first = file.read().split("\n\n")[1].replace("\n", " ")
         if first != f"{does[0].upper()}{does[1:]}.":
-            yield path, 3, f"docs/ARCHITECTURE.md says: {does}"
+            yield path, 3, f"docs/inside/ARCHITECTURE.md says: {does}"
 
 
 def all_tests(sources: List[names.Source], rows: List[worked.Row]) -> Iterator[names.Test]:
@@ -153,6 +167,7 @@ def findings() -> Iterator[Finding]:
     yield from long_lines_of_others(files)
     yield from bad_layouts(files)
     yield from links(files)
+    yield from bad_edits(files)
     yield from other_release()
     yield from other_options()
     yield from other_summaries()

@@ -4,8 +4,8 @@
 is. Blocks of 2^32 bytes fill it up, and the free of the last of them releases most of the small
 ones. Then come 100,000 reports.
 
-What is printed is worked out here by a small model of blocks, which was written from docs/MODEL.md
-and docs/FORMAT.md alone. It knows mallocs, frees, loads and stores.
+What is printed is worked out here by a small model of blocks, which was written from
+docs/inside/MODEL.md and docs/FORMAT.md alone. It knows mallocs, frees, loads and stores.
 """
 
 import bisect

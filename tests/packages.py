@@ -1,5 +1,6 @@
 #!/usr/bin/env python3
-"""Builds the archive of the sources and the package for Debian, and uses them; looks at pages and completions.
+"""Builds the archive of the sources and the package for Debian, and uses them; looks at pages and completions, and at
+what maintainers run, and at what `make test` says.
 
 usage: tests/packages.py [--list] [--junit FILE] ASANCOL [WORD..]
 
@@ -20,10 +21,16 @@ from typing import Callable, List, Sequence, Tuple
 sys.path.insert(0, f"{os.path.dirname(os.path.realpath(__file__))}/..")  # where `testing` is
 
 import completions
-from completions import TOP, text_of
+import maintaining
+import test_quick
+from completions import HELP, TOP, text_of
 from files import files_of_tree, is_repository
 from testing import Failure, LeftOut, Ran, Suite, environment, expect, suite
-from testing.programs import PATIENCE, ran_of
+from testing.programs import PATIENCE, path_without, ran_of
+
+
+# The page that `make docs` makes, and nobody commits.
+MADE = "docs/CALLS.md"
 
 
 def run(words: List[str], folder: str = TOP, **settings: str) -> Ran:
@@ -66,7 +73,7 @@ def archive_of(folder: str) -> str:
 
 
 def archive_is_the_same(_: str, folder: str) -> None:
-    """It has what is committed, whoever makes it and whenever."""
+    """It has what is committed, and the page that is made, whoever makes it and whenever."""
     first = sum_of(archive_of(folder))
     archive = archive_of(folder)
     expect(sum_of(archive), first, "the archive, once more")
@@ -76,7 +83,7 @@ def archive_is_the_same(_: str, folder: str) -> None:
         expect({(it.uid, it.gid, it.uname) for it in members.getmembers()}, {(0, 0, "root")}, "owners")
         expect(len({it.mtime for it in members.getmembers()}), 1, "times")
     committed = must(["git", "ls-tree", "-r", "--name-only", "-z", "HEAD"]).split("\0")
-    expect(files, set(committed) - {""}, "files")
+    expect(files, set(committed) - {""} | {MADE}, "files")
 
 
 def archive_is_enough(program: str, folder: str) -> None:
@@ -85,10 +92,10 @@ def archive_is_enough(program: str, folder: str) -> None:
     top = f"{folder}/asancol-{release()}"
     no_git = {"PATH": path_without("git", folder)}
     files = sorted(must(["find", ".", "-type", "f", "-printf", "%P\\n"], top).splitlines())
-    must(["make", "-s", "recorder", "run"], top, **no_git)
+    must(["make", "-s", "-j4", "recorder", "run"], top, **no_git)
     line = "import files; print('\\n'.join(files.files_of_tree()))"
     seen = must([sys.executable, "-c", line], f"{top}/tests", **no_git)
-    expect(seen.splitlines(), files, "the files of the tree after a build")
+    expect(seen.splitlines(), [it for it in files if it != MADE], "the files of the tree after a build")
     if shutil.which("rt"):
         expect(must([f"{top}/tests/hygiene.py"], top, **no_git), "hygiene: nothing found\n", "hygiene")
     shutil.copy(program, f"{top}/asancol")
@@ -97,17 +104,6 @@ def archive_is_enough(program: str, folder: str) -> None:
     must([f"{top}/run/tests/check.py", f"{top}/asancol", "help"], top, **no_git)
     if shutil.which("dpkg-deb"):
         must(["make", "-s", "deb"], top, **no_git)
-
-
-def path_without(program: str, folder: str) -> str:
-    """Returns a PATH on which this program isn't: a folder of links to all others."""
-    links = f"{folder}/programs"
-    os.mkdir(links)
-    for place in os.environ["PATH"].split(":"):
-        for name in os.listdir(place) if os.path.isdir(place) else ():
-            if name != program and not os.path.lexists(f"{links}/{name}"):
-                os.symlink(os.path.join(os.path.abspath(place), name), f"{links}/{name}")
-    return links
 
 
 def what_is_installed_goes_again(_: str, folder: str) -> None:
@@ -224,9 +220,10 @@ def package_is_whole(_: str, folder: str) -> None:
                  "asancol-listen"):
         wanted += [f"bin/{name}", f"share/man/man1/{name}.1.gz", f"share/bash-completion/completions/{name}"]
         wanted += [f"share/zsh/vendor-completions/_{name}", f"share/fish/vendor_completions.d/{name}.fish"]
-    wanted.append("share/man/man5/asancol-trace.5.gz")
-    documents = [it for it in files_of_tree() if re.fullmatch(r"README.md|docs/[^/]+.md|examples/.*", it)]
-    documents += ["changelog.gz", "changelog.Debian.gz", "copyright"]
+    wanted += [f"share/man/man5/asancol-{it}.5.gz" for it in ("trace", "results")]
+    found = r"(README|CONTRIBUTING|docs/.+)\.md|examples/.*"
+    documents = [it for it in files_of_tree() if re.fullmatch(found, it)]
+    documents += [MADE, "changelog.gz", "changelog.Debian.gz", "copyright"]
     wanted += [f"share/doc/asancol/{it}" for it in documents]
     modules = [it for it in files_of_tree() if re.fullmatch(r"report/asancol_report/.*", it)]
     wanted += [f"lib/asancol/{it[len('report/') :]}" for it in modules]
@@ -236,34 +233,41 @@ def package_is_whole(_: str, folder: str) -> None:
     expect([it for it in links if not os.path.exists(f"{folder}/usr/share/doc/asancol/{it}")], [], "dead links")
     expect("no licence" in must(["cat", f"{folder}/usr/share/doc/asancol/copyright"]), True, "copyright")
     if shutil.which("man"):
-        page = must(["man", f"{folder}/usr/share/man/man1/asancol-c++.1.gz"], folder, LC_ALL="C")
-        expect(f"asancol {release()}" in page and "ASANCOL-CC(1)" in page, True, "the page of asancol-c++")
+        shown = must(["man", f"{folder}/usr/share/man/man1/asancol-c++.1.gz"], folder, LC_ALL="C")
+        expect(f"asancol {release()}" in shown and "ASANCOL-CC(1)" in shown, True, "the page of asancol-c++")
 
 
-# Name, what it does with a built asancol and a folder for itself, and the programs that it needs.
+# What a test needs that installs: ./asancol, up to date.
+BUILT = "./asancol"
+
+# Name, what it does with a built asancol and a folder for itself, and what it needs.
 TESTS: List[Tuple[str, Callable[[str, str], None], Tuple[str, ...]]] = [
-    ("release", programs_say_the_release, ()),
+    ("release", programs_say_the_release, (HELP,)),
     ("archive: the same", archive_is_the_same, ("git",)),
     ("archive: enough", archive_is_enough, ("git", "cc")),
-    ("make: install and uninstall", what_is_installed_goes_again, ("cc", "c++")),
+    ("make: install and uninstall", what_is_installed_goes_again, (BUILT, "cc", "c++")),
     ("make: small programs", programs_stay_small, ("cc",)),
     ("make: without the toolchain", says_what_is_missing, ("git", "cc")),
-    ("package: the same", package_is_the_same, ("dpkg-deb", "dpkg-shlibdeps")),
-    ("package: lintian", package_has_no_error, ("dpkg-deb", "dpkg-shlibdeps", "lintian")),
-    ("package: whole", package_is_whole, ("dpkg-deb", "dpkg-shlibdeps")),
-    ("package: a bug", package_finds_a_bug, ("dpkg-deb", "dpkg-shlibdeps", "dpkg", "cc", "c++")),
+    ("package: the same", package_is_the_same, (BUILT, "dpkg-deb", "dpkg-shlibdeps")),
+    ("package: lintian", package_has_no_error, (BUILT, "dpkg-deb", "dpkg-shlibdeps", "lintian")),
+    ("package: whole", package_is_whole, (BUILT, "dpkg-deb", "dpkg-shlibdeps")),
+    ("package: a bug", package_finds_a_bug, (BUILT, "dpkg-deb", "dpkg-shlibdeps", "dpkg", "cc", "c++")),
 ]
 
 
-def left_out(needed: Tuple[str, ...]) -> str:
+def left_out(needed: Tuple[str, ...], program: str) -> str:
     """Returns why a test is left out, or nothing."""
     if "git" in needed and not is_repository():
         return "this is no repository"
-    return ", ".join(f"{it} is not there" for it in needed if not shutil.which(it))
+    if BUILT in needed and run(["make", "-q", "asancol"]).status:
+        return "there is no ./asancol that is up to date"
+    if HELP in needed and run([program, HELP]).status:
+        return "the program is a fake, which has no help"
+    return ", ".join(f"{it} is not there" for it in needed if it not in (BUILT, HELP) and not shutil.which(it))
 
 
 def check(suite: Suite, folder: str, test: Callable[[str, str], None], program: str, needed: Tuple[str, ...]) -> None:
-    why = left_out(needed)
+    why = left_out(needed, program)
     if why:
         raise LeftOut(why)
     test(program, folder)
@@ -276,8 +280,9 @@ class Packages(Suite):
 
     def __init__(self, program: str, words: Sequence[str]) -> None:
         super().__init__(words)
-        of_words = [(name, lambda program, _, test=test: test(program), it) for name, test, it in completions.TESTS]
-        for name, test, needed in [*of_words, *TESTS]:
+        of_words = [(name, lambda program, _, test=test: test(program), it)
+                    for name, test, it in [*completions.TESTS, *test_quick.TESTS]]
+        for name, test, needed in [*of_words, *TESTS, *maintaining.TESTS]:
             self.test(name, check, test, program, needed)
 
 

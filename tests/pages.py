@@ -1,13 +1,14 @@
 """What the pages name: functions, clauses, files, tests, links and targets of make.
 
-A page names a thing in backticks. A path has to be that of a file, from the top, from the page's
-folder, from the folder `crates`, or the end of one. A name with `_` or `::` or a capital inside has
-to occur in the sources. In a table with a column `function, clause` each word of that column has to
-be a function, a clause, a definition or a field; one that begins with a capital has to occur. What
-follows a function there, up to a `;` and not in brackets, has to be a clause of a function of that
-name, or a public function or a test; functions of one name count as one. A link that is no address
-has to lead to a file and, after `#`, to a heading of it. Each target of `make` has to be in the
-Makefile. A worked example has the events and the lines of the rows that its title names.
+A page names a thing in backticks, and a maintainers' page in its figures too. A path has to be that of
+a file, from the top, from the page's folder, from the folder `crates`, or the end of one. A name with
+`_` or `::` or a capital inside has to occur in the sources. In a table with a column `function,
+clause` each word of that column has to be a function, a clause, a definition or a field; one that
+begins with a capital has to occur. What follows a function there, up to a `;` and not in brackets,
+has to be a clause of a function of that name, or a public function or a test; functions of one name
+count as one. A link that is no address has to lead to a file and, after `#`, to a heading of it. Each
+target of `make` has to be in the Makefile. A worked example has the events and the lines of the rows
+that its title names.
 """
 
 import os
@@ -29,6 +30,7 @@ ELSEWHERE = {
     "lsan_interface.h",
     "malloc.h",
     "__SANITIZE_ADDRESS__",
+    "__asan_report_store4_noabort",
     "RTLD_DEEPBIND",
     "LD_PRELOAD",
     "ether_aton_r",
@@ -39,6 +41,12 @@ ELSEWHERE = {
     "SO_PEERCRED",
     "O_EXCL",
 }
+
+PAGE = re.compile(
+    r"(?:docs/(?:inside/)?[^/]+|(?:crates/\w+|common|recorder|run)/README|README|CHANGELOG|CONTRIBUTING)\.md"
+)
+# What is made of the sources: a page may name it, but a link would lead to nothing where it is not made.
+MADE = {"docs/CALLS.md"}
 
 SPAN = re.compile(r"`([^`]+)`")
 LINK = re.compile(r"\]\(([^)\s]+)\)")
@@ -144,7 +152,7 @@ def bad_names(page: str, text: str, tree: Tree) -> Iterator[Finding]:
     """Goes over the paths and names in backticks that are not there."""
     for number, line in enumerate(text.split("\n"), 1):
         for span in SPAN.findall(line):
-            if span in ELSEWHERE:
+            if span in ELSEWHERE | MADE:
                 continue
             if PATH.fullmatch(span):
                 if not tree.has_path(span, page):
@@ -153,6 +161,19 @@ def bad_names(page: str, text: str, tree: Tree) -> Iterator[Finding]:
                 lacking = [it for it in span.split("::") if it not in tree.words | tree.stems]
                 if lacking:
                     yield page, number, f"nothing has this name: {span}"
+
+
+def bad_figures(page: str, text: str, tree: Tree) -> Iterator[Finding]:
+    """Goes over the paths and names in the figures of a maintainers' page that are not there."""
+    in_block = False
+    for number, line in enumerate(text.split("\n"), 1):
+        in_block = in_block != line.startswith("```")
+        for word in re.split(r"[\s(),]+", line) if in_block else ():
+            if PATH.fullmatch(word):
+                if not tree.has_path(word, page):
+                    yield page, number, f"no such file: {word}"
+            elif word not in ELSEWHERE and is_a_name(word) and not set(word.split("::")) <= tree.words | tree.stems:
+                yield page, number, f"nothing has this name: {word}"
 
 
 def cells_of(line: str) -> List[str]:
@@ -242,12 +263,13 @@ def targets_of(tree: Tree) -> Dict[str, Set[str]]:
 
 def findings(tree: Tree, known: Dict[str, Row]) -> Iterator[Finding]:
     targets = targets_of(tree)
-    named = re.compile(r"(?:docs/[^/]+|crates/\w+/README|(?:recorder|run)/README|README|CHANGELOG)\.md")
-    pages = [it for it in tree.files if named.fullmatch(it)]
+    pages = [it for it in tree.files if PAGE.fullmatch(it)]
     for page in sorted(pages):
         text = tree.text_of(page)
         yield from bad_links(page, text, tree)
         yield from bad_names(page, text, tree)
+        if page.startswith("docs/inside/"):
+            yield from bad_figures(page, text, tree)
         yield from bad_cells(page, text, tree)
         yield from bad_targets(page, text, targets)
         yield from bad_examples(page, text, known)

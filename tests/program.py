@@ -9,13 +9,17 @@ import subprocess
 import sys
 import tempfile
 import time
+from typing import List
 
 import refused_calls
-from testing import Failure, Suite, suite
+from testing import Failure, LeftOut, Suite, suite
 from testing.programs import PATIENCE
 from testing.traces import closed, free, malloc, store
 
 NOBODY = 65534
+
+# A name in each program that `rt try` has built, with checks in the place of the proof.
+OF_CHECKS = b"__asan_init"
 
 # What is said where a word is no command, and where one is a short form that is not there.
 HINT = "\nTo check a trace in a file: asancol check FILE\n"
@@ -91,6 +95,12 @@ class Program:
         )
         return ran.returncode, ran.stdout, ran.stderr
 
+    def leave_out_with_checks(self, why):
+        """Leaves the test out if the program has checks in the place of its proof."""
+        with open(self.path, "rb") as file:
+            if OF_CHECKS in file.read():
+                raise LeftOut(f"{why}, with checks in the place of a proof")
+
     def expect(self, words, status, output="", faults="", **how):
         """Expects this status and exactly these texts."""
         same(words, self.run(words, **how), (status, output.encode(), faults.encode()))
@@ -159,7 +169,7 @@ class Served:
     """The program, serving a socket in this folder."""
 
     # Those that were started and not seen to end.
-    running = []
+    running: List["Served"] = []
 
     def __init__(self, program, *words, before=None):
         self.words = ["serve", *words, "socket"]
@@ -218,6 +228,10 @@ def with_refused(program, words, calls, refuses):
     return refused_calls.run([program.path, *words], calls, refuses, prepared(), PATIENCE)
 
 
+# The status of the process of a test that is left out.
+LEFT_OUT = 2
+
+
 class Runs(Suite):
     """Runs of some programs. They go by the current folder, so each runs in its own process. If root starts them,
     the programs run as nobody, so that a file can be unreadable."""
@@ -252,24 +266,29 @@ class Runs(Suite):
                 os._exit(self.run_here(test, folder, said))
             _, status = os.waitpid(child, 0)
             said.seek(0)
-            wrong = said.read().decode()
+            text = said.read().decode()
+        if os.waitstatus_to_exitcode(status) == LEFT_OUT:
+            raise LeftOut(text)
         if status != 0:
-            raise Failure(wrong or f"its process ended with {status}")
+            raise Failure(text or f"its process ended with {status}")
 
     def run_here(self, test, folder, said):
         """Runs a test in this process, which is its own, says what was wrong, and returns the status to end with."""
-        wrong = None
+        status = 0
         os.chdir(folder)
         try:
             test.run(*test.arguments)
+        except LeftOut as why:
+            status = LEFT_OUT
+            said.write(str(why).encode())
         except BaseException as error:  # whatever it is, the test has failed
-            wrong = error
+            status = 1
             said.write(repr(error).encode())
-            said.flush()
+        said.flush()
         for served in Served.running:
             served.kill()
             served.wait()
-        return 0 if wrong is None else 1
+        return status
 
     def clean_up(self):
         os.seteuid(os.getuid())

@@ -3,7 +3,7 @@
 
 usage: tests/second_reading.py [--limit L] [--quarantine B] [--failed-read] TRACE..
 
-It was written from docs/FORMAT.md (a stream, ranges, flaws, fates, lines) and docs/MODEL.md (the
+It was written from docs/FORMAT.md (a stream, ranges, flaws, fates, lines) and docs/inside/MODEL.md (the
 six events, rule by rule) alone, and shares nothing with the code. It keeps all that was marked,
 oldest first, and works out the 8 states of a granule anew for each question. `fuzz.py` holds the
 program to it.

@@ -7,7 +7,7 @@ import time
 
 import refused_calls
 from program import (
-    CUT, FAR_APART, PAST_THE_END, PATIENCE, SOUND, TWICE_FREED, Served, cut, ending_of, holds,
+    CUT, FAR_APART, PAST_THE_END, PATIENCE, SOUND, TWICE_FREED, Served, ending_of, holds,
     lines_of_each, past_the_end, prepared, put, same, sound, with_refused, without_threads,
 )
 from testing import test
@@ -99,10 +99,11 @@ def each_thread_that_does_not_start(program):
 
 @test
 def one_pipe_on_one_thread(program):
-    """There is one thread while a trace comes through a pipe. With --live a report is read while
+    """There is one thread while a trace comes through a pipe. With --live each report is read while
     its process still runs."""
     os.mkfifo("pipe")
     report, end = past_the_end().encode().splitlines(keepends=True)
+    second, end = report.replace(b"#2", b"#3"), end.replace(b"2 offset 36 reports 1", b"3 offset 46 reports 2")
     for options in [["--memory", str(1 << 20)], ["--live"]]:
         words = ["check", *options, "pipe"]
         running = subprocess.Popen(
@@ -110,14 +111,15 @@ def one_pipe_on_one_thread(program):
         )
         Served.running.append(running)
         with open("pipe", "wb", buffering=0) as pipe:
-            pipe.write(PAST_THE_END[:-1])
-            if "--live" in words:
-                same(words, running.stdout.readline(), report)
+            for record, line in [(PAST_THE_END[:-1], report), (PAST_THE_END[-11:-1], second)]:
+                pipe.write(record)
+                if "--live" in words:
+                    same(words, running.stdout.readline(), line)
             same(words, os.listdir(f"/proc/{running.pid}/task"), [str(running.pid)])
             pipe.write(CLOSE)
         output, _ = running.communicate(timeout=PATIENCE)
         Served.running.remove(running)
-        wanted = end if "--live" in words else report + end
+        wanted = end if "--live" in words else report + second + end
         same(words, (running.returncode, output), (1, wanted))
 
 

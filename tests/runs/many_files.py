@@ -5,7 +5,6 @@ import threading
 
 from program import PAST_THE_END, SOUND, past_the_end, put, sound
 from testing import test
-from testing.traces import closed
 
 
 @test

@@ -7,7 +7,8 @@ import pty
 import long_trace
 import worked
 from program import (
-    CUT, PAST_THE_END, SOUND, closing, cut, holds, past_the_end, put, same, same_lines, sound,
+    CUT, PAST_THE_END, SOUND, closing, cut, lines_of_each, past_the_end, put, same,
+    same_lines, sound,
 )
 from testing import test
 from testing.traces import HEADER, HEADER_2, closed, free, load, malloc, poison
@@ -162,14 +163,20 @@ def many_reports(program):
 @test
 def one_long_trace(program):
     """200,000 blocks are held at once, one free releases 150,000 of them, and there are 100,000
-    reports: by one thread, and twice over threads. Memory is ample."""
+    reports: by one thread, and twice over threads, also with --live. Memory is ample."""
+    program.leave_out_with_checks("it takes minutes")
     long = long_trace.known_trace()
     trace = put("trace", long.trace)
-    for files in [[trace], [trace, trace]]:
+    for files in [[trace], [trace, trace], ["--live", trace, trace]]:
         words = ["check", "--quarantine", str(long_trace.QUARANTINE), *files]
         status, output, faults = program.run(words)
         same(words, (status, faults), (1, b""))
-        same_lines(words, output, "".join(long.text(process) for process in range(len(files))))
+        for process in range(files.count(trace)):
+            lines = lines_of_each(output)[f"p{process}"]
+            same_lines([*words, process], lines.encode(), long.text(process))
+        if "--live" not in files:
+            texts = [long.text(process) for process in range(len(files))]
+            same_lines(words, output, "".join(texts))
 
 
 @test

@@ -10,7 +10,7 @@ from program import (
     same, sound,
 )
 from testing import test
-from testing.traces import HEADER, closed, free, load, malloc
+from testing.traces import HEADER, closed, free, load, malloc, unpoison
 
 
 @test
@@ -35,18 +35,24 @@ def limit_of_events(program):
 
 @test
 def greatest_limits(program):
-    """The default is 2^24, and less can be set: here one more than 2^20."""
-    for words, limit in [([], 1 << 24), (["--limit", "1048577"], (1 << 20) + 1)]:
-        put("most", closed(free(0) * limit))
-        put("more", closed(free(0) * (limit + 1)))
+    """The default is 2^24, and less can be set: here one more than 2^20. Neither events of one
+    kind nor another runs out of memory."""
+    program.leave_out_with_checks("it takes minutes")
+    for words, limit, event in [
+        ([], 1 << 24, free(0)),
+        (["--limit", "1048577"], (1 << 20) + 1, unpoison(0x1000, 8)),
+    ]:
+        put("most", closed(event * limit))
+        put("more", closed(event * (limit + 1)))
+        size = len(event) * limit
         program.expect(
             ["check", *words, "most", "more"],
             3,
-            f"p0 end closed events {limit} offset {9 + 9 * limit} reports 0\n"
-            f"p1 end too-many events {limit} offset {8 + 9 * limit} reports 0\n",
+            f"p0 end closed events {limit} offset {9 + size} reports 0\n"
+            f"p1 end too-many events {limit} offset {8 + size} reports 0\n",
         )
     with open("more", "rb") as file:
-        text = "p0 end closed events 1048578 offset 9437211 reports 0\n"
+        text = f"p0 end closed events 1048578 offset {9 + 17 * 1048578} reports 0\n"
         program.expect([], 0, text, stdin=file)
 
 
@@ -281,12 +287,13 @@ def what_became_of_each_file(program):
         same(words, ran, (4, None, lines.encode()))
         ran = program.run(words, given=PAST_THE_END, stderr=full)
         same(words, ran, (3, text.encode(), None))
-    program.expect(
-        ["check", "past", "--verbose"],
-        1,
-        past_the_end(),
-        "p0 past: closed events 2 offset 36 reports 1\n",
-    )
+    line = "p0 past: closed events 2 offset 36 reports 1\n"
+    for more in [[], ["--live"], ["--memory", str(1 << 20)]]:
+        program.expect(["check", "past", "--verbose", *more], 1, past_the_end(), line)
+        names = ["past", "sound"]
+        both = line + "p1 sound: closed events 2 offset 36 reports 0\n"
+        words = ["check", "--verbose", *more, *names]
+        same(words, program.run(words)[2], both.encode())
     name = put("é \"q\" \\ '\t", SOUND)
     line = "p0 é \\\"q\\\" \\\\ \\'\\t: closed events 2 offset 36 reports 0\n"
     program.expect(["check", "--verbose", name], 0, sound(), line)

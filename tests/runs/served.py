@@ -13,7 +13,7 @@ from program import (
     holds, lines_of_each, past_the_end, prepared, put, same, sound, with_refused,
 )
 from testing import test
-from testing.traces import closed, free
+from testing.traces import closed, load, malloc, store
 
 
 @test
@@ -55,6 +55,7 @@ def peak_of(process):
 def memory_of_each_process(program):
     """A process that is out of memory harms no other, not even one that is out of memory too, and
     no more is held than docs/MEMORY.md says."""
+    program.leave_out_with_checks("more is held")
     bound = 1 << 26
     # Two of the five come to their bound.
     most = 2 * (bound + bound // 8) + 5 * (1 << 18) + (1 << 22)
@@ -86,15 +87,41 @@ def memory_of_each_process(program):
 
 
 @test
+def memory_of_one_process(program):
+    """A checker has all of its bound, and says how many events it has checked."""
+    program.leave_out_with_checks("more is held")
+    near = [malloc(0x1000, 5), store(4, 0x1004), *[load(1, 0x1000)] * 5]
+    far = put("far", closed(*near, *(malloc(place << 30, 8) for place in range(1, 100_001))))
+    report = past_the_end().splitlines(keepends=True)[0]
+    text = re.compile(re.escape(report.encode()) + rb"p0 end no-memory checked (\d+) reports 1\n")
+    checked = []
+    for bound in (1 << 20, 1 << 21, 1 << 26):
+        words = [program.path, "check", "--memory", str(bound), far]
+        running = subprocess.Popen(words, preexec_fn=prepared(), stdout=subprocess.PIPE)
+        Served.running.append(running)
+        status, output, peak = peak_of(running)
+        found = text.fullmatch(output)
+        holds(words, status == 3 and found, (status, output))
+        holds(words, peak > bound * 3 / 4, f"{peak} bytes were held")
+        checked.append(int(found[1]))
+    holds("--memory", len(near) < checked[0] and 1.5 < checked[1] / checked[0] < 2.5, checked)
+
+
+@test
 def memory_of_the_last_process(program):
-    """The checker of each of 256 processes has its bound, that of the last one too."""
-    names = [put("sound", SOUND)] * 255 + [put("far", FAR_APART)]
+    """The checker of each of 256 processes has its bound, that of the last one too; and each other
+    process has all of its lines, with --live too."""
+    kinds = [put("sound", SOUND), put("past", PAST_THE_END), put("frees", TWICE_FREED)]
+    names = [kinds[process % len(kinds)] for process in range(255)] + [put("far", FAR_APART)]
+    wanted = lines_of_each(program.run(["check", *names])[1])
     for live in [[], ["--live"]]:
         words = ["check", *live, "--memory", str(1 << 20), *names]
         status, output, _ = program.run(words)
-        last = lines_of_each(output)["p255"]
+        lines = lines_of_each(output)
+        last = lines.pop("p255")
         holds(words, re.fullmatch(r"p255 end no-memory checked \d+ reports 0\n", last), last)
-        same(words, status, 3)
+        same(words, lines, {process: wanted[process] for process in lines})
+        same(words, (len(lines), status), (255, 3))
 
 
 @test

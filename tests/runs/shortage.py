@@ -31,6 +31,7 @@ def output_that_ends_early(program):
 @test
 def no_memory_to_begin(program):
     """There is a bound on memory under which the program starts, and has none to begin."""
+    program.leave_out_with_checks("it ends otherwise")
     put("trace", PAST_THE_END)
     for words in [[], ["check", "trace"], ["check", *["trace"] * 100], ["--help"]]:
         ended = set()

@@ -1,0 +1,143 @@
+"""A crate's wrong bodies, as its edits make them, and which of its functions call one another.
+
+An edit is a file `crates/CRATE/wrong/NAME.edit`, in the form of the toolchain's must-fail edits:
+lines `file:`, `old:` and `new:`, and each `old:` stands once in its file.
+"""
+
+import glob
+import os
+import re
+from typing import Dict, List, NamedTuple, Optional, Set, Tuple
+
+import bodies
+from bodies import Function
+
+FILE_NAME = re.compile(r"[A-Za-z0-9_-][A-Za-z0-9_.-]*\.edit")
+
+
+class Change(NamedTuple):
+    """A function whose body an edit changes: its file, as it is, and as the edit makes it."""
+
+    path: str
+    was: Function
+    now: Function
+
+
+class Edit(NamedTuple):
+    """An edit: what it says, the texts that it makes of files, and the functions whose bodies it
+    changes, by name. There are none if it changes something else too. If it is no good there are
+    neither, and `bad` says why."""
+
+    name: str
+    said: str
+    texts: Dict[str, str]
+    changes: Dict[str, Change]
+    bad: str = ""
+
+
+def edit_files(folder: str) -> List[str]:
+    """Returns the files of a crate's edits. Pages for readers, which end in .md, are none."""
+    if not os.path.isdir(f"{folder}/wrong"):
+        return []
+    return sorted(f"{folder}/wrong/{it}" for it in os.listdir(f"{folder}/wrong") if it[-3:] != ".md")
+
+
+def name_of(file: str) -> str:
+    name = os.path.basename(file)
+    return name[: -len(".edit")] if name.endswith(".edit") else name
+
+
+def path_name(crate: str, path: str, function: Function) -> str:
+    """Returns the name of a function by the file where it stands. A check prints most names so."""
+    module = re.sub(r"^src/|(?:/mod)?\.rt$", "", path)
+    parts = [crate] + ([] if module in ("lib", "main") else module.split("/"))
+    if function.block:
+        of_trait = re.search(r"\sfor\s+(.*)", re.split(r"\swhere\b", function.block)[0])
+        kind = re.split(r"[<\s]", of_trait[1].strip().lstrip("&"))[0] if of_trait else ""
+        parts.append(kind.rpartition("::")[2] + function.owner())
+    return "::".join([*parts, function.name])
+
+
+class Source:
+    """The text of a crate: its functions, each by its name by file."""
+
+    def __init__(self, crate: str, folder: str) -> None:
+        self.crate = crate
+        self.folder = folder
+        self.functions: Dict[str, Tuple[str, Function]] = {}
+        for at, _, files in os.walk(f"{folder}/src"):
+            for file in sorted(files):
+                path = os.path.relpath(f"{at}/{file}", folder)
+                for it in bodies.functions_in(bodies.read(f"{at}/{file}")):
+                    self.functions[path_name(crate, path, it)] = (path, it)
+        self.reach: Dict[str, Set[str]] = {}
+
+    def edit(self, file: str) -> Edit:
+        """Reads an edit."""
+        said = bodies.read(file)
+        try:
+            if not FILE_NAME.fullmatch(os.path.basename(file)):
+                raise bodies.BadEdit("the name of an edit has to end in .edit")
+            texts = bodies.read_edit(file, self.folder)
+        except bodies.BadEdit as bad:
+            return Edit(name_of(file), said, {}, {}, str(bad))
+        changes: Dict[str, Change] = {}
+        for path, new in texts.items():
+            old = bodies.read(f"{self.folder}/{path}")
+            changed = bodies.changed_in(old, new) if path.endswith(".rt") else None
+            if not changed:
+                return Edit(name_of(file), said, texts, {})
+            for was, now in changed:
+                changes[path_name(self.crate, path, was)] = Change(path, was, now)
+        return Edit(name_of(file), said, texts, changes)
+
+    def proofs_of(self, name: str) -> Optional[List[str]]:
+        """Returns the folders, below `proofs`, with what is written of a function's proof and of
+        its closures, or None if it can't be seen which they are. Those of a method stand below the
+        module of its type, wherever its block is."""
+        path, function = self.functions[name]
+        module = re.sub(r"^src/|(?:/mod)?\.rt$", "", path)
+        below = "" if module in ("lib", "main") else f"{module}/"
+        top = f"{self.folder}/proofs"
+        found = [f"{top}/{below}{it}{function.name}" for it in ("", "fn/")]
+        if function.block:
+            found = []
+            for kind in (function.owner(), f"{function.owner()}+*"):
+                for fn in ("", "fn/"):
+                    found += glob.glob(f"{top}/**/{kind}/{fn}{function.name}", recursive=True)
+        found = [os.path.relpath(it, top) for it in found if os.path.isdir(it)]
+        return found if len({os.path.dirname(it).replace("/fn", "") for it in found}) < 2 else None
+
+    def reached(self, name: str) -> Set[str]:
+        """Returns the functions of the crate that this one may call, and those that they may call.
+        It goes by names, so there can be too many. If one is missed, the check says of its caller
+        that it calls what is not proved, which counts for nothing."""
+        if name not in self.reach:
+            found: Set[str] = set()
+            left = [name]
+            while left:
+                new = self.called(left.pop()) - found
+                found |= new
+                left += new
+            self.reach[name] = found
+        return self.reach[name]
+
+    def called(self, name: str) -> Set[str]:
+        """Returns the functions that may be called by the text of this one."""
+        text = self.functions[name][1].tail
+        methods = set(re.findall(r"\.\s*(\w+)\s*(?:::<[^>]*>)?\(", text))
+        of_types = set(re.findall(r"(\w+)::(\w+)", text))
+        plain = set(re.findall(r"(?<![.:\w])(\w+)\s*(?:::<[^>]*>)?\(", text))
+        own = self.functions[name][1].owner()
+        found = set()
+        for it, (_, function) in self.functions.items():
+            kinds = [own if a == "Self" else a for a, b in of_types if b == function.name]
+            if function.block:
+                of_trait, owner = " for " in function.block, it.split("::")[-2]
+                is_called = any(of_trait or owner.startswith(kind) for kind in kinds)
+                is_called = is_called or function.name in methods
+            else:
+                is_called = function.name in plain or bool(kinds)
+            if is_called and it != name:
+                found.add(it)
+        return found

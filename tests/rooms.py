@@ -1,0 +1,140 @@
+"""Copies of a crate in temporary folders, where it can be checked with other texts.
+
+A copy has the crate and those below it, with what earlier checks kept of their proofs: of the crate
+its checked modules, of those below their libraries. It is a repository: `rt check` works there.
+"""
+
+import contextlib
+import os
+import re
+import shutil
+import subprocess
+import tempfile
+from typing import Dict, Iterator, List, NamedTuple, Tuple
+
+import bodies
+import gate
+from rounds import Copy
+from gate import TOP
+
+PARTS = ("src", "specs", "proofs")
+
+
+def crates_below(crate: str) -> List[str]:
+    """Returns those of the repository that a crate stands on, lowest first."""
+    listed = gate.crates_listed()
+    needed = {crate}
+    for name in reversed(gate.lowest_first(listed)):
+        if name in needed:
+            needed.update(it for it in listed[name] if it in listed)
+    return [it for it in gate.lowest_first(listed) if it in needed - {crate}]
+
+
+class Base:
+    """A copy of a crate and of those below it as they stood when it was made."""
+
+    def __init__(self, crate: str) -> None:
+        self.crate = crate
+        self.below = crates_below(crate)
+        self.made = tempfile.TemporaryDirectory(prefix="asancol-base-")
+        self.top = self.made.name
+        self.folder = f"{self.top}/crates/{crate}"
+        self.modules: Dict[str, Tuple[int, int, int]] = {}
+        with open(f"{self.top}/crates.txt", "w", encoding="utf-8") as file:
+            for line in bodies.read(f"{TOP}/crates.txt").splitlines(True):
+                if re.split(r"[\s:]", line)[0] in [crate, *self.below]:
+                    file.write(line)
+        shutil.copy(f"{TOP}/HANDLES", self.top)
+        for name in [crate, *self.below]:
+            for part in PARTS:
+                if os.path.isdir(f"{TOP}/crates/{name}/{part}"):
+                    shutil.copytree(f"{TOP}/crates/{name}/{part}", f"{self.top}/crates/{name}/{part}")
+
+    def files(self) -> List[str]:
+        """Returns all files of the copy, in order."""
+        return sorted(f"{at}/{it}" for at, _, names in os.walk(self.top) for it in names)
+
+    def take_work(self) -> None:
+        """Takes what checks have kept in the repository."""
+        for name in [self.crate, *self.below]:
+            kept = "out/incremental" if name == self.crate else "out/rlib"
+            if os.path.isdir(f"{TOP}/crates/{name}/{kept}"):
+                to = f"{self.top}/crates/{name}/{kept}"
+                shutil.copytree(f"{TOP}/crates/{name}/{kept}", to, copy_function=link)
+        self.modules = listing(self.folder)
+
+    def is_unchanged(self) -> bool:
+        """Returns whether each checked module is as it was: the copies share their files."""
+        return listing(self.folder) == self.modules
+
+    @contextlib.contextmanager
+    def room(self, texts: Dict[str, str], copies: List[Copy]) -> Iterator[str]:
+        """Makes a copy with other texts in it, and gives the crate's folder there."""
+        with tempfile.TemporaryDirectory(prefix="asancol-wrong-") as room:
+            shutil.copytree(self.top, room, copy_function=link, dirs_exist_ok=True)
+            folder = f"{room}/crates/{self.crate}"
+            for path, text in texts.items():
+                write(f"{folder}/{path}", text)
+            for copy in copies:
+                for old, new in copy.proof_folders():
+                    copy_proofs(f"{folder}/proofs", old, new)
+            yield folder
+
+    def remove(self) -> None:
+        self.made.cleanup()
+
+
+def link(one: str, other: str) -> None:
+    """Gives a checked module, or a file of a library, a second name: a check makes such a file anew
+    and never writes into it. Other files are copied."""
+    try:
+        if "/rlib/" in one or one.endswith(".oantt"):
+            os.link(one, other)
+            return
+    except OSError:
+        pass
+    shutil.copy2(one, other)
+
+
+def listing(folder: str) -> Dict[str, Tuple[int, int, int]]:
+    """Returns what tells whether a checked module of a crate was changed, lost or added."""
+    walked = [f"{at}/{it}" for at, _, names in os.walk(f"{folder}/out/incremental") for it in names]
+    stats = {it: os.lstat(it) for it in walked if it.endswith(".oantt")}
+    return {it: (st.st_ino, st.st_size, st.st_mtime_ns) for it, st in stats.items()}
+
+
+def write(path: str, text: str) -> None:
+    """Writes a file anew: the old one may be shared."""
+    with contextlib.suppress(FileNotFoundError):
+        os.remove(path)
+    with open(path, "w", encoding="utf-8") as file:
+        file.write(text)
+
+
+def copy_proofs(top: str, old: str, new: str) -> None:
+    """Copies a function's proof files, which name the module that they stand in."""
+    shutil.copytree(f"{top}/{old}", f"{top}/{new}")
+    module = re.compile(rf"\.proofs\.{re.escape(old.replace('/', '.'))}(?![\w'-])")
+    for at, _, files in os.walk(f"{top}/{new}"):
+        for file in files:
+            text = bodies.read(f"{at}/{file}")
+            write(f"{at}/{file}", module.sub(f".proofs.{new.replace('/', '.')}", text))
+
+
+class Ran(NamedTuple):
+    """A command that has ended: its status, the processor seconds that it took, and what it
+    printed. A message is one line, whatever stood below it."""
+
+    status: int
+    seconds: float
+    lines: List[str]
+
+
+def ran(words: List[str], folder: str) -> Ran:
+    pipe, joined = subprocess.PIPE, subprocess.STDOUT
+    with subprocess.Popen(words, cwd=folder, stdout=pipe, stderr=joined) as command:
+        printed = command.stdout.read().decode(errors="replace") if command.stdout else ""
+        _, status, used = os.wait4(command.pid, 0)
+        command.returncode = os.WEXITSTATUS(status) if os.WIFEXITED(status) else -1
+    lines = re.sub(r"\n +", " ", printed).split("\n")
+    return Ran(command.returncode, used.ru_utime + used.ru_stime, lines)
