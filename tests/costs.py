@@ -1,21 +1,20 @@
 """What checks cost: processor seconds by crate and kind, read from /proc while they run.
 
-The toolchain starts a process for each check, and its words name the crate. In the part that tries
-wrong bodies each counts as that; else the word `--test` says that it proves the tests. A `Meter`
-looks at these processes twice a second and keeps the last reading of each. So it misses what each
-does after that, a quarter of a second in the middle. The total of a part and all that it started is
-exact: the system counts it. What no reading has is the row `the rest`: that last part, and short
-steps, such as linking and running the tests.
+The toolchain starts a process for each check, and its words name the crate. Below a command that
+tries wrong bodies each counts as that; else the word `--test` says that it proves the tests. A
+`Meter` looks at these processes twice a second and keeps the last reading of each. So it misses what
+each does after that, a quarter of a second in the middle. The total of a part and all that it
+started is exact: the system counts it. What no reading has is the row `the rest`: that last part,
+and short steps, such as linking and running the tests.
 
 A meter only reads. Where /proc cannot be read it has no rows, and nothing else changes.
 """
 
-import contextlib
 import os
 import resource
 import threading
 import time
-from typing import Dict, Iterator, List, Optional, Tuple
+from typing import Dict, List, Optional, Set, Tuple
 
 # A crate, and what of it is checked.
 Key = Tuple[str, str]
@@ -58,6 +57,16 @@ def processes() -> Dict[int, Process]:
     return found
 
 
+def with_all_below(pid: int) -> List[int]:
+    """Returns a process and all that it started and those started, as far as they still run."""
+    found = processes()
+    below = [pid]
+    for it in sorted(found, key=lambda it: (found[it].began, it)):
+        if found[it].parent in below:
+            below.append(it)
+    return below
+
+
 def checked_by(pid: int) -> Optional[Key]:
     """Returns what a process checks, if it is a check."""
     try:
@@ -73,16 +82,17 @@ def checked_by(pid: int) -> Optional[Key]:
 
 class Meter:
     """Reads what the checks below this process cost, from `with` to the end of its block. What is
-    done there has parts, each with a name."""
+    done there has parts, each with a name, and some run side by side."""
 
     def __init__(self) -> None:
         self.checks: Dict[Tuple[int, int], Key] = {}
         self.readings: Dict[Tuple[int, int], float] = {}
         self.total = 0.0
         self.wall = 0.0
-        # The processor seconds of each part that has ended, and the part that has not.
+        # The processor seconds of each part, as its commands have ended, and those that try wrong
+        # bodies. Each is set by the thread that runs the command, and read by that which watches.
         self.parts: Dict[str, float] = {}
-        self.now = ""
+        self.wrong: Set[int] = set()
         self.over = threading.Event()
         self.thread = threading.Thread(target=self.watch, daemon=True)
 
@@ -97,15 +107,14 @@ class Meter:
         self.total += seconds_of_children()
         self.wall += time.monotonic()
 
-    @contextlib.contextmanager
-    def part(self, name: str) -> Iterator[None]:
-        """Counts what is done in this block as a part."""
-        self.now, began = name, seconds_of_children()
-        try:
-            yield
-        finally:
-            self.parts[name] = self.parts.get(name, 0.0) + seconds_of_children() - began
-            self.now = ""
+    def begins(self, part: str, pid: int) -> None:
+        """Notes that a process is a command of a part."""
+        if part == WRONG:
+            self.wrong.add(pid)
+
+    def ends(self, part: str, seconds: float) -> None:
+        """Counts a command that has ended, with all that it started and waited for."""
+        self.parts[part] = self.parts.get(part, 0.0) + seconds
 
     def watch(self) -> None:
         while not self.over.wait(PAUSE):
@@ -131,15 +140,16 @@ class Meter:
 
     def check_above(self, found: Dict[int, Process], pid: int) -> Optional[Tuple[int, int]]:
         """Returns the highest check among a process and those above it."""
-        highest = None
+        highest, is_wrong = None, False
         while pid in found and pid != os.getpid():
             name = (pid, found[pid].began)
-            if name not in self.checks:
-                key = checked_by(pid)
-                if key:
-                    self.checks[name] = (key[0], WRONG) if self.now == WRONG else key
-            highest = name if name in self.checks else highest
+            key = self.checks.get(name) or checked_by(pid)
+            if key:
+                self.checks[name], highest = key, name
+            is_wrong = is_wrong or pid in self.wrong
             pid = found[pid].parent
+        if highest and is_wrong:
+            self.checks[highest] = (self.checks[highest][0], WRONG)
         return highest
 
     def by_crate(self) -> Dict[str, Dict[str, float]]:

@@ -6,24 +6,28 @@ usage: tests/gate.py                      the gate
 
 The gate first runs `hygiene.py`, in seconds, and ends there if that finds something. Then comes
 `rt ci`: it proves each crate from nothing and runs the tests. It builds the program with two
-compilers and leaves both. `planted.py` and `wrong.py` try the wrong bodies, `runs.py` runs both
-programs with words, and `fuzz.py` holds them to a second reading of the documents. A table shows
-the processor seconds of each crate (`costs.py` says how they are counted), and lines below it those
-of each part, and if all took longer than they should. The last line is 'N passed, M failed', of all
-of them together. The status is 0 where nothing failed.
+compilers and leaves both. `runs.py` runs both programs with words, and `fuzz.py` holds them to a
+second reading of the documents. Beside all of them, at a lower priority, `planted.py` and `wrong.py`
+try the wrong bodies, and what they print comes at the end. A table shows the processor seconds of
+each crate (`costs.py` says how they are counted), and lines below it those of each part, and if all
+took longer than they should. The last line is 'N passed, M failed', of all of them together. The
+status is 0 where nothing failed.
 
 With `--changed` only the crates with a file that differs from BASE are checked, and those that
 stand on them, over what earlier checks kept. BASE is the commit where the branch left `main`, if
 none is given. The last line says what was left out.
 """
 
+import contextlib
 import os
 import re
 import shutil
+import signal
 import subprocess
 import sys
+import threading
 import time
-from typing import Dict, List, Set, Tuple
+from typing import Callable, Dict, List, Optional, Set, Tuple
 
 import costs
 
@@ -35,13 +39,18 @@ PROGRAMS = ["crates/asancol/out/asancol", "crates/asancol/out/asancol.by-rattle"
 # Some thousand traces, the same each time.
 FUZZ = ["tests/fuzz.py", "--draws", "4000", "--seed", "1"]
 
-# What comes after hygiene, each with the part that it counts as.
+# What comes after hygiene, one after another, each with the part that it counts as.
 STEPS = [
     ("rt ci", ["rt", "ci"]),
-    (costs.WRONG, [sys.executable, "tests/planted.py"]),
-    (costs.WRONG, [sys.executable, "tests/wrong.py"]),
     ("runs", [sys.executable, "tests/runs.py", *PROGRAMS]),
     ("fuzz", [sys.executable, *FUZZ, *PROGRAMS]),
+]
+
+# What runs beside them, where a processor has nothing to do for them.
+LOW = ["nice", "-n", "19"]
+BESIDE = [
+    (costs.WRONG, [*LOW, sys.executable, "tests/planted.py"]),
+    (costs.WRONG, [*LOW, sys.executable, "tests/wrong.py"]),
 ]
 
 COUNTS = re.compile(r"(\d+) passed, (\d+) failed")
@@ -75,22 +84,55 @@ def lowest_first(listed: Dict[str, List[str]]) -> List[str]:
     return ordered
 
 
-def counted(words: List[str]) -> Tuple[int, int]:
-    """Runs a command and passes on what it prints, but for the counts in its last line: these are
-    the answer. A command that says nothing passed, or ends with another status than its counts
-    say, counts as failed."""
-    last = ""
-    with subprocess.Popen(words, cwd=TOP, stdout=subprocess.PIPE, text=True) as ran:
-        for line in ran.stdout or ():
-            print(last, end="", flush=True)
+class Steps:
+    """Commands, one after another until one fails: how many tests passed and failed so far. Each
+    command's lines go to `say`, but for the counts in its last one."""
+
+    def __init__(
+        self, meter: costs.Meter, steps: List[Tuple[str, List[str]]], say: Callable[[str], None]
+    ) -> None:
+        self.meter, self.steps, self.say = meter, steps, say
+        self.passed = self.failed = 0
+        self.is_over = False
+        self.now: "Optional[subprocess.Popen[str]]" = None
+
+    def run(self) -> None:
+        for part, words in self.steps:
+            if self.failed == 0 and not self.is_over:
+                self.step(part, words)
+
+    def step(self, part: str, words: List[str]) -> None:
+        """Runs a command. One that says nothing passed, or ends with another status than its counts
+        say, counts as failed. One that was stopped counts for nothing."""
+        last = ""
+        self.now = subprocess.Popen(words, cwd=TOP, stdout=subprocess.PIPE, text=True)
+        self.meter.begins(part, self.now.pid)
+        for line in self.now.stdout or ():
+            self.say(last)
             last = line
-    counts = COUNTS.fullmatch(last.strip())
-    if not counts:
-        print(last, end="")
-    passed, failed = map(int, counts.groups()) if counts else (0, 0)
-    if failed == 0 and (passed == 0 or ran.returncode != 0):
-        failed = 1
-    return passed, failed
+        _, status, used = os.wait4(self.now.pid, 0)
+        self.now.returncode = os.waitstatus_to_exitcode(status)
+        self.meter.ends(part, used.ru_utime + used.ru_stime)
+        counts = COUNTS.fullmatch(last.strip())
+        if not counts:
+            self.say(last)
+        passed, failed = map(int, counts.groups()) if counts else (0, 0)
+        if failed == 0 and (passed == 0 or self.now.returncode != 0):
+            failed = 1
+        if not self.is_over:
+            self.passed, self.failed = self.passed + passed, self.failed + failed
+
+    def stop(self) -> None:
+        """Ends the command that runs, with all that it started, and begins no other."""
+        self.is_over = True
+        if self.now and self.now.returncode is None:
+            for pid in costs.with_all_below(self.now.pid):
+                with contextlib.suppress(ProcessLookupError):
+                    os.kill(pid, signal.SIGTERM)
+
+
+def show(text: str) -> None:
+    print(text, end="", flush=True)
 
 
 def is_clean() -> bool:
@@ -98,22 +140,32 @@ def is_clean() -> bool:
     return subprocess.run([sys.executable, f"{TOP}/tests/hygiene.py"], cwd=TOP).returncode == 0
 
 
-def run_steps(meter: costs.Meter) -> Tuple[int, int]:
-    """Takes the steps until one fails, and returns how many tests passed and failed."""
-    passed, failed = 0, 0
-    for part, words in STEPS:
-        if failed == 0:
-            with meter.part(part):
-                more, failed = counted(words)
-            passed += more
-    return passed, failed
+def run_all(meter: costs.Meter) -> Tuple[int, int]:
+    """Takes the steps, and those beside them, and returns how many tests passed and failed. If a
+    step fails, what runs beside it is ended."""
+    said: List[str] = []
+    steps, beside = Steps(meter, STEPS, show), Steps(meter, BESIDE, said.append)
+    thread = threading.Thread(target=beside.run)
+    thread.start()
+    try:
+        steps.run()
+        if steps.failed:
+            beside.stop()
+    except BaseException:
+        steps.stop()
+        beside.stop()
+        raise
+    finally:
+        thread.join()
+    show("".join(said))
+    return steps.passed + beside.passed, steps.failed + beside.failed
 
 
 def gate() -> int:
     with costs.Meter() as meter:
-        with meter.part("hygiene"):
-            is_good = is_clean()
-        passed, failed = run_steps(meter) if is_good else (0, 1)
+        is_good = is_clean()
+        meter.ends("hygiene", costs.seconds_of_children())
+        passed, failed = run_all(meter) if is_good else (0, 1)
     if is_good:
         print("\n".join(["", *meter.table(lowest_first(crates_listed())), meter.parts_line(), ""]))
     else:

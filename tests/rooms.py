@@ -1,21 +1,27 @@
-"""Copies of a crate in temporary folders, where it can be checked with other texts.
+"""Copies of crates: one of all, where they are proved as they stand, and others in temporary folders,
+where one is checked with other texts.
 
-A copy has the crate and those below it, with what earlier checks kept of their proofs: of the crate
-its checked modules, of those below their libraries. It is a repository: `rt check` works there.
+The copy of all stands in the folder of git, where `rt ci` leaves it alone: it sets aside what checks
+kept in the repository, and may run meanwhile. The toolchain begins there with what checks kept in
+the repository, and the other way round. A temporary copy has a crate and those below it, with what
+was kept of their proofs: of the crate its checked modules, of those below their libraries. Each copy
+is a repository: `rt` works there.
 """
 
 import contextlib
+import fcntl
 import os
 import re
 import shutil
 import subprocess
 import tempfile
-from typing import Dict, Iterator, List, NamedTuple, Tuple
+from typing import Dict, Iterator, List, NamedTuple, Optional, Tuple
 
 import bodies
 import gate
-from rounds import Copy
+from files import is_repository
 from gate import TOP
+from rounds import Copy
 
 PARTS = ("src", "specs", "proofs")
 
@@ -30,10 +36,51 @@ def crates_below(crate: str) -> List[str]:
     return [it for it in gate.lowest_first(listed) if it in needed - {crate}]
 
 
-class Base:
-    """A copy of a crate and of those below it as they stood when it was made."""
+def git_folder() -> Optional[str]:
+    """Returns the folder where git keeps what it knows of this tree, if it is a repository."""
+    if not is_repository():
+        return None
+    words = ["git", "rev-parse", "--absolute-git-dir"]
+    ran = subprocess.run(words, cwd=TOP, stdout=subprocess.PIPE, text=True, check=True)
+    return ran.stdout.rstrip("\n")
 
-    def __init__(self, crate: str) -> None:
+
+@contextlib.contextmanager
+def copy_of_all() -> Iterator[str]:
+    """Gives the folder with the copy of all crates, as they stand now. One command has it at a time,
+    and others wait. What is proved there stays, but for a tree that is no repository."""
+    git = git_folder()
+    with contextlib.ExitStack() as stack:
+        if git:
+            top = f"{git}/asancol-proved"
+        else:
+            top = stack.enter_context(tempfile.TemporaryDirectory(prefix="asancol-proved-"))
+        os.makedirs(f"{top}/crates", exist_ok=True)
+        lock = stack.enter_context(open(f"{top}/lock", "w", encoding="utf-8"))
+        fcntl.flock(lock, fcntl.LOCK_EX)
+        copy_crates(top)
+        yield top
+
+
+def copy_crates(top: str) -> None:
+    """Gives a folder the crates' texts as they stand now, and leaves what was proved there."""
+    listed = gate.crates_listed()
+    for name in set(os.listdir(f"{top}/crates")) - set(listed):
+        shutil.rmtree(f"{top}/crates/{name}")
+    for name in listed:
+        for part in PARTS:
+            shutil.rmtree(f"{top}/crates/{name}/{part}", ignore_errors=True)
+            if os.path.isdir(f"{TOP}/crates/{name}/{part}"):
+                shutil.copytree(f"{TOP}/crates/{name}/{part}", f"{top}/crates/{name}/{part}")
+    for name in ("crates.txt", "HANDLES"):
+        shutil.copy(f"{TOP}/{name}", top)
+
+
+class Base:
+    """A copy of a crate and of those below it, of the copy of all."""
+
+    def __init__(self, all_crates: str, crate: str) -> None:
+        self.all_crates = all_crates
         self.crate = crate
         self.below = crates_below(crate)
         self.made = tempfile.TemporaryDirectory(prefix="asancol-base-")
@@ -41,26 +88,27 @@ class Base:
         self.folder = f"{self.top}/crates/{crate}"
         self.modules: Dict[str, Tuple[int, int, int]] = {}
         with open(f"{self.top}/crates.txt", "w", encoding="utf-8") as file:
-            for line in bodies.read(f"{TOP}/crates.txt").splitlines(True):
+            for line in bodies.read(f"{all_crates}/crates.txt").splitlines(True):
                 if re.split(r"[\s:]", line)[0] in [crate, *self.below]:
                     file.write(line)
-        shutil.copy(f"{TOP}/HANDLES", self.top)
+        shutil.copy(f"{all_crates}/HANDLES", self.top)
         for name in [crate, *self.below]:
             for part in PARTS:
-                if os.path.isdir(f"{TOP}/crates/{name}/{part}"):
-                    shutil.copytree(f"{TOP}/crates/{name}/{part}", f"{self.top}/crates/{name}/{part}")
+                here = f"crates/{name}/{part}"
+                if os.path.isdir(f"{all_crates}/{here}"):
+                    shutil.copytree(f"{all_crates}/{here}", f"{self.top}/{here}")
 
     def files(self) -> List[str]:
         """Returns all files of the copy, in order."""
         return sorted(f"{at}/{it}" for at, _, names in os.walk(self.top) for it in names)
 
     def take_work(self) -> None:
-        """Takes what checks have kept in the repository."""
+        """Takes what was proved in the copy of all."""
         for name in [self.crate, *self.below]:
-            kept = "out/incremental" if name == self.crate else "out/rlib"
-            if os.path.isdir(f"{TOP}/crates/{name}/{kept}"):
-                to = f"{self.top}/crates/{name}/{kept}"
-                shutil.copytree(f"{TOP}/crates/{name}/{kept}", to, copy_function=link)
+            kept = f"crates/{name}/out/{'incremental' if name == self.crate else 'rlib'}"
+            if os.path.isdir(f"{self.all_crates}/{kept}"):
+                here = f"{self.all_crates}/{kept}"
+                shutil.copytree(here, f"{self.top}/{kept}", copy_function=link)
         self.modules = listing(self.folder)
 
     def is_unchanged(self) -> bool:

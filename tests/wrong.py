@@ -4,10 +4,10 @@
 usage: tests/wrong.py [--lanes N] [--anew] [CRATE..]
 
 A wrong body is made by an edit, `crates/CRATE/wrong/NAME.edit` (`edits.py`). A crate and those
-below it are proved first, by `rt lib` over what checks kept. Then come rounds: each is one check of
-several wrong bodies, most of them beside the right ones (`rounds.py`), in a copy of the crate
-(`rooms.py`). Each has to be refused by its own function's line, in a check of which all else is
-proved (`verdicts.py`).
+below it are proved first, by `rt lib` over what checks kept, in a copy of the repository
+(`rooms.py`). Then come rounds: each is one check of several wrong bodies, most of them beside the
+right ones (`rounds.py`), in a copy of the crate. Each has to be refused by its own function's line,
+in a check of which all else is proved (`verdicts.py`).
 
 Each edit has a line: whether it was refused, and by which clause or goal. What a round says nothing
 clear of is tried alone, first its function and then the whole crate. So are edits of constants,
@@ -15,9 +15,10 @@ definitions and proofs. It is NOT REFUSED if the crate is proved with it. A BAD 
 or the prover can't read what it makes.
 
 What was refused earlier, by the same toolchain, of the same files of the crate and of those below
-it, is not tried again (`kept.py`), and a line says how many were tried in this run. `--anew` tries
-all. N checks run side by side. With no CRATE the edits of all crates are tried. The last line is
-`N passed, M failed`, and the status is 0 only if nothing failed.
+it, is not tried again (`kept.py`): its line has `(kept)`, and another line says how many were tried
+in this run. `--anew` tries all. N checks run side by side, one for each processor if it is not said.
+With no CRATE the edits of all crates are tried. The last line is `N passed, M failed`, and the
+status is 0 only if nothing failed.
 """
 
 import argparse
@@ -33,7 +34,7 @@ import kept
 import rounds
 from edits import Edit, Source, edit_files
 from gate import TOP
-from rooms import Base, Ran, ran
+from rooms import Base, Ran, copy_of_all, ran
 from rounds import Round
 from verdicts import BAD, REFUSED, UNTRIED, Answer, Verdicts, whole_crate
 
@@ -41,9 +42,9 @@ from verdicts import BAD, REFUSED, UNTRIED, Answer, Verdicts, whole_crate
 class Crate:
     """A crate with edits: a copy of it, and the key of each edit's answer."""
 
-    def __init__(self, name: str) -> None:
+    def __init__(self, all_crates: str, name: str) -> None:
         self.name = name
-        self.base = Base(name)
+        self.base = Base(all_crates, name)
         self.source = Source(name, self.base.folder)
         self.edits = [self.source.edit(it) for it in edit_files(f"{TOP}/crates/{name}")]
         rests_on = kept.sum_of(self.base.top, self.base.files())
@@ -160,18 +161,18 @@ class Run:
         self.say(crate, edit, whole_crate(edit, self.check(crate, alone, True)))
 
 
-def prove(name: str) -> bool:
+def prove(all_crates: str, name: str) -> bool:
     """Proves a crate, over what checks kept, and leaves its library for those above."""
-    made = ran(["rt", "lib"], f"{TOP}/crates/{name}")
+    made = ran(["rt", "lib"], f"{all_crates}/crates/{name}")
     if made.status:
         print("\n".join([*made.lines[-12:], f"{name}: it is not proved as it stands"]), flush=True)
     return made.status == 0
 
 
-def try_all(run: Run, names: List[str]) -> None:
+def try_all(run: Run, all_crates: str, names: List[str]) -> None:
     """Tries the edits of these crates, lowest first. A crate is proved only if something is to be
     tried in it or above it."""
-    found = [Crate(it) for it in names]
+    found = [Crate(all_crates, it) for it in names]
     left = {it.name: run.take_kept(it) for it in found}
     needed = {it for crate in found if left[crate.name] for it in [crate.name, *crate.base.below]}
     proved: Dict[str, bool] = {}
@@ -179,7 +180,7 @@ def try_all(run: Run, names: List[str]) -> None:
     for name in gate.lowest_first(gate.crates_listed()):
         if name in needed:
             below = gate.crates_listed()[name]
-            proved[name] = all(proved.get(it, True) for it in below) and prove(name)
+            proved[name] = all(proved.get(it, True) for it in below) and prove(all_crates, name)
         crate = by_name.get(name)
         if crate and left[name] and proved[name]:
             run.start(crate, left[name])
@@ -204,7 +205,12 @@ def report(run: Run, seconds: float) -> int:
 
 
 def main() -> int:
-    words = argparse.ArgumentParser(usage="tests/wrong.py [--lanes N] [--anew] [CRATE..]")
+    usage, about = (__doc__ or "").split("\n\n", 2)[1:]
+    words = argparse.ArgumentParser(
+        usage=usage.partition(": ")[2],
+        description=about,
+        formatter_class=argparse.RawDescriptionHelpFormatter,
+    )
     lanes = len(os.sched_getaffinity(0))
     words.add_argument("--lanes", type=int, default=lanes, help="how many checks run side by side")
     words.add_argument("--anew", action="store_true", help="try also what was refused before")
@@ -217,7 +223,8 @@ def main() -> int:
     began = time.monotonic()
     names = [it for it in given.crates or listed if edit_files(f"{TOP}/crates/{it}")]
     run = Run(given.lanes, kept.Kept(given.anew))
-    try_all(run, names)
+    with copy_of_all() as all_crates:
+        try_all(run, all_crates, names)
     return report(run, time.monotonic() - began)
 
 
