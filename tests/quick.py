@@ -34,7 +34,7 @@ import threading
 import time
 from collections import Counter
 from concurrent.futures import Future, ThreadPoolExecutor
-from typing import Any, Iterator, List, Optional, Sequence
+from typing import Any, Iterator, List, NamedTuple, Optional, Sequence
 
 sys.path.insert(0, f"{os.path.dirname(os.path.realpath(__file__))}/..")  # where `testing` is
 
@@ -63,9 +63,18 @@ def processors() -> int:
     return len(os.sched_getaffinity(0))
 
 
-def output_of(words: List[str], folder: str = TOP) -> "subprocess.CompletedProcess[str]":
+class Ended(NamedTuple):
+    """A command that has ended: its status, what it printed, and the processor seconds that it took
+    with all that it waited for."""
+
+    status: int
+    printed: str
+    seconds: float
+
+
+def ended(words: List[str], folder: str = TOP) -> Ended:
     """Runs a command and takes all that it prints. It finds no settings of make or asancol."""
-    return subprocess.run(
+    with subprocess.Popen(
         words,
         cwd=folder,
         env=environment("MAKE", "MFLAGS"),
@@ -74,8 +83,11 @@ def output_of(words: List[str], folder: str = TOP) -> "subprocess.CompletedProce
         stderr=subprocess.STDOUT,
         text=True,
         errors="replace",
-        check=False,
-    )
+    ) as command:
+        printed = command.stdout.read() if command.stdout else ""
+        _, status, used = os.wait4(command.pid, 0)
+        command.returncode = os.waitstatus_to_exitcode(status)
+    return Ended(command.returncode, printed, used.ru_utime + used.ru_stime)
 
 
 class Results:
@@ -99,21 +111,21 @@ class Results:
             return False
         print(f"{name}: begins", flush=True)
         began = time.monotonic()
-        ran = output_of(words, folder)
-        counts = COUNTS.findall(ran.stdout)
+        ran = ended(words, folder)
+        counts = COUNTS.findall(ran.printed)
         passed, failed = map(int, counts[-1]) if counts else (0, 0)
-        failed = failed or int(ran.returncode != 0)
-        left_out = LEFT_OUT.findall(ran.stdout)
+        failed = failed or int(ran.status != 0)
+        left_out = LEFT_OUT.findall(ran.printed)
         with self.changing:
             self.passed += passed
             self.failed += failed
             self.skipped.update(it.rpartition(": ")[2] for it in left_out)
         if failed:
-            lines = [it for it in ran.stdout.splitlines() if not NO_FAILURE.match(it)]
+            lines = [it for it in ran.printed.splitlines() if not NO_FAILURE.match(it)]
             print("\n".join(lines)[-TAIL:], flush=True)
         said = f"{passed} passed, {failed} failed, {len(left_out)} skipped"
-        print(f"{name}: {time.monotonic() - began:.0f} s, {said if counts or failed else 'done'}",
-              flush=True)
+        times = f"{time.monotonic() - began:.0f} s, {ran.seconds:.0f} s of processors"
+        print(f"{name}: {times}, {said if counts or failed else 'done'}", flush=True)
         return not failed
 
     def is_empty(self) -> bool:
@@ -141,7 +153,7 @@ class Quick:
         self, results: Results, room: str, is_checked: bool, words: Sequence[str]
     ) -> None:
         self.results, self.room, self.is_checked, self.words = results, room, is_checked, words
-        is_up_to_date = output_of(["make", "-q", "asancol"]).returncode == 0
+        is_up_to_date = ended(["make", "-q", "asancol"]).status == 0
         self.is_proved = os.path.isfile(PROVED) and is_up_to_date
         self.compiler = os.environ.get("CC", "cc")
         # The program runs as nobody, where root runs the tests.
@@ -205,7 +217,7 @@ class Quick:
         """Runs the tests of a suite that are quick, and counts those that are left to a target."""
         if not self.wants(name):
             return
-        rest = output_of([path, "--list", "--rest", checker]).stdout.splitlines()
+        rest = ended([path, "--list", "--rest", checker]).printed.splitlines()
         count = sum(1 for it in rest if not it.startswith("left out: "))
         if count:
             self.results.skip(f"left to `make {target} REST=1`", count)
