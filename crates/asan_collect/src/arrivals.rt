@@ -1,6 +1,6 @@
 //! The senders that come through a door, once there is room for them.
 
-ghost use Rattle.std.specs.Prelude.{◌≡◌, ◌≤◌, ◌^◌, IfOk, OnErr};
+ghost use Rattle.std.specs.Prelude.{◌≡◌, ◌≤◌, ◌^◌, IfOk, OnErr, vec_len};
 ghost use Rattle.asan_collect.specs.Came.{HaveCome};
 ghost use Rattle.asan_collect.specs.Rooms.{AreEmptyRooms};
 
@@ -28,6 +28,7 @@ where
     ensures came { IfOk result (λ both.
         HaveCome D.Feed.seen (D.seen door.old) (D.seen door.new) both.0.items) }
     ensures room { IfOk result (λ both. AreEmptyRooms both.1) }
+    ensures workers { IfOk result (λ both. vec_len both.1.seats.shares ≡ options.workers) }
     ensures unasked { OnErr result (door.new ≡ door.old) }
 {
     let room = Vec::with_capacity(alloc, MAX_SENDERS)?;

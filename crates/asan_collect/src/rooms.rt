@@ -1,6 +1,6 @@
 //! Room for the lists of a collection.
 
-ghost use Rattle.std.specs.Prelude.{IfOk};
+ghost use Rattle.std.specs.Prelude.{◌≡◌, IfOk, vec_len};
 
 use crate::NoMemory;
 use asan_senders::{MAX_SENDERS, Seats, WorkerThread};
@@ -19,9 +19,10 @@ pub(crate) struct Rooms<F: Feed, A: Allocator + Copy> {
 impl<F: Feed + Drop, A: Allocator + Copy> Rooms<F, A> {
     ghost use Rattle.asan_collect.specs.Rooms.{AreEmptyRooms};
 
-    /// Room for 256 senders, and no sender yet.
+    /// Room for 256 senders, and no sender yet. There is a share for each worker.
     pub(crate) fn new(alloc: A, options: Options) -> Result<Rooms<F, A>, NoMemory>
-        ensures { IfOk result AreEmptyRooms }
+        ensures room { IfOk result AreEmptyRooms }
+        ensures workers { IfOk result (λ r. vec_len r.seats.shares ≡ options.workers) }
     {
         let seats = Seats::new(alloc, options)?;
         let workers = Vec::with_capacity(alloc, seats.shares.len())?;

@@ -4,7 +4,7 @@ use Rattle.std.specs.Prelude.{IsTrue, Option, None, Some}
 use Rattle.trace_feed.specs.declared.door.Arrival.{Arrival}
 use Rattle.trace_feed.specs.declared.door.Arrival.TheVariants as arrival
 use Rattle.trace_feed.specs.Feeds.{FeedState}
-use Rattle.trace_lane.specs.Lanes.{Lane, in_lane, end_lane, put_list, end_list}
+use Rattle.trace_lane.specs.Lanes.{Lane, in_lane, end_lane, known_room, put_list, end_list}
 use Rattle.trace_lane.specs.declared.lane_end.LaneEnd.{LaneEnd}
 use Rattle.asan_check.specs.declared.report.Report.{Report}
 use Rattle.asan_print.specs.declared.port.Port.{Port}
@@ -33,6 +33,11 @@ module _ {F A : Type 0} where
   abbrev pub IsReady : Sender F A → Type 0
   IsReady (sender.Ready feed lane) = Unit {0}
   IsReady _ = ⊥
+
+  -- if it waits for its reader, its lane has room for this many items
+  abbrev pub HasRing : ℕ → Sender F A → Type 0
+  HasRing ring (sender.Ready feed lane) = known_room lane ≡ ring
+  HasRing ring s = Unit {0}
 
   -- it has a reader, or was read
   abbrev pub IsStarted : Sender F A → Type 0

@@ -10,7 +10,7 @@ ghost use Rattle.asan_stream.specs.Ranges.{most_workers};
 ghost use Rattle.asan_senders.specs.Ranges.{most_senders};
 ghost use Rattle.asan_senders.specs.ReportLanes.{AllFit, AreEmptySeats, Fits, HasPort, NoneTaken};
 ghost use Rattle.asan_senders.specs.ReportLanes.{SharesHave, lanes_of};
-ghost use Rattle.asan_senders.specs.Senders.{AllFresh, Came, HasLane, IsFresh, IsSeated};
+ghost use Rattle.asan_senders.specs.Senders.{AllFresh, Came, HasLane, HasRing, IsFresh, IsSeated};
 ghost use Rattle.asan_senders.specs.Shares.{AreEmpty, Deals, HasRoom, HaveSeats, SharesAt};
 
 use crate::NoMemory;
@@ -80,6 +80,7 @@ fn open<F: Feed + Drop, A: Allocator + Copy>(
     requires { IsArrived F.seen arrival }
     ensures came { Came F.seen options arrival result.sender }
     ensures fresh { IsFresh F.seen result.sender }
+    ensures ring { HasRing options.ring result.sender }
     ensures bench { IfSome result.bench (λ b. (process_of b ≡ process)
         × (bench_bound b ≡ options.quarantine)
         × HasLane result.sender (lane_of b)) }

@@ -1,5 +1,5 @@
 -- What an outcome says of a sender's bytes.
-use Rattle.std.specs.Prelude.{◌≡◌, ℕ, Bool, true, false, ◌<◌, List, [], ◌++◌, length, take}
+use Rattle.std.specs.Prelude.{◌≡◌, ℕ, Bool, true, false, ◌<◌, ◌≤◌, List, [], ◌++◌, length, take}
 use Rattle.std.specs.Io.KnownBytes.{Consumes, IsAtEnd}
 use Rattle.trace_record.specs.declared.event.Event.{Event}
 use Rattle.trace_record.specs.declared.end.End.{End}
@@ -86,6 +86,16 @@ module _ {F A : Type 0} where
   HasResults bound events feed end outcome.NotOpened = ⊥
   HasResults bound events feed end outcome.NotStarted = ⊥
   HasResults bound events feed end outcome.Unsettled = ⊥
+
+  -- of so many events a checker has checked these: the outcome is settled if that is all of them,
+  -- and else it says that memory ran out, and how many were checked
+  abbrev pub HasCount : ℕ → ℕ → Outcome F A → Type 0
+  HasCount events checked (outcome.Settled feed end reports) = events ≤ checked
+  HasCount events checked (outcome.NoMemory feed end n reports) =
+      (n ≡ checked) × (checked < events)
+  HasCount events checked outcome.NotOpened = ⊥
+  HasCount events checked outcome.NotStarted = ⊥
+  HasCount events checked outcome.Unsettled = ⊥
 
   -- the outcome of a feed that was read to the end of its stream, where the function says what is
   -- seen of a feed: its bytes spell some events and an end, and the outcome has these

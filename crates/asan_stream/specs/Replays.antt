@@ -3,7 +3,7 @@ use Rattle.std.specs.Prelude.{ℕ, Bool, true, false, List, reverse}
 use Rattle.trace_record.specs.declared.event.Event.{Event}
 use Rattle.trace_feed.specs.Feeds.{FeedState}
 use Rattle.asan_check.specs.declared.report.Report.{Report}
-use Rattle.asan_check.specs.Standing.{StandsOrFailed, reports_of}
+use Rattle.asan_check.specs.Standing.{StandsOrFailed, checked_of, reports_of}
 use Rattle.asan_stream.specs.declared.options.Options.{Options}
 use Rattle.asan_stream.specs.declared.replay.Replay.{Replay}
 use Rattle.asan_stream.specs.Sources.{HasRead, HasEnded, left_of}
@@ -12,6 +12,10 @@ module _ {F A : Type 0} where
   -- the reports on the events that were checked
   abbrev pub found_by : Replay F A → List Report
   found_by r = reports_of r.checker
+
+  -- how many events were checked
+  abbrev pub checked_by : Replay F A → ℕ
+  checked_by r = checked_of r.checker
 
   -- how many bytes more decide its stream at the latest
   abbrev pub left_in : Replay F A → ℕ

@@ -6,7 +6,7 @@ ghost use Rattle.trace_record.specs.declared.event.Event.{Event as AnEvent};
 ghost use Rattle.asan_check.specs.Standing.{StandsOrFailed, bound_of, checked_of};
 ghost use Rattle.asan_check.specs.Standing.{reports_of as checker_reports};
 ghost use Rattle.asan_stream.specs.Outboxes.{IsFront};
-ghost use Rattle.asan_stream.specs.Outcomes.{IsOutcomeOf, StopsSoon, HasResults, is_read};
+ghost use Rattle.asan_stream.specs.Outcomes.{HasCount, HasResults, IsOutcomeOf, StopsSoon, is_read};
 ghost use Rattle.asan_stream.specs.Ranges.{most_reports};
 ghost use Rattle.asan_stream.specs.Outcomes.{reports_of};
 
@@ -53,7 +53,7 @@ pub struct Replay<F, A: Allocator + Copy = Global> {
 impl<F: Feed, A: Allocator + Copy> Replay<F, A> {
     ghost use Rattle.std.specs.Prelude.{[]};
     ghost use Rattle.asan_stream.specs.declared.options.Options.{Options as AnOptions};
-    ghost use Rattle.asan_stream.specs.Replays.{IsThen, IsThrough, IsUnderWay, found_by, left_in};
+    ghost use Rattle.asan_stream.specs.Replays.{IsThen, IsThrough, IsUnderWay, checked_by, found_by, left_in};
 
     /// A feed of which nothing is read yet. Its checker takes its memory from `alloc`. No read of
     /// the feed may have failed before.
@@ -93,12 +93,16 @@ impl<F: Feed, A: Allocator + Copy> Replay<F, A> {
         self.checker.reports()
     }
 
-    /// What became of the feed. It has no meaning before the last batch.
+    /// What became of the feed. It has no meaning before the last batch. It is settled if all
+    /// events were checked. Else it says that memory ran out, and how many were.
     pub fn into_outcome(self) -> Outcome<F, A>
         ensures outcome { (options : AnOptions) (first : F) →
             IsThrough F.seen options first self → IsOutcomeOf F.seen options first result }
         ensures soon { (options : AnOptions) (first : F) →
             IsThrough F.seen options first self → StopsSoon F.seen options first result }
+        ensures counted { (options : AnOptions) (first : F) →
+            (through : IsThrough F.seen options first self) →
+            HasCount (length through.events) (checked_by self) result }
         ensures reports { reports_of result ≡ found_by self }
         ensures read { IsTrue (is_read result) }
     {
@@ -164,6 +168,7 @@ pub(crate) fn outcome_of<F, A: Allocator + Copy>(
     ensures results { (bound : ℕ) (handed : List AnEvent) →
         ∥ StandsOrFailed bound checker (reverse handed) ∥₁ →
         events ≡ length handed → HasResults bound handed feed end result }
+    ensures counted { HasCount events (checked_of checker) result }
     ensures reports { reports_of result ≡ checker_reports checker }
     ensures read { IsTrue (is_read result) }
 {

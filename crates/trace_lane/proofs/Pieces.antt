@@ -1,5 +1,5 @@
 -- What is left of a part of a list once its first item was taken.
-use Rattle.std.proofs.Common.{ℕ, ◌≡◌, ◌+◌, ◌-◌, ◌<◌, ◌≤◌, ◌++◌, List, [], ◌∷◌, length, take}
+use Rattle.std.proofs.Common.{ℕ, ◌≡◌, ◌+◌, ◌-◌, ◌<◌, ◌≤◌, ◌++◌, List, [], ◌∷◌, length, take, ◌⊎◌, inl, inr}
 use Rattle.std.proofs.Common.{drop, refl, ap, ◌∙◌, sym, arith, add-one, append_assoc, length-append, length-drop}
 use Rattle.std.proofs.Common.{drop-cons, slice_index_or}
 use Rattle.std.proofs.lemmas.List.{take_at, length-take-le}
@@ -37,3 +37,11 @@ pub still_last : {T : Type 0} (all before s : List T) (i j : ℕ) (x : T) → al
 still_last all before s i j x is low high at =
     moved all before s i j x is low high at ∙ ap (λ l. l ++ piece (i + 1) j s)
     (sym (taken all before s i j x is low high at))
+
+-- of some items a part was put, and the rest was left: if the ring was known to have room for all,
+-- and nothing is left unless the ring is full, all were put
+pub all_put : {put rest items old new : ℕ} →
+    (rest ≡ 0) ⊎ (0 < rest) → put + rest ≡ items → old ≤ new + put → (0 < rest → new ≡ 0) →
+    items ≤ old → put ≡ items
+all_put (inl none) sum room full enough = omega arith
+all_put (inr some) sum room full enough = let empty = full some in omega arith

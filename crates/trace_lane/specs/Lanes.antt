@@ -5,7 +5,7 @@
 use Rattle.std.specs.Prelude.{ℕ, ◌-◌, ◌++◌, List, [], length, take, cond}
 use denote.RawPtr.{Ptr}
 use Rattle.rtrb.specs.Shared.{Names}
-use Rattle.rtrb.specs.Ring.{sent, received, known_items, all_sent}
+use Rattle.rtrb.specs.Ring.{sent, known_free, received, known_items, all_sent}
 use Rattle.trace_lane.specs.Pieces.{piece}
 use Rattle.trace_lane.specs.declared.lane_in.LaneIn.{LaneIn}
 use Rattle.trace_lane.specs.declared.lane_out.LaneOut.{LaneOut}
@@ -33,6 +33,11 @@ module _ {T A : Type 0} where
   -- every item that was put so far, oldest first
   unfoldable pub put_list : LaneIn T A → List T
   put_list l = sent l.ring
+
+  -- how many items the putting end knows that the ring has room for. So many puts succeed; the
+  -- taking end may make more room at any time
+  unfoldable pub known_room : LaneIn T A → ℕ
+  known_room l = known_free l.ring
 
   -- every item that was taken so far, oldest first: all that left the ring, but for those in the
   -- buffer

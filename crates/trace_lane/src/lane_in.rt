@@ -1,6 +1,7 @@
 //! The putting end of a lane.
-ghost use Rattle.std.specs.Prelude.{◌≡◌, ◌≤◌, [], ◌∷◌, ◌++◌, length, take, IfErr, OnOk, IfSome};
-ghost use Rattle.trace_lane.specs.Lanes.{in_lane, end_lane, put_list, end_list};
+ghost use Rattle.std.specs.Prelude.{◌≡◌, ◌+◌, ◌<◌, ◌≤◌, [], ◌∷◌, ◌++◌, length, take};
+ghost use Rattle.std.specs.Prelude.{IfErr, IfSome, IsOk, OnOk};
+ghost use Rattle.trace_lane.specs.Lanes.{in_lane, end_lane, known_room, put_list, end_list};
 
 use crate::lane_end::LaneEnd;
 use rtrb::{Producer, PushError};
@@ -25,6 +26,8 @@ impl<T: Copy + Send, A: Allocator + Copy> LaneIn<T, A> {
         ensures ok { OnOk result (put_list self.new ≡ put_list self.old ++ item ∷ []) }
         ensures full { IfErr result (λ back.
             (back ≡ item) × (put_list self.new ≡ put_list self.old)) }
+        ensures room { OnOk result (known_room self.old ≤ known_room self.new + 1) }
+        ensures succeeds { 0 < known_room self.old → IsOk result }
     {
         match self.ring.push(item) {
             Ok(()) => Ok(()),
@@ -40,6 +43,8 @@ impl<T: Copy + Send, A: Allocator + Copy> LaneIn<T, A> {
         ensures lane { in_lane self.new ≡ in_lane self.old }
         ensures put { put_list self.new ≡ put_list self.old ++ take result items.now }
         ensures some { result ≤ length items.now }
+        ensures room { known_room self.old ≤ known_room self.new + result }
+        ensures all { length items.now ≤ known_room self.old → result ≡ length items.now }
     {
         let (put, _) = self.ring.push_partial_slice(items);
         put.len()
@@ -52,6 +57,7 @@ impl<T: Copy + Send, A: Allocator + Copy> LaneIn<T, A> {
     pub fn is_left(&mut self) -> bool
         ensures lane { in_lane self.new ≡ in_lane self.old }
         ensures put { put_list self.new ≡ put_list self.old }
+        ensures room { known_room self.old ≤ known_room self.new }
     {
         self.ring.is_abandoned()
     }

@@ -1,6 +1,6 @@
 //! The making of a lane.
 ghost use Rattle.std.specs.Prelude.{◌≡◌, ◌<◌, ◌≤◌, ◌⊎◌, ◌↔◌, [], IfOk, IfErr};
-ghost use Rattle.trace_lane.specs.Lanes.{in_lane, out_lane, most_items};
+ghost use Rattle.trace_lane.specs.Lanes.{in_lane, known_room, out_lane, most_items};
 ghost use Rattle.trace_lane.specs.Lanes.{put_list, taken_list, waiting};
 
 use crate::lane_in::LaneIn;
@@ -42,6 +42,7 @@ pub fn lane<T: Copy + Send, A: Allocator + Copy>(
     ensures ends { IfOk result (λ r. in_lane r.0 ≡ out_lane r.1) }
     ensures fresh { IfOk result (λ r. (put_list r.0 ≡ []) × (taken_list r.1 ≡ [])
         × (waiting r.1 ≡ [])) }
+    ensures room { IfOk result (λ r. known_room r.0 ≡ capacity) }
     ensures made { IfOk result (λ _. (0 < capacity) × (capacity ≤ most_items)) }
     ensures refused { IfErr result (λ e.
         e ≡ LaneError.Capacity ↔ ((capacity ≡ 0) ⊎ (most_items < capacity))) }
