@@ -36,7 +36,7 @@
 struct sum {
     uint64_t events, reports; /* findings of recorders are reports */
     uint64_t findings;
-    size_t not_whole, abrupt, crashed, with_reports, recorded, marks, unchecked;
+    size_t incomplete, abrupt, crashed, with_reports, recorded, marks, unchecked;
 };
 
 static void add_to(struct sum *sum, const struct process *joined)
@@ -45,7 +45,7 @@ static void add_to(struct sum *sum, const struct process *joined)
     sum->reports += joined->reports + joined->findings;
     sum->findings += joined->findings;
     sum->with_reports += joined->reports + joined->findings > 0;
-    sum->not_whole += !joined->is_whole;
+    sum->incomplete += !joined->is_complete;
     sum->abrupt += joined->is_abrupt;
     sum->crashed += joined->is_crash;
     sum->recorded += joined->has_checks;
@@ -71,13 +71,13 @@ static struct sum sum_up(void)
 
 /* What the summary says after the numbers. `totals_line` of asancol-report says the same of several runs: a test holds
    one against the other (tests/judge.py). */
-static void put_whole(FILE *to, const struct sum *sum, bool is_incomplete, bool lists_unchecked)
+static void put_completeness(FILE *to, const struct sum *sum, bool is_incomplete, bool lists_unchecked)
 {
-    bool is_first = sum->not_whole == 0 && !is_incomplete && unchecked_count() > 0;
-    if (sum->not_whole > 0)
-        fprintf(to, "; %zu NOT SEEN WHOLE", sum->not_whole);
+    bool is_first = sum->incomplete == 0 && !is_incomplete && unchecked_count() > 0;
+    if (sum->incomplete > 0)
+        fprintf(to, "; %zu INCOMPLETE", sum->incomplete);
     else if (!is_first)
-        fputs(is_incomplete ? "; NOT SEEN WHOLE" : "; all seen whole", to);
+        fputs(is_incomplete ? "; INCOMPLETE" : "; all complete", to);
     if (sum->abrupt > 0)
         fprintf(to, "%s %zu ended abruptly", is_first ? ";" : ",", sum->abrupt);
     is_first &= sum->abrupt == 0;
@@ -91,7 +91,7 @@ static void put_whole(FILE *to, const struct sum *sum, bool is_incomplete, bool 
 
 static void say_summary(const struct sum *sum, bool is_incomplete, bool lists_unchecked)
 {
-    char reports[128] = "no reports", *whole = NULL;
+    char reports[128] = "no reports", *complete = NULL;
     size_t length = 0, count = segments_process_count();
     if (sum->reports > 0)
         snprintf(reports, sizeof reports, "%" PRIu64 " report%s in %zu process%s", sum->reports,
@@ -99,13 +99,13 @@ static void say_summary(const struct sum *sum, bool is_incomplete, bool lists_un
     if (sum->findings > 0)
         snprintf(reports + strlen(reports), sizeof reports - strlen(reports), " (%" PRIu64 " by the recorder)",
                  sum->findings);
-    FILE *to = must(open_memstream(&whole, &length));
-    put_whole(to, sum, is_incomplete, lists_unchecked);
+    FILE *to = must(open_memstream(&complete, &length));
+    put_completeness(to, sum, is_incomplete, lists_unchecked);
     if (fclose(to) != 0)
         must(NULL);
     say("asancol: %s; %zu process%s, %" PRIu64 " event%s%s", reports, count, plural(count, "es"), sum->events,
-        plural(sum->events, "s"), whole);
-    free(whole);
+        plural(sum->events, "s"), complete);
+    free(complete);
 }
 
 /* What holds of the run, and not of one process. */
@@ -113,18 +113,18 @@ static struct words troubles_of(const struct outcome *outcome)
 {
     static char missing[96], lost[96]; /* there is one run */
     struct words lines = {0};
-    snprintf(missing, sizeof missing, "NOT ALL SEEN: %" PRIu64 " fewer than --at-least asks for were recorded",
+    snprintf(missing, sizeof missing, "INCOMPLETE: %" PRIu64 " fewer than --at-least asks for were recorded",
              outcome->missing);
-    snprintf(lost, sizeof lost, "NOT ALL SEEN: %" PRIu64 " run%s inside this one left no result", outcome->lost,
+    snprintf(lost, sizeof lost, "INCOMPLETE: %" PRIu64 " run%s inside this one left no result", outcome->lost,
              plural(outcome->lost, "s"));
     if (outcome->nothing)
         words_add(&lines, "NOTHING WAS RECORDED: was a program built with asancol-cc?");
     else if (outcome->missing > 0)
         words_add(&lines, missing);
     if (outcome->is_running)
-        words_add(&lines, "NOT ALL SEEN: processes of the command still run");
+        words_add(&lines, "INCOMPLETE: processes of the command still run");
     if (outcome->has_timed_out)
-        words_add(&lines, "NOT ALL SEEN: the command was ended by --timeout");
+        words_add(&lines, "INCOMPLETE: the command was ended by --timeout");
     if (outcome->lost > 0)
         words_add(&lines, lost);
     return lines;
@@ -133,7 +133,7 @@ static struct words troubles_of(const struct outcome *outcome)
 /* Whether something was not seen, apart from that nothing was recorded. */
 static bool is_cut_short(const struct sum *sum, const struct outcome *outcome)
 {
-    size_t rest = outcome->nothing ? sum->not_whole - sum->unchecked : sum->not_whole;
+    size_t rest = outcome->nothing ? sum->incomplete - sum->unchecked : sum->incomplete;
     return rest > 0 || outcome->missing > 0 || outcome->is_running || outcome->has_timed_out
            || outcome->lost > 0;
 }
@@ -145,17 +145,17 @@ static enum answer conclude(const struct options *options, const struct sum *sum
     if (sum->reports > 0 || has_nested || options->has_output || options->has_rules)
         report_start();
     bool is_incomplete = is_cut_short(sum, outcome) || outcome->nothing;
-    enum answer answer = is_incomplete ? ANSWER_NOT_WHOLE : ANSWER_CLEAN;
+    enum answer answer = is_incomplete ? ANSWER_INCOMPLETE : ANSWER_CLEAN;
     progress_erase();
     if (options->verbose) {
-        lines_say_whole();
+        lines_say_complete();
         unchecked_say_all();
     }
     report_finish(outcome);
     if (report_was_started()) {
         collect_report();
         answer = report_answer();
-        if (answer == ANSWER_CLEAN || answer == ANSWER_REPORTS || answer == ANSWER_NOT_WHOLE
+        if (answer == ANSWER_CLEAN || answer == ANSWER_REPORTS || answer == ANSWER_INCOMPLETE
             || answer == ANSWER_NOT_WRITTEN)
             return answer;
         report_print_raw(options->keep);
@@ -186,9 +186,9 @@ static int end_as(int status)
 static int status_of(const struct options *options, enum answer answer, const struct sum *sum,
                      const struct outcome *outcome, bool is_incomplete)
 {
-    bool is_known = answer == ANSWER_CLEAN || answer == ANSWER_REPORTS || answer == ANSWER_NOT_WHOLE;
+    bool is_known = answer == ANSWER_CLEAN || answer == ANSWER_REPORTS || answer == ANSWER_INCOMPLETE;
     bool has_reports = is_known ? answer == ANSWER_REPORTS : sum->reports > 0;
-    is_incomplete |= !is_known || (answer == ANSWER_NOT_WHOLE && !outcome->nothing);
+    is_incomplete |= !is_known || (answer == ANSWER_INCOMPLETE && !outcome->nothing);
     if (has_reports && options->exitcode != 0)
         return (int)options->exitcode;
     if (outcome->nothing && options->nothing != 0 && outcome->status == 0 && !is_incomplete)

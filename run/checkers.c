@@ -197,7 +197,7 @@ static void let_side_go(struct process *process)
 /* Whether somebody may want to see the traces of a process. */
 static bool is_kept(const struct process *joined)
 {
-    return joined->reports + joined->findings > 0 || !joined->is_whole;
+    return joined->reports + joined->findings > 0 || !joined->is_complete;
 }
 
 void checker_sum_up(struct process *process)

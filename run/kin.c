@@ -79,9 +79,9 @@ static struct process *last_segment(const struct process *lead)
 #define BLAME(lead, ...)                                                                                               \
     do {                                                                                                               \
         struct process *last = last_segment(lead);                                                                     \
-        if (last->is_whole || last->is_unchecked)                                                                      \
+        if (last->is_complete || last->is_unchecked)                                                                   \
             snprintf(last->why, sizeof last->why, __VA_ARGS__);                                                        \
-        last->is_whole = last->is_unchecked = last->is_abrupt = false;                                                 \
+        last->is_complete = last->is_unchecked = last->is_abrupt = false;                                              \
         report_again(lead);                                                                                            \
     } while (0)
 

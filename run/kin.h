@@ -2,7 +2,7 @@
 #ifndef ASANCOL_RUN_KIN_H
 #define ASANCOL_RUN_KIN_H
 
-/* Once all were summed up: a process was not seen whole if its child or its next program never came. */
+/* Once all were summed up: a process is incomplete if its child or its next program never came. */
 void kin_look(void);
 
 #endif

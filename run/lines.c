@@ -10,7 +10,7 @@
 #include "say.h"
 #include "segments.h"
 
-static void say_whole(const struct process *process)
+static void say_complete(const struct process *process)
 {
     char segments[48] = "";
     bool is_other = process->why[0] == 0 && process->ending == ENDING_EXEC;
@@ -18,17 +18,17 @@ static void say_whole(const struct process *process)
     uint64_t reports = process->reports + process->findings;
     if (process->segments > 1)
         snprintf(segments, sizeof segments, " in %zu segments", process->segments);
-    say("asancol: process %d %s: seen whole%s%s, %" PRIu64 " event%s%s, %" PRIu64 " report%s", process->own_number,
+    say("asancol: process %d %s: complete%s%s, %" PRIu64 " event%s%s, %" PRIu64 " report%s", process->own_number,
         process->name, end[0] != 0 ? ": " : "", end, process->events, plural(process->events, "s"), segments,
         reports, plural(reports, "s"));
 }
 
-void lines_say_whole(void)
+void lines_say_complete(void)
 {
     for (size_t i = 0; i < process_count(); i++) {
         struct process process = segments_joined(process_at(i));
-        if (process_is_lead(process_at(i)) && process.is_whole)
-            say_whole(&process);
+        if (process_is_lead(process_at(i)) && process.is_complete)
+            say_complete(&process);
     }
 }
 
@@ -54,13 +54,13 @@ static void say_one(const struct line *line)
     say("asancol: %zu processes (%s) %s", line->count, numbers, line->text);
 }
 
-/* The line of a process of which there is more to say than that it was seen whole, or null. */
+/* The line of a process of which there is more to say than that it was complete, or null. */
 static char *line_of(const struct process *process, bool is_quiet)
 {
     char *text = NULL;
     const char *form = NULL;
-    if (!process->is_whole)
-        form = "%s: NOT SEEN WHOLE: %s";
+    if (!process->is_complete)
+        form = "%s: INCOMPLETE: %s";
     else if (process->is_abrupt && (!is_quiet || process->is_crash))
         form = "%s: %s: seen up to there";
     else if (process->is_crash)

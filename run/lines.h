@@ -4,9 +4,9 @@
 
 #include <stdbool.h>
 
-/* Of each process that was seen whole. */
-void lines_say_whole(void);
-/* Of those that were not seen whole, crashed or ended abruptly, as asancol-report has them: one line for all that have
+/* Of each process that was complete. */
+void lines_say_complete(void);
+/* Of those that were incomplete, crashed or ended abruptly, as asancol-report has them: one line for all that have
    the same. `is_quiet`: an end that is abrupt alone has none. */
 void lines_say(bool is_quiet);
 

@@ -61,16 +61,16 @@ struct process {
     uint64_t of_parent_started; /* and when that was begun; 0: nobody that was recorded */
     bool becomes;    /* it became a program that is to be here, and no mark says so */
     uint32_t ending; /* enum ending */
-    bool is_cut_at_limit; /* it is not whole since it went on after the limit of events */
+    bool is_cut_at_limit; /* it is incomplete since it went on after the limit of events */
     unsigned signal; /* that has ended it, as the recorder saw; or 0 */
     bool is_crash;   /* and it is one of a mistake */
     bool was_replaced; /* it did not end: another program runs in its place */
     bool is_abrupt;  /* the recorder did not see its end, and what it did up to there was seen all the same */
-    bool is_whole, has_checks;
-    bool is_unchecked; /* it is not whole since it has no checks, and for no other reason */
+    bool is_complete, has_checks;
+    bool is_unchecked; /* it is incomplete since it has no checks, and for no other reason */
     bool is_settled; /* nothing of it can change any more */
     size_t segments; /* what segments_joined answers: how many have come */
-    char why[160];   /* it was not seen whole, or how it ended; or empty */
+    char why[160];   /* it was incomplete, or how it ended; or empty */
 };
 
 /* Each stays where it is. */

@@ -151,7 +151,7 @@ static void put_process(FILE *to, struct process *process, const struct process 
             "{\"type\":\"process\",\"n\":%zu,\"pid\":%d,\"parent\":%d,\"fate\":\"%s\",\"events\":%" PRIu64
             ",\"reports\":%" PRIu64 ",\"whole\":%s,\"left_out\":%" PRIu64 ",\"signal\":%u,\"why\":",
             process_number(process), process->own_number, process->parent, process->fate, process->events,
-            process->reports, process->is_whole ? "true" : "false", process->left_out, process->signal);
+            process->reports, process->is_complete ? "true" : "false", process->left_out, process->signal);
     json_text(to, process->why);
     if (process->findings > 0)
         fprintf(to, ",\"findings\":%" PRIu64, process->findings);

@@ -22,7 +22,7 @@ struct outcome {
     struct words notes;    /* lines for the reader, which cost no status */
 };
 
-enum answer { ANSWER_CLEAN, ANSWER_REPORTS, ANSWER_ARGUMENTS, ANSWER_NOT_WHOLE, ANSWER_NOT_WRITTEN, ANSWER_NONE };
+enum answer { ANSWER_CLEAN, ANSWER_REPORTS, ANSWER_ARGUMENTS, ANSWER_INCOMPLETE, ANSWER_NOT_WRITTEN, ANSWER_NONE };
 
 /* The first message: what is run. */
 void report_begin(const struct options *options);

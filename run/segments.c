@@ -127,7 +127,7 @@ bool segments_are_complete(const struct process *process)
 /* Whether all that a segment recorded was seen. Each but the last has to end with a close. */
 static bool is_seen(const struct process *segment)
 {
-    bool is_good = segment->is_whole || segment->is_unchecked;
+    bool is_good = segment->is_complete || segment->is_unchecked;
     return is_good && (segment->next == NULL || strcmp(segment->fate, "closed") == 0);
 }
 
@@ -141,7 +141,7 @@ static void blame(struct process *joined, const struct process *segment)
         verdict_blame_limit(joined);
     else if (segment->next == NULL)
         WHY("%s", segment->why);
-    else if (segment->is_whole || segment->is_unchecked)
+    else if (segment->is_complete || segment->is_unchecked)
         WHY("segment %" PRIu64 ": its trace ended as %s", segment->segment + 1, segment->fate);
     else
         WHY("segment %" PRIu64 ": %.120s", segment->segment + 1, segment->why);
@@ -212,12 +212,12 @@ struct process segments_joined(const struct process *process)
     joined.is_crash = last->is_crash;
     memcpy(joined.fate, last->fate, sizeof joined.fate);
     bool is_good = !is_flawed(&joined, lead->front);
-    joined.is_whole = is_good && joined.has_checks;
+    joined.is_complete = is_good && joined.has_checks;
     joined.is_unchecked = is_good && !joined.has_checks;
-    joined.is_abrupt = joined.is_whole && last->is_abrupt;
+    joined.is_abrupt = joined.is_complete && last->is_abrupt;
     if (is_good)
         memcpy(joined.why, last->why, sizeof joined.why);
-    if (joined.is_whole && last->is_unchecked)
+    if (joined.is_complete && last->is_unchecked)
         joined.why[0] = 0; /* the checks came before */
     return joined;
 }

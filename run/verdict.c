@@ -71,7 +71,7 @@ enum {
     LEAKS_MISSED = 1 << 16
 };
 
-enum answer { WHOLE, UP_TO_THERE, BEFORE_MAIN, UNCHECKED, NOT_WHOLE };
+enum answer { COMPLETE, UP_TO_THERE, BEFORE_MAIN, UNCHECKED, INCOMPLETE };
 
 struct row {
     unsigned fates, endings, holds, lacks;
@@ -82,29 +82,29 @@ struct row {
 /* The judgement: the first row that applies counts. README.md has the same rows, and each has a test
    (tests/judge.py). */
 static const struct row rows[] = {
-    {ANY, ANY, BY_WAIT, ALL_CAME, NOT_WHOLE,
+    {ANY, ANY, BY_WAIT, ALL_CAME, INCOMPLETE,
      "still ran at the end of asancol-run"},
-    {ANY & ~CLOSED, NONE | SIGNAL | LOST | SEGMENT, BY_TIMEOUT, 0, NOT_WHOLE,
+    {ANY & ~CLOSED, NONE | SIGNAL | LOST | SEGMENT, BY_TIMEOUT, 0, INCOMPLETE,
      "was ended by --timeout"},
-    {NOT_CHECKED, ANY, KILLED, 0, NOT_WHOLE,
+    {NOT_CHECKED, ANY, KILLED, 0, INCOMPLETE,
      "its checker was ended by CHECKER"},
-    {NOT_CHECKED, ANY, 0, 0, NOT_WHOLE,
+    {NOT_CHECKED, ANY, 0, 0, INCOMPLETE,
      "its checker printed no verdict, and ended with status CHECKER"},
-    {ANY, ANY, LIMIT | LEFT_OUT | ONE_SEGMENT, 0, NOT_WHOLE,
+    {ANY, ANY, LIMIT | LEFT_OUT | ONE_SEGMENT, 0, INCOMPLETE,
      "reached the event limit: LEFT of ALL events were not recorded, since ASANCOL_SEGMENTS is 0"},
-    {ANY, ANY, LIMIT | LEFT_OUT, 0, NOT_WHOLE,
+    {ANY, ANY, LIMIT | LEFT_OUT, 0, INCOMPLETE,
      "reached the event limit: LEFT of ALL events were not recorded"},
-    {ANY, ANY, LIMIT, 0, NOT_WHOLE,
+    {ANY, ANY, LIMIT, 0, INCOMPLETE,
      "reached the event limit, and was not seen to end"},
-    {ANY, ANY, OWN_CALL, 0, NOT_WHOLE,
+    {ANY, ANY, OWN_CALL, 0, INCOMPLETE,
      "ended in a call of the recorder's own, or before an exec, as by SIGKILL or a filter of system calls"},
-    {ANY, ANY, FINDINGS_LOST, 0, NOT_WHOLE,
+    {ANY, ANY, FINDINGS_LOST, 0, INCOMPLETE,
      "its recorder had no room for LOST of its findings"},
-    {ANY, ANY, LEAKS_MISSED, 0, NOT_WHOLE,
+    {ANY, ANY, LEAKS_MISSED, 0, INCOMPLETE,
      "leaks of it were not looked for, as if a thread does not stop"},
     {CUT_OFF, NONE, GONE | NONE_MISSING, CHECKS, UNCHECKED,
      "no code of it was compiled by asancol-cc"},
-    {CUT_OFF, NONE, GONE | NONE_MISSING | REPLACED | MAIN, 0, WHOLE,
+    {CUT_OFF, NONE, GONE | NONE_MISSING | REPLACED | MAIN, 0, COMPLETE,
      "ran another program, by an exec in a library"},
     {CUT_OFF, NONE, GONE | NONE_MISSING | REPLACED, 0, BEFORE_MAIN,
      "ran another program, by an exec in a library"},
@@ -112,29 +112,29 @@ static const struct row rows[] = {
      "ended abruptly, HOW"},
     {CUT_OFF, NONE, GONE | NONE_MISSING, 0, BEFORE_MAIN,
      "ended abruptly, HOW, before main"},
-    {NO_MEMORY, ANY, 0, 0, NOT_WHOLE,
+    {NO_MEMORY, ANY, 0, 0, INCOMPLETE,
      "its checker had no more memory after EVENTS events"},
-    {TOO_MANY, ANY, 0, 0, NOT_WHOLE,
+    {TOO_MANY, ANY, 0, 0, INCOMPLETE,
      "reached the event limit of its checker, after EVENTS events"},
-    {ANY, LOST, 0, ALL_CAME, NOT_WHOLE,
+    {ANY, LOST, 0, ALL_CAME, INCOMPLETE,
      "its recording ended early"},
-    {CUT_OFF | MALFORMED, NONE, BAD_MISSING, 0, NOT_WHOLE,
+    {CUT_OFF | MALFORMED, NONE, BAD_MISSING, 0, INCOMPLETE,
      "ended abruptly, HOW: MISSING"},
-    {UNWRITTEN, NONE, FILE_ALONE, 0, NOT_WHOLE,
+    {UNWRITTEN, NONE, FILE_ALONE, 0, INCOMPLETE,
      "ended abruptly, as by SIGKILL, or an _exit or exec in a library, or still running"},
-    {CUT_OFF | MALFORMED, NONE, 0, FILE_ALONE, NOT_WHOLE,
+    {CUT_OFF | MALFORMED, NONE, 0, FILE_ALONE, INCOMPLETE,
      "ended abruptly, HOW: what came last was not seen"},
-    {ANY, ANY, BAD_MISSING, ALL_CAME, NOT_WHOLE,
+    {ANY, ANY, BAD_MISSING, ALL_CAME, INCOMPLETE,
      "it ended: MISSING"},
-    {ANY, ANY, 0, ALL_CAME, NOT_WHOLE,
+    {ANY, ANY, 0, ALL_CAME, INCOMPLETE,
      "its trace ended as FATE"},
     {ANY, ANY, 0, CHECKS, UNCHECKED,
      "no code of it was compiled by asancol-cc"},
-    {ANY, SIGNAL, MAIN, 0, WHOLE,
+    {ANY, SIGNAL, MAIN, 0, COMPLETE,
      "ended by SIGNAL"},
     {ANY, SIGNAL, 0, 0, BEFORE_MAIN,
      "ended by SIGNAL before main"},
-    {ANY, ANY, 0, 0, WHOLE,
+    {ANY, ANY, 0, 0, COMPLETE,
      ""},
 };
 
@@ -446,7 +446,7 @@ static void judge(struct process *process)
     uint32_t ending = process->ending;
     const struct row *row = find_row(fate, ending_of(process), facts);
     enum answer answer = row->answer;
-    process->is_whole = answer == WHOLE || answer == UP_TO_THERE;
+    process->is_complete = answer == COMPLETE || answer == UP_TO_THERE;
     process->is_unchecked = answer == UNCHECKED;
     process->is_abrupt = answer == UP_TO_THERE;
     process->is_cut_at_limit = row->holds & LIMIT;
@@ -490,7 +490,7 @@ void verdict_read(struct process *process)
     judge(process);
     if (cause[0] != 0) {
         memcpy(process->why, cause, sizeof cause);
-        process->is_whole = false;
+        process->is_complete = false;
         process->is_settled = true;
     }
 }
@@ -498,12 +498,12 @@ void verdict_read(struct process *process)
 bool verdict_again(struct process *process)
 {
     char before[sizeof process->why];
-    bool was_whole = process->is_whole;
+    bool was_complete = process->is_complete;
     uint64_t left_out = process->left_out;
     if (process->is_settled)
         return false;
     memcpy(before, process->why, sizeof before);
     judge(process);
     process->is_settled = true;
-    return was_whole != process->is_whole || left_out != process->left_out || strcmp(before, process->why) != 0;
+    return was_complete != process->is_complete || left_out != process->left_out || strcmp(before, process->why) != 0;
 }

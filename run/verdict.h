@@ -1,4 +1,4 @@
-/* What came of a process: its end line, and whether it was seen whole. */
+/* What came of a process: its end line, and whether it was complete. */
 #ifndef ASANCOL_RUN_VERDICT_H
 #define ASANCOL_RUN_VERDICT_H
 
@@ -14,7 +14,7 @@ void verdict_read(struct process *process);
    something. */
 bool verdict_again(struct process *process);
 
-/* Says of one that is not whole that it went on after the limit of events. */
+/* Says of one that is incomplete that it went on after the limit of events. */
 void verdict_blame_limit(struct process *process);
 
 /* "SIGTERM", or "signal 40". */

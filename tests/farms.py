@@ -249,7 +249,7 @@ class Result(NamedTuple):
     """What a file of JSON lines says of a test."""
 
     places: Set[Tuple[str, int]]
-    is_whole: bool
+    is_complete: bool
     processes: int
 
 
@@ -262,9 +262,9 @@ def read_result(path: str) -> Tuple[str, Result]:
     runs = [it for it in entries if it["type"] == "run"]
     processes = [it for it in entries if it["type"] == "process"]
     stacks = [it["stack"] for it in entries if it["type"] == "finding"]
-    whole = all(not it["nothing"] and not it["timed_out"] for it in runs) and all(it["whole"] for it in processes)
+    complete = all(not it["nothing"] and not it["timed_out"] for it in runs) and all(it["whole"] for it in processes)
     places = {(os.path.basename(stack[0]["file"]), stack[0]["line"]) for stack in stacks}
-    return base_name(runs[0]["command"][-1]), Result(places, whole, len(processes))
+    return base_name(runs[0]["command"][-1]), Result(places, complete, len(processes))
 
 
 def line_of_bug(file: str, words: str) -> int:
@@ -280,8 +280,8 @@ def expect_results(recipe: Recipe, paths: List[str]) -> None:
     for test, result in results.items():
         expect(result.places, bugs.get(test, set()), f"{test}: places")
     expect(results["child"].processes, 2, "processes of child")
-    expect([name for name in results if not results[name].is_whole],
-           [name for name in results if name in ("wait", "vendor")], "not seen whole")
+    expect([name for name in results if not results[name].is_complete],
+           [name for name in results if name in ("wait", "vendor")], "incomplete")
 
 
 def expect_merged(out: str, page: str) -> None:
@@ -290,7 +290,7 @@ def expect_merged(out: str, page: str) -> None:
         line = line_of_bug(file, words)
         expect(re.search(rf"#0 0x\w+ in \w+ \S*{file}:{line}:", out) is not None, True, f"{file}:{line}")
         expect_in(page, f"{file}:{line}")
-    summary = r"^asancol: 2 reports at 2 places; 5 processes in 5 runs, \d+ events; 1 NOT SEEN WHOLE$"
+    summary = r"^asancol: 2 reports at 2 places; 5 processes in 5 runs, \d+ events; 1 INCOMPLETE$"
     expect(len(re.findall(summary, out, re.M)), 1, "summaries")
 
 

@@ -1,5 +1,5 @@
-/* Word for a hub of what it does not see. Else its run would look whole. None of this needs a descriptor if the hub has
-   a folder, nor memory or a lock. The hub is its socket's path, or null: then nothing is done. */
+/* Word for a hub of what it does not see. Else its run would look complete. None of this needs a descriptor if the hub
+   has a folder, nor memory or a lock. The hub is its socket's path, or null: then nothing is done. */
 #ifndef ASANCOL_UNSEEN_H
 #define ASANCOL_UNSEEN_H
 

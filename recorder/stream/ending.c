@@ -11,7 +11,7 @@
 #include "stream/side.h"
 #include "stream/state.h"
 
-/* What was not seen whole must not read as clean: a process without a check, of which nothing was seen but its
+/* What was incomplete must not read as clean: a process without a check, of which nothing was seen but its
    blocks, or one of which events are missing. */
 static enum finish as_seen(enum finish finish)
 {

@@ -300,7 +300,7 @@ def check_forks(suite: Suite, folder: str, program: str) -> None:
 
 
 def check_closing_children(suite: Suite, folder: str, program: str) -> None:
-    """A child that closes all descriptors before it runs another program is seen whole, and so is its parent."""
+    """A child that closes all descriptors before it runs another program is complete, and so is its parent."""
     peers, said = run_under(folder, [program, "forks_and_closes"])
     expect(([peer.side().ending for peer in peers], said), ([EXIT, EXEC], b""), "endings")
     expect([peer.side().events for peer in peers], [len(peer.trace().events) for peer in peers], "events")

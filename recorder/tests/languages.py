@@ -80,7 +80,7 @@ def said_of(suite: Suite, folder: str, words: List[str], status: int = 0, **sett
     expect(ran.returncode, status, f"{words}: {ran.stderr.decode()}")
     traces = sorted(it for it in os.listdir(folder) if it.endswith(".trace"))
     text = report_of(suite, folder, traces)
-    expect("all seen whole" in text, True, f"{words}: {text}")
+    expect("all complete" in text, True, f"{words}: {text}")
     for name in traces:
         os.unlink(f"{folder}/{name}")
         os.unlink(f"{folder}/{name}.where")
@@ -404,7 +404,7 @@ TOOLS = {"asancol-cargo": "cargo", "asancol-fc": "gfortran", "ASANCOL_CC=gdc": "
 
 
 def check_page(suite: Suite, folder: str) -> None:
-    """The commands of the page: what is clean is seen whole, but for D's."""
+    """The commands of the page: what is clean is complete, but for D's."""
     with open(f"{TESTS}/bug.f90", encoding="utf-8") as file:
         write(folder, program_f90=file.read(), program_d=D_PROGRAM)
     crate(folder, lib_rs="pub fn one() -> i32 { 1 }\n#[test] fn is_one() { assert_eq!(one(), 1) }\n")
@@ -420,7 +420,7 @@ def check_page(suite: Suite, folder: str) -> None:
         ran = run(["sh", "-ec", block], folder, ASANCOL=suite.asancol, PATH=f"{folder}/bin:{os.environ['PATH']}")
         text = ran.stderr.decode()
         expect(ran.returncode, 0, f"{block}: {text}")
-        expect(("; not checked: program.d" if "gdc" in block else "; all seen whole\n") in text, True, text)
+        expect(("; not checked: program.d" if "gdc" in block else "; all complete\n") in text, True, text)
 
 
 def tests_of_all(suite: Suite) -> None:

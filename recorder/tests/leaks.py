@@ -364,7 +364,7 @@ def check_stuck(suite: Suite, folder: str, compiler: Compiler) -> None:
         said = "asancol: leaks are not looked for: ./stuck: a thread does not stop\n"
         expect((ran.returncode, ran.stderr.decode()), (7, said), how)
         expect((lost_in(f"{folder}/{how}.trace"), side_of(f"{folder}/{how}.trace").leaks_missed), (NOTHING, 1), how)
-        for leaks, status, text in (("yes", 3, "NOT SEEN WHOLE: leaks of it were not looked for, "),
+        for leaks, status, text in (("yes", 3, "INCOMPLETE: leaks of it were not looked for, "),
                                     ("summary", 0, "asancol: leaks of a process were not looked for, ")):
             ran = run([REPORT, f"--leaks={leaks}", "--trace", f"{how}.trace"], folder, ASANCOL=suite.asancol)
             expect((ran.returncode, text in ran.stdout.decode()), (status, True), ran.stdout.decode())

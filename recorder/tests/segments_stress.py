@@ -48,7 +48,7 @@ def by_hub(asancol: str, words: List[str], folder: str) -> str:
     settings = environment(PATH=f"{os.path.dirname(asancol)}:{os.environ['PATH']}")
     run = [RUN, "--json", result, "--", *words]
     ran = subprocess.run(run, env=settings, capture_output=True, text=True, check=False)
-    if ran.returncode != 99 or "NOT SEEN WHOLE" in ran.stderr:
+    if ran.returncode != 99 or "INCOMPLETE" in ran.stderr:
         return f"status {ran.returncode}: {ran.stderr}"
     with open(result, encoding="utf-8") as file:
         places = [it for it in map(json.loads, file) if it.get("type") == "finding"]

@@ -2,7 +2,7 @@
 
 from __future__ import annotations
 
-CLEAN, COUNTS, REFUSED, NOT_WHOLE, FAILED = range(5)
+CLEAN, COUNTS, REFUSED, INCOMPLETE, FAILED = range(5)
 
 
 class Refused(Exception):

@@ -66,7 +66,7 @@ class Page:
             "CLASSES": [tag("option", escape(name), value=name) for name in sorted({it.class_name for it in findings})],
             "FINDINGS": self.findings(findings),
             "COUNT": [escape(self.processes_text())],
-            "OPEN": ["open"] if self.results.totals().not_whole else [],
+            "OPEN": ["open"] if self.results.totals().incomplete else [],
             "PROCESSES": self.processes(),
             "NOTES": [tag("li", escape(note)) for note in self.notes()],
         }
@@ -93,7 +93,7 @@ class Page:
 
     def tiles(self) -> Iterator[str]:
         totals = self.results.totals()
-        unseen = totals.not_whole + totals.troubles
+        unseen = totals.incomplete + totals.troubles
 
         def tile(count: int, text: str, kind: str) -> str:
             return tag("div", tag("b", number(count)) + " " + tag("span", text), class_="tile " + kind)
@@ -107,7 +107,7 @@ class Page:
                    + plural(self.results.run_count, "run"), "")
         if totals.crashed:
             yield tile(totals.crashed, "crashed", "bad")
-        yield tile(unseen, "not seen whole", "warn" if unseen else "good" if self.results.runs else "")
+        yield tile(unseen, "incomplete", "warn" if unseen else "good" if self.results.runs else "")
         hidden = sum(not finding.counts for finding in self.results.all_places())
         if hidden:
             yield tile(hidden, "suppressed or known", "")
@@ -117,9 +117,9 @@ class Page:
                  for trouble in (*run.troubles, run.failure) if trouble]
         if self.results.unchecked_count() and self.results.lists_unchecked:
             lines.append(f"not checked: {unchecked_text(self.results, 1000)}")
-        count = self.results.totals().not_whole
+        count = self.results.totals().incomplete
         if count:
-            lines.append(f"{plural(count, 'process')} {'was' if count == 1 else 'were'} not seen whole: the list of "
+            lines.append(f"{plural(count, 'process')} {'was' if count == 1 else 'were'} incomplete: the list of "
                          "processes says why.")
         if lines:
             yield tag("div", "".join(tag("p", escape(line)) for line in lines), class_="banner", role="status")
@@ -135,7 +135,7 @@ class Page:
         for position, finding in enumerate(findings[:MAX_FINDINGS]):
             yield self.card(finding, position)
         if not findings:
-            text = "No reports." if self.results.is_whole() else "No reports, but not all was seen."
+            text = "No reports." if self.results.is_complete() else "No reports, but not all was seen."
             yield tag("p", text, class_="empty")
         if len(findings) > MAX_FINDINGS:
             yield tag("p", f"The first {number(MAX_FINDINGS)} of {number(len(findings))} places.", class_="dim")
@@ -252,13 +252,13 @@ class Page:
         """Returns what is to be said of processes, for the head under which they are folded away."""
         totals = self.results.totals()
         crashed = totals.crashed + totals.crashes_suppressed + totals.crashes_known
-        counts = ((totals.not_whole, "not seen whole"), (totals.abrupt, "ended abruptly"), (crashed, "crashed"))
+        counts = ((totals.incomplete, "incomplete"), (totals.abrupt, "ended abruptly"), (crashed, "crashed"))
         said = [f"{number(count)} {text}" for count, text in counts if count]
-        return f"{number(totals.processes)}: " + (", ".join(said) or "all seen whole" if totals.processes else "none")
+        return f"{number(totals.processes)}: " + (", ".join(said) or "all complete" if totals.processes else "none")
 
     def processes(self) -> Iterator[str]:
         rows = [(run, process) for run in self.results.runs for process in run.processes.values()]
-        rows.sort(key=lambda row: (row[1].is_whole, not row[1].is_crash))
+        rows.sort(key=lambda row: (row[1].is_complete, not row[1].is_crash))
         for run, process in rows[:MAX_PROCESSES]:
             yield self.process(run, process)
         if len(rows) > MAX_PROCESSES:
@@ -267,10 +267,10 @@ class Page:
 
     @staticmethod
     def process(run: Run, process: Process) -> str:
-        whole = "yes" if process.is_whole else "no"
-        why = f"{whole}: {process.why}" if process.why else whole
+        complete = "yes" if process.is_complete else "no"
+        why = f"{complete}: {process.why}" if process.why else complete
         reports = process.reports + process.findings
-        kind = "no" if process.is_crash else "dim" if process.is_abrupt else whole
+        kind = "no" if process.is_crash else "dim" if process.is_abrupt else complete
         return tag("tr", tag("td", str(process.pid), class_="n", data_value=process.pid)
                    + tag("td", escape(command_line(process.command or run.command)), class_="mono")
                    + tag("td", number(process.events), class_="n", data_value=process.events)

@@ -43,7 +43,7 @@ class Hub:
         self.commands: Commands = {}
 
     def read(self, descriptor: int) -> None:
-        """Reads all packets. If the hub goes away before its last one, the run counts as not seen whole."""
+        """Reads all packets. If the hub goes away before its last one, the run counts as incomplete."""
         try:
             packets = socket.socket(fileno=os.dup(descriptor))
         except OSError:
@@ -110,7 +110,7 @@ class Hub:
             process = process._replace(address=before.address, access=before.access, crash=before.crash,
                                        stack=before.stack, threads=before.threads)
         if process.number in self.lost:
-            process = process._replace(is_whole=False, is_abrupt=False, why="its reports did not arrive")
+            process = process._replace(is_complete=False, is_abrupt=False, why="its reports did not arrive")
         processes[process.number] = process
         if not descriptors or self.gatherer is None or process.number >= MAX_PROCESSES:
             return

@@ -91,7 +91,7 @@ def process_line(process: Process, run: int, crash: Optional[Crash], encode: Cal
         kept += "," + json.dumps(named, separators=SHORT)[1:-1]
     return (f'{{"type":"process","run":{run},"n":{process.number},"pid":{process.pid},"parent":{process.parent},'
             f'"command":{encode(process.command)},"fate":{encode(process.fate)},"events":{process.events},'
-            f'"reports":{process.reports},"whole":{encode(process.is_whole)},"left_out":{process.left_out},'
+            f'"reports":{process.reports},"whole":{encode(process.is_complete)},"left_out":{process.left_out},'
             f'"why":{encode(process.why)}{kept}}}')
 
 

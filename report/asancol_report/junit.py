@@ -1,5 +1,5 @@
 """The report as JUnit XML: a test case for each run. It passes if no report and no crash counts, the command did not
-fail, and all was seen whole."""
+fail, and all was complete."""
 
 from __future__ import annotations
 
@@ -15,7 +15,7 @@ from .findings import Finding, place_text
 from .options import Options
 from .results import Process, Results, Run
 from .sources import Sources
-from .text import abrupt_lines, Colors, not_whole_lines, Text
+from .text import abrupt_lines, Colors, incomplete_lines, Text
 from .words import command_line, date_and_time, printable, shown_path
 
 # What XML 1.0 does not allow, whether it is escaped or not.
@@ -77,7 +77,7 @@ def named_place(finding: Finding, root: str) -> str:
 
 
 def unseen(run: Run) -> List[str]:
-    lines = not_whole_lines(process for process in run.processes.values() if not process.is_whole)
+    lines = incomplete_lines(process for process in run.processes.values() if not process.is_complete)
     return [*lines, *(f"asancol: {trouble}" for trouble in run.troubles)]
 
 
@@ -91,8 +91,8 @@ def outcome(number: int, places: List[Finding], results: Results, root: str) -> 
     if places:
         body = failure(places, number, results, root)
         return "failure", body + (f"<system-err>{text_of(said)}</system-err>" if said else "")
-    if not run.is_whole:
-        return "error", element("error", "not seen whole", lines[0], said)
+    if not run.is_complete:
+        return "error", element("error", "incomplete", lines[0], said)
     if run.failure:
         return "failure", element("failure", "command", run.failure, said)
     return "", f"<system-out>{text_of(abrupt)}</system-out>" if abrupt else ""

@@ -9,7 +9,7 @@ from typing import Callable, List, Optional, TextIO, Tuple
 
 from . import options as command_line
 from . import option_table, RELEASE
-from .errors import Broken, CLEAN, COUNTS, FAILED, NOT_WHOLE, reason, REFUSED, Refused
+from .errors import Broken, CLEAN, COUNTS, FAILED, INCOMPLETE, reason, REFUSED, Refused
 from .files import write_file
 from .findings import Finding
 from .gather import Gatherer
@@ -206,7 +206,7 @@ class Report:
     def write(self) -> None:
         results = self.results
         says_unchecked = results.lists_unchecked and results.unchecked_count() > 0
-        is_clean = not results.counted() and results.is_whole() and not results.has_crash() and not says_unchecked
+        is_clean = not results.counted() and results.is_complete() and not results.has_crash() and not says_unchecked
         if self.options.has_text and not (self.options.switches["--quiet"] and is_clean):
             try:
                 self.text.report(self.results, self.is_live)
@@ -240,7 +240,7 @@ class Report:
             return FAILED
         if self.results.counted():
             return COUNTS
-        return CLEAN if self.results.is_whole() else NOT_WHOLE
+        return CLEAN if self.results.is_complete() else INCOMPLETE
 
 
 def results_at(path: str) -> List[str]:

@@ -23,7 +23,7 @@ class Process(NamedTuple):
     fate: str
     events: int
     reports: int
-    is_whole: bool
+    is_complete: bool
     left_out: int
     why: str
     kept: str = ""  # where its trace was kept
@@ -81,8 +81,8 @@ class Run:
         self.processes: Dict[int, Process] = {}
 
     @property
-    def is_whole(self) -> bool:
-        return not self.troubles and all(process.is_whole for process in self.processes.values())
+    def is_complete(self) -> bool:
+        return not self.troubles and all(process.is_complete for process in self.processes.values())
 
     @property
     def failure(self) -> str:
@@ -93,16 +93,16 @@ class Run:
 
     @property
     def troubles(self) -> List[str]:
-        """Why the run was not seen whole, but for its processes."""
+        """Why the run was incomplete, but for its processes."""
         troubles = []
         if not self.has_ended:
-            troubles.append("NOT ALL SEEN: asancol-run ended before the run did")
+            troubles.append("INCOMPLETE: asancol-run ended before the run did")
         # A result without these lines has the fields all the same.
         fields = {"nothing": self.is_nothing, "missing": self.missing, "running": self.is_running,
                   "timed_out": self.has_timed_out, "lost": self.lost}
-        troubles += self.said or [f"NOT ALL SEEN: {name}" for name, value in fields.items() if value]
+        troubles += self.said or [f"INCOMPLETE: {name}" for name, value in fields.items() if value]
         if self.cut:
-            troubles.append(f"NOT ALL SEEN: {self.cut}")
+            troubles.append(f"INCOMPLETE: {self.cut}")
         return troubles
 
 
@@ -115,7 +115,7 @@ class Totals(NamedTuple):
     known: int
     processes: int
     events: int
-    not_whole: int
+    incomplete: int
     abrupt: int
     crashed: int
     crashes_suppressed: int
@@ -264,8 +264,8 @@ class Results:
                     finding.follows = head
                     head.also.append(finding)
 
-    def not_whole(self) -> List[Tuple[Run, Process]]:
-        return [(run, process) for run in self.runs for process in run.processes.values() if not process.is_whole]
+    def incomplete(self) -> List[Tuple[Run, Process]]:
+        return [(run, process) for run in self.runs for process in run.processes.values() if not process.is_complete]
 
     def abrupt(self) -> List[Process]:
         return [process for run in self.runs for process in run.processes.values() if process.is_abrupt]
@@ -273,7 +273,7 @@ class Results:
     def crashes(self) -> List[Process]:
         """Returns those that count and have no other line."""
         processes = [run.processes[number] for run in self.runs for number in sorted(run.processes)]
-        return [it for it in processes if it.is_crash and not it.is_abrupt and (it.is_whole or it.stack)
+        return [it for it in processes if it.is_crash and not it.is_abrupt and (it.is_complete or it.stack)
                 and self.has_counted_crash(it)]
 
     def has_counted_crash(self, process: Process) -> bool:
@@ -283,8 +283,8 @@ class Results:
     def has_crash(self) -> bool:
         return any(crash.counts for crash in self.crash_places.values())
 
-    def is_whole(self) -> bool:
-        return bool(self.runs) and all(run.is_whole for run in self.runs) and not (
+    def is_complete(self) -> bool:
+        return bool(self.runs) and all(run.is_complete for run in self.runs) and not (
             self.demands_checked and self.unchecked_count())
 
     def unchecked(self) -> List[str]:
@@ -317,7 +317,7 @@ class Results:
         processes = [process for run in self.runs for process in run.processes.values()]
         crashes = list(self.crash_places.values())
         return Totals(reports, places, suppressed, known, len(processes), sum(it.events for it in processes),
-                      sum(not it.is_whole for it in processes), sum(it.is_abrupt for it in processes),
+                      sum(not it.is_complete for it in processes), sum(it.is_abrupt for it in processes),
                       sum(it.count for it in crashes if it.counts), sum(it.count for it in crashes if it.suppression),
                       sum(it.count for it in crashes if it.is_known and not it.suppression),
                       sum(len(run.troubles) for run in self.runs), self.unchecked_count(), by_recorder,

@@ -150,8 +150,8 @@ def rule(name: str) -> Part:
 
 
 def invocation(run: Run) -> Part:
-    texts = [f"process {process.pid} {command_line(process.command[:1])} was not seen whole: {process.why}"
-             for process in run.processes.values() if not process.is_whole] + run.troubles
+    texts = [f"process {process.pid} {command_line(process.command[:1])} was incomplete: {process.why}"
+             for process in run.processes.values() if not process.is_complete] + run.troubles
     notes = [f"process {process.pid} {command_line(process.command[:1])} {process.why}: seen up to there"
              for process in run.processes.values() if process.is_abrupt]
     notes += [f"not checked: {', '.join(run.unchecked)}"] * bool(run.unchecked)

@@ -177,7 +177,7 @@ class Text:
     def summary(self, results: Results) -> Iterator[str]:
         yield from self.crashes(results, results.crashes())
         yield from abrupt_lines(results.abrupt())
-        yield from not_whole_lines([process for _, process in results.not_whole()])
+        yield from incomplete_lines([process for _, process in results.incomplete()])
         for run in results.runs:
             for trouble in run.troubles:
                 yield f"asancol: {self.run_name(run, results)}{printable(trouble)}"
@@ -237,8 +237,8 @@ def abrupt_lines(processes: Iterable[Process]) -> Iterator[str]:
     return lines_of(processes, lambda it: f"{printable(it.why)}: seen up to there")
 
 
-def not_whole_lines(processes: Iterable[Process]) -> Iterator[str]:
-    return lines_of(processes, lambda it: f"NOT SEEN WHOLE: {printable(it.why)}")
+def incomplete_lines(processes: Iterable[Process]) -> Iterator[str]:
+    return lines_of(processes, lambda it: f"INCOMPLETE: {printable(it.why)}")
 
 
 def lines_of(processes: Iterable[Process], text_of: Callable[[Process], str]) -> Iterator[str]:
@@ -268,7 +268,8 @@ def seen_text(results: Results, finding: Finding) -> str:
 
 
 def totals_line(results: Results) -> str:
-    """Returns the summary. asancol-run says the same of one run (`put_whole`), and prints it if it needs no report."""
+    """Returns the summary. asancol-run says the same of one run (`put_completeness`), and prints it if it needs no
+    report."""
     totals = results.totals()
     reports = "no reports"
     if totals.places:
@@ -284,12 +285,12 @@ def totals_line(results: Results) -> str:
         processes += f" in {plural(results.run_count, 'run')}"
     words = [f"asancol: {reports}", f"{processes}, {plural(totals.events, 'event')}"]
     seen = []
-    if totals.not_whole:
-        seen.append(f"{totals.not_whole} NOT SEEN WHOLE")
+    if totals.incomplete:
+        seen.append(f"{totals.incomplete} INCOMPLETE")
     elif totals.troubles or not results.runs:
-        seen.append("NOT SEEN WHOLE")
+        seen.append("INCOMPLETE")
     elif not totals.unchecked:
-        seen.append("all seen whole")
+        seen.append("all complete")
     if totals.abrupt:
         seen.append(f"{totals.abrupt} ended abruptly")
     if totals.crashed:

@@ -95,7 +95,7 @@ LOOKS = r"""
 
 FREED, OVERFLOW = "heap-use-after-free", "heap-buffer-overflow"
 WANTED = {
-    "title": "asancol: 4 reports at 2 places; 2 processes, 29 events; 1 NOT SEEN WHOLE",
+    "title": "asancol: 4 reports at 2 places; 2 processes, 29 events; 1 INCOMPLETE",
     "all": [OVERFLOW, FREED],
     "words": [FREED],
     "found": "1 of 2 places match.",

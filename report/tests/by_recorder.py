@@ -72,7 +72,7 @@ def each_kind(folder: str) -> None:
     expect(ran.status, 1, ran.err)
     titles = re.findall(r"^==7==ERROR: asancol: (.*)$", ran.out, re.M)
     expect(titles, list(TITLES), "titles, in the order of what came before")
-    expect_in(ran.out, "asancol: 14 reports at 13 places (14 by the recorder); 1 process, 9 events; all seen whole\n",
+    expect_in(ran.out, "asancol: 14 reports at 13 places (14 by the recorder); 1 process, 9 events; all complete\n",
               "0x2000 is byte 0 of a block of 40 bytes\n  allocated at\n", "in make ",
               "0x2004 is byte 4 of a block of 16", "0x2000 is byte 0 of a freed block of 16 bytes",
               "\nDirect leak of 24 byte(s) in 3 object(s) allocated from:\n    #0 ",
@@ -205,7 +205,7 @@ def merged_processes(folder: str) -> None:
     feed = Feed(folder)
     feed.begin("run-2")
     feed.process(0, findings=1)
-    expect_in(feed.end().out, "NOT SEEN WHOLE: its reports did not arrive")
+    expect_in(feed.end().out, "INCOMPLETE: its reports did not arrive")
 
 
 @report_test
@@ -337,4 +337,4 @@ def what_is_no_finding(folder: str) -> None:
     expect_not_in(report(folder, "--trace", "c.trace").out, "in use ")
     write_trace(folder, "d.trace", CLEAN, of_program(program, [], (), findings_lost=3))
     expect_in(report(folder, "--trace", "d.trace").out,
-              "NOT SEEN WHOLE: its recorder had no room for 3 of its findings")
+              "INCOMPLETE: its recorder had no room for 3 of its findings")

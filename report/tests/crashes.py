@@ -46,7 +46,7 @@ def crash_is_in_every_output(folder: str) -> None:
     ran = feed_crashes(folder, "--json", "a.jsonl").end()
     expect(ran.status, 0, ran.out)
     expect_in(ran.out, "asancol: 2 processes (101, 102) ./program: ended by SIGSEGV, at address 0x10\n    #0 0x",
-              "asancol: no reports; 4 processes, 36 events; all seen whole, 3 crashed\n")
+              "asancol: no reports; 4 processes, 36 events; all complete, 3 crashed\n")
     (failure,) = test_case(folder).getElementsByTagName("failure")
     expect(failure.getAttribute("type"), "SEGV", "type")
     expect_in(failure.getAttribute("message"), "SEGV: ended by SIGSEGV, at address 0x10 in use program.c:7")
@@ -122,7 +122,7 @@ def crash_is_suppressed_by_its_class(folder: str) -> None:
     """What is said of reports alone, or of a whole library, is not meant for crashes."""
     feed_crashes(folder, "--json", "a.jsonl").end()
     for rule, says, lines in (
-        ("at:SEGV:use@program.c", "all seen whole, 1 crashed, 2 crashes suppressed", 1),
+        ("at:SEGV:use@program.c", "all complete, 1 crashed, 2 crashes suppressed", 1),
         ("SEGV:*", "3 crashes suppressed", 0), ("*:*", "3 crashed\n", 2), ("src:program.c", "3 crashed\n", 2),
         ("at:*:use", "3 crashed\n", 2), ("ABRT:*", "3 crashed\n", 2),
     ):
@@ -147,7 +147,7 @@ def crash_is_known_from_a_baseline(folder: str) -> None:
     feed_crashes(folder, "--json", "a.jsonl").end()
     ran = report(folder, "a.jsonl", "--baseline", "a.jsonl")
     expect_in(ran.out, "asancol: no reports; 4 processes, 36 events; ",
-              "all seen whole, 3 crashes known from the baseline\n")
+              "all complete, 3 crashes known from the baseline\n")
     found = [it.get("baseline") for it in entries(folder, "--baseline", "a.jsonl")[1:]]
     expect(found, [None, *["unchanged"] * 3], "JSON lines")
     # An earlier release has no fingerprints of crashes. All that it says is read, and the crash counts.
@@ -164,7 +164,7 @@ def crash_is_known_from_a_baseline(folder: str) -> None:
 def crash_after_a_report_says_so(folder: str) -> None:
     ran = feed_crashes(folder, "--json", "a.jsonl", reports=FREED).end()
     expect(ran.status, 1, ran.out)
-    expect_in(ran.out, "1 report at 1 place; 4 processes, 36 events; all seen whole, 3 crashed\n")
+    expect_in(ran.out, "1 report at 1 place; 4 processes, 36 events; all complete, 3 crashed\n")
     document = json.loads(report(folder, "a.jsonl", "--sarif", "-").out)
     expect([it["message"]["text"].partition(",")[2] for it in document["runs"][0]["results"]],
            [" byte 0 of a freed block of 16 bytes", " at address 0x10",

@@ -36,7 +36,7 @@ def cut_at_each_line(folder: str) -> None:
         ran = report(folder, "cut.jsonl", "--json", "again.jsonl", "--junit", "out.xml", "--sarif", "out.sarif")
         expect(ran.status, 4, f"{count} lines: {ran.out}")
         expect_in(ran.err, "asancol-report: cut.jsonl is cut: it has ")
-        expect_in(ran.out, "NOT ALL SEEN: cut.jsonl is cut: it has ", "; NOT SEEN WHOLE\n")
+        expect_in(ran.out, "INCOMPLETE: cut.jsonl is cut: it has ", "; INCOMPLETE\n")
         expect(ran.out.count("ERROR"), sum('"type":"finding"' in line for line in lines[:count]), "reports")
         # Those that are made of it do not forget that.
         (suite,) = xml.dom.minidom.parse(f"{folder}/out.xml").getElementsByTagName("testsuite")
@@ -49,7 +49,7 @@ def cut_at_each_line(folder: str) -> None:
     write(folder, "cut\x1b.jsonl", "".join(lines)[:-9])
     ran = report(folder, "cut\x1b.jsonl", "0.jsonl")
     expect(ran.status, 4, "within a line")
-    expect_in(ran.out, "asancol: cut\\x1b.jsonl: NOT ALL SEEN: cut\\x1b.jsonl:12: not a result of ",
+    expect_in(ran.out, "asancol: cut\\x1b.jsonl: INCOMPLETE: cut\\x1b.jsonl:12: not a result of ",
               "2 reports at 2 places; 6 processes in 3 runs")
 
 
@@ -78,12 +78,12 @@ def cut_beside_others(folder: str) -> None:
     """Files one after another in one, runs that are there already, and lines of earlier and later releases."""
     lines = leave_runs(folder)
     for name, text, status, message in (
-        ("two in one", "".join(lines) * 2, 1, "6 processes in 3 runs, 54 events; all seen whole"),
+        ("two in one", "".join(lines) * 2, 1, "6 processes in 3 runs, 54 events; all complete"),
         ("a cut one before a whole one", "".join(lines[:3] + lines), 4, "cut.jsonl is cut: it has 1 of 3 runs"),
         ("a cut one after a whole one", "".join(lines + lines[:5]), 4, "cut.jsonl is cut: it has 2 of 3 runs"),
         ("without a process", "".join(lines[:1] + lines[2:]), 4, "cut.jsonl is cut: it has 1 of 2 processes of run 0"),
         ("without a finding", "".join(lines[:3] + lines[4:]), 4, "cut.jsonl is cut: it has 0 of 1 finding of run 0"),
-        ("another type", "".join(lines) + '{"type":"later"}\n', 1, "54 events; all seen whole"),
+        ("another type", "".join(lines) + '{"type":"later"}\n', 1, "54 events; all complete"),
     ):
         write(folder, "cut.jsonl", text)
         ran = report(folder, "cut.jsonl")
@@ -94,7 +94,7 @@ def cut_beside_others(folder: str) -> None:
     for name in ("runs", "processes", "findings"):
         del entries[0][name]
     write(folder, "old.jsonl", "".join(json.dumps(entry) + "\n" for entry in entries))
-    expect_in(report(folder, "old.jsonl").out, "no reports; 2 processes, 18 events; all seen whole")
+    expect_in(report(folder, "old.jsonl").out, "no reports; 2 processes, 18 events; all complete")
 
 
 @report_test
@@ -125,12 +125,12 @@ def others_are_reported(folder: str) -> None:
     leave_runs(folder)
     ran = report(folder, "missing.jsonl", "1.jsonl", "--json", "all.jsonl")
     expect((ran.status, ran.err), (4, "asancol-report: missing.jsonl: No such file or directory\n"), "results")
-    expect_in(ran.out, "store of 4 bytes", "NOT ALL SEEN: missing.jsonl: No such file or directory", "NOT SEEN WHOLE")
+    expect_in(ran.out, "store of 4 bytes", "INCOMPLETE: missing.jsonl: No such file or directory", "INCOMPLETE")
     expect(report(folder, "all.jsonl").status, 1, "merged")
     write_trace(folder, "a.trace", FREED + END)
     ran = report(folder, "--trace", "missing.trace", "a.trace")
     expect((ran.status, ran.err), (4, "asancol-report: missing.trace: No such file or directory\n"), "traces")
-    expect_in(ran.out, "load of 4 bytes", "NOT ALL SEEN: missing.trace: No such file or directory", "NOT SEEN WHOLE")
+    expect_in(ran.out, "load of 4 bytes", "INCOMPLETE: missing.trace: No such file or directory", "INCOMPLETE")
     os.unlink(f"{folder}/1.jsonl")
     ran = report(folder, "missing.jsonl", "1.jsonl", "--json", "none.jsonl")
     expect((ran.status, ran.out, os.path.exists(f"{folder}/none.jsonl")), (4, "", False), "no file is there")
@@ -142,9 +142,9 @@ def results_are_renewed(folder: str) -> None:
     leave_runs(folder)
     ran = report(folder, "0.jsonl", "1.jsonl", "--json", "0.jsonl")
     expect((ran.status, ran.err), (1, ""), ran.out)
-    expect_in(report(folder, "0.jsonl").out, "2 reports at 2 places; 4 processes in 2 runs, 36 events; all seen whole")
+    expect_in(report(folder, "0.jsonl").out, "2 reports at 2 places; 4 processes in 2 runs, 36 events; all complete")
     ran = report(folder, "all.jsonl", "--baseline", "0.jsonl", "--json", "0.jsonl")
     expect_in(ran.out, "1 report at 1 place, 2 places known from the baseline")
     expect(report(folder, "all.jsonl", "--baseline", "0.jsonl").status, 0, "the renewed baseline")
     report(folder, "2.jsonl", "--json", "0.jsonl", "--html", "/dev/null", "--sarif", "/dev/null")
-    expect_in(report(folder, "0.jsonl").out, "1 report at 1 place; 2 processes, 18 events; all seen whole")
+    expect_in(report(folder, "0.jsonl").out, "1 report at 1 place; 2 processes, 18 events; all complete")

@@ -1,4 +1,4 @@
-"""How the page looks, in a real browser: one report, many, crashes, nothing found, and what was not seen whole."""
+"""How the page looks, in a real browser: one report, many, crashes, nothing found, and what was incomplete."""
 
 import html.parser
 import json
@@ -68,7 +68,7 @@ def write_pages(folder: str) -> List[str]:
     limit = "reached the event limit: 21 of 30 events were not recorded"
     write_page(folder, "unseen", [process(0), process(1, whole=False, why=limit),
                                   process(2, abrupt=True, why="ended abruptly, by SIGKILL")], lost=1,
-               troubles=["NOT ALL SEEN: 1 run inside this one left no result"], unchecked=["libold.so"])
+               troubles=["INCOMPLETE: 1 run inside this one left no result"], unchecked=["libold.so"])
     return ["one", "many", "crash", "nothing", "unseen"]
 
 

@@ -71,7 +71,7 @@ def folders_stand_for_results(folder: str) -> None:
     os.mkdir(f"{folder}/empty")
     ran = report(folder, "empty")
     expect(ran.status, 3, "nothing is there")
-    expect_in(ran.out, "0 processes, 0 events; NOT SEEN WHOLE")
+    expect_in(ran.out, "0 processes, 0 events; INCOMPLETE")
     with open(f"{folder}/farm/5.jsonl", "w", encoding="utf-8") as file:
         file.write("cut")
     ran = report(folder, "farm")

@@ -40,7 +40,7 @@ def runs_are_merged(folder: str) -> None:
         feed.end()
     ran = report(folder, "0.jsonl", "1.jsonl", "2.jsonl", "1.jsonl", "--json", "all.jsonl")
     expect_in(ran.out, "(2 times, 2 processes)",
-              "2 reports at 1 place; 3 processes in 3 runs, 27 events; all seen whole")
+              "2 reports at 1 place; 3 processes in 3 runs, 27 events; all complete")
     again = report(folder, "2.jsonl", "all.jsonl", "0.jsonl")
     expect((again.status, again.out), (ran.status, ran.out), "merged again")
 
@@ -50,18 +50,18 @@ def what_was_not_checked(folder: str) -> None:
     """Names of several runs stand once, and what a packet had no room for is counted."""
     both = {"unchecked": ["u.o"], "unchecked_more": 7, "system": ["libz.so.1"]}
     runs: List[Tuple[str, Dict[str, Any], str]] = [
-        ("a", {"system": ["libz.so.1"]}, "all seen whole; not checked: 1 library of the system\n"),
-        ("b", {"system": ["libz.so.1"], "system_more": 2}, "all seen whole; not checked: 3 libraries of the system\n"),
+        ("a", {"system": ["libz.so.1"]}, "all complete; not checked: 1 library of the system\n"),
+        ("b", {"system": ["libz.so.1"], "system_more": 2}, "all complete; not checked: 3 libraries of the system\n"),
         ("c", {"unchecked": ["u.o", "v.o"]}, " events; not checked: u.o, v.o\n"),
         ("d", both, " events; not checked: u.o and 7 more, and 1 library of the system\n"),
-        ("e", {"system_more": 0}, " events; all seen whole\n"),
+        ("e", {"system_more": 0}, " events; all complete\n"),
     ]
     for name, entry, text in runs:
         feed = Feed(folder, "--json", name)
         feed.begin(name)
         feed.process(0)
         expect_in(feed.end(**entry).out, text)
-    for names, text in (("ab", "all seen whole; not checked: 3 libraries of the system\n"),
+    for names, text in (("ab", "all complete; not checked: 3 libraries of the system\n"),
                         ("abcde", " events; not checked: u.o, v.o and 7 more, and 3 libraries of the system\n")):
         expect_in(report(folder, *names, "--json", "all").out, text)
         expect_in(report(folder, "all").out, text)
@@ -87,7 +87,7 @@ def bad_results(folder: str) -> None:
         expect(ran.status, 4, message)
         expect_in(ran.err, message)
         if text.startswith(run):
-            expect_in(ran.out, "asancol: bad.jsonl: NOT ALL SEEN: bad.jsonl:2: not a", "; NOT SEEN WHOLE\n")
+            expect_in(ran.out, "asancol: bad.jsonl: INCOMPLETE: bad.jsonl:2: not a", "; INCOMPLETE\n")
         else:
             expect(ran.out, "", message)
     expect_in(report(folder, "missing.jsonl").err, "asancol-report: missing.jsonl: No such file or directory\n")
@@ -188,7 +188,7 @@ def junit(folder: str) -> None:
     expect(failure.getAttribute("type"), "heap-buffer-overflow", "type")
     expect_in(failure.firstChild.data, "byte 0 of a freed block")
     expect(len(passed.childNodes), 0, "a run that passed")
-    expect_in(broken.getElementsByTagName("error")[0].getAttribute("message"), "\\xff\\x1b[31m", "NOT SEEN WHOLE")
+    expect_in(broken.getElementsByTagName("error")[0].getAttribute("message"), "\\xff\\x1b[31m", "INCOMPLETE")
 
 
 @report_test

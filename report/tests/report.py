@@ -34,7 +34,7 @@ WANTED_TEXT = """\
   freed at
     #0 AT in drop program.c:14
 
-asancol: 4 reports at 2 places; 1 process, 9 events; all seen whole
+asancol: 4 reports at 2 places; 1 process, 9 events; all complete
 SUMMARY: asancol: heap-buffer-overflow program.c:14 in drop
 """
 
@@ -71,25 +71,25 @@ def trace_without_side_file(folder: str) -> None:
 def trace_ends(folder: str) -> None:
     """What an end without a close comes to."""
     for fate, parts, status, text in (
-        ("no-close", side(ending=3, signal=6, events=9), 0, "all seen whole"),
-        ("no-close", side(ending=2, events=9), 0, "all seen whole"),
-        ("no-close", side(ending=1, events=8, needed=10), 0, "all seen whole"),
-        ("no-close", side(ending=1, events=10), 3, "NOT SEEN WHOLE: its trace ended as no-close"),
+        ("no-close", side(ending=3, signal=6, events=9), 0, "all complete"),
+        ("no-close", side(ending=2, events=9), 0, "all complete"),
+        ("no-close", side(ending=1, events=8, needed=10), 0, "all complete"),
+        ("no-close", side(ending=1, events=10), 3, "INCOMPLETE: its trace ended as no-close"),
         ("no-close", side(ending=1, events=9, needed=11), 3, "it ended: its last events were not seen, at least 1"),
         ("no-close", side(ending=1, events=9, noted=1), 3, "it ended: a bad access or free was not recorded before"),
         ("closed", side(events=9, noted=1), 3, "it ended: a bad access or free was not recorded before"),
         ("closed", side(events=9, is_at_limit=True), 3, "reached the event limit, and was not seen to end"),
         ("no-close", side(ending=3, signal=6, events=9, has_begun=0), 3,
-         "NOT SEEN WHOLE: ended by SIGABRT before main"),
-        ("closed", side(events=9, has_checks=0), 3, "NOT SEEN WHOLE: no code of it was compiled by asancol-cc"),
+         "INCOMPLETE: ended by SIGABRT before main"),
+        ("closed", side(events=9, has_checks=0), 3, "INCOMPLETE: no code of it was compiled by asancol-cc"),
         ("closed", side(events=9, starts=1), 3, "ended in a call of the recorder's own, or before an exec"),
-        ("no-close", side(ending=0, needed=9), 3, "NOT SEEN WHOLE: its trace ended as no-close"),
+        ("no-close", side(ending=0, needed=9), 3, "INCOMPLETE: its trace ended as no-close"),
         ("closed", side(events=9, quarantine=5), 0, "held back 5 bytes of freed memory (ASANCOL_QUARANTINE)"),
-        ("no-close", side(ending=3, signal=6, events=10), 3, "NOT SEEN WHOLE: its trace ended as no-close"),
-        ("no-close", side(ending=4, events=9), 3, "NOT SEEN WHOLE: its recording ended early"),
+        ("no-close", side(ending=3, signal=6, events=10), 3, "INCOMPLETE: its trace ended as no-close"),
+        ("no-close", side(ending=4, events=9), 3, "INCOMPLETE: its recording ended early"),
         ("too-many", side(left_out=21, events=9), 3, "reached the event limit: 21 of 30 events were not recorded"),
         ("malformed code", side(), 3,
-         "asancol: process 7 ./program: NOT SEEN WHOLE: its trace ended as malformed code"),
+         "asancol: process 7 ./program: INCOMPLETE: its trace ended as malformed code"),
     ):
         write_trace(folder, "d.trace", f"p0 end {fate} events 9 offset 99 reports 0\n", parts)
         ran = report(folder, "--trace", "d.trace")
@@ -112,7 +112,7 @@ def trace_of_a_killed_process(folder: str) -> None:
             file.write(b"\1" * 99 + rest)
         ran = report(folder, "--trace", "7.trace")
         expect(ran.status, 3, ran.out)
-        expect_in(ran.out, f": NOT SEEN WHOLE: {why}\n")
+        expect_in(ran.out, f": INCOMPLETE: {why}\n")
         for name in os.listdir(folder):
             if name.startswith("7.trace"):
                 os.remove(f"{folder}/{name}")
@@ -156,7 +156,7 @@ def trace_has_failures(folder: str) -> None:
         ran = report(folder, "--trace", *words, **settings)
         expect(ran.status, 4, text)
         expect_in(ran.err, text)
-        expect("NOT ALL SEEN: a.trace" in ran.out, settings.get("ASANCOL") == "/bin/false", ran.out)
+        expect("INCOMPLETE: a.trace" in ran.out, settings.get("ASANCOL") == "/bin/false", ran.out)
     ran = report(folder, "--trace", "a.trace", "a.trace", "./a.trace")
     expect_in(ran.out, "1 report at 1 place; 1 process, 9 events")
 
@@ -207,9 +207,9 @@ def run_is_fed(folder: str) -> None:
     expect((ran.status, ran.err), (1, ""), ran.out)
     expect_in(ran.out, "==100==ERROR: asancol: heap-use-after-free: load of 4 bytes (3 times, 2 processes)\n",
               "in use program.c:7", "in drop program.c:14",
-              "asancol: process 101 ./program: NOT SEEN WHOLE: "
+              "asancol: process 101 ./program: INCOMPLETE: "
               "reached the event limit: 4 of 9 events were not recorded\n"
-              "asancol: 3 reports at 1 place; 3 processes, 23 events; 1 NOT SEEN WHOLE\n")
+              "asancol: 3 reports at 1 place; 3 processes, 23 events; 1 INCOMPLETE\n")
     with open(f"{folder}/out.jsonl", encoding="utf-8") as file:
         entries = [json.loads(line) for line in file]
     expect([entry["type"] for entry in entries], ["run", "process", "process", "process", "finding"], "entries")
@@ -221,14 +221,14 @@ def run_is_fed(folder: str) -> None:
 def run_ends(folder: str) -> None:
     """What is not seen is said, and is status 3: as asancol-run says it, or else by the field that has it."""
     ends: List[Tuple[Dict[str, Any], int, str]] = [
-        ({}, 0, "asancol: no reports; 1 process, 9 events; all seen whole\n"),
-        ({"timed_out": True, "running": True, "troubles": ["NOT ALL SEEN: why", "and why"]}, 3,
-         "asancol: NOT ALL SEEN: why\nasancol: and why\nasancol: no reports; 1 process, 9 events; NOT SEEN WHOLE\n"),
-        ({"nothing": True}, 3, "asancol: NOT ALL SEEN: nothing\n"),
-        ({"missing": 2}, 3, "asancol: NOT ALL SEEN: missing\n"),
-        ({"running": True}, 3, "asancol: NOT ALL SEEN: running\n"),
-        ({"timed_out": True}, 3, "asancol: NOT ALL SEEN: timed_out\n"),
-        ({"lost": 1}, 3, "asancol: NOT ALL SEEN: lost\n"),
+        ({}, 0, "asancol: no reports; 1 process, 9 events; all complete\n"),
+        ({"timed_out": True, "running": True, "troubles": ["INCOMPLETE: why", "and why"]}, 3,
+         "asancol: INCOMPLETE: why\nasancol: and why\nasancol: no reports; 1 process, 9 events; INCOMPLETE\n"),
+        ({"nothing": True}, 3, "asancol: INCOMPLETE: nothing\n"),
+        ({"missing": 2}, 3, "asancol: INCOMPLETE: missing\n"),
+        ({"running": True}, 3, "asancol: INCOMPLETE: running\n"),
+        ({"timed_out": True}, 3, "asancol: INCOMPLETE: timed_out\n"),
+        ({"lost": 1}, 3, "asancol: INCOMPLETE: lost\n"),
     ]
     for more, status, text in ends:
         feed = Feed(folder)
@@ -251,12 +251,12 @@ def run_ends(folder: str) -> None:
 
 @report_test
 def command_fails(folder: str) -> None:
-    """A test case passes only if its command ended with 0, and all was seen whole."""
+    """A test case passes only if its command ended with 0, and all was complete."""
     ends: List[Tuple[Dict[str, Any], int, str, str, Optional[int]]] = [
         ({}, 0, "", "", 0),
         ({"status": 7}, 0, "failure", "the command ended with status 7", 7),
         ({"signal": 15}, 0, "failure", "the command was ended by SIGTERM", None),
-        ({"signal": 15, "timed_out": True}, 3, "error", "NOT ALL SEEN: timed_out", None),
+        ({"signal": 15, "timed_out": True}, 3, "error", "INCOMPLETE: timed_out", None),
         ({"status": 7, "reports": 1}, 1, "failure", "heap-use-after-free: load of 4 bytes", 7),
     ]
     for number, (more, status, kind, text, code) in enumerate(ends):
@@ -301,7 +301,7 @@ def run_takes_anything(folder: str) -> None:
     feed.process(5, FREED + END)
     ran = feed.end()
     expect_in(ran.out, "a message of asancol-run was not understood", "load of 4 bytes",
-              "process 6 lost: NOT SEEN WHOLE: its reports did not arrive")
+              "process 6 lost: INCOMPLETE: its reports did not arrive")
     expect(ran.err, "", "errors")
     ran = report(folder, "--run")
     expect(ran.status, 4, "no socket")
@@ -342,7 +342,7 @@ def run_gets_signals(folder: str) -> None:
                 feed.process(0, FREED + END, of_program(program, [freed_block(program)], [0, 0, 0, 0, 1]))
         ran = feed.end()
         expect((ran.status, ran.err), (1, ""), ran.out)
-        expect_in(ran.out, "load of 4 bytes", "in use ", "all seen whole")
+        expect_in(ran.out, "load of 4 bytes", "in use ", "all complete")
     feed = Feed(folder)
     feed.begin()
     expect(feed.finish().status, 3, "when its input ends")
@@ -365,7 +365,7 @@ def run_has_nested(folder: str) -> None:
     feed.begin("outer")
     ran = feed.end()
     expect(ran.status, 1, ran.out + ran.err)
-    expect_in(ran.out, "1 report at 1 place; 2 processes in 3 runs, 13 events; all seen whole")
+    expect_in(ran.out, "1 report at 1 place; 2 processes in 3 runs, 13 events; all complete")
     with open(f"{folder}/a.jsonl", "rb") as one, open(f"{folder}/b.jsonl", "rb") as other:
         expect(one.read(), other.read(), "both files")
 
@@ -385,7 +385,7 @@ def live(folder: str) -> None:
     expect(ran.out.count("ERROR"), 0, "later findings")
     expect(without_columns(ran.out).splitlines()[-3:], [
         "asancol: heap-use-after-free in use program.c:7: 2 times, 2 processes",
-        "asancol: 2 reports at 1 place; 2 processes, 18 events; all seen whole",
+        "asancol: 2 reports at 1 place; 2 processes, 18 events; all complete",
         "SUMMARY: asancol: heap-use-after-free program.c:7 in use"], "the end")
 
 

@@ -140,7 +140,7 @@ def run_has_a_bad_baseline(folder: str) -> None:
     ran = feed.end()
     line = "known.jsonl:2: not a result of asancol-report --json"
     expect((ran.status, ran.err), (4, f"asancol-report: {line}\n"), "at once")
-    expect_in(ran.out, "; all seen whole\nasancol: known.jsonl was not used\n")
+    expect_in(ran.out, "; all complete\nasancol: known.jsonl was not used\n")
     expect_not_in(ran.out, "not a result")
     with open(f"{folder}/out.jsonl", encoding="utf-8") as file:
         expect([it["text"] for it in map(json.loads, file) if it["type"] == "note"],

@@ -73,7 +73,7 @@ def check_burst(suite: Suite, folder: str, program: str) -> None:
         if reports == 1000:
             expect_ran(ran, 99, SEEN)
         else:
-            expect_ran(ran, 99, f"NOT SEEN WHOLE: ended abruptly, with status 0: its last events were not seen, "
+            expect_ran(ran, 99, f"INCOMPLETE: ended abruptly, with status 0: its last events were not seen, "
                        f"at least {1000 - reports}")
 
 
@@ -85,7 +85,7 @@ def check_sandbox(suite: Suite, folder: str, program: str) -> None:
         if way == "log":
             expect_ran(ran, 99, "in store_past")
         else:
-            expect_ran(ran, 98, "2 processes", "1 NOT SEEN WHOLE")
+            expect_ran(ran, 98, "2 processes", "1 INCOMPLETE")
 
 
 def check_forbidden(suite: Suite, folder: str, program: str) -> None:
@@ -93,11 +93,11 @@ def check_forbidden(suite: Suite, folder: str, program: str) -> None:
     program that it starts, would have done is not seen."""
     for forbidden, what in (("send", "allocate"), ("link", "spawn"), ("link", "vfork"), ("link", "exec")):
         ran = suite.run("--", program, "forbidden", forbidden, what, ASANCOL_REPORT=REPORT)
-        expect_ran(ran, 98, "ended in a call of the recorder's own", "; 1 NOT SEEN WHOLE")
+        expect_ran(ran, 98, "ended in a call of the recorder's own", "; 1 INCOMPLETE")
         ran = suite.run("--", program, "forbidden", "none", what, ASANCOL_REPORT=REPORT)
-        expect_ran(ran, 0 if what == "vfork" else 99, absent=["NOT SEEN WHOLE"])
+        expect_ran(ran, 0 if what == "vfork" else 99, absent=["INCOMPLETE"])
     for forbidden in ("send", "link"):
-        expect_ran(suite.run("--", program, "forbidden", forbidden, "nothing"), 0, absent=["NOT SEEN WHOLE"])
+        expect_ran(suite.run("--", program, "forbidden", forbidden, "nothing"), 0, absent=["INCOMPLETE"])
 
 
 def check_spawns(suite: Suite, folder: str, program: str) -> None:
@@ -107,13 +107,13 @@ def check_spawns(suite: Suite, folder: str, program: str) -> None:
     expect((ran.status, ran.err.count("ended abruptly, as by") <= 1), (0, True), ran.err)
     line = f"{program} spawns 3 '{shutil.which('sleep')}'"
     ran = suite.run("--wait", "0", "--", "sh", "-c", line)
-    expect_ran(ran, 0, "4 processes", NOT_CHECKED, absent=["ended abruptly", "NOT SEEN"])
+    expect_ran(ran, 0, "4 processes", NOT_CHECKED, absent=["ended abruptly", "INCOMPLETE"])
     ran = suite.run("-v", "--", program, "spawns", "1", program)
-    expect_ran(ran, 0, "seen whole: went on as another program", "3 processes", NOT_CHECKED,
-               absent=["ended abruptly", "NOT SEEN"])
+    expect_ran(ran, 0, "complete: went on as another program", "3 processes", NOT_CHECKED,
+               absent=["ended abruptly", "INCOMPLETE"])
     ran = suite.run("-v", "--", program, "spawns", "1", program, **UNSEEN)
     expect_ran(ran, 0, "ran another program, by an exec in a library", "3 processes", LIBRARIES,
-               absent=["ended abruptly", "NOT SEEN"])
+               absent=["ended abruptly", "INCOMPLETE"])
 
 
 def check_daemon(suite: Suite, folder: str, program: str) -> None:
@@ -146,11 +146,11 @@ def check_threads(suite: Suite, folder: str, program: str) -> None:
         status, _, said = killed(suite, [program, "churn"], 0, 0.03)
         expect("no reports" in said, True, said)
         # It is hardly ever killed just where it tries whether a filter lets it send.
-        expect((status, SEEN in said), ("98", False) if "NOT SEEN WHOLE" in said else ("0", True), said)
+        expect((status, SEEN in said), ("98", False) if "INCOMPLETE" in said else ("0", True), said)
 
 
 def check_stores(suite: Suite, folder: str, program: str) -> None:
-    """Never seen whole if a store that was made has no report."""
+    """Never complete if a store that was made has no report."""
     whole = 0
     for _ in range(TIMES):
         _, out, said = killed(suite, [program, "stores"], 0.005, 0.03, ASANCOL_REPORT=REPORT)
@@ -161,8 +161,8 @@ def check_stores(suite: Suite, folder: str, program: str) -> None:
             whole += 1
             expect(reports >= made, True, f"{made} stores were made: {said}")
         else:
-            expect("NOT SEEN WHOLE" in said, True, said)
-    expect(whole > 0, True, "that one was seen whole")
+            expect("INCOMPLETE" in said, True, said)
+    expect(whole > 0, True, "that one was complete")
 
 
 def check_forks(suite: Suite, folder: str, program: str, way: str) -> None:
@@ -170,12 +170,12 @@ def check_forks(suite: Suite, folder: str, program: str, way: str) -> None:
     for _ in range(20):
         status, _, said = killed(suite, [program, way], 0, 0.03)
         expect("no reports" in said, True, said)
-        expect(status, "98" if "NOT SEEN WHOLE" in said else "0", said)
+        expect(status, "98" if "INCOMPLETE" in said else "0", said)
 
 
 def check_idle(suite: Suite, folder: str, program: str) -> None:
     ran = suite.run("--", "timeout", "-s", "KILL", "0.4", suite.program, "sleeps", "30")
-    expect_ran(ran, -9, "ended abruptly", ": seen up to there", "all seen whole, 1 ended abruptly")
+    expect_ran(ran, -9, "ended abruptly", ": seen up to there", "all complete, 1 ended abruptly")
 
 
 def tests(suite: Suite) -> None:

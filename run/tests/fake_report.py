@@ -3,7 +3,7 @@
 
 FAKE says what it does: a status to end with; `dies`, at once; `hangs-up`: ends with 0 and reads nothing; `stays`: reads
 nothing and does not end; `killed`: by SIGKILL, after the first packet. Without it the status is 1 if there is a report,
-3 if a process was not seen whole, and else 0. Each line of FAKE_PACKETS has the words of the command line, or a packet
+3 if a process was incomplete, and else 0. Each line of FAKE_PACKETS has the words of the command line, or a packet
 and in it what came with it.
 """
 

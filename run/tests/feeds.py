@@ -129,7 +129,7 @@ def check_report_starts_early(suite: Suite, folder: str) -> None:
 
 
 def check_log(suite: Suite, folder: str) -> None:
-    for word, status, text in (("sound", 0, "all seen whole"), ("past", 99, "the report")):
+    for word, status, text in (("sound", 0, "all complete"), ("past", 99, "the report")):
         ran = suite.run("--log-file", "%q{WHO}-%p.log", "--", suite.program, word, cwd=folder, WHO="me")
         expect((ran.status, ran.err), (status, ""), word)
         (name,) = os.listdir(folder)
@@ -158,7 +158,7 @@ def check_closed_log(suite: Suite, folder: str) -> None:
 
 
 def check_keep(suite: Suite, folder: str) -> None:
-    """Traces of processes with a report, or not seen whole, stay. Those of others go, also after an abrupt end."""
+    """Traces of processes with a report, or incomplete, stay. Those of others go, also after an abrupt end."""
     kept = f"{folder}/kept"
     line = f"{suite.program} sound; {suite.program} past; {suite.program} kills_itself 9; {SEGMENTED} 1"
     packets = suite.packets(folder, "--keep", kept, "--", "sh", "-c", line)

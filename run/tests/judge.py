@@ -65,7 +65,7 @@ ENDS = [
         test="report.trace_of_a_killed_process"),
     End("ended abruptly, HOW: what came last was not seen", f"{GONE} needed=0"),
     End("it ended: MISSING", "noted=1"),
-    End("its trace ended as FATE", "close=0 events=20", test="segments.check_not_whole"),
+    End("its trace ended as FATE", "close=0 events=20", test="segments.check_incomplete"),
     End("no code of it was compiled by asancol-cc", "has_checks=0"),
     End("ended by SIGNAL", "close=0 ending=3 signal=11 kill=11", test="whole.check_crash"),
     End("ended by SIGNAL before main", "close=0 ending=3 signal=11 kill=11 has_begun=0",
@@ -123,16 +123,16 @@ def line_of(row: Row) -> str:
     why = WORDS.sub(".+", re.escape(row.why))
     if row.answer == "up to there":
         return f"ended: {why}: seen up to there\n"
-    if row.answer == "whole":
-        return f"ended: seen whole{': ' if why else ''}{why}, 11 events, 0 reports\n"
-    return f"ended: NOT SEEN WHOLE: {why}\n"
+    if row.answer == "complete":
+        return f"ended: complete{': ' if why else ''}{why}, 11 events, 0 reports\n"
+    return f"ended: INCOMPLETE: {why}\n"
 
 
 def check_end(suite: Suite, folder: str, row: Row, end: End) -> None:
     ran = suite.run("-v", *end.options, "--", ENDED, *end.words.split(), ASANCOL_REPORT=REPORT)
     kill = int((re.findall(r"kill=(\d+)", end.words) or ["0"])[0])
     expect(re.search(line_of(row), ran.err) is not None, True, f"{row}: {ran.err}")
-    expect(ran.status, -kill if row.answer in ("whole", "up to there") else 98, f"status of {row}")
+    expect(ran.status, -kill if row.answer in ("complete", "up to there") else 98, f"status of {row}")
 
 
 def text_of(ran: Ran) -> str:

@@ -44,7 +44,7 @@ def make(folder: str, compiler: str, text: str = PROGRAM, *flags: str) -> str:
 def check_forms(suite: Suite, folder: str, compiler: str) -> None:
     program = make(folder, compiler)
     ran = run_it(suite, "--", program, "two")
-    expect_ran(ran, 0, "asancol: no reports; 1 process, ", "all seen whole\n" + SUMMED, absent=["ERROR", "SUMMARY"])
+    expect_ran(ran, 0, "asancol: no reports; 1 process, ", "all complete\n" + SUMMED, absent=["ERROR", "SUMMARY"])
     ran = run_it(suite, "--leaks=no", "--", program, "two")
     expect_ran(ran, 0, "asancol: no reports; 1 process, ", absent=["leak"])
     ran = run_it(suite, "--quiet", "--", program, "two")
@@ -140,12 +140,12 @@ def check_stuck(suite: Suite, folder: str, compiler: str) -> None:
     program = make(folder, compiler, STUCK, "-pthread")
     said = f"asancol: leaks are not looked for: {program}: a thread does not stop\n"
     ran = run_it(suite, "--leaks=yes", "--", program)
-    expect_ran(ran, 98, said, "NOT SEEN WHOLE: leaks of it were not looked for, as if a thread does not stop\n")
+    expect_ran(ran, 98, said, "INCOMPLETE: leaks of it were not looked for, as if a thread does not stop\n")
     ran = run_it(suite, f"--json={folder}/out.json", "--", program)
     note = "asancol: leaks of a process were not looked for, as if a thread does not stop\n"
-    expect_ran(ran, 7, said, "all seen whole\n", note)
+    expect_ran(ran, 7, said, "all complete\n", note)
     expect_in(suite.run_words([REPORT, f"{folder}/out.json"]).out, note)
-    expect_ran(run_it(suite, "--leaks=no", "--", program), 7, "all seen whole\n", absent=["leaks"])
+    expect_ran(run_it(suite, "--leaks=no", "--", program), 7, "all complete\n", absent=["leaks"])
 
 
 # A program that installs a filter of system calls, and ends with status 7 if it is not ended by one.
@@ -185,10 +185,10 @@ def check_filtered(suite: Suite, folder: str, compiler: str) -> None:
     leaves at once, as in strict mode, ends as without the recorder: nobody looks for leaks then."""
     program = make(folder, compiler, FILTERED)
     for how, status, said in ((["strict", "leaves"], 7, "ended abruptly, with status 7: seen up to there"),
-                              (["kill"], 98, "NOT SEEN WHOLE: ended in a call of the recorder's own, "),
-                              (["errno"], 98, "NOT SEEN WHOLE: leaks of it were not looked for, ")):
+                              (["kill"], 98, "INCOMPLETE: ended in a call of the recorder's own, "),
+                              (["errno"], 98, "INCOMPLETE: leaks of it were not looked for, ")):
         expect_ran(run_it(suite, "--leaks=yes", "--", program, *how), status, said)
-    expect_ran(run_it(suite, "--", program, "errno"), 7, "all seen whole\n", "leaks of a process were not looked for")
+    expect_ran(run_it(suite, "--", program, "errno"), 7, "all complete\n", "leaks of a process were not looked for")
 
 
 def tests(suite: Suite) -> None:

@@ -18,7 +18,7 @@ def check_orphan(suite: Suite, folder: str, way: str) -> None:
 def check_orphan_for_too_long(suite: Suite, folder: str) -> None:
     begun = time.monotonic()
     ran = suite.run("--wait", "0.5", "--", "sh", "-c", f"{suite.program} orphan 3 > /dev/null 2>&1")
-    expect_ran(ran, 98, "NOT SEEN WHOLE: still ran at the end of asancol-run", "processes of the command still run")
+    expect_ran(ran, 98, "INCOMPLETE: still ran at the end of asancol-run", "processes of the command still run")
     if time.monotonic() - begun > 2.5:
         raise Failure("it has waited")
 
@@ -73,7 +73,7 @@ def check_group_signal(suite: Suite, folder: str) -> None:
 
 def check_killed_beside_others(suite: Suite, folder: str) -> None:
     line = f"{suite.program} sleeps 30 & sleep 0.3; kill -9 $!; {suite.program} sound"
-    expect_ran(suite.run("--", "sh", "-c", line), 0, "2 processes", "all seen whole, 1 ended abruptly")
+    expect_ran(suite.run("--", "sh", "-c", line), 0, "2 processes", "all complete, 1 ended abruptly")
 
 
 def check_killed_checker(suite: Suite, folder: str) -> None:
@@ -84,7 +84,7 @@ def check_killed_checker(suite: Suite, folder: str) -> None:
     os.chmod(checker, 0o755)
     line = f"{suite.program} sound; {suite.program} sound"
     ran = suite.run("--", "sh", "-c", line, ASANCOL=checker)
-    expect_ran(ran, 98, "its checker was ended by SIGKILL", "2 processes", "1 NOT SEEN WHOLE")
+    expect_ran(ran, 98, "its checker was ended by SIGKILL", "2 processes", "1 INCOMPLETE")
     expect(ran.out, "sound\nsound\n", "what the command printed")
 
 
@@ -118,13 +118,13 @@ def check_signal(suite: Suite, folder: str, number: int, way: str, status: int, 
     else:
         time.sleep(0.5)
     started.send_signal(number)
-    expect_ran(finish(started), status, text, "all seen whole")
+    expect_ran(finish(started), status, text, "all complete")
 
 
 def check_timeout_program(suite: Suite, folder: str) -> None:
     """As under timeout(1)."""
     ran = suite.run_words(["timeout", "0.7", RUN, "--", suite.program, "sleeps", "30"])
-    expect_ran(ran, 124, "1 process", "all seen whole")
+    expect_ran(ran, 124, "1 process", "all complete")
 
 
 def check_ignored_signals(suite: Suite, folder: str) -> None:
@@ -142,13 +142,13 @@ def check_child_signal_ignored(suite: Suite, folder: str) -> None:
     expect(before, signal.SIG_DFL, "the test's own")
     words = [RUN, "--", suite.program, "sound"]
     line = f"import os, signal; signal.signal(signal.SIGCHLD, signal.SIG_IGN); os.execv({RUN!r}, {words!r})"
-    expect_ran(suite.run_words(["python3", "-c", line]), 0, "all seen whole")
+    expect_ran(suite.run_words(["python3", "-c", line]), 0, "all complete")
 
 
 def check_time_limit(suite: Suite, folder: str) -> None:
     begun = time.monotonic()
     ran = suite.run("--timeout", "0.5", "--", suite.program, "sleeps", "30")
-    expect_ran(ran, 98, "ended by --timeout, after 0.5 seconds", "NOT SEEN WHOLE: was ended by --timeout")
+    expect_ran(ran, 98, "ended by --timeout, after 0.5 seconds", "INCOMPLETE: was ended by --timeout")
     if time.monotonic() - begun > 4:
         raise Failure("SIGTERM was not enough")
 
@@ -160,7 +160,7 @@ def check_time_limit_with_report(suite: Suite, folder: str) -> None:
 def check_time_limit_for_stubborn(suite: Suite, folder: str) -> None:
     """What ignores SIGTERM gets SIGKILL, a child of a child too."""
     ran = suite.run("--timeout", "0.5", "--", "sh", "-c", f"{suite.program} ignores 60; true")
-    expect_ran(ran, 98, "NOT SEEN WHOLE: was ended by --timeout")
+    expect_ran(ran, 98, "INCOMPLETE: was ended by --timeout")
 
 
 def check_time_limit_for_orphans(suite: Suite, folder: str) -> None:
@@ -205,7 +205,7 @@ def at_terminal(suite: Suite, words: List[str], typed: bytes, after: float, **se
 def check_interrupt_at_terminal(suite: Suite, folder: str) -> None:
     """Ctrl-C ends the command, and not its check."""
     ran = at_terminal(suite, [RUN, "-v", "--", suite.program, "sleeps", "30"], b"\x03", 0.7)
-    expect_ran(ran, -signal.SIGINT, "ended by SIGINT", "all seen whole")
+    expect_ran(ran, -signal.SIGINT, "ended by SIGINT", "all complete")
 
 
 def check_interrupt_is_sent_once(suite: Suite, folder: str) -> None:
@@ -254,7 +254,7 @@ def check_stop(suite: Suite, folder: str) -> None:
     wait_until(lambda: state_of(started.pid) == "T" and state_of(command) == "T", "the stop")
     started.send_signal(signal.SIGCONT)
     wait_until(lambda: state_of(started.pid) != "T" and state_of(command) != "T", "the end of the stop")
-    expect_ran(finish(started), 0, "all seen whole")
+    expect_ran(finish(started), 0, "all complete")
 
 
 def check_hub_is_killed(suite: Suite, folder: str) -> None:
@@ -272,7 +272,7 @@ def check_hub_is_killed(suite: Suite, folder: str) -> None:
 def check_crowd(suite: Suite, folder: str, count: int, descriptors: int) -> None:
     line = f"i=0; while [ $i -lt {count} ]; do {suite.program} sleeps 1 & i=$((i+1)); done; wait"
     words = ["sh", "-c", f"ulimit -n {descriptors}; exec {RUN} -- sh -c '{line}'"]
-    expect_ran(suite.run_words(words), 0, f"{count} processes", "all seen whole")
+    expect_ran(suite.run_words(words), 0, f"{count} processes", "all complete")
 
 
 def check_crowd_with_reports(suite: Suite, folder: str) -> None:
@@ -302,7 +302,7 @@ def check_silent_peer(suite: Suite, folder: str) -> None:
         "os.fork() and os._exit(0); time.sleep(3)"
     )
     ran = suite.run("--wait", "0.5", "--", "sh", "-c", f'{suite.program} sound; python3 -c "{line}"')
-    expect_ran(ran, 98, "NOT SEEN WHOLE: still ran at the end of asancol-run")
+    expect_ran(ran, 98, "INCOMPLETE: still ran at the end of asancol-run")
 
 
 def check_garbage(suite: Suite, folder: str) -> None:
@@ -311,7 +311,7 @@ def check_garbage(suite: Suite, folder: str) -> None:
         "s.send(b'junk' * 9)"
     )
     ran = suite.run("--", "sh", "-c", f'{suite.program} sound; python3 -c "{line}"')
-    expect_ran(ran, 98, "NOT SEEN WHOLE")
+    expect_ran(ran, 98, "INCOMPLETE")
 
 
 def check_standard_closed(suite: Suite, folder: str, closing: str, status: int) -> None:
@@ -351,8 +351,8 @@ def tests(suite: Suite) -> None:
     for number in (signal.SIGINT, signal.SIGTERM, signal.SIGHUP, signal.SIGQUIT, signal.SIGUSR1, signal.SIGUSR2):
         text = f"ended by {signal.Signals(number).name}"
         suite.test(f"passes on {number.name}", check_signal, number, "sleeps", -number, text)
-    suite.test("handled SIGTERM", check_signal, signal.SIGTERM, "handles", 3, "seen whole")
-    suite.test("handled SIGUSR1", check_signal, signal.SIGUSR1, "handles", 3, "seen whole")
+    suite.test("handled SIGTERM", check_signal, signal.SIGTERM, "handles", 3, "complete")
+    suite.test("handled SIGUSR1", check_signal, signal.SIGUSR1, "handles", 3, "complete")
     suite.test("timeout(1)", check_timeout_program)
     suite.test("ignored signals", check_ignored_signals)
     suite.test("ignored SIGCHLD", check_child_signal_ignored)

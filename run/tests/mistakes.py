@@ -55,7 +55,7 @@ def check_each_end(suite: Suite, folder: str) -> None:
     """However the process ends, what was found is there, and its status."""
     program = built(folder)
     for words, texts in (
-        (["once"], ["1 report at 1 place (1 by the recorder); 1 process", "all seen whole"]),
+        (["once"], ["1 report at 1 place (1 by the recorder); 1 process", "all complete"]),
         (["once", "3"], ["(by the recorder, 3 times, 1 process)", "3 reports at 1 place (3 by the recorder)"]),
         (["fork"], ["2 reports at 1 place (2 by the recorder); 2 processes"]),
         (["exec"], ["(by the recorder, 2 times, 2 processes)", "2 processes"]),
@@ -71,7 +71,7 @@ def check_each_end(suite: Suite, folder: str) -> None:
 def check_segments(suite: Suite, folder: str) -> None:
     ran = run_real(suite, "--json", f"{folder}/a.jsonl", "--", built(folder), "segments", ASANCOL_LIMIT="1000",
                    ASANCOL_FULL="1")
-    expect_ran(ran, 99, "2 reports at 1 place (2 by the recorder); 1 process", "all seen whole")
+    expect_ran(ran, 99, "2 reports at 1 place (2 by the recorder); 1 process", "all complete")
     with open(f"{folder}/a.jsonl", encoding="utf-8") as file:
         lines = [json.loads(line) for line in file]
     process, = (it for it in lines if it["type"] == "process")

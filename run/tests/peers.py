@@ -99,7 +99,7 @@ def check_stranger(suite: Suite, folder: str, user: int) -> None:
     run = Run(suite, folder, user)
     expect(run.run_as(OTHER, "python3", "-c", STAYS, run.abstract, "1", "1"), "", "the stranger")
     refused = rf"asancol: a connection was refused: process \d+ of user {OTHER} was not started by this command\n"
-    text = run.end(0, "1 process, ", "all seen whole", absent=["the report"])
+    text = run.end(0, "1 process, ", "all complete", absent=["the report"])
     expect(len(re.findall(refused, text)), 1, text)
 
 
@@ -140,14 +140,14 @@ def check_many_strangers(suite: Suite, folder: str) -> None:
     """However often strangers connect, there are few lines."""
     run = Run(suite, folder)
     expect(run.run_as(OTHER, "python3", "-c", STAYS, run.abstract, "2", "300"), "", "the stranger")
-    text = run.end(0, "asancol: 292 more connections were refused", "1 process, ", "all seen whole")
+    text = run.end(0, "asancol: 292 more connections were refused", "1 process, ", "all complete")
     expect(text.count("was refused"), 8, text)
 
 
 def check_gone(suite: Suite, folder: str) -> None:
     """Of a process that is gone nobody knows who has started it: it may have been the command. So not all was seen."""
     run = Run(suite, folder)
-    why = f"NOT SEEN WHOLE: it is of user {OTHER}, and had ended before it was seen who has started it"
+    why = f"INCOMPLETE: it is of user {OTHER}, and had ended before it was seen who has started it"
     os.kill(run.program.pid, signal.SIGSTOP)
     gone = [*as_user(OTHER), "python3", "-c", GONE, run.abstract, "1"]
     expect(suite.run_words(gone).out, "gone\n", "the process that has connected")
@@ -205,7 +205,7 @@ def check_descriptors(suite: Suite, folder: str) -> None:
     for what in ("pipe", "device", "folder", "short", "unsealed", "many", "garbage", "sealed"):
         line = f"{suite.program} sound; python3 {sender} $ASANCOL_HUB {what}; {suite.program} sound"
         ran = suite.run("-v", "--leaks=no", "--", "sh", "-c", line)
-        # Without such a memory, a trace that is closed was seen whole.
+        # Without such a memory, a trace that is closed was complete.
         status = 98 if what in ("garbage", "sealed") else 0
         expect_ran(ran, status, "3 processes, 4 events", absent=["\x1b", "\x07"])
 

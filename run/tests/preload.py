@@ -83,7 +83,7 @@ def check_module(suite: Suite, folder: str, compiler: str) -> None:
     expect_ran(ran, 0, "asancol: no reports; 1 process, ", "; not checked: host\n")
     ran = suite.run("--preload", *over, cwd=folder, ASANCOL_REPORT=REPORT)
     expect_ran(ran, 99, "heap-buffer-overflow: load of 1 byte", f"in act {MODULE}:", f"in fill {HOST}:",
-               "; not checked: host\n", absent=["NOT SEEN WHOLE"])
+               "; not checked: host\n", absent=["INCOMPLETE"])
     words = "which was built by asancol-cc, and was not built so itself; --preload records it"
     expect_ran(suite.run(*over, cwd=folder), 98, words)
     expect_ran(suite.run("--preload", "--unchecked=error", *good, cwd=folder), 98, "; not checked: host\n")
@@ -91,15 +91,15 @@ def check_module(suite: Suite, folder: str, compiler: str) -> None:
 
 
 def check_processes(suite: Suite, folder: str, compiler: str) -> None:
-    """Tools are not recorded, and each process with a module is seen whole, however it ends."""
+    """Tools are not recorded, and each process with a module is complete, however it ends."""
     build(folder, compiler)
     script = "ls / | sort | head -1; for i in read _exit vfork fork exec; do ./host ./module.so $i; done; env true"
     ran = suite.run("--preload", "sh", "-c", script, cwd=folder, ASANCOL_REPORT=REPORT)
-    expect_ran(ran, 99, "2 reports at 1 place; 7 processes, ", absent=["NOT SEEN WHOLE"])
+    expect_ran(ran, 99, "2 reports at 1 place; 7 processes, ", absent=["INCOMPLETE"])
     expect_ran(suite.run("--preload", "./host", "./module.so", "abort", cwd=folder, ASANCOL_REPORT=REPORT), -6,
-               "1 crashed", f"in act {MODULE}:", absent=["NOT SEEN WHOLE"])
+               "1 crashed", f"in act {MODULE}:", absent=["INCOMPLETE"])
     ran = suite.run("--preload", RUN, "--preload", "./host", "./module.so", "over", cwd=folder, ASANCOL_REPORT=REPORT)
-    expect_ran(ran, 99, "1 report at 1 place; 1 process, ", absent=["NOT SEEN WHOLE"])
+    expect_ran(ran, 99, "1 report at 1 place; 1 process, ", absent=["INCOMPLETE"])
     expect_ran(suite.run("--preload", "env", "-i", "./host", "./module.so", "over", cwd=folder), 98)
 
 
@@ -160,10 +160,10 @@ def check_python(suite: Suite, folder: str, compiler: str) -> None:
         settings = {"PYTHONMALLOC": allocator} if allocator else {}
         words = ["--preload", "--", python, "-m", "unittest"]
         ran = suite.run(*words, cwd=folder, ASANCOL_REPORT=REPORT, **settings)
-        expect_ran(ran, 0, "asancol: no reports; ", "not checked: ", absent=["NOT SEEN WHOLE"])
+        expect_ran(ran, 0, "asancol: no reports; ", "not checked: ", absent=["INCOMPLETE"])
         ran = suite.run(*words, cwd=folder, ASANCOL_REPORT=REPORT, MORE="0", **settings)
         expect_ran(ran, 99, "heap-buffer-overflow: store of 7 bytes in strcpy", f"in copy {folder}/texts.c:11:",
-                   absent=["NOT SEEN WHOLE"])
+                   absent=["INCOMPLETE"])
 
 
 def tests(suite: Suite) -> None:

@@ -103,7 +103,7 @@ def check_make(suite: Suite, folder: str) -> None:
     ran = subprocess.run(words, cwd=folder, env=environment, stderr=subprocess.PIPE, stdout=subprocess.PIPE,
                          check=False)
     expect((ran.returncode, ran.stdout.count(b"sound")), (0, 8), "make")
-    expect(b"8 processes, 16 events; all seen whole" in ran.stderr, True, ran.stderr.decode())
+    expect(b"8 processes, 16 events; all complete" in ran.stderr, True, ran.stderr.decode())
 
 
 def check_scale(suite: Suite, folder: str) -> None:

@@ -27,7 +27,7 @@ def check_folder(suite: Suite, folder: str, kind: str) -> None:
     if kind == "read-only":
         os.chmod(place, 0o500)
     expect_ran(suite.run("--", suite.program, "past", TMPDIR=place), 99)
-    expect_ran(suite.run("--", suite.program, "sound", TMPDIR=place), 0, "1 process", "all seen whole")
+    expect_ran(suite.run("--", suite.program, "sound", TMPDIR=place), 0, "1 process", "all complete")
 
 
 def check_full_folder(suite: Suite, folder: str) -> None:
@@ -37,7 +37,7 @@ def check_full_folder(suite: Suite, folder: str) -> None:
         f"TMPDIR={folder} exec {RUN} -- {suite.program} sound"
     )
     ran = suite.run_words(["unshare", "-rm", "sh", "-c", line])
-    expect_ran(ran, 0, "all seen whole")
+    expect_ran(ran, 0, "all complete")
 
 
 def check_no_folder_at_all(suite: Suite, folder: str) -> None:
@@ -89,9 +89,9 @@ def check_file_instead(suite: Suite, folder: str) -> None:
         text = lines.read()
     expect(text.count('"trace": "'), 2, "processes with files")
     ran = suite.run("--", "sh", "-c", f"{line} sound")
-    expect_ran(ran, 0, "1 process, 2 events; all seen whole")
+    expect_ran(ran, 0, "1 process, 2 events; all complete")
     ran = suite.run("--", "sh", "-c", f"{line} kills_itself 9")
-    expect_ran(ran, -9, "ended abruptly, by SIGKILL: seen up to there", "all seen whole, 1 ended abruptly")
+    expect_ran(ran, -9, "ended abruptly, by SIGKILL: seen up to there", "all complete, 1 ended abruptly")
 
 
 def nested(suite: Suite, line: str) -> List[str]:
@@ -112,17 +112,17 @@ def check_nested(suite: Suite, folder: str) -> None:
 def check_nested_lost(suite: Suite, folder: str) -> None:
     """An inner run that is killed leaves no result, and one whose command cannot be started was none."""
     line = "RUN -q -- sh -c 'PROGRAM sound; kill -9 $PPID'; PROGRAM sound"
-    expect_ran(suite.run(*nested(suite, line)), 98, "NOT ALL SEEN: 1 run inside this one left no result")
+    expect_ran(suite.run(*nested(suite, line)), 98, "INCOMPLETE: 1 run inside this one left no result")
     ran = suite.run("--json", f"{folder}/x", *nested(suite, line), ASANCOL_REPORT=REPORT)
-    expect_ran(ran, 98, "NOT ALL SEEN: 1 run inside this one left no result")
-    expect_ran(suite.run(*nested(suite, "RUN -q -- /nonexistent; PROGRAM sound")), 0, "all seen whole")
+    expect_ran(ran, 98, "INCOMPLETE: 1 run inside this one left no result")
+    expect_ran(suite.run(*nested(suite, "RUN -q -- /nonexistent; PROGRAM sound")), 0, "all complete")
 
 
 def check_nested_without_folder(suite: Suite, folder: str) -> None:
     """An inner run that can leave no result is a process that was not seen."""
     line = "rm -r ${ASANCOL_HUB%/*}; RUN -q -- PROGRAM sound"
     ran = suite.run(*nested(suite, line))
-    expect_ran(ran, 98, "does not get its result", ": NOT SEEN WHOLE: it was not recorded, or not by this run")
+    expect_ran(ran, 98, "does not get its result", ": INCOMPLETE: it was not recorded, or not by this run")
 
 
 def check_nested_result(suite: Suite, folder: str) -> None:

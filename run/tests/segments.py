@@ -16,27 +16,27 @@ from support import (
 )
 
 BAD = "heap-buffer-overflow: store of 1 byte (2 times, 1 process)"
-SEEN = "all seen whole, 1 ended abruptly"
+SEEN = "all complete, 1 ended abruptly"
 
 
 def run_peer(suite: Suite, words: str, *options: str, **settings: str) -> Ran:
     return suite.run("-v", *options, "--", SEGMENTED, *words.split(), ASANCOL_REPORT=REPORT, **settings)
 
 
-def check_whole(suite: Suite, folder: str) -> None:
+def check_complete(suite: Suite, folder: str) -> None:
     """They come in any order, and one may still be checked if the next is there."""
     for order in itertools.permutations(["1", "2", "3e"]):
         ran = run_peer(suite, " ".join(order))
-        expect_ran(ran, 0, "segmented: seen whole, 31 events in 3 segments, 0 reports\n",
-                   "asancol: no reports; 1 process, 31 events; all seen whole\n")
-    expect_ran(run_peer(suite, "1h 2h 3e"), 0, "no reports; 1 process, 31 events; all seen whole")
+        expect_ran(ran, 0, "segmented: complete, 31 events in 3 segments, 0 reports\n",
+                   "asancol: no reports; 1 process, 31 events; all complete\n")
+    expect_ran(run_peer(suite, "1h 2h 3e"), 0, "no reports; 1 process, 31 events; all complete")
     many = " ".join(str(number) for number in range(1, 40))
-    expect_ran(run_peer(suite, f"{many} 40e"), 0, "seen whole, 401 events in 40 segments, 0 reports", "; 1 process, ")
-    expect_ran(run_peer(suite, "1t 2te"), 0, "seen whole, 21 events in 2 segments", "1 process, 21 events")
-    expect_ran(run_peer(suite, "1e"), 0, "seen whole, 11 events, 0 reports")
+    expect_ran(run_peer(suite, f"{many} 40e"), 0, "complete, 401 events in 40 segments, 0 reports", "; 1 process, ")
+    expect_ran(run_peer(suite, "1t 2te"), 0, "complete, 21 events in 2 segments", "1 process, 21 events")
+    expect_ran(run_peer(suite, "1e"), 0, "complete, 11 events, 0 reports")
 
 
-NOT_WHOLE = {
+INCOMPLETE = {
     "1": "its next segment did not come",
     "1 2": "its next segment did not come",
     "1 2b": "its next segment did not come",
@@ -53,38 +53,38 @@ NOT_WHOLE = {
 }
 
 
-def check_not_whole(suite: Suite, folder: str, words: str, why: str) -> None:
+def check_incomplete(suite: Suite, folder: str, words: str, why: str) -> None:
     """What is missing, or was not seen, is said, with and without a report."""
     status = 99 if "b" in words else 98
     path = f"{folder}/result"
     for options in ((), ["--json", path]):
         ran = run_peer(suite, words, *options)
-        expect_ran(ran, status, f"segmented: NOT SEEN WHOLE: {why}\n", "1 process", "1 NOT SEEN WHOLE")
+        expect_ran(ran, status, f"segmented: INCOMPLETE: {why}\n", "1 process", "1 INCOMPLETE")
     (process,) = lines_of(path, "process")
     expect((process["whole"], process["why"]), (False, why), "JSON")
 
 
 def check_others(suite: Suite, folder: str) -> None:
     """Another program of the same process is another process, and so is a segment that comes twice."""
-    expect_ran(run_peer(suite, "1 2e exec 1 2e"), 0, "no reports; 2 processes, 42 events; all seen whole")
-    expect_ran(run_peer(suite, "1 exec 1 2e"), 98, "its next segment did not come", "2 processes, ", "1 NOT SEEN WHOLE")
-    expect_ran(run_peer(suite, "1 1 2e"), 98, "its next segment did not come", "2 processes, ", "1 NOT SEEN WHOLE")
+    expect_ran(run_peer(suite, "1 2e exec 1 2e"), 0, "no reports; 2 processes, 42 events; all complete")
+    expect_ran(run_peer(suite, "1 exec 1 2e"), 98, "its next segment did not come", "2 processes, ", "1 INCOMPLETE")
+    expect_ran(run_peer(suite, "1 1 2e"), 98, "its next segment did not come", "2 processes, ", "1 INCOMPLETE")
     expect_ran(run_peer(suite, "1 2e empty"), 98, "it was not recorded, or not by this run", "2 processes, 21 events")
     expect_ran(run_peer(suite, "1 2 2e 3e"), 98, "segment 2 is the first that was seen", "2 processes, ")
     line = f"{SEGMENTED} 1 2 3e & {SEGMENTED} 1 2 3e & wait"
     ran = suite.run("--at-least", "2", "--", "sh", "-c", line)
-    expect_ran(ran, 0, "no reports; 2 processes, 62 events; all seen whole")
-    expect_ran(run_peer(suite, "1 2 3e", "--at-least", "2"), 98, "NOT ALL SEEN: 1 fewer than --at-least asks for")
+    expect_ran(ran, 0, "no reports; 2 processes, 62 events; all complete")
+    expect_ran(run_peer(suite, "1 2 3e", "--at-least", "2"), 98, "INCOMPLETE: 1 fewer than --at-least asks for")
 
 
 def check_killed(suite: Suite, folder: str) -> None:
     """A process that is killed in a later segment, or between two."""
     expect_ran(run_peer(suite, "1 2k"), -9, "ended abruptly, by SIGKILL: seen up to there", "1 process, 21 events",
-               "all seen whole, 1 ended abruptly")
+               "all complete, 1 ended abruptly")
     started = suite.start("--", SEGMENTED, "1", "2", "wait")
     expect(started.stdout.readline() if started.stdout else "", "ready\n", "the program")
     started.send_signal(signal.SIGTERM)
-    expect_ran(finish(started), 98, "NOT SEEN WHOLE: its next segment did not come", "1 process, 21 events")
+    expect_ran(finish(started), 98, "INCOMPLETE: its next segment did not come", "1 process, 21 events")
 
 
 def lines_of(path: str, kind: str) -> List[Any]:
@@ -96,7 +96,7 @@ def check_outputs(suite: Suite, folder: str) -> None:
     """Reports of several segments are those of one process, in each output, and what is read again says the same."""
     outputs = [f"--{kind}={folder}/{kind}" for kind in ("json", "junit", "sarif", "html")]
     ran = run_peer(suite, "1 2b 3b 4e", *outputs)
-    said = "asancol: 4 reports at 1 place; 1 process, 45 events; all seen whole\n"
+    said = "asancol: 4 reports at 1 place; 1 process, 45 events; all complete\n"
     expect_ran(ran, 99, "heap-buffer-overflow: store of 1 byte (4 times, 1 process)", said)
     (process,) = lines_of(f"{folder}/json", "process")
     names = ("events", "reports", "whole", "segments", "fate", "why")
@@ -123,7 +123,7 @@ def check_packets(suite: Suite, folder: str) -> None:
     expect(["verdicts" in it for it in processes], [True, True, False], "packets")
     last = processes[-1]
     expect([last[it] for it in ("n", "events", "reports", "whole", "segments")], [0, 45, 4, True, 4], "the last one")
-    expect((processes[0]["whole"], last["whole"]), (False, True), "it is not whole before its end")
+    expect((processes[0]["whole"], last["whole"]), (False, True), "it is incomplete before its end")
     expect(last["command"], ["./segmented", "1", "2b", "3b", "4e"], "its words")
 
 
@@ -134,14 +134,14 @@ def check_live(suite: Suite, folder: str) -> None:
     expect_in(line, "ERROR: asancol: heap-buffer-overflow: store of 1 byte")
     started.send_signal(signal.SIGTERM)
     ran = finish(started)
-    expect_ran(ran, 99, "NOT SEEN WHOLE: its next segment did not come", "2 reports at 1 place; 1 process")
+    expect_ran(ran, 99, "INCOMPLETE: its next segment did not come", "2 reports at 1 place; 1 process")
 
 
 def check_raw(suite: Suite, folder: str) -> None:
     """Without asancol-report the lines of each segment are printed."""
     ran = suite.run("--", SEGMENTED, "1", "2b", "3b", "4e", ASANCOL_REPORT="/nonexistent/report")
     expect_ran(ran, 99, "segmented, segment 2:\np0 #12 store 1 at ", "segmented, segment 3:\np0 #12 ",
-               "4 reports in 1 process; 1 process, 45 events; all seen whole")
+               "4 reports in 1 process; 1 process, 45 events; all complete")
     many = [f"{number}b" for number in range(1, 30)]
     ran = suite.run("--", SEGMENTED, *many, "30e", ASANCOL_REPORT="/nonexistent/report")
     expect_ran(ran, 99, "\nand 18 more lines\n", absent=["processes"])
@@ -152,18 +152,18 @@ def check_raw(suite: Suite, folder: str) -> None:
 
 def check_nested(suite: Suite, folder: str) -> None:
     """A run inside another one leaves one process."""
-    for words, status, said in (("1 2 3e", 0, "1 process in 2 runs, 31 events; all seen whole"),
-                                ("1 2b 3e", 99, "2 reports at 1 place; 1 process in 2 runs, 33 events; all seen whole"),
-                                ("1 2", 98, "1 process in 2 runs, 21 events; 1 NOT SEEN WHOLE")):
+    for words, status, said in (("1 2 3e", 0, "1 process in 2 runs, 31 events; all complete"),
+                                ("1 2b 3e", 99, "2 reports at 1 place; 1 process in 2 runs, 33 events; all complete"),
+                                ("1 2", 98, "1 process in 2 runs, 21 events; 1 INCOMPLETE")):
         ran = suite.run("-v", "--", RUN, "-q", "--", SEGMENTED, *words.split(), ASANCOL_REPORT=REPORT)
         expect_ran(ran, status, said)
 
 
 def check_files(suite: Suite, folder: str) -> None:
     """Segments in files, as of a process that could not connect."""
-    expect_ran(run_peer(suite, "--files 1 2 3e"), 0, "seen whole, 31 events in 3 segments", "1 process, ")
-    expect_ran(run_peer(suite, "--files 1 2b 3e"), 99, BAD, "1 process, 33 events; all seen whole")
-    expect_ran(run_peer(suite, "--files 1 2"), 98, "NOT SEEN WHOLE: its next segment did not come", "1 process, ")
+    expect_ran(run_peer(suite, "--files 1 2 3e"), 0, "complete, 31 events in 3 segments", "1 process, ")
+    expect_ran(run_peer(suite, "--files 1 2b 3e"), 99, BAD, "1 process, 33 events; all complete")
+    expect_ran(run_peer(suite, "--files 1 2"), 98, "INCOMPLETE: its next segment did not come", "1 process, ")
     packets = suite.packets(folder, "--json", f"{folder}/x", "--", SEGMENTED, "--files", "1", "2b", "3e")
     expect(packets[-2]["command"][0], "./segmented", "its words")
 
@@ -180,7 +180,7 @@ THREE = ["segmented.segment-002.trace", "segmented.segment-003.trace", "segmente
 
 
 def check_keep(suite: Suite, folder: str) -> None:
-    """All segments are kept if one has a report, or the process was not seen whole; and none else."""
+    """All segments are kept if one has a report, or the process was incomplete; and none else."""
     for words, wanted in (("1 2 3e", []), ("3e 2 1", []), ("1 2b 3e", THREE), ("3e 2b 1", THREE), ("1b 2 3", THREE),
                           ("1 2 3o", THREE), ("1 2", [THREE[0], THREE[2]]), ("--files 1 2b 3e", THREE),
                           ("--files 1 2 3e", [])):
@@ -198,7 +198,7 @@ def check_taken_names(suite: Suite, folder: str) -> None:
     expect(sorted(it.split(".", 2)[2] for it in names), wanted, "names")
     (first,) = [it for it in names if it.endswith(".1.trace") and "segment-" not in it]
     ran = suite.run_words([REPORT, "--trace", f"{folder}/{first}"])
-    expect_in(ran.out, "2 reports at 1 place; 1 process, 33 events; all seen whole")
+    expect_in(ran.out, "2 reports at 1 place; 1 process, 33 events; all complete")
 
 
 def check_kept_early(suite: Suite, folder: str) -> None:
@@ -214,7 +214,7 @@ def check_kept_early(suite: Suite, folder: str) -> None:
 def check_kept_traces(suite: Suite, folder: str) -> None:
     """asancol-report joins them, also if one alone is named."""
     outer = run_peer(suite, "1 2b 3e", "--keep", folder, "--json", f"{folder}/result.jsonl")
-    said = "2 reports at 1 place; 1 process, 33 events; all seen whole\n"
+    said = "2 reports at 1 place; 1 process, 33 events; all complete\n"
     expect_ran(outer, 99, said)
     traces = sorted(os.path.join(folder, it) for it in os.listdir(folder) if it.endswith(".trace"))
     first = [it["kept"] for it in lines_of(f"{folder}/result.jsonl", "process")]
@@ -226,7 +226,7 @@ def check_kept_traces(suite: Suite, folder: str) -> None:
         expect((process["segments"], process["kept"]), (3, first[0]), "JSON")
     os.unlink(next(it for it in traces if "segment-002" in it))
     ran = suite.run_words([REPORT, "--trace", first[0]])
-    expect_in(ran.out, "NOT SEEN WHOLE: its next segment did not come, and later ones did", "1 process")
+    expect_in(ran.out, "INCOMPLETE: its next segment did not come, and later ones did", "1 process")
 
 
 class Trace(NamedTuple):
@@ -254,38 +254,39 @@ def say(folder: str, traces: Sequence[Trace], *words: str) -> Ran:
 FIRST, SECOND, LAST = Trace("a.trace"), Trace("a.segment-002.trace", 2), Trace("a.segment-003.trace", 3, 1)
 WITHOUT_SIDES = [Trace("a.trace", started=0), Trace("a.segment-002.trace", started=0)]
 CASES: Dict[str, Tuple[List[Trace], List[str], str]] = {
-    "all": ([FIRST, SECOND, LAST], [], "1 process, 19 events; all seen whole"),
-    "one named": ([FIRST, SECOND, LAST], ["a.segment-002.trace"], "1 process, 19 events; all seen whole"),
+    "all": ([FIRST, SECOND, LAST], [], "1 process, 19 events; all complete"),
+    "one named": ([FIRST, SECOND, LAST], ["a.segment-002.trace"], "1 process, 19 events; all complete"),
     "moved": ([FIRST._replace(name="b.trace"), SECOND._replace(name="c.trace"), LAST._replace(name="a.trace")], [],
-              "1 process, 19 events; all seen whole"),
-    "taken names": ([FIRST, SECOND._replace(name="a.segment-002.1.trace"), LAST], ["a.trace"], "; all seen whole"),
-    "other ends": ([FIRST._replace(name="a"), LAST._replace(name="a.segment-002", segment=2)], ["a"], "all seen whole"),
+              "1 process, 19 events; all complete"),
+    "taken names": ([FIRST, SECOND._replace(name="a.segment-002.1.trace"), LAST], ["a.trace"], "; all complete"),
+    "other ends": ([FIRST._replace(name="a"), LAST._replace(name="a.segment-002", segment=2)], ["a"], "all complete"),
     "one file of another": ([FIRST, SECOND._replace(started=78), LAST], ["a.trace"],
-                            "NOT SEEN WHOLE: its next segment did not come, and later ones did"),
-    "the last is missing": ([FIRST, SECOND], [], "NOT SEEN WHOLE: its next segment did not come"),
-    "the first is missing": ([SECOND, LAST], [], "NOT SEEN WHOLE: segment 2 is the first that was seen"),
+                            "INCOMPLETE: its next segment did not come, and later ones did"),
+    "the last is missing": ([FIRST, SECOND], [], "INCOMPLETE: its next segment did not come"),
+    "the first is missing": ([SECOND, LAST], [], "INCOMPLETE: segment 2 is the first that was seen"),
     "cut": ([FIRST, SECOND._replace(fate="no-close"), LAST], [],
-            "NOT SEEN WHOLE: segment 2: its trace ended as no-close"),
+            "INCOMPLETE: segment 2: its trace ended as no-close"),
     "left out": ([FIRST, SECOND._replace(left_out=3), LAST], [],
-                 "NOT SEEN WHOLE: reached the event limit: 3 of 22 events were not recorded"),
+                 "INCOMPLETE: reached the event limit: 3 of 22 events were not recorded"),
     "two": ([FIRST, LAST._replace(name="a.segment-002.trace", segment=2), FIRST._replace(name="b.trace", started=78),
              LAST._replace(name="b.segment-002.trace", segment=2, started=78)], [],
-            "2 processes, 28 events; all seen whole"),
-    "twice": ([FIRST, FIRST._replace(name="b.trace"), LAST._replace(segment=2)], [], "2 processes, 23 events; 1 NOT"),
+            "2 processes, 28 events; all complete"),
+    "twice": ([FIRST, FIRST._replace(name="b.trace"), LAST._replace(segment=2)], [],
+              "2 processes, 23 events; 1 INCOMPLETE"),
     "killed while the next one began": ([FIRST._replace(ending=0), Trace(SECOND.name, started=0, fate="truncated")],
-                                        ["a.trace"], "1 process, 18 events; 1 NOT SEEN WHOLE"),
+                                        ["a.trace"], "1 process, 18 events; 1 INCOMPLETE"),
     "an older file of that name": ([FIRST._replace(ending=1), Trace("a.segment-002.trace", started=0)], ["a.trace"],
-                                   "1 process, 9 events; all seen whole"),
-    "without side files": (WITHOUT_SIDES, ["a.trace"], "1 process, 18 events; all seen whole"),
+                                   "1 process, 9 events; all complete"),
+    "without side files": (WITHOUT_SIDES, ["a.trace"], "1 process, 18 events; all complete"),
     "without side files, one missing": ([*WITHOUT_SIDES[:1], Trace("a.segment-003.trace", started=0)], ["a.trace"],
-                                        "NOT SEEN WHOLE: its next segment did not come, and later ones did"),
+                                        "INCOMPLETE: its next segment did not come, and later ones did"),
 }
 
 
 def check_traces(suite: Suite, folder: str, name: str) -> None:
     traces, words, said = CASES[name]
     ran = say(folder, traces, *words)
-    expect((ran.status, ran.err), (3 if "NOT" in said else 0, ""), ran.out)
+    expect((ran.status, ran.err), (3 if "INCOMPLETE" in said else 0, ""), ran.out)
     expect_in(ran.out, said)
 
 
@@ -293,7 +294,7 @@ def check_many_traces(suite: Suite, folder: str) -> None:
     """In a folder of many, each is looked at once."""
     program = [Trace(f"a.segment-{number:03}.trace", number) for number in range(2, 400)]
     ran = say(folder, [FIRST, *program, Trace("a.segment-400.trace", 400, 1)])
-    expect_in(ran.out, "1 process, 2004 events; all seen whole")
+    expect_in(ran.out, "1 process, 2004 events; all complete")
 
 
 def check_lost_reports(suite: Suite, folder: str) -> None:
@@ -304,7 +305,7 @@ def check_lost_reports(suite: Suite, folder: str) -> None:
     feed.process(0, reports=1, segments=2)
     ran = feed.end()
     expect(ran.status, 3, ran.out)
-    expect_in(ran.out, "NOT SEEN WHOLE: its reports did not arrive", "1 process")
+    expect_in(ran.out, "INCOMPLETE: its reports did not arrive", "1 process")
 
 
 def check_older_results(suite: Suite, folder: str) -> None:
@@ -315,7 +316,7 @@ def check_older_results(suite: Suite, folder: str) -> None:
     with open(f"{folder}/old", "w", encoding="utf-8") as file:
         file.write(text.replace(',"segments":3', "").replace('"segment":2,', ""))
     ran = suite.run_words([REPORT, f"{folder}/old", "--json", f"{folder}/again"])
-    expect((ran.status, "1 process, 33 events; all seen whole" in ran.out), (1, True), ran.out)
+    expect((ran.status, "1 process, 33 events; all complete" in ran.out), (1, True), ran.out)
     with open(f"{folder}/again", encoding="utf-8") as file:
         expect_not_in(file.read(), "segment\"", "segments\"")
 
@@ -330,11 +331,11 @@ def check_recorded(suite: Suite, folder: str, program: str) -> None:
     """Programs with a small limit: the lines are those of one that never comes to it, but for the segments. So they are
     if good mallocs are not recorded, which begins segments only at faults."""
     for words, status, texts in (
-        ("blocks 3000 -1", 0, ["no reports; 1 process, 600", " events; all seen whole"]),
-        ("blocks 3000 1700", 99, ["in blocks ", "1 report at 1 place; 1 process, 600", " events; all seen whole"]),
-        ("threads 1000 400", 99, ["in blocks ", "1 report at 1 place; 1 process, ", "all seen whole"]),
-        ("early 2000 0", 99, ["in early ", "9 reports at 9 places; 1 process, ", "all seen whole"]),
-        ("children 1000 -1", 99, ["4 reports at 2 places; 3 processes, ", "all seen whole"]),
+        ("blocks 3000 -1", 0, ["no reports; 1 process, 600", " events; all complete"]),
+        ("blocks 3000 1700", 99, ["in blocks ", "1 report at 1 place; 1 process, 600", " events; all complete"]),
+        ("threads 1000 400", 99, ["in blocks ", "1 report at 1 place; 1 process, ", "all complete"]),
+        ("early 2000 0", 99, ["in early ", "9 reports at 9 places; 1 process, ", "all complete"]),
+        ("children 1000 -1", 99, ["4 reports at 2 places; 3 processes, ", "all complete"]),
         ("is_killed 1000 0", -9, ["ended abruptly, by SIGKILL: seen up to there", "1 process, ", SEEN]),
     ):
         for limit, full in (("400", "1"), ("1000000", "1"), ("400", "0"), ("1000000", "0")):
@@ -357,17 +358,17 @@ def check_recorded_kills(suite: Suite, folder: str, program: str) -> None:
 def check_recorded_limit(suite: Suite, folder: str, program: str) -> None:
     """Too much is live to begin a segment with it; or there are to be no segments."""
     ran = suite.run("--full", "--leaks=no", "--", program, "many_live", "3000", "0", ASANCOL_LIMIT="500")
-    expect_ran(ran, 98, "NOT SEEN WHOLE: reached the event limit: ", " of 3002 events were not recorded", "1 process, ")
+    expect_ran(ran, 98, "INCOMPLETE: reached the event limit: ", " of 3002 events were not recorded", "1 process, ")
     ran = suite.run("--leaks=no", "--", program, "blocks", "1000", "-1", ASANCOL_LIMIT="500",
                     ASANCOL_SEGMENTS="0")
-    expect_ran(ran, 98, "NOT SEEN WHOLE: reached the event limit: ", " of 2002 events were not recorded", "1 process, ")
+    expect_ran(ran, 98, "INCOMPLETE: reached the event limit: ", " of 2002 events were not recorded", "1 process, ")
 
 
 def check_recorded_traces(suite: Suite, folder: str, program: str) -> None:
     """Traces that were kept, or that the process has left by itself, have the report that the run had."""
     settings = {"ASANCOL_REPORT": REPORT, "ASANCOL_LIMIT": "500", "ASANCOL_FULL": "1"}
     words = [program, "blocks", "1000", "700"]
-    said = "1 report at 1 place; 1 process, 2003 events; all seen whole\n"
+    said = "1 report at 1 place; 1 process, 2003 events; all complete\n"
     expect_ran(suite.run("--keep", f"{folder}/kept", "--", *words, **settings), 99, said, "in blocks ")
     settings["ASANCOL_WHERE"] = "1"
     suite.run_words(words, cwd=folder, ASANCOL_TRACE="t.trace", **settings)
@@ -379,14 +380,14 @@ def check_recorded_traces(suite: Suite, folder: str, program: str) -> None:
     newest = sorted(it for it in os.listdir(folder) if it.startswith("newest.") and it.endswith(".trace"))
     expect(len(newest), 2, newest)
     ran = suite.run_words([REPORT, "--trace", f"{folder}/{newest[1]}"])
-    expect_in(ran.out, "NOT SEEN WHOLE: segment ", " is the first that was seen", "1 process, ")
+    expect_in(ran.out, "INCOMPLETE: segment ", " is the first that was seen", "1 process, ")
 
 
 def check_recorded_files(suite: Suite, folder: str, program: str) -> None:
     """A process that cannot reach the socket leaves its segments in files."""
     line = f"rm $ASANCOL_HUB; exec unshare -rn {program} blocks 1000 700"
     ran = suite.run("-v", "--full", "--", "sh", "-c", line, ASANCOL_REPORT=REPORT, ASANCOL_LIMIT="500")
-    expect_ran(ran, 99, "1 report at 1 place; 1 process, 2003 events; all seen whole", "in blocks ")
+    expect_ran(ran, 99, "1 report at 1 place; 1 process, 2003 events; all complete", "in blocks ")
 
 
 def tests(suite: Suite) -> None:
@@ -401,9 +402,9 @@ def tests(suite: Suite) -> None:
         suite.test(f"{compiler} segments, recorded traces", check_recorded_traces, program)
         if suite.run_words(["unshare", "-rn", "true"]).status == 0:
             suite.test(f"{compiler} segments, recorded files", check_recorded_files, program)
-    suite.test("segments, whole", check_whole)
-    for words, why in NOT_WHOLE.items():
-        suite.test(f"segments {words}", check_not_whole, words, why)
+    suite.test("segments, complete", check_complete)
+    for words, why in INCOMPLETE.items():
+        suite.test(f"segments {words}", check_incomplete, words, why)
     suite.test("segments, others", check_others)
     suite.test("segments, killed", check_killed)
     suite.test("segments, outputs", check_outputs)

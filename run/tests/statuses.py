@@ -8,13 +8,13 @@ from support import Failure, Suite, expect, expect_ran
 # A run, by the words after asancol-run, in which PROGRAM stands for the recorded program: its status, and texts that
 # are on standard error. A text after a `!` is not there.
 RUNS: Dict[str, Tuple[str, int, List[str]]] = {
-    "clean": ("-- PROGRAM sound", 0, ["asancol: no reports; 1 process, 2 events; all seen whole"]),
-    "full": ("--full -- PROGRAM sound", 0, ["asancol: no reports; 1 process, 2 events; all seen whole"]),
+    "clean": ("-- PROGRAM sound", 0, ["asancol: no reports; 1 process, 2 events; all complete"]),
+    "full": ("--full -- PROGRAM sound", 0, ["asancol: no reports; 1 process, 2 events; all complete"]),
     "clean and quiet": ("-q -- PROGRAM sound", 0, ["!asancol"]),
     "without dashes": ("-q PROGRAM sound", 0, []),
-    "verbose": ("-v -- PROGRAM sound", 0, [": seen whole, 2 events, 0 reports"]),
+    "verbose": ("-v -- PROGRAM sound", 0, [": complete, 2 events, 0 reports"]),
     "verbose, each with its end": ("-v -- sh -c 'PROGRAM aborts; PROGRAM execs PROGRAM sound; true'", 0, [
-        "seen whole: ended by SIGABRT, ", "seen whole: went on as another program, ", "programs: seen whole, "
+        "complete: ended by SIGABRT, ", "complete: went on as another program, ", "programs: complete, "
     ]),
     "own status": ("-q -- sh -c 'PROGRAM sound; exit 7'", 7, ["!asancol"]),
     "report": ("-- PROGRAM past", 99, []),
@@ -24,11 +24,11 @@ RUNS: Dict[str, Tuple[str, int, List[str]]] = {
     "exitcode 0": ("--exitcode=0 -- sh -c 'PROGRAM past; exit 7'", 7, []),
     "last one counts": ("--exitcode 5 --exitcode 8 -- PROGRAM past", 8, []),
     "forked child": ("-- PROGRAM child", 99, []),
-    "death is whole": ("-v -- PROGRAM aborts", 0, ["seen whole: ended by SIGABRT"]),
+    "death is complete": ("-v -- PROGRAM aborts", 0, ["complete: ended by SIGABRT"]),
     "exec": ("-- PROGRAM execs PROGRAM past", 99, []),
-    "exec is whole": ("-- PROGRAM execs PROGRAM sound", 0, ["2 processes, 4 events; all seen whole"]),
-    "failed exec": ("-- PROGRAM execs /nonexistent", 127, ["1 process, 2 events; all seen whole"]),
-    "nothing": ("-- true", 98, ["NOTHING WAS RECORDED", "no reports; 0 processes, 0 events; NOT SEEN WHOLE"]),
+    "exec is complete": ("-- PROGRAM execs PROGRAM sound", 0, ["2 processes, 4 events; all complete"]),
+    "failed exec": ("-- PROGRAM execs /nonexistent", 127, ["1 process, 2 events; all complete"]),
+    "nothing": ("-- true", 98, ["NOTHING WAS RECORDED", "no reports; 0 processes, 0 events; INCOMPLETE"]),
     "nothing, and quiet": ("-q -- true", 98, ["NOTHING WAS RECORDED"]),
     "nothing-exitcode": ("--nothing-exitcode 77 -- true", 77, ["NOTHING WAS RECORDED"]),
     "nothing-exitcode 0": ("--nothing-exitcode 0 -- sh -c 'exit 4'", 4, ["NOTHING WAS RECORDED"]),
@@ -42,8 +42,8 @@ RUNS: Dict[str, Tuple[str, int, List[str]]] = {
     "nothing, and timeout": ("--nothing-exitcode 77 --timeout 0.2 -- sleep 9", 98, ["was ended by --timeout"]),
     "timeout": ("--timeout 0.2 -- sh -c 'PROGRAM sound; sleep 9'", 98, [
         "the command is ended by --timeout, after 0.2 seconds",
-        "asancol: NOT ALL SEEN: the command was ended by --timeout",
-        "2 events; NOT SEEN WHOLE",
+        "asancol: INCOMPLETE: the command was ended by --timeout",
+        "2 events; INCOMPLETE",
     ]),
     "timeout of a second": ("--timeout 1 -- sleep 9", 98, ["ended by --timeout, after 1 second\n"]),
     "a file that is called --": ("--json=-- -- PROGRAM sound", 0, ["the report"]),
@@ -53,31 +53,31 @@ RUNS: Dict[str, Tuple[str, int, List[str]]] = {
     "at-least": (
         "--at-least 2 -- sh -c 'PROGRAM sound; true'",
         98,
-        ["NOT ALL SEEN: 1 fewer than --at-least asks for", "2 events; NOT SEEN WHOLE"],
+        ["INCOMPLETE: 1 fewer than --at-least asks for", "2 events; INCOMPLETE"],
     ),
     "at-least is met": ("--at-least 2 -- sh -c 'PROGRAM sound; PROGRAM sound'", 0, []),
     "incomplete-exitcode": ("--incomplete-exitcode 3 --at-least 2 -- PROGRAM sound", 3, []),
     "incomplete-exitcode 0": ("--incomplete-exitcode 0 --at-least 2 -- sh -c 'PROGRAM sound; exit 9'", 9, []),
-    "command ends by a signal": ("-- sh -c 'PROGRAM sound; kill -TERM $$'", -15, ["all seen whole"]),
+    "command ends by a signal": ("-- sh -c 'PROGRAM sound; kill -TERM $$'", -15, ["all complete"]),
     "program ends by a signal": ("-- PROGRAM kills_itself 11", -11, ["the report"]),
     "program ends by a signal, and quiet": ("-q -- PROGRAM kills_itself 11", -11, ["!asancol"]),
-    "program is terminated": ("-- PROGRAM kills_itself 15", -15, ["all seen whole"]),
+    "program is terminated": ("-- PROGRAM kills_itself 15", -15, ["all complete"]),
     "killed": ("-- PROGRAM kills_itself 9", -9, [
-        "ended abruptly, by SIGKILL: seen up to there", "all seen whole, 1 ended abruptly"
+        "ended abruptly, by SIGKILL: seen up to there", "all complete, 1 ended abruptly"
     ]),
     "killed, and quiet": ("-q -- sh -c 'PROGRAM kills_itself 9; true'", 0, ["!asancol"]),
     "no shadow": ("-- sh -c 'ulimit -v 1000000; PROGRAM sound || true'", 98, [
-        "programs: NOT SEEN WHOLE: address space is limited", "!NOTHING WAS RECORDED"
+        "programs: INCOMPLETE: address space is limited", "!NOTHING WAS RECORDED"
     ]),
     "no shadow, and nothing-exitcode": (
         "--nothing-exitcode 77 -- sh -c 'ulimit -v 1000000; PROGRAM sound || true'", 98, []
     ),
     "a trace elsewhere": ("-- sh -c 'ASANCOL_TRACE=/dev/null PROGRAM sound; PROGRAM sound'", 98, [
-        "programs: NOT SEEN WHOLE: ASANCOL_TRACE is set for it", "1 NOT SEEN WHOLE"
+        "programs: INCOMPLETE: ASANCOL_TRACE is set for it", "1 INCOMPLETE"
     ]),
-    "an unknown fork": ("-- PROGRAM forks_unseen", 98, ["NOT SEEN WHOLE: it was not made by fork, but by _Fork"]),
+    "an unknown fork": ("-- PROGRAM forks_unseen", 98, ["INCOMPLETE: it was not made by fork, but by _Fork"]),
     "folder removed": ("-- sh -c 'PROGRAM sound; rm -r ${ASANCOL_HUB%/*}; PROGRAM sound'", 98, [
-        "3 processes, 4 events", "(unknown): NOT SEEN WHOLE: the folder of the run was removed"
+        "3 processes, 4 events", "(unknown): INCOMPLETE: the folder of the run was removed"
     ]),
     "not found": ("-- no-such-command", 127, ["asancol-run: no-such-command: No such file or directory"]),
     "not executable": ("-- /etc/passwd", 126, ["asancol-run: /etc/passwd: Permission denied"]),
@@ -87,23 +87,23 @@ RUNS: Dict[str, Tuple[str, int, List[str]]] = {
     ]),
     "checker's memory": ("--memory 1048576 -- PROGRAM sound", 0, []),
     "quarantine": ("--quarantine 0 -- sh -c 'PROGRAM many 9 && test $ASANCOL_QUARANTINE = 0'", 0, []),
-    "quarantine of the command": ("-- env ASANCOL_QUARANTINE=100 PROGRAM many 500", 0, ["all seen whole"]),
+    "quarantine of the command": ("-- env ASANCOL_QUARANTINE=100 PROGRAM many 500", 0, ["all complete"]),
     "quarantine of a child": ("-- sh -c 'PROGRAM sound; export ASANCOL_QUARANTINE=0; PROGRAM sound; PROGRAM sound'", 0,
                               [
-        "all seen whole\nasancol: process ",
+        "all complete\nasancol: process ",
         "programs: held back 0 bytes of freed memory (ASANCOL_QUARANTINE), so uses after free may be missed; "
         "and so did 1 more",
     ]),
     "quarantine of a child, quiet": ("-q -- env ASANCOL_QUARANTINE=0 PROGRAM sound", 0, ["!asancol"]),
     "quarantine of a child that is no lower": ("-- env ASANCOL_QUARANTINE=268435456 PROGRAM sound", 0, ["!held back"]),
     "quarantine of a run": ("--quarantine 1 -- sh -c 'PROGRAM sound; PROGRAM sound'", 0, [
-        "whole\nasancol: 1 byte of freed memory is held back (--quarantine), so uses after free may be missed\n",
+        "complete\nasancol: 1 byte of freed memory is held back (--quarantine), so uses after free may be missed\n",
         "!asancol: process",
     ]),
     "limit of a child": ("-- sh -c 'ASANCOL_LIMIT=5 ASANCOL_SEGMENTS=0 PROGRAM many 9; true'", 98, [
-        "NOT SEEN WHOLE: reached the event limit: ", "events were not recorded, since ASANCOL_SEGMENTS is 0\n"
+        "INCOMPLETE: reached the event limit: ", "events were not recorded, since ASANCOL_SEGMENTS is 0\n"
     ]),
-    "limit of a child, in segments": ("-- sh -c 'ASANCOL_LIMIT=9000 PROGRAM many 9000'", 0, ["whole", "!ASANCOL"]),
+    "limit of a child, in segments": ("-- sh -c 'ASANCOL_LIMIT=9000 PROGRAM many 9000'", 0, ["complete", "!ASANCOL"]),
     "environment": (
         "-- sh -c 'PROGRAM sound; test -n \"$ASANCOL_HUB\" -a -z \"${ASANCOL_QUARANTINE+x}\"'", 0, []
     ),
@@ -208,7 +208,7 @@ def check_missing_checker(suite: Suite, folder: str, checker: str) -> None:
 def check_other_checker(suite: Suite, folder: str) -> None:
     """A program that prints no verdict is found out."""
     ran = suite.run("--", suite.program, "sound", ASANCOL="/bin/true")
-    expect_ran(ran, 98, "NOT SEEN WHOLE: its checker printed no verdict, and ended with status 0")
+    expect_ran(ran, 98, "INCOMPLETE: its checker printed no verdict, and ended with status 0")
 
 
 def check_quarantine_of_environment(suite: Suite, folder: str) -> None:
@@ -241,7 +241,7 @@ def check_environment(suite: Suite, folder: str) -> None:
 
 def check_event_limit(suite: Suite, folder: str) -> None:
     ran = suite.run("--", suite.program, "many", "10000", ASANCOL_LIMIT="5000", ASANCOL_SEGMENTS="0")
-    expect_ran(ran, 98, "NOT SEEN WHOLE: reached the event limit: 15003 of 20003 events were not recorded")
+    expect_ran(ran, 98, "INCOMPLETE: reached the event limit: 15003 of 20003 events were not recorded")
 
 
 def tests(suite: Suite) -> None:

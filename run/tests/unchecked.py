@@ -60,16 +60,16 @@ def check_summary(suite: Suite, folder: str, compiler: str) -> None:
         (["./some-libraries"], 0, "; not checked: u.o, and 2 libraries of the system\n"),
         (["--unchecked=no", "./some-libraries"], 0, " events\n"),
         (["sh", "-c", "./some; ./more; ./some; exec ./some"], 0, " events; not checked: u.o, n0.o"),
-        (["./bad"], 99, " events; all seen whole\n"),
-        (["--unchecked=error", "./bad"], 99, " events; all seen whole\n"),
-        (["./libraries"], 0, f" events; all seen whole; {TWO}\n"),
-        (["--unchecked=error", "./libraries"], 0, f" events; all seen whole; {TWO}\n"),
-        (["--unchecked=no", "./libraries"], 0, " events; all seen whole\n"),
-        (["sh", "-c", "./libraries; exec ./libraries"], 0, f" events; all seen whole; {TWO}\n"),
+        (["./bad"], 99, " events; all complete\n"),
+        (["--unchecked=error", "./bad"], 99, " events; all complete\n"),
+        (["./libraries"], 0, f" events; all complete; {TWO}\n"),
+        (["--unchecked=error", "./libraries"], 0, f" events; all complete; {TWO}\n"),
+        (["--unchecked=no", "./libraries"], 0, " events; all complete\n"),
+        (["sh", "-c", "./libraries; exec ./libraries"], 0, f" events; all complete; {TWO}\n"),
         (["--unchecked=error", "sh", "-c", "./bad; ./some"], 99, "; not checked: u.o\n"),
         (["./static"], 99, "; not checked: calls of the C library (-static)\n"),
     ):
-        absent = [] if "all seen whole" in text else ["all seen whole"]
+        absent = [] if "all complete" in text else ["all complete"]
         for reporter in (NO_SETTINGS, {"ASANCOL_REPORT": REPORT}):
             if status == 99 and not reporter:
                 continue
@@ -101,7 +101,7 @@ def check_outputs(suite: Suite, folder: str, compiler: str) -> None:
     ran = suite.run_words(["./some"], cwd=folder, ASANCOL_TRACE="t.trace", ASANCOL_WHERE="1")
     ran = suite.run_words([REPORT, "--trace", "t.trace"], cwd=folder)
     expect_in(ran.out, "; not checked: u.o\n")
-    expect_not_in(ran.out, "all seen whole")
+    expect_not_in(ran.out, "all complete")
 
 
 CXX_MAIN = """
@@ -118,10 +118,10 @@ def check_libraries(suite: Suite, folder: str, compiler: str) -> None:
     for name in ("one", "other"):
         suite.run(f"--json={name}", "--", *words, cwd=folder, ASANCOL_REPORT=REPORT)
     ran = suite.run_words([REPORT, "one", "other", "--json=both"], cwd=folder)
-    expect_in(ran.out, f"; all seen whole; {TWO}\n")
-    expect_in(suite.run_words([REPORT, "both"], cwd=folder).out, f"; all seen whole; {TWO}\n")
+    expect_in(ran.out, f"; all complete; {TWO}\n")
+    expect_in(suite.run_words([REPORT, "both"], cwd=folder).out, f"; all complete; {TWO}\n")
     suite.run_words(words, cwd=folder, ASANCOL_TRACE="t.trace", ASANCOL_WHERE="1")
-    expect_in(suite.run_words([REPORT, "--trace", "t.trace"], cwd=folder).out, f"; all seen whole; {TWO}\n")
+    expect_in(suite.run_words([REPORT, "--trace", "t.trace"], cwd=folder).out, f"; all complete; {TWO}\n")
     with open(f"{folder}/plus.cpp", "w", encoding="utf-8") as file:
         file.write(CXX_MAIN)
     cxx = {"gcc": "g++", "clang": "clang++"}[compiler]
@@ -129,10 +129,10 @@ def check_libraries(suite: Suite, folder: str, compiler: str) -> None:
         subprocess.run([CXX, "plus.cpp", "-o", *words], cwd=folder, check=True, env={**os.environ, "ASANCOL_CXX": cxx})
     calls, static = "calls of libraries (ASANCOL_LIBRARIES=0)", "; not checked: calls of the C library (-static)\n"
     for program, status, on, off in (
-        ("./bad", 99, "; all seen whole\n", "; all seen whole\n"),
-        ("./plus", 0, "; all seen whole\n", f" events; not checked: {calls}\n"),
+        ("./bad", 99, "; all complete\n", "; all complete\n"),
+        ("./plus", 0, "; all complete\n", f" events; not checked: {calls}\n"),
         ("./plus-static", 0, static, static),
-        ("./libraries", 0, f"; all seen whole; {TWO}\n",
+        ("./libraries", 0, f"; all complete; {TWO}\n",
          f" events; not checked: {calls}, and 2 libraries of the system\n"),
     ):
         for settings, wanted in ((NO_SETTINGS, on), ({"ASANCOL_LIBRARIES": "0"}, off)):

@@ -42,8 +42,8 @@ INCOMPLETE = 98
 WAYS: List[Tuple[str, str]] = [
     ("segfault", "dies: ended by SIGSEGV, by a store at address 0x8\n    #0"),
     ("abort", "dies: ended by SIGABRT\n    #0"),
-    ("abort", "dies: NOT SEEN WHOLE: ended by SIGABRT before main"),
-    ("kill", "dies: NOT SEEN WHOLE: ended abruptly, as by SIGKILL, or an _exit or exec in a library, before main"),
+    ("abort", "dies: INCOMPLETE: ended by SIGABRT before main"),
+    ("kill", "dies: INCOMPLETE: ended abruptly, as by SIGKILL, or an _exit or exec in a library, before main"),
     ("past", "heap-buffer-overflow: store of 1 byte"),
     ("exit", "asancol: no reports; 1 process, "),
 ]
@@ -152,8 +152,8 @@ int main(int count, char **words) {
 }
 """
 STARTS = ("exec", "fork", "vfork", "spawn", "spawnp", "fexecve")
-NEVER = "NOT SEEN WHOLE: it ended before its recording began"
-NO_HUB = "NOT SEEN WHOLE: it was started without ASANCOL_HUB in its environment"
+NEVER = "INCOMPLETE: it ended before its recording began"
+NO_HUB = "INCOMPLETE: it was started without ASANCOL_HUB in its environment"
 
 
 def build(folder: str, name: str, text: str, *flags: str, compiler: str = CC) -> str:
@@ -196,7 +196,7 @@ def check_plain_parent(suite: Suite, folder: str) -> None:
     good = build(folder, "good", GOOD)
     resolves = build(folder, "resolves", RESOLVES)
     ran = suite.run("--", "sh", "-c", f"{resolves}; {good}")
-    expect_ran(ran, 98, f"{resolves}: {NEVER}", "2 processes, ", "; 1 NOT SEEN WHOLE")
+    expect_ran(ran, 98, f"{resolves}: {NEVER}", "2 processes, ", "; 1 INCOMPLETE")
     for flags in ((), ["-no-pie"], ["-static"]):
         early = build(folder, "early", EARLY, *flags)
         ran = suite.run("--", "sh", "-c", f"{early} now; {early}; true", ASANCOL_REPORT=REPORT)
@@ -209,15 +209,15 @@ def check_recorded_parent(suite: Suite, folder: str) -> None:
     for way in STARTS:
         for name in ("resolves", "needs"):
             ran = suite.run("--", "./parent", way, f"{folder}/{name}", cwd=folder)
-            expect_ran(ran, 98, f"{folder}/{name}: {NEVER}", "; 1 NOT SEEN WHOLE")
+            expect_ran(ran, 98, f"{folder}/{name}: {NEVER}", "; 1 INCOMPLETE")
         for name in ("good", "plain"):
             ran = suite.run("--", "./parent", way, f"./{name}", cwd=folder)
-            expect_ran(ran, 0, "all seen whole")
+            expect_ran(ran, 0, "all complete")
     expect_ran(suite.run("--", "./parent", "exec", "./script", cwd=folder), 98, f"./script: {NEVER}, by SIGSEGV")
     expect_ran(suite.run("--", "./parent", "exec", "./needs", cwd=folder), 98, f"./needs: {NEVER}, with status 127")
     ran = suite.run("--", "./parent", "spawnp", "resolves", cwd=folder, PATH=f"/none:{folder}:{os.environ['PATH']}")
     expect_ran(ran, 98, f"resolves: {NEVER}")
-    expect_ran(suite.run("--", "./parent", "fork", "./nowhere", cwd=folder), 0, "all seen whole")
+    expect_ran(suite.run("--", "./parent", "fork", "./nowhere", cwd=folder), 0, "all complete")
 
 
 def check_no_descriptors(suite: Suite, folder: str, compiler: str) -> None:
@@ -227,8 +227,8 @@ def check_no_descriptors(suite: Suite, folder: str, compiler: str) -> None:
     for way in ("exec", "fork", "vfork", "spawn", "spawnp"):
         ran = suite.run("--", "./parent", way, "./good", cwd=folder, NO_DESCRIPTORS="1")
         expect_ran(ran, 98,
-                   "./good: NOT SEEN WHOLE: nothing came of it, and no descriptor was left to see if asancol-cc "
-                   "built it", "; 1 NOT SEEN WHOLE")
+                   "./good: INCOMPLETE: nothing came of it, and no descriptor was left to see if asancol-cc "
+                   "built it", "; 1 INCOMPLETE")
 
 
 def check_lost_environment(suite: Suite, folder: str) -> None:
@@ -237,7 +237,7 @@ def check_lost_environment(suite: Suite, folder: str) -> None:
         expect_ran(suite.run("--", "sh", "-c", f"{line}; ./good", cwd=folder), 98, f"./good: {NO_HUB}", "2 processes, ")
     for way in ("empty", "clearenv"):
         expect_ran(suite.run("--", "./parent", way, "./good", cwd=folder), 98, f"./good: {NO_HUB}")
-        expect_ran(suite.run("--", "./parent", way, "./plain", cwd=folder), 0, "all seen whole")
+        expect_ran(suite.run("--", "./parent", way, "./plain", cwd=folder), 0, "all complete")
 
 
 def check_set_user(suite: Suite, folder: str) -> None:
@@ -247,8 +247,8 @@ def check_set_user(suite: Suite, folder: str) -> None:
     os.chown(f"{folder}/good", 1, 1)
     os.chmod(f"{folder}/good", 0o4755)
     ran = suite.run("--", "./parent", "fork", "./good", cwd=folder)
-    expect_ran(ran, 98, "./good: NOT SEEN WHOLE: it is set-user-ID or set-group-ID, so it ignores its settings")
-    expect_ran(suite.run("--", "sh", "-c", "./good; ./parent fork ./plain", cwd=folder), 98, "1 NOT SEEN WHOLE")
+    expect_ran(ran, 98, "./good: INCOMPLETE: it is set-user-ID or set-group-ID, so it ignores its settings")
+    expect_ran(suite.run("--", "sh", "-c", "./good; ./parent fork ./plain", cwd=folder), 98, "1 INCOMPLETE")
 
 
 def check_foreign_host(suite: Suite, folder: str) -> None:
@@ -261,9 +261,9 @@ def check_foreign_host(suite: Suite, folder: str) -> None:
                        ("true", f"LD_PRELOAD={library} /bin/true"),
                        ("python3", f"python3 -c 'import ctypes; ctypes.CDLL(\"{library}\")'")):
         ran = suite.run("--", "sh", "-c", f"{line}; {suite.program} sound")
-        expect_ran(ran, 98, f"{name}: NOT SEEN WHOLE: {words}", "2 processes, ", "; 1 NOT SEEN WHOLE")
+        expect_ran(ran, 98, f"{name}: INCOMPLETE: {words}", "2 processes, ", "; 1 INCOMPLETE")
     host = build(folder, "host", HOST)
-    expect_ran(suite.run("--", host, library), 0, "all seen whole")
+    expect_ran(suite.run("--", host, library), 0, "all complete")
     expect_ran(suite.run("--", host, library, "new"), 0, "; not checked: malloc of libc.so.6")
 
 
@@ -274,11 +274,11 @@ def check_out_of_reach(suite: Suite, folder: str) -> None:
     plain = build(folder, "plain", GOOD, compiler="cc")
     for words in (["fork"], ["fork", good], ["fork", plain]):
         ran = suite.run("--", "sh", "-c", f"{alone} {' '.join(words)} 2>/dev/null")
-        expect_ran(ran, 98, f"{alone}: NOT SEEN WHOLE: 2 children that it forked never connected", "; 1 NOT SEEN WHOLE")
+        expect_ran(ran, 98, f"{alone}: INCOMPLETE: 2 children that it forked never connected", "; 1 INCOMPLETE")
     ran = suite.run("--json", f"{folder}/x", "--", alone, "exec", good, ASANCOL_REPORT=REPORT)
-    expect_ran(ran, 98, f"{alone}: NOT SEEN WHOLE: it became a program of asancol-cc that never connected")
+    expect_ran(ran, 98, f"{alone}: INCOMPLETE: it became a program of asancol-cc that never connected")
     for words in (["exec", plain], ["fails"], ["forks"]):
-        expect_ran(suite.run("--", alone, *words), 0, "all seen whole")
+        expect_ran(suite.run("--", alone, *words), 0, "all complete")
 
 
 def tests(suite: Suite) -> None:

@@ -33,7 +33,7 @@ def read_lines(path: str) -> List[Any]:
 def check_report(suite: Suite, folder: str) -> None:
     ran = run_real(suite, "--", suite.program, "past", "3")
     texts = (PAST, "in store_past", "programs.c:", "0 bytes past the end of a block of 8 bytes", "allocated at")
-    expect_ran(ran, 99, *texts, "asancol: 3 reports at 1 place; 1 process, 5 events; all seen whole")
+    expect_ran(ran, 99, *texts, "asancol: 3 reports at 1 place; 1 process, 5 events; all complete")
     ran = run_real(suite, "--", suite.program, "child")
     expect_ran(ran, 99, FREED, "in load_freed", "freed at", "2 processes")
 
@@ -341,12 +341,12 @@ def check_bare(suite: Suite, folder: str, compiler: str) -> None:
 
 
 def check_many_removed(suite: Suite, folder: str) -> None:
-    """Of many programs that are removed, with few descriptors, each is seen whole. Lines may be missing, with a
+    """Of many programs that are removed, with few descriptors, each is complete. Lines may be missing, with a
     word."""
     shutil.copy(suite.program, f"{folder}/program")
     line = f"ulimit -n 64; exec {RUN} -- sh -c 'for i in $(seq 30); do cp program p$i; ./p$i past; rm p$i; done'"
     ran = suite.run_words(["sh", "-c", line], folder, ASANCOL_REPORT=REPORT)
-    expect_ran(ran, 99, "30 processes", "all seen whole", "in store_past")
+    expect_ran(ran, 99, "30 processes", "all complete", "in store_past")
 
 
 def check_nested(suite: Suite, folder: str) -> None:
@@ -364,7 +364,7 @@ def check_nested(suite: Suite, folder: str) -> None:
 def check_folder_removed(suite: Suite, folder: str) -> None:
     """A test that clears the folder for what passes loses no report."""
     line = f'rm -rf "$TMPDIR"/*; exec {suite.program} past'
-    expect_ran(run_real(suite, "--", "sh", "-c", line, TMPDIR=folder), 99, PAST, "1 NOT SEEN WHOLE")
+    expect_ran(run_real(suite, "--", "sh", "-c", line, TMPDIR=folder), 99, PAST, "1 INCOMPLETE")
 
 
 def check_bad_rules(suite: Suite, folder: str) -> None:
@@ -381,7 +381,7 @@ def check_crash(suite: Suite, folder: str) -> None:
     line = f"{suite.program} crashes || true"
     ran = run_real(suite, "--json", f"{folder}/x", "--", "sh", "-c", line)
     expect_ran(ran, 0, f"{suite.program}: {CRASHED}\n    #0 0x", "in crashes", "no reports;",
-               "1 process, 2 events; all seen whole, 1 crashed\n")
+               "1 process, 2 events; all complete, 1 crashed\n")
     crashed = [it for it in read_lines(f"{folder}/x") if it["type"] == "process"]
     process = crashed[0]
     expect((process["signal"], process["address"], process["stack"][0]["function"]), (11, "10", "crashes"),
@@ -411,7 +411,7 @@ def check_crash_in_outputs(suite: Suite, folder: str, line: str) -> None:
     with open(f"{folder}/rules", "w", encoding="utf-8") as file:
         file.write("at:SEGV:crashes\n")
     ran = run_real(suite, "--suppressions", f"{folder}/rules", *outputs, "--", "sh", "-c", line)
-    expect_ran(ran, 0, "all seen whole, 1 crash suppressed", absent=["ended by SIGSEGV"])
+    expect_ran(ran, 0, "all complete, 1 crash suppressed", absent=["ended by SIGSEGV"])
     expect("<failure" in read(f"{folder}/junit"), False, "JUnit of a crash that is suppressed")
     ran = run_real(suite, "-q", "--suppressions", f"{folder}/rules", "--", "sh", "-c", line)
     expect_ran(ran, 0, absent=["asancol:"])
@@ -427,7 +427,7 @@ def check_kept(suite: Suite, folder: str) -> None:
 
 def check_killed_in_a_file(suite: Suite, folder: str) -> None:
     """A trace in a file whose process was killed reads as such, and not as a damaged one."""
-    why = "NOT SEEN WHOLE: ended abruptly, as by SIGKILL, or an _exit or exec in a library, or still running\n"
+    why = "INCOMPLETE: ended abruptly, as by SIGKILL, or an _exit or exec in a library, or still running\n"
     for where in ("0", "1"):
         trace = f"{folder}/{where}.trace"
         suite.run_words([suite.program, "kills_itself", "9"], ASANCOL_TRACE=trace, ASANCOL_WHERE=where)
@@ -473,7 +473,7 @@ def check_many(suite: Suite, folder: str) -> None:
     line = f"i=0; while [ $i -lt 100 ]; do {suite.program} past & i=$((i+1)); done; wait"
     words = ["sh", "-c", f"ulimit -n 64; exec {RUN} -- sh -c '{line}'"]
     ran = suite.run_words(words, ASANCOL_REPORT=REPORT)
-    expect_ran(ran, 99, "asancol: 100 reports at 1 place; 100 processes, 300 events; all seen whole")
+    expect_ran(ran, 99, "asancol: 100 reports at 1 place; 100 processes, 300 events; all complete")
 
 
 def check_first_steps(suite: Suite, folder: str) -> None:

@@ -8,7 +8,7 @@ from beside.tables import CRASHES, UNCLAIMED
 
 SAME, OTHER, FALSE, MISSED, LEFT_OUT = "same", "other", "false", "missed", "left out"
 # What the recorded way says in place of a report.
-NO_REPORT = ("not seen whole", NOT_BUILT)
+NO_REPORT = ("incomplete", NOT_BUILT)
 # The worst comes last.
 ORDER = [LEFT_OUT, SAME, OTHER, FALSE, MISSED]
 

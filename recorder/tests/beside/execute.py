@@ -131,7 +131,7 @@ def moment(finding: Dict[str, Any]) -> Tuple[int, int, float]:
 def report_by_asancol(path: str) -> Optional[Report]:
     """The first report of a result, or what has ended a process, or why not all was seen."""
     if not os.path.exists(path):
-        return Report("not seen whole: there is no result", "")
+        return Report("incomplete: there is no result", "")
     with open(path, encoding="utf-8") as file:
         entries: List[Dict[str, Any]] = [json.loads(line) for line in file]
     findings = [it for it in entries if it["type"] == "finding"]
@@ -142,7 +142,7 @@ def report_by_asancol(path: str) -> Optional[Report]:
         if it["type"] == "process" and "signal" in it:
             return Report(signal.Signals(it["signal"]).name, line_of(it.get("stack", [])))
     whys = [it["why"] for it in entries if it["type"] == "process" and not it["whole"]]
-    return Report(f"not seen whole: {whys[0]}", "") if whys else None
+    return Report(f"incomplete: {whys[0]}", "") if whys else None
 
 
 def other_option(options: str) -> str:

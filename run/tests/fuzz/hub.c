@@ -77,8 +77,8 @@ static void look_at(struct process *process)
     for (const char *at = process->name; *at != 0; at++)
         expect((unsigned char)*at >= ' ' && *at != 0x7f);
     expect(strlen(process->why) < sizeof process->why && strlen(process->fate) < sizeof process->fate);
-    expect(!process->is_whole || process->has_checks);
-    expect(process->is_whole || process->why[0] != 0);
+    expect(!process->is_complete || process->has_checks);
+    expect(process->is_complete || process->why[0] != 0);
     FILE *to = open_memstream(&text, &length);
     expect(to != NULL);
     json_list(to, list, SIZE_MAX);

@@ -1,4 +1,4 @@
-"""Tests that nothing is called clean which was not seen whole: limits, builds that record nothing, settings that
+"""Tests that nothing is called clean which is incomplete: limits, builds that record nothing, settings that
 are none, and programs that are sound without a recorder."""
 
 import glob
@@ -297,7 +297,7 @@ def check_static(suite: Suite, folder: str, compiler: Compiler) -> None:
 
 
 def check_nothing_to_see(suite: Suite, folder: str, compiler: Compiler) -> None:
-    """A program that makes no access was seen whole, if it was compiled for it."""
+    """A program that makes no access was complete, if it was compiled for it."""
     write(folder, empty_c="int main(void) { return 0; }\n")
     expect_warnings(warned(folder, compiler, "-c", "empty.c"))
     for words in (["empty.c"], ["empty.o"], ["-static", "empty.o"], ["-O2", "-flto", "empty.c"]):
