@@ -1,4 +1,4 @@
-/* ASANCOL_HALT: the process ends at the first access or free that the shadow holds for bad, as a fuzzer wants it.
+/* ASANCOL_HALT: the process ends at the first access or free that the shadow flags, as a fuzzer wants it.
 
    With 1 the recording ends there, with a close if it has everything. With 2 it begins there: with what stands, and
    this one event. So only a process that fails leaves a trace, and asancol judges it without a second run.

@@ -1,4 +1,4 @@
-/* The end of the process at the first access or free that the shadow holds for bad. */
+/* The end of the process at the first access or free that the shadow flags. */
 #ifndef ASANCOL_HALT_H
 #define ASANCOL_HALT_H
 

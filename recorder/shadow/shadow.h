@@ -7,7 +7,7 @@
    addressable here has to be addressable there, at the place that a record of the access would have. Being stricter
    costs a record, and no verdict.
 
-   Of memory outside the allocator's the stream says nothing until an access comes that the check holds for bad. A
+   Of memory outside the allocator's the stream says nothing until an access comes that the check flags. A
    second map of the same form, `stated`, has the byte that the stream states of each granule there. Where the two
    differ, the stream is brought up before the access is recorded (stated.c). So a frame whose redzones nobody comes
    near costs nothing, and a stream that begins later begins with a map of zeros. */

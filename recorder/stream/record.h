@@ -69,7 +69,7 @@ void record_first_of(enum code code, unsigned width, uint64_t address, uint64_t 
     OWN_NAME(record_first_of);
 /* An access of any width, in pieces of 1, 2, 4 and 8 bytes at multiples of them. */
 void record_range(enum code code, uint64_t address, uint64_t size, uintptr_t caller) OWN_NAME(record_range);
-/* The pieces of it that the shadow holds for bad. */
+/* The pieces of it that the shadow flags. */
 void record_bad_range(enum code code, uint64_t address, uint64_t size, uintptr_t caller) OWN_NAME(record_bad_range);
 /* Likewise, of an access that a function of a library makes, of which so many of the first bytes are good. */
 void record_bad_call(enum code code, uint64_t address, uint64_t size, uint64_t good, uintptr_t caller, const char *call)

@@ -148,7 +148,7 @@ struct above {
 
 extern const struct above above OWN_NAME(above); /* start.c */
 
-/* Whether the process ends at the first access or free that the shadow holds for bad. */
+/* Whether the process ends at the first access or free that the shadow flags. */
 extern _Atomic bool halt_is_on OWN_NAME(halt_is_on);
 
 /* Lean recording: good mallocs and frees are left out, and what is poisoned in blocks. What a bad access or free has to

@@ -36,7 +36,7 @@ class Process(NamedTuple):
     fingerprint: str = ""  # of its crash
     access: str = ""  # of that address: "load", "store" or "jump", if that is known
     threads: Threads = Threads()  # the one that signal has met, and those that have led to it
-    findings: int = 0  # places that its recorder holds for wrong by itself
+    findings: int = 0  # places that its recorder flags by itself
 
     @property
     def is_crash(self) -> bool:
