@@ -174,11 +174,11 @@ struct side_build {
 
 /* How far the process has come. */
 struct side_progress {
-    uint64_t needed;   /* one more than the number of the last event that may be bad; 0: it is not noted */
-    uint64_t segment;  /* how many segments of this process came before; these have the same process and start */
-    uint64_t restated; /* how many events state what stood before: at its beginning, or in lean recording at a fault */
-    uint64_t noted;    /* how many bad accesses and frees are being noted just now, which have no event yet */
-    uint64_t forks;    /* how many children it has made by fork in this segment: each has a stream or leaves word */
+    uint64_t needed;  /* one more than the number of the last event that may be bad; 0: it is not noted */
+    uint64_t segment; /* how many segments of this process came before; these have the same process and start */
+    uint64_t stated;  /* how many events state what stood before: at its beginning, or in lean recording at a fault */
+    uint64_t noted;   /* how many bad accesses and frees are being noted just now, which have no event yet */
+    uint64_t forks;   /* how many children it has made by fork in this segment: each has a stream or leaves word */
     uint64_t of_parent, of_parent_started; /* the process and the start of whoever has forked it; 0: nobody recorded */
     uint64_t becomes;  /* 1: it becomes a program that is to connect, and no mark could say so */
     uint64_t calls;    /* how many threads try just now whether a sandbox ends them for calls of the recorder's */

@@ -52,7 +52,7 @@ struct process {
     bool is_among_more;          /* of a lead: it is counted, since lines of it could not be kept */
     /* What is known once it is done: */
     char fate[32];
-    uint64_t events, reports, left_out, restated, left_good;
+    uint64_t events, reports, left_out, stated, left_good;
     uint64_t findings;          /* places of which its recorder says that something is wrong there, */
     uint64_t leaks;             /* and those that leak, if leaks are summed up: then they are no findings */
     bool leaks_missed;          /* they were to be looked for, and could not be */

@@ -170,14 +170,14 @@ static bool is_flawed(struct process *joined, const struct process *front)
 /* How many events the process had: of these, lean recording sends those near a fault alone. */
 static uint64_t events_of(const struct process *segment)
 {
-    return segment->events - segment->restated + segment->left_good;
+    return segment->events - segment->stated + segment->left_good;
 }
 
 /* Adds up what all have, and answers the last. */
 static const struct process *add_up(struct process *joined, const struct process *front)
 {
     const struct process *last = front;
-    joined->events = joined->reports = joined->left_out = joined->restated = joined->segments = 0;
+    joined->events = joined->reports = joined->left_out = joined->stated = joined->segments = 0;
     joined->findings = joined->leaks = 0;
     joined->has_checks = false;
     joined->kept = NULL;

@@ -94,7 +94,7 @@ struct side_progress side_progress(const struct side *side)
 {
     const unsigned char *bytes = (const unsigned char *)side;
     const volatile struct side_progress *progress = (const volatile void *)(bytes + SIDE_PROGRESS);
-    return (struct side_progress){progress->needed, progress->segment, progress->restated, progress->noted,
+    return (struct side_progress){progress->needed, progress->segment, progress->stated, progress->noted,
                                   progress->forks, progress->of_parent, progress->of_parent_started,
                                   progress->becomes, progress->calls, progress->starts,
                                   progress->has_begun, progress->findings, progress->findings_lost,

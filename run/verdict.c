@@ -354,7 +354,7 @@ static void read_side(struct process *process)
     process->has_checks = !process->is_mark && (side == NULL || side->has_checks != 0);
     process->signal = process->ending == ENDING_SIGNAL ? side->signal : 0;
     struct side_progress progress = side != NULL ? side_progress(side) : (struct side_progress){0};
-    process->restated = progress.restated;
+    process->stated = progress.stated;
     process->left_good = progress.left_good <= MAX_LEFT_GOOD ? progress.left_good : 0;
     process->findings = progress.findings < SIDE_FAULTS ? progress.findings : SIDE_FAULTS;
     process->leaks = leaks_count ? 0 : progress.leaks < process->findings ? progress.leaks : process->findings;
@@ -364,8 +364,8 @@ static void read_side(struct process *process)
     process->becomes = progress.becomes != 0 && process->ending == ENDING_EXEC;
     process->of_parent = (int)progress.of_parent;
     process->of_parent_started = progress.of_parent_started;
-    if (process->restated > process->events)
-        process->restated = process->events;
+    if (process->stated > process->events)
+        process->stated = process->events;
 }
 
 static unsigned limit_of(const struct process *process)

@@ -81,7 +81,7 @@ TARGETS = [
 # What threads share.
 SHARED = [
     Target("heap",
-           [f"{OURS}/heap.c", *(f"{RECORDER}/heap/{it}.c" for it in ("heap", "arena", "nearest", "restating"))], [],
+           [f"{OURS}/heap.c", *(f"{RECORDER}/heap/{it}.c" for it in ("heap", "arena", "nearest", "snapshot"))], [],
            flags=["-include", f"{OURS}/heap.h"]),
     Target("stacks", [f"{OURS}/stacks.c", f"{RECORDER}/process/threads.c"], [], flags=["-DIS_STATIC"]),
     Target("thread notes", [f"{OURS}/thread_notes.c", f"{RECORDER}/stacks/thread_notes.c"], []),

@@ -494,7 +494,7 @@ static void *place_block(size_t size, size_t alignment, uintptr_t caller, const 
             paint_redzones(address, size);
         if (is_recorded())
             record_region(CODE_MALLOC, address, size);
-        /* The record may be the first of a segment, which restates what is live: this block is not yet. */
+        /* The record may be the first of a segment, whose snapshot has what is live: this block is not yet. */
         block_go(block, BLOCK_LIVE);
         if (!heap.is_unpainted)
             paint_live(address, size);

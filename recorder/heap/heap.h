@@ -24,7 +24,7 @@ bool heap_is_locked_here(void);
    what was released and for what the process has poisoned. Of the held blocks the oldest are released first, as far as
    they are more than so many, or the events more than there is room for. In lean recording nothing is recorded, and the
    book is empty then (book.h). The heap is locked. */
-void heap_restate(uint64_t most_held, uint64_t room);
+void heap_snapshot(uint64_t most_held, uint64_t room);
 /* Whether the shadow shows the state of blocks from now on. If nothing is recorded it need not, */
 void heap_paint(bool is_painted);
 /* until the process poisons a part of one. */

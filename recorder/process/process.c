@@ -118,7 +118,7 @@ static bool begin(uint64_t most_held)
         return false;
     heap_set_bound(process.settings.quarantine);
     heap_release_down_to_bound();
-    heap_restate(most_held, stream_restating_room());
+    heap_snapshot(most_held, stream_snapshot_room());
     /* What comes next may be an exec, after all descriptors were closed. */
     stream_look_at_clock(true);
     return true;
@@ -216,7 +216,7 @@ static bool begin_full(void)
 {
     bool has_events = atomic_load(&STREAM->cursor) >= (CURSOR_ON | CURSOR_EVENT);
     if (!has_events)
-        heap_restate(UINT64_MAX, stream_restating_room());
+        heap_snapshot(UINT64_MAX, stream_snapshot_room());
     return !has_events || switching_begin_anew();
 }
 

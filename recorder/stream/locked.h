@@ -16,7 +16,7 @@ extern struct locked {
     uint64_t start;          /* the offset at which the stream begins */
     uint64_t checked;        /* up to here the records were seen to be whole, */
     uint64_t checked_events; /* so many */
-    bool is_restating;       /* what a segment begins with, just now, */
+    bool takes_snapshot;     /* what a segment begins with, just now, */
     bool is_overfull;        /* for which there was no room */
     bool goes_on;            /* after what is written at an exit */
     bool said_unseen;        /* that it gets no close, since nothing was seen */

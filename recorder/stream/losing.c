@@ -15,7 +15,7 @@ static void end_early(uint64_t cursor, const char *why)
         holes_check(end < ready ? end : ready, plan.settings->limit, SHORT);
     tail_take_close_away();
     side_note_ending(ENDING_LOST, 0, locked.checked_events);
-    if ((cursor & CURSOR_ON) || locked.is_restating)
+    if ((cursor & CURSOR_ON) || locked.takes_snapshot)
         tail_trim(locked.checked, ENDING_LOST);
     recorder_say("recording ends: ", locked.trace.path, why);
 }

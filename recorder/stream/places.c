@@ -108,8 +108,8 @@ static void stop_at(uint64_t count)
 static enum room pass_limit(uint64_t cursor, bool is_of_heap)
 {
     if (has_segments()) {
-        /* A handler may have interrupted the allocator, so that the heap can't be restated just now. What a child of
-           vfork connects to is no connection of its parent's. */
+        /* A handler may have interrupted the allocator, so that there can be no snapshot of the heap just now. What a
+           child of vfork connects to is no connection of its parent's. */
         if ((is_of_heap || !above.is_in_heap()) && (!is_hub() || recorder_is_own_process())) {
             if (!switching_go_on())
                 stream_rest(0);
@@ -180,7 +180,7 @@ unsigned char *stream_open_place(uint64_t *cursor, unsigned length, bool is_of_h
 unsigned char *stream_reserve(unsigned length, bool is_of_heap)
 {
     if (!is_on()) {
-        if (switching_restates())
+        if (switching_takes_snapshot())
             return switching_reserve(length);
         if (!stream_wake())
             return NULL;

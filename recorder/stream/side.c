@@ -343,11 +343,11 @@ void side_note_needed(uint64_t event)
         ;
 }
 
-void side_note_restated(uint64_t events)
+void side_note_snapshot(uint64_t events)
 {
     struct side *side = side_now();
     if (side != NULL)
-        progress_in(side)->restated = events;
+        progress_in(side)->stated = events;
 }
 
 static void count_up(uint64_t *number)
@@ -366,7 +366,7 @@ void side_note_stated(void)
 {
     struct side *side = side_now();
     if (side != NULL)
-        count_up(&progress_in(side)->restated);
+        count_up(&progress_in(side)->stated);
 }
 
 void side_note_fork(void)

@@ -15,8 +15,8 @@
 void side_begin(unsigned char *bytes, uint64_t segment, const struct settings *settings);
 void side_forget(void);
 bool side_is_there(void);
-/* So many events have restated what stood at the end of the segment before. */
-void side_note_restated(uint64_t events);
+/* So many events are the snapshot of what stood at the end of the segment before. */
+void side_note_snapshot(uint64_t events);
 /* In lean recording: a good malloc or free is left out, or poison in a block; or an event states what stands. */
 void side_note_left_good(void);
 void side_note_stated(void);

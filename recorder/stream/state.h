@@ -125,7 +125,7 @@ struct above {
     bool (*is_in_heap)(void); /* this thread */
     bool (*has_heap)(void);   /* likewise, and no other thread is */
     /* Records what the heap has, in at most so many events. It is locked. */
-    void (*restate)(uint64_t most_held, uint64_t room);
+    void (*snapshot)(uint64_t most_held, uint64_t room);
     /* How many bytes of freed blocks are held from now on; at any time. */
     void (*hold)(uint64_t bytes);
     /* The process poisons a part of a block. */

@@ -22,20 +22,20 @@
 
 static _Thread_local bool is_switching;
 
-bool switching_restates(void)
+bool switching_takes_snapshot(void)
 {
     return is_switching;
 }
 
-uint64_t stream_restating_room(void)
+uint64_t stream_snapshot_room(void)
 {
     return plan.settings->limit / 2;
 }
 
-/* The place of a record that restates. No other thread has one in this stream yet. */
+/* The place of a record of a snapshot. No other thread has one in this stream yet. */
 unsigned char *switching_reserve(unsigned length)
 {
-    bool is_full = locked.checked_events >= stream_restating_room();
+    bool is_full = locked.checked_events >= stream_snapshot_room();
     locked.is_overfull |= is_full;
     if (is_full || stream_state() != STATE_SWITCHING || !growing_to(locked.checked + length))
         return NULL;
@@ -130,10 +130,10 @@ static void begin_next(void)
     state_set_events_end(0);
     atomic_fetch_add(&STREAM->segment, 1);
     atomic_store(&STREAM->window, locked.window);
-    is_switching = locked.is_restating = true;
-    above.restate(UINT64_MAX, stream_restating_room());
-    is_switching = locked.is_restating = false;
-    side_note_restated(locked.checked_events);
+    is_switching = locked.takes_snapshot = true;
+    above.snapshot(UINT64_MAX, stream_snapshot_room());
+    is_switching = locked.takes_snapshot = false;
+    side_note_snapshot(locked.checked_events);
 }
 
 /* From the segment whose cursor this was. The allocator's lock is held too. */

@@ -5,11 +5,11 @@
 #include <stdbool.h>
 #include <stdint.h>
 
-/* How many events may restate what came before a stream. */
-uint64_t stream_restating_room(void);
-/* Whether this thread restates just now what stands at the beginning of a segment. */
-bool switching_restates(void);
-/* The place of a record that restates, or null. */
+/* How many events the snapshot that a stream begins with may have. */
+uint64_t stream_snapshot_room(void);
+/* Whether this thread takes the snapshot at the beginning of a segment just now. */
+bool switching_takes_snapshot(void);
+/* The place of a record of a snapshot, or null. */
 unsigned char *switching_reserve(unsigned length);
 /* Goes on in the next segment, unless another thread has done so. False: another thread is turning the stream off just
    now. Any thread, with the allocator in order. */

@@ -24,7 +24,7 @@ SOURCES = [f"{RECORDER}/stream/{it}.c" for it in ("state", "record", "regions", 
                                                   "stating",
                                                   "opening", "growing", "sending", "switching", "suspending", "holes",
                                                   "tail", "left_out", "ending", "losing", "segments")]
-SOURCES.append(f"{RECORDER}/heap/restating.c")
+SOURCES.append(f"{RECORDER}/heap/snapshot.c")
 WORLD, EXPLORER = f"{TESTS}/explore/world.c", f"{TESTS}/explore/explore.c"
 FLAGS = ["-std=gnu11", "-g", "-O1", "-D_GNU_SOURCE=", "-fno-strict-aliasing", "-iquote", RECORDER, "-iquote",
          os.path.dirname(RECORDER)]

@@ -97,7 +97,8 @@ def kinds_under(suite: Suite, folder: str, quarantine: str) -> Dict[str, int]:
 
 
 def check_every(suite: Suite, folder: str, compiler: Compiler) -> None:
-    """From the first access on that is recorded as each is, mallocs are recorded, too: what stood is restated."""
+    """From the first access on that is recorded as each is, mallocs are recorded, too: there is a snapshot of what
+    stood."""
     make(compiler, folder, "drawn.c", f"{folder}/every", "-O1", ASANCOL_ALL="1")
     wanted = recorded(suite, folder, "every", 1, 1)
     for settings in ({"ASANCOL_WHERE": "1"}, {"ASANCOL_LIMIT": "60000"}, {"ASANCOL_HALT": "0"}):

@@ -68,9 +68,9 @@ def kinds_of(segments: List[Segment]) -> Dict[str, int]:
     return {it: kinds.count(it) for it in kinds}
 
 
-def of_blocks(path: str, restated: int) -> List[Tuple[int, int, int]]:
-    """The mallocs and frees of a segment after what it restates. The allocator may need less memory with it."""
-    return [it for it in Trace(path).events[restated:] if it[0] in (traces.MALLOC, traces.FREE)]
+def of_blocks(path: str, stated: int) -> List[Tuple[int, int, int]]:
+    """The mallocs and frees of a segment after its snapshot. The allocator may need less memory with it."""
+    return [it for it in Trace(path).events[stated:] if it[0] in (traces.MALLOC, traces.FREE)]
 
 
 def check_count(suite: Suite, folder: str, program: str) -> None:
@@ -84,7 +84,7 @@ def check_count(suite: Suite, folder: str, program: str) -> None:
         expect(len({(it.process, it.parent, it.started) for it in sides}), 1, "processes")
         expect([it.ending for it in sides], [SEGMENT] * (len(sides) - 1) + [EXIT], "endings")
         expect({it.is_at_limit + it.left_out for it in sides}, {0}, "what was left out")
-        events = [len(of_blocks(segment.path, it.restated)) for segment, it in zip(segments, sides)]
+        events = [len(of_blocks(segment.path, it.stated)) for segment, it in zip(segments, sides)]
         run([program, "blocks", "8000", "-1"], folder, ASANCOL_TRACE="whole.trace")
         expect(sum(events), len(of_blocks(f"{folder}/whole.trace", 0)), "mallocs and frees")
         os.unlink(f"{folder}/whole.trace")
@@ -137,14 +137,14 @@ def check_variables(suite: Suite, folder: str, program: str) -> None:
 
 
 def check_live_and_held(suite: Suite, folder: str, program: str) -> None:
-    """Live blocks nearly fill the room to restate, and of the freed ones as many are held as fit beside them."""
+    """Live blocks nearly fill the room of a snapshot, and of the freed ones as many are held as fit beside them."""
     for held in ("480", "4000"):
         segments = record(suite, folder, [program, "live_and_held", "600", "190"], 400, ASANCOL_QUARANTINE=held)
         expect_closed(segments)
 
 
 def check_many_live(suite: Suite, folder: str, program: str) -> None:
-    """If half of a segment would restate, the recording ends at the limit."""
+    """If half of a segment would be its snapshot, the recording ends at the limit."""
     ran = run([program, "many_live", "5000", "0"], folder, ASANCOL_TRACE="t.trace", ASANCOL_LIMIT="1000")
     expect((ran.returncode, len(ran.stderr.splitlines())), (0, 1), ran.stderr)
     segments = segments_of(suite, f"{folder}/t.trace")

@@ -174,7 +174,7 @@ class Side:
         progress = read_at(descriptor, PROGRESS_AT, PROGRESS.size) if self.is_good else b""
         has_progress = len(progress) == PROGRESS.size
         fields = PROGRESS.unpack(progress) if has_progress else (0,) * 16
-        self.needed, before, self.restated, self.noted = fields[:4]
+        self.needed, before, self.stated, self.noted = fields[:4]
         self.finding_count, self.findings_lost, self.leak_count, self.leaks_missed = fields[11:15]
         self.segment = before + 1
         self.stacks: Dict[int, Calls] = {}

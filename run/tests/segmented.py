@@ -10,7 +10,7 @@ and with `k` SIGKILL ends the process there. The word `exec` begins another prog
 connection on which nothing is sent, and `wait` waits until a signal comes. With --files the traces are left in the
 folder of the hub, as by a process that can't connect.
 
-A segment has a malloc, which all but the first one restate, and ten loads.
+A segment has a malloc, which the snapshots of all but the first one have, and ten loads.
 """
 
 import array
@@ -47,7 +47,7 @@ def ending_of(word: str) -> int:
 
 def side_of(word: str, number: int, started: int) -> side.Parts:
     ending = 0 if "k" in word or "t" in word else ending_of(word)
-    return side.side(process=os.getpid(), started=started, ending=ending, segment=number, restated=int(number > 1),
+    return side.side(process=os.getpid(), started=started, ending=ending, segment=number, stated=int(number > 1),
                       events=1 + LOADS, left_out=int("l" in word), is_at_limit="l" in word, needed=1,
                       quarantine=1 << 28, words=["./segmented", *sys.argv[1:]])
 

@@ -244,7 +244,7 @@ def say(folder: str, traces: Sequence[Trace], *words: str) -> Ran:
     """Writes traces, and runs asancol-report on some of them, or on all."""
     reports.write_checker(folder)
     for it in traces:
-        parts = side.side(ending=it.ending, segment=it.segment, restated=4 * (it.segment > 1), started=it.started,
+        parts = side.side(ending=it.ending, segment=it.segment, stated=4 * (it.segment > 1), started=it.started,
                            left_out=it.left_out, is_at_limit=it.left_out > 0)
         verdicts = f"p0 end {it.fate} events 9 offset 99 reports 0\n"
         reports.write_trace(folder, it.name, verdicts, parts if it.started else None)

@@ -87,7 +87,7 @@ static const struct scenario scenarios[] = {
     {"an end", 4, false, 0, false, 3, 20000, 0, {{BAD, END}, {BAD, BAD, BAD}}},
     {"an end by a signal", 4, true, 0, false, 2, 20000, 0, {{BAD, KILLED}, {BAD, BAD, BAD}}},
     {"two events a segment", 2, false, 0, false, 2, 20000, 0, {{GOOD, GOOD, GOOD, GOOD, GOOD, GOOD}, {GOOD, GOOD}}},
-    {"poison while it is restated", 32, false, 0, false, 2, 20000, MAX_HELD,
+    {"poison during a snapshot", 32, false, 0, false, 2, 20000, MAX_HELD,
      {{POISON, UNPOISON, POISON},
       {BAD, BAD, BAD, BAD, BAD, BAD, BAD, BAD, BAD, BAD, BAD, BAD, BAD, BAD, BAD, POISON}}},
     {"at the limit", 1000, false, 0, false, 2, 20000, 0, {{BAD, BAD}, {BAD, BAD}}},
@@ -174,7 +174,7 @@ void faults_begin(unsigned char *bytes, unsigned window)
     world.noted[window] = 0;
 }
 void side_forget(void) {}
-void side_note_restated(uint64_t events) { (void)events; }
+void side_note_snapshot(uint64_t events) { (void)events; }
 void side_note_left_good(void) {}
 void side_note_stated(void) {}
 uint64_t side_length(void) { return 0; }
@@ -279,7 +279,7 @@ const struct above above = {
     .lock_heap = heap_lock,
     .unlock_heap = heap_unlock,
     .is_in_heap = heap_is_entered,
-    .restate = heap_restate,
+    .snapshot = heap_snapshot,
     .hold = hold,
     .poisons_in_heap = do_nothing,
     .say_child = say_child,
@@ -464,7 +464,7 @@ static void begin_child(enum state before)
     if (is_recorded && !stream_begin(&settings))
         explore_fail("the beginning of a child");
     if (is_recorded)
-        heap_restate(1, stream_restating_room());
+        heap_snapshot(1, stream_snapshot_room());
     undisturbed_end(&disturbance);
     heap_unlock();
 }
@@ -601,7 +601,7 @@ void world_begin(void)
     heap_begin();
     if (!stream_begin(&settings))
         explore_fail("the beginning");
-    heap_restate(UINT64_MAX, stream_restating_room());
+    heap_snapshot(UINT64_MAX, stream_snapshot_room());
 }
 
 /* What is seen at the end. */
@@ -661,8 +661,8 @@ static void look_at_record(struct view *view, const unsigned char *at, unsigned 
         return; /* it says nothing */
     if (*at == CODE_POISON || *at == CODE_UNPOISON)
         change(view, address, number_at(at + (*at == CODE_POISON ? 10 : 9)), *at == CODE_POISON);
-    bool is_restated = *at == CODE_FREE && address >= BLOCK_AT + LINES * APART;
-    if ((!is_access && *at != CODE_FREE) || is_restated)
+    bool is_of_snapshot = *at == CODE_FREE && address >= BLOCK_AT + LINES * APART;
+    if ((!is_access && *at != CODE_FREE) || is_of_snapshot)
         return;
     bool is_expected = find_event(address);
     if (*at == CODE_LOAD && is_expected)

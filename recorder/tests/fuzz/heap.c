@@ -1,5 +1,6 @@
 /* Four threads allocate and free, also what another one has allocated, and look blocks up as it is done without the
-   lock. What a thread has keeps its bytes, and is found with its size. One of them restates the heap meanwhile. */
+   lock. What a thread has keeps its bytes, and is found with its size. One of them takes snapshots of the heap
+   meanwhile. */
 #define _GNU_SOURCE
 #include <pthread.h>
 #include <stdio.h>
@@ -44,7 +45,7 @@ bool stream_wake(void) { return true; }
 void book_forget(void) {}
 void book_release(const struct block *block) { (void)block; }
 void stream_stop(const char *why) { fprintf(stderr, "%s\n", why), exit(1); }
-/* Of the thread that restates. */
+/* Of the thread that takes snapshots. */
 static _Thread_local uint64_t events;
 void record_region(enum code code, uint64_t address, uint64_t size) { (void)code, (void)address, (void)size, events++; }
 void record_regions(enum code code, uint64_t address, uint64_t size) { (void)code, (void)address, (void)size; }
@@ -152,7 +153,7 @@ static void look_anywhere(struct thread *me)
 }
 
 /* What a signal handler does whose thread is in the allocator: its memory is spare, and what it frees is given back
-   later. And the heap is restated, as for a segment. */
+   later. And a snapshot of the heap is taken, as for a segment. */
 static void be_in_the_middle(struct thread *me, struct mark *block)
 {
     heap_lock();
@@ -163,8 +164,8 @@ static void be_in_the_middle(struct thread *me, struct mark *block)
     heap_give_back(block, 1);
     if (me->number == 0) {
         events = 0;
-        heap_restate(UINT64_MAX, EVENT_LIMIT);
-        expect(events != 0, "what is restated");
+        heap_snapshot(UINT64_MAX, EVENT_LIMIT);
+        expect(events != 0, "what is in a snapshot");
     }
     heap_unlock();
 }

@@ -44,13 +44,13 @@ struct library library = {.clock_gettime = read_clock, .__libc_single_threaded =
 bool has_other_threads(void) { return false; }
 static void do_nothing(void) {}
 static bool is_not(void) { return false; }
-static void restate(uint64_t most_held, uint64_t room) { (void)most_held, (void)room; }
+static void snapshot(uint64_t most_held, uint64_t room) { (void)most_held, (void)room; }
 static void hold(uint64_t bytes) { (void)bytes; }
 const struct above above = {
     .lock_heap = do_nothing,
     .unlock_heap = do_nothing,
     .is_in_heap = is_not,
-    .restate = restate,
+    .snapshot = snapshot,
     .hold = hold,
 };
 void stated_bring_up(uint64_t address, unsigned width) { (void)address, (void)width; }
@@ -70,7 +70,7 @@ void side_begin(unsigned char *bytes, uint64_t segment, const struct settings *s
 _Atomic uint64_t *side_begin_calls(bool for_start) { return for_start ? NULL : NULL; }
 void side_end_calls(_Atomic uint64_t *calls) { (void)calls; }
 void side_forget(void) {}
-void side_note_restated(uint64_t events) { (void)events; }
+void side_note_snapshot(uint64_t events) { (void)events; }
 void side_note_left_good(void) {}
 void side_note_stated(void) {}
 uint64_t side_length(void) { return 0; }

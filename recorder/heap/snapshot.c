@@ -7,16 +7,16 @@
 #include "shadow/shadow.h"
 #include "stream/record.h"
 
-struct restating {
+struct snapshot {
     bool is_counted;    /* nothing is recorded */
     uint64_t events;    /* how many there were */
     uintptr_t from, to; /* memory outside live blocks that has no poison yet */
 };
 
-static void restate_poison(struct restating *restating, uintptr_t address, size_t size)
+static void snapshot_poison(struct snapshot *snapshot, uintptr_t address, size_t size)
 {
-    restating->events++;
-    if (!restating->is_counted)
+    snapshot->events++;
+    if (!snapshot->is_counted)
         record_poison(KIND_USER, address, size);
 }
 
@@ -26,7 +26,7 @@ static bool is_poison(unsigned char shade)
 }
 
 /* What the process has poisoned in a live block, by its shadow. Redzones of a stack that lies in it are none. */
-static void restate_poison_of(struct restating *restating, uintptr_t address, size_t size)
+static void snapshot_poison_of(struct snapshot *snapshot, uintptr_t address, size_t size)
 {
     for (uintptr_t at = address, end = address + size; at < end;) {
         uintptr_t bad = shadow_first_bad(at, end - at);
@@ -35,49 +35,49 @@ static void restate_poison_of(struct restating *restating, uintptr_t address, si
         while (good < end && is_poison(*shadow_of(good)))
             good += GRANULE;
         if (bad < end && good > next)
-            restate_poison(restating, bad, (good < end ? good : end) - bad);
+            snapshot_poison(snapshot, bad, (good < end ? good : end) - bad);
         at = good > bad ? good : granule + GRANULE;
     }
 }
 
-static void restate_live(const struct block *block, void *with)
+static void snapshot_live(const struct block *block, void *with)
 {
-    struct restating *restating = with;
+    struct snapshot *snapshot = with;
     if (block->state != BLOCK_LIVE)
         return;
-    restating->events++;
-    if (!restating->is_counted)
+    snapshot->events++;
+    if (!snapshot->is_counted)
         record_region(CODE_MALLOC, (uintptr_t)block_start(block), block->size);
 }
 
-static void restate_poison_if_live(const struct block *block, void *with)
+static void snapshot_poison_if_live(const struct block *block, void *with)
 {
     if (block->state == BLOCK_LIVE || block->state == BLOCK_UNRECORDED)
-        restate_poison_of(with, (uintptr_t)block_start(block), size_of(block));
+        snapshot_poison_of(with, (uintptr_t)block_start(block), size_of(block));
 }
 
 /* Poisons the memory that was found. */
-static void restate_unused(struct restating *restating)
+static void snapshot_unused(struct snapshot *snapshot)
 {
-    for (uint64_t piece; restating->from < restating->to; restating->from += piece) {
-        uint64_t rest = restating->to - restating->from;
+    for (uint64_t piece; snapshot->from < snapshot->to; snapshot->from += piece) {
+        uint64_t rest = snapshot->to - snapshot->from;
         piece = rest < MAX_REGION_SIZE ? rest : MAX_REGION_SIZE;
-        restate_poison(restating, restating->from, piece);
+        snapshot_poison(snapshot, snapshot->from, piece);
     }
 }
 
-static void add_unused(struct restating *restating, uintptr_t start, uintptr_t end)
+static void add_unused(struct snapshot *snapshot, uintptr_t start, uintptr_t end)
 {
-    if (restating->to != start) {
-        restate_unused(restating);
-        restating->from = start;
+    if (snapshot->to != start) {
+        snapshot_unused(snapshot);
+        snapshot->from = start;
     }
-    restating->to = end;
+    snapshot->to = end;
 }
 
 /* All but large live blocks, which may have gigabytes. What is a block, live or held, becomes that after it; what was
    released was redzone for the checker, and is bad as before. */
-static void restate_memory(struct restating *restating)
+static void snapshot_memory(struct snapshot *snapshot)
 {
     for (uint32_t unit = 0; unit < heap.poisoned; unit++) {
         bool is_run = unit < arena.top && arena.units[unit].kind == UNIT_RUN;
@@ -85,27 +85,27 @@ static void restate_memory(struct restating *restating)
         const struct block *block = block_at(unit, 0);
         uintptr_t start = (uintptr_t)unit_start(unit), end = start + (uintptr_t)count * UNIT;
         if (is_run && (block->state == BLOCK_LIVE || block->state == BLOCK_UNRECORDED)) {
-            add_unused(restating, start, (uintptr_t)block_start(block));
+            add_unused(snapshot, start, (uintptr_t)block_start(block));
             start = (uintptr_t)block_start(block) + size_of(block);
         }
-        add_unused(restating, start, end);
+        add_unused(snapshot, start, end);
         unit += count - 1;
     }
-    restate_unused(restating);
+    snapshot_unused(snapshot);
 }
 
 /* The events but for those of the quarantine. */
-static uint64_t count_restated(void)
+static uint64_t count_snapshot(void)
 {
-    struct restating counted = {.is_counted = true};
-    heap_for_each(restate_live, &counted);
+    struct snapshot counted = {.is_counted = true};
+    heap_for_each(snapshot_live, &counted);
     if (!heap.is_unpainted)
-        heap_for_each(restate_poison_if_live, &counted);
-    restate_memory(&counted);
+        heap_for_each(snapshot_poison_if_live, &counted);
+    snapshot_memory(&counted);
     return counted.events;
 }
 
-/* Releases the oldest blocks of the quarantine until the rest can be restated, with all else, in so many events. A part
+/* Releases the oldest blocks of the quarantine until a snapshot of the rest, with all else, has so many events. A part
    of these is for what other threads poison after it was counted: that needs no lock. */
 static void fit_quarantine(uint64_t most_held, uint64_t room)
 {
@@ -113,26 +113,26 @@ static void fit_quarantine(uint64_t most_held, uint64_t room)
     uint64_t held = heap.held_count < most ? heap.held_count : most;
     /* All blocks are counted only if they could be too many. */
     if ((uint64_t)arena.top * SLOTS + 2 * held + few > room) {
-        uint64_t others = count_restated() + few, fit = others < room ? (room - others) / 2 : 0;
+        uint64_t others = count_snapshot() + few, fit = others < room ? (room - others) / 2 : 0;
         most = fit < most ? fit : most;
     }
     while (heap.held_count > most)
         heap_release_oldest();
 }
 
-void heap_restate(uint64_t most_held, uint64_t room)
+void heap_snapshot(uint64_t most_held, uint64_t room)
 {
-    struct restating restating = {0};
+    struct snapshot snapshot = {0};
     book_forget();
     if (is_lean())
         return;
     fit_quarantine(most_held, room);
-    restate_memory(&restating);
-    heap_for_each(restate_live, &restating);
+    snapshot_memory(&snapshot);
+    heap_for_each(snapshot_live, &snapshot);
     for (const struct block *block = heap.oldest; block != NULL; block = block->next) {
         record_region(CODE_MALLOC, (uintptr_t)block_start(block), block->size);
         record_free((uintptr_t)block_start(block));
     }
     if (!heap.is_unpainted)
-        heap_for_each(restate_poison_if_live, &restating);
+        heap_for_each(snapshot_poison_if_live, &snapshot);
 }
