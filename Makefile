@@ -12,10 +12,10 @@ SOURCES := crates.txt HANDLES $(shell find crates -name out -prune -o -type f \(
 EXAMPLE := examples/one_byte_past_the_end.trace
 REDZONES := examples/stack_and_global_poison.trace
 
-.PHONY: all demo check check-wrong check-wrong-alone stress fuzz fuzz-parsers failures bench soak install uninstall \
-        clean recorder docs check-recorder check-real check-suites bench-record stress-record stress-segments \
-        install-recorder run check-run check-farm bench-run bench-scale install-run install-units options dist deb \
-        check-packages lint release test
+.PHONY: all demo check check-mutants check-mutants-alone stress fuzz fuzz-parsers failures bench soak install \
+        uninstall clean recorder docs check-recorder check-real check-suites bench-record stress-record \
+        stress-segments install-recorder run check-run check-farm bench-run bench-scale install-run install-units \
+        options dist deb check-packages lint release test
 
 # The program, proved.
 all: asancol
@@ -46,20 +46,20 @@ SHOW = if $(MAKE) -q asancol > /dev/null 2>&1; then program=./asancol; else prog
 test:
 	tests/quick.py $(if $(CHECKED),--checked)
 
-# Proves everything from nothing, tries the wrong bodies, and runs the tests and the program. What has passed is then
+# Proves everything from nothing, tries the mutants, and runs the tests and the program. What has passed is then
 # the program here, so that nothing is proved again for it.
 check:
 	tests/gate.py
 	@cp crates/asancol/out/asancol asancol
 
-# The wrong bodies, several in one check: the prover has to refuse each. What it refused before is not tried again.
-check-wrong:
+# The mutants, several in one check: the prover has to refuse each. What it refused before is not tried again.
+check-mutants:
 	tests/planted.py
-	tests/wrong.py
+	tests/mutants.py
 
 # The same bodies, each tried by itself by the toolchain: two hours of one processor.
-check-wrong-alone:
-	tests/wrong_alone.py
+check-mutants-alone:
+	tests/mutants_alone.py
 
 # Looks over C, shell scripts, Python and the tree with the linters that are there, within two minutes. Of the layout of
 # C it asks on the lines that differ from where the branch left main, or from BASE=..

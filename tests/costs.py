@@ -1,7 +1,7 @@
 """What checks cost: processor seconds by crate and kind, read from /proc while they run.
 
 The toolchain starts a process for each check, and its words name the crate. Below a command that
-tries wrong bodies each counts as that; else the word `--test` says that it proves the tests. A
+tries mutants each counts as that; else the word `--test` says that it proves the tests. A
 `Meter` looks at these processes twice a second and keeps the last reading of each. So it misses what
 each does after that, a quarter of a second in the middle. The total of a part and all that it
 started is exact: the system counts it. What no reading has is the row `the rest`: that last part,
@@ -19,8 +19,8 @@ from typing import Dict, List, Optional, Set, Tuple
 # A crate, and what of it is checked.
 Key = Tuple[str, str]
 
-WRONG = "wrong bodies"
-KINDS = ("proof", "tests", WRONG)
+MUTANTS = "mutants"
+KINDS = ("proof", "tests", MUTANTS)
 
 # What all parts together should take at most: processor seconds, and minutes on four processors.
 MOST_SECONDS = 8000
@@ -89,10 +89,10 @@ class Meter:
         self.readings: Dict[Tuple[int, int], float] = {}
         self.total = 0.0
         self.wall = 0.0
-        # The processor seconds of each part, as its commands have ended, and those that try wrong
-        # bodies. Each is set by the thread that runs the command, and read by that which watches.
+        # The processor seconds of each part, as its commands have ended, and those that try
+        # mutants. Each is set by the thread that runs the command, and read by that which watches.
         self.parts: Dict[str, float] = {}
-        self.wrong: Set[int] = set()
+        self.on_mutants: Set[int] = set()
         self.over = threading.Event()
         self.thread = threading.Thread(target=self.watch, daemon=True)
 
@@ -109,8 +109,8 @@ class Meter:
 
     def begins(self, part: str, pid: int) -> None:
         """Notes that a process is a command of a part."""
-        if part == WRONG:
-            self.wrong.add(pid)
+        if part == MUTANTS:
+            self.on_mutants.add(pid)
 
     def ends(self, part: str, seconds: float) -> None:
         """Counts a command that has ended, with all that it started and waited for."""
@@ -140,16 +140,16 @@ class Meter:
 
     def check_above(self, found: Dict[int, Process], pid: int) -> Optional[Tuple[int, int]]:
         """Returns the highest check among a process and those above it."""
-        highest, is_wrong = None, False
+        highest, is_on_mutants = None, False
         while pid in found and pid != os.getpid():
             name = (pid, found[pid].began)
             key = self.checks.get(name) or checked_by(pid)
             if key:
                 self.checks[name], highest = key, name
-            is_wrong = is_wrong or pid in self.wrong
+            is_on_mutants = is_on_mutants or pid in self.on_mutants
             pid = found[pid].parent
-        if highest and is_wrong:
-            self.checks[highest] = (self.checks[highest][0], WRONG)
+        if highest and is_on_mutants:
+            self.checks[highest] = (self.checks[highest][0], MUTANTS)
         return highest
 
     def by_crate(self) -> Dict[str, Dict[str, float]]:

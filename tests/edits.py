@@ -1,6 +1,6 @@
-"""A crate's wrong bodies, as its edits make them, and which of its functions call one another.
+"""A crate's mutants, as its edits make them, and which of its functions call one another.
 
-An edit is a file `crates/CRATE/wrong/NAME.edit`, in the form of the toolchain's must-fail edits:
+An edit is a file `crates/CRATE/mutants/NAME.edit`, in the form of the toolchain's must-fail edits:
 lines `file:`, `old:` and `new:`, and each `old:` stands once in its file.
 """
 
@@ -37,9 +37,9 @@ class Edit(NamedTuple):
 
 def edit_files(folder: str) -> List[str]:
     """Returns the files of a crate's edits. Pages for readers, which end in .md, are none."""
-    if not os.path.isdir(f"{folder}/wrong"):
+    if not os.path.isdir(f"{folder}/mutants"):
         return []
-    return sorted(f"{folder}/wrong/{it}" for it in os.listdir(f"{folder}/wrong") if it[-3:] != ".md")
+    return sorted(f"{folder}/mutants/{it}" for it in os.listdir(f"{folder}/mutants") if it[-3:] != ".md")
 
 
 def name_of(file: str) -> str:

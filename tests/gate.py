@@ -7,8 +7,8 @@ usage: tests/gate.py                      the gate
 The gate first runs `hygiene.py`, in seconds, and ends there if that finds something. Then comes
 `rt ci`: it proves each crate from nothing and runs the tests. It builds the program with two
 compilers and leaves both. `runs.py` runs both programs with words, and `fuzz.py` holds them to a
-second reading of the documents. Beside all of them, at a lower priority, `planted.py` and `wrong.py`
-try the wrong bodies, and what they print comes at the end. A table shows the processor seconds of
+second reading of the documents. Beside all of them, at a lower priority, `planted.py` and `mutants.py`
+try the mutants, and what they print comes at the end. A table shows the processor seconds of
 each crate (`costs.py` says how they are counted), and lines below it those of each part, and if all
 took longer than they should. The last line is 'N passed, M failed', of all of them together. The
 status is 0 where nothing failed.
@@ -49,8 +49,8 @@ STEPS = [
 # What runs beside them, where a processor has nothing to do for them.
 LOW = ["nice", "-n", "19"]
 BESIDE = [
-    (costs.WRONG, [*LOW, sys.executable, "tests/planted.py"]),
-    (costs.WRONG, [*LOW, sys.executable, "tests/wrong.py"]),
+    (costs.MUTANTS, [*LOW, sys.executable, "tests/planted.py"]),
+    (costs.MUTANTS, [*LOW, sys.executable, "tests/mutants.py"]),
 ]
 
 COUNTS = re.compile(r"(\d+) passed, (\d+) failed")
@@ -247,9 +247,9 @@ def steps_for(changed: Set[str], listed: Dict[str, List[str]]) -> List[Tuple[str
     """Returns the commands for a change of these crates, each with its folder."""
     above = those_above(changed, listed)
     steps = [(f"crates/{it}", ["rt", "check"]) for it in above]
-    edited = [it for it in above if it in changed and os.path.isdir(f"{TOP}/crates/{it}/wrong")]
+    edited = [it for it in above if it in changed and os.path.isdir(f"{TOP}/crates/{it}/mutants")]
     if edited:
-        steps.append((".", [sys.executable, "tests/wrong.py", *edited]))
+        steps.append((".", [sys.executable, "tests/mutants.py", *edited]))
     steps += [(f"crates/{it}", ["rt", "test"]) for it in above if has_tests(it)]
     if "asancol" in above:
         steps.append(("crates/asancol", ["rt", "run", "--", "--version"]))
@@ -278,7 +278,7 @@ def check_changed(base: str) -> int:
     left = ["every proof from nothing"]
     left += [f"{len(listed) - len(above)} crates"] if len(above) < len(listed) else []
     left += ["tests/runs.py", "tests/fuzz.py"] if "asancol" not in above else []
-    left += [f"the wrong bodies of {' '.join(others)}"] if others else []
+    left += [f"the mutants of {' '.join(others)}"] if others else []
     left += ["the program by the toolchain's own compiler"]
     came = "something failed" if failed else "nothing failed"
     print(f"not the gate: {came}; left out: {', '.join(left)}")

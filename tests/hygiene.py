@@ -8,7 +8,7 @@ usage: tests/hygiene.py
 - No line of C, C++ or Python has more than 120 bytes.
 - Each file is as `rt fmt` lays it out. Without `rt` that is left out, and it says so.
 - No file is a link: `rt ci` takes no tree with one in it.
-- Each edit of a wrong body can be made: what it takes away stands once in its file.
+- Each edit of a mutant can be made: what it takes away stands once in its file.
 - Each lemma right in a folder `proofs` is cited. `Examples` and `Refuted` are lists of worked
   examples, and are left out.
 - Each name that a file imports is used there (`names.py`). `rt tidy` drops those that are not; it
@@ -103,8 +103,8 @@ def links(files: List[str]) -> Iterator[Finding]:
 
 def bad_edits(files: List[str]) -> Iterator[Finding]:
     for path in files:
-        crate, wrong, name = path.rpartition("/wrong/")
-        if crate.startswith("crates/") and wrong and not name.endswith(".md"):
+        crate, mutants, name = path.rpartition("/mutants/")
+        if crate.startswith("crates/") and mutants and not name.endswith(".md"):
             try:
                 bodies.read_edit(f"{TOP}/{path}", f"{TOP}/{crate}")
             except bodies.BadEdit as bad:

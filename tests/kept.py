@@ -1,6 +1,6 @@
 """Answers that earlier runs gave, each under a sum of all that it rests on.
 
-They stand in `asancol/wrong` below $XDG_CACHE_HOME, or below ~/.cache, where each clone on the
+They stand in `asancol/mutants` below $XDG_CACHE_HOME, or below ~/.cache, where each clone on the
 machine finds them. What can't be written there is not kept. One that no run has asked for in 30
 days is removed.
 """
@@ -17,7 +17,7 @@ from typing import List, Optional
 from gate import TOP
 
 # What reads edits and says what is refused.
-SCRIPTS = ("bodies", "edits", "kept", "rooms", "rounds", "verdicts", "wrong")
+SCRIPTS = ("bodies", "edits", "kept", "rooms", "rounds", "verdicts", "mutants")
 
 # How long an answer stays that no run asks for, in seconds.
 LONGEST = 30 * 24 * 3600
@@ -44,7 +44,7 @@ class Kept:
 
     def __init__(self, anew: bool) -> None:
         cache = os.environ.get("XDG_CACHE_HOME") or os.path.expanduser("~/.cache")
-        self.folder = f"{cache}/asancol/wrong"
+        self.folder = f"{cache}/asancol/mutants"
         self.anew = anew
         with contextlib.suppress(OSError):
             for it in os.scandir(self.folder):

@@ -1,5 +1,5 @@
 #!/usr/bin/env python3
-"""Tries wrong.py on edits of which it is known what has to be said of them.
+"""Tries mutants.py on edits of which it is known what has to be said of them.
 
 They are planted in a copy of the crate asan_units, in a temporary folder. The last line is
 `N passed, M failed`. It takes a minute of one processor.
@@ -45,13 +45,13 @@ def plant(room: str, planted: List[Planted]) -> None:
     os.mkdir(f"{room}/crates")
     shutil.copy(f"{TOP}/HANDLES", room)
     shutil.copytree(f"{TOP}/tests", f"{room}/tests", ignore=shutil.ignore_patterns("__pycache__"))
-    leave = shutil.ignore_patterns("out", "wrong")
+    leave = shutil.ignore_patterns("out", "mutants")
     shutil.copytree(f"{TOP}/crates/{CRATE}", f"{room}/crates/{CRATE}", ignore=leave)
     with open(f"{room}/crates.txt", "w", encoding="utf-8") as file:
         file.write(f"{CRATE}:\n")
-    os.mkdir(f"{room}/crates/{CRATE}/wrong")
+    os.mkdir(f"{room}/crates/{CRATE}/mutants")
     for it in planted:
-        path = f"{room}/crates/{CRATE}/wrong/{it.name}.edit"
+        path = f"{room}/crates/{CRATE}/mutants/{it.name}.edit"
         with open(path, "w", encoding="utf-8") as file:
             file.write(f"file: src/lib.rt\nold: {it.old}\nnew: {it.new}\n")
 
@@ -65,7 +65,7 @@ class Said(NamedTuple):
 
 
 def tried(room: str) -> Said:
-    words = [sys.executable, f"{room}/tests/wrong.py"]
+    words = [sys.executable, f"{room}/tests/mutants.py"]
     there = {**os.environ, "XDG_CACHE_HOME": f"{room}/cache"}
     pipe, joined = subprocess.PIPE, subprocess.STDOUT
     ran = subprocess.run(words, cwd=room, env=there, text=True, stdout=pipe, stderr=joined)
@@ -83,7 +83,7 @@ def main() -> int:
         first = tried(room)
         for it in PLANTED:
             if it not in good:
-                os.remove(f"{room}/crates/{CRATE}/wrong/{it.name}.edit")
+                os.remove(f"{room}/crates/{CRATE}/mutants/{it.name}.edit")
         second = tried(room)
     for said, status, answers in ((first, 1, wanted), (second, 0, kept)):
         for name, answer in [*answers.items(), ("its status", status)]:

@@ -118,7 +118,7 @@ class Base:
     @contextlib.contextmanager
     def room(self, texts: Dict[str, str], copies: List[Copy]) -> Iterator[str]:
         """Makes a copy with other texts in it, and gives the crate's folder there."""
-        with tempfile.TemporaryDirectory(prefix="asancol-wrong-") as room:
+        with tempfile.TemporaryDirectory(prefix="asancol-mutants-") as room:
             shutil.copytree(self.top, room, copy_function=link, dirs_exist_ok=True)
             folder = f"{room}/crates/{self.crate}"
             for path, text in texts.items():

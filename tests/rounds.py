@@ -1,6 +1,6 @@
 """How the edits of a crate are shared out among checks, several to each.
 
-A wrong body may stand in two ways.
+A mutant may stand in two ways.
 
 - Beside: as one more function after the right one, under the same clauses and with a copy of its
   proof files. Nothing calls it, so any number of them fit into one check of the whole crate. If
@@ -86,7 +86,7 @@ def beside(source: Source, edits: List[Edit]) -> Round:
         if proofs and name not in made.controls:
             right = change._replace(now=change.was)
             made.controls[name] = copy_of(f"{name}_right_{number}", right, proofs)
-        made.copies[edit.name] = copy_of(f"{name}_wrong_{number}", change, proofs)
+        made.copies[edit.name] = copy_of(f"{name}_mutant_{number}", change, proofs)
     for path in {it.path for it in made.all_copies()}:
         here = [it for it in made.all_copies() if it.path == path]
         made.texts[path] = with_copies(bodies.read(f"{source.folder}/{path}"), here)

@@ -1,4 +1,4 @@
-"""What a check says of the wrong bodies in it.
+"""What a check says of the mutants in it.
 
 An edit is refused only if the prover refuses its function for a reason of that function's own, in a
 check of which all else is proved. A line that says that the function calls what is not proved
@@ -19,7 +19,7 @@ VERDICT = re.compile(r"(\w+) (\S+): ((?:not )?proved|no proof|could not tell)\b(
 ENDED = re.compile(r"only=\d+ proved=\d+|logic=.*")
 PLACE = re.compile(r"(note: )?(?:\./)?(\S+?):(?:(\d+):\d+:)? (.*)")
 NOT_PROVED = re.compile(r"(?:not proved|no proof)(?!.*\bit (?:calls `|waits for ))")
-# What a proof file says of a name that the wrong body no longer has.
+# What a proof file says of a name that the mutant no longer has.
 NAME_GONE = re.compile(r"has no field|is not in scope|has no `|was not admitted")
 # What the prover says of a text that it cannot read, which tries no clause.
 UNREAD = re.compile(

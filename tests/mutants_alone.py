@@ -1,12 +1,12 @@
 #!/usr/bin/env python3
-"""Has the toolchain try each wrong body by itself.
+"""Has the toolchain try each mutant by itself.
 
-usage: tests/wrong_alone.py [--anew] [CRATE..]
+usage: tests/mutants_alone.py [--anew] [CRATE..]
 
-It is the cross-check of `wrong.py`, which tries several in one check by code of this repository:
+It is the cross-check of `mutants.py`, which tries several in one check by code of this repository:
 here `rt must-fail` reads the same edits and says what is refused. It takes edits from folders named
 `must-fail`, so this runs it in a copy of the repository, in a temporary folder, where each folder
-`wrong` has that name. It begins with what checks kept here, and takes two hours of one processor
+`mutants` has that name. It begins with what checks kept here, and takes two hours of one processor
 for all crates. What it has refused is kept on the machine, by the toolchain; `--anew` tries all.
 The last line is `N passed, M failed`, of all edits that are there.
 """
@@ -27,13 +27,13 @@ REFUSED = re.compile(r"rt: must-fail \S+: refused, as it must be")
 
 
 def copy_crates(to: str) -> None:
-    """Copies the crates, with their wrong bodies where the toolchain takes them from."""
+    """Copies the crates, with their mutants where the toolchain takes them from."""
     for name in ("crates.txt", "HANDLES"):
         shutil.copy(f"{TOP}/{name}", to)
     shutil.copytree(f"{TOP}/crates", f"{to}/crates", ignore=shutil.ignore_patterns("out"))
     for name in os.listdir(f"{to}/crates"):
-        if os.path.isdir(f"{to}/crates/{name}/wrong"):
-            os.rename(f"{to}/crates/{name}/wrong", f"{to}/crates/{name}/must-fail")
+        if os.path.isdir(f"{to}/crates/{name}/mutants"):
+            os.rename(f"{to}/crates/{name}/mutants", f"{to}/crates/{name}/must-fail")
 
 
 def tried(words: List[str], names: List[str]) -> int:

@@ -1,11 +1,11 @@
 #!/usr/bin/env python3
-"""Tries the wrong bodies of crates, several in one check.
+"""Tries the mutants of crates, several in one check.
 
-usage: tests/wrong.py [--lanes N] [--anew] [CRATE..]
+usage: tests/mutants.py [--lanes N] [--anew] [CRATE..]
 
-A wrong body is made by an edit, `crates/CRATE/wrong/NAME.edit` (`edits.py`). A crate and those
+A mutant is made by an edit, `crates/CRATE/mutants/NAME.edit` (`edits.py`). A crate and those
 below it are proved first, by `rt lib` over what checks kept, in a copy of the repository
-(`rooms.py`). Then come rounds: each is one check of several wrong bodies, most of them beside the
+(`rooms.py`). Then come rounds: each is one check of several mutants, most of them beside the
 right ones (`rounds.py`), in a copy of the crate. Each has to be refused by its own function's line,
 in a check of which all else is proved (`verdicts.py`).
 
