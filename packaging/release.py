@@ -2,7 +2,7 @@
 """Makes a release of what is committed: its archive, its package and its tag.
 
 The release is the one that VERSION says, and its tag is `v` with that. It is made if nothing differs from the commit,
-CHANGELOG.md has a section for it, there is no such tag yet, and hygiene.py finds nothing. First come the archive and
+CHANGELOG.md has a section for it, there is no such tag yet, and lint_tree.py finds nothing. First come the archive and
 the package, by `make dist deb`: what can't be packaged has no tag. At the end the section is printed. Nothing is
 pushed.
 """
@@ -43,8 +43,8 @@ def expect_ready(version: str, section: str) -> None:
         fail(f"CHANGELOG.md has no section for {version}: give Unreleased its number")
     if git("tag", "--list", f"v{version}"):
         fail(f"the tag v{version} is there: a release is made once")
-    if subprocess.run([sys.executable, f"{TOP}/tests/hygiene.py"], cwd=TOP, check=False).returncode:
-        fail("mend what hygiene.py has found")
+    if subprocess.run([sys.executable, f"{TOP}/tests/lint_tree.py"], cwd=TOP, check=False).returncode:
+        fail("mend what lint_tree.py has found")
 
 
 def main() -> int:

@@ -4,7 +4,7 @@
 usage: tests/gate.py                      the gate
        tests/gate.py --changed [BASE]     minutes after a change of one crate
 
-The gate first runs `hygiene.py`, in seconds, and ends there if that finds something. Then comes
+The gate first runs `lint_tree.py`, in seconds, and ends there if that finds something. Then comes
 `rt ci`: it proves each crate from nothing and runs the tests. It builds the program with two
 compilers and leaves both. `runs.py` runs both programs with words, and `fuzz.py` holds them to a
 second reading of the documents. Beside all of them, at a lower priority, `planted.py` and `mutants.py`
@@ -39,7 +39,7 @@ PROGRAMS = ["crates/asancol/out/asancol", "crates/asancol/out/asancol.by-rattle"
 # Some thousand traces, the same each time.
 FUZZ = ["tests/fuzz.py", "--draws", "4000", "--seed", "1"]
 
-# What comes after hygiene, one after another, each with the part that it counts as.
+# What comes after the lint, one after another, each with the part that it counts as.
 STEPS = [
     ("rt ci", ["rt", "ci"]),
     ("runs", [sys.executable, "tests/runs.py", *PROGRAMS]),
@@ -136,8 +136,8 @@ def show(text: str) -> None:
 
 
 def is_clean() -> bool:
-    """Returns whether hygiene.py finds nothing. It prints what it finds."""
-    return subprocess.run([sys.executable, f"{TOP}/tests/hygiene.py"], cwd=TOP).returncode == 0
+    """Returns whether lint_tree.py finds nothing. It prints what it finds."""
+    return subprocess.run([sys.executable, f"{TOP}/tests/lint_tree.py"], cwd=TOP).returncode == 0
 
 
 def run_all(meter: costs.Meter) -> Tuple[int, int]:
@@ -164,7 +164,7 @@ def run_all(meter: costs.Meter) -> Tuple[int, int]:
 def gate() -> int:
     with costs.Meter() as meter:
         is_good = is_clean()
-        meter.ends("hygiene", costs.seconds_of_children())
+        meter.ends("lint", costs.seconds_of_children())
         passed, failed = run_all(meter) if is_good else (0, 1)
     if is_good:
         print("\n".join(["", *meter.table(lowest_first(crates_listed())), meter.parts_line(), ""]))

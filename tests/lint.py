@@ -1,5 +1,5 @@
 #!/usr/bin/env python3
-"""Looks over C, shell scripts and Python with the linters that are there, and over the tree with hygiene.py.
+"""Looks over C, shell scripts and Python with the linters that are there, and over the tree with lint_tree.py.
 
 usage: tests/lint.py [--base COMMIT] [TOOL..]
 
@@ -12,7 +12,7 @@ failure. The last line is 'N passed, N failed, N skipped', and the status is 1 i
 - shellcheck: all shell scripts.
 - pyflakes: all Python. ruff is taken for it if that is there.
 - mypy: the types of all Python, as pyproject.toml asks.
-- hygiene: what hygiene.py finds.
+- lint_tree: what lint_tree.py finds.
 """
 
 import argparse
@@ -115,8 +115,8 @@ def by_mypy(program: str, sources: List[Source], base: str) -> List[str]:
     return [it for it in found if ": note: " not in it]
 
 
-def by_hygiene(program: str, sources: List[Source], base: str) -> List[str]:
-    return [it for it in lines_of([program, "tests/hygiene.py"]) if not it.startswith(("hygiene: ", "left out: "))]
+def by_lint_tree(program: str, sources: List[Source], base: str) -> List[str]:
+    return [it for it in lines_of([program, "tests/lint_tree.py"]) if not it.startswith(("lint: ", "left out: "))]
 
 
 def where(program: str) -> str:
@@ -132,7 +132,7 @@ TOOLS: List[Tuple[str, Tuple[str, ...], Look]] = [
     ("shellcheck", ("shellcheck",), by_shellcheck),
     ("pyflakes", ("ruff", "pyflakes3", "pyflakes"), by_pyflakes),
     ("mypy", ("mypy",), by_mypy),
-    ("hygiene", (sys.executable,), by_hygiene),
+    ("lint_tree", (sys.executable,), by_lint_tree),
 ]
 
 

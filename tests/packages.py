@@ -97,7 +97,7 @@ def archive_is_enough(program: str, folder: str) -> None:
     seen = must([sys.executable, "-c", line], f"{top}/tests", **no_git)
     expect(seen.splitlines(), [it for it in files if it != MADE], "the files of the tree after a build")
     if shutil.which("rt"):
-        expect(must([f"{top}/tests/hygiene.py"], top, **no_git), "hygiene: nothing found\n", "hygiene")
+        expect(must([f"{top}/tests/lint_tree.py"], top, **no_git), "lint: nothing found\n", "lint")
     shutil.copy(program, f"{top}/asancol")
     os.utime(f"{top}/asancol")
     must(["make", "-q", "asancol"], top, **no_git)

@@ -1,7 +1,7 @@
 #!/usr/bin/env python3
 """Looks over the tree, in seconds, for what no proof and no test sees.
 
-usage: tests/hygiene.py
+usage: tests/lint_tree.py
 
 - No line of a crate's proofs has more than 120 columns, and none of its code and definitions more
   than 100. Imports in code and definitions may be longer.
@@ -186,7 +186,7 @@ def main() -> int:
     for path, line, what in findings():
         print(f"{path}:{line}: {what}")
         count += 1
-    print(f"hygiene: {count} findings" if count else "hygiene: nothing found")
+    print(f"lint: {count} findings" if count else "lint: nothing found")
     return 1 if count else 0
 
 
