@@ -1,6 +1,6 @@
 /* A fake of asancol for the tests of the C programs: no proof stands behind it, and it needs only a C compiler. Of a
    trace it prints what asancol prints, by docs/FORMAT.md and docs/inside/MODEL.md; tests/fuzz.py compares it, as
-   asancol, with second_reading.py. It reads one stream after another, and is lax with its command line.
+   asancol, with oracle.py. It reads one stream after another, and is lax with its command line.
 
    usage: fake-asancol < TRACE
           fake-asancol check [--limit L] [--quarantine B] [--memory B] [--live] FILE..

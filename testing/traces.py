@@ -2,7 +2,7 @@
 in the letters of docs/inside/MODEL.md, as they stand in the rows of examples/worked.
 
 It knows where a number lies in a record, and no more: any number that has room can be built and is read, whether a
-checker takes it or not. What a checker makes of it is in second_reading.py, which shares nothing with this.
+checker takes it or not. What a checker makes of it is in oracle.py, which shares nothing with this.
 """
 
 import re

@@ -1,12 +1,12 @@
 #!/usr/bin/env python3
-"""Holds a program to a second reading of the documents, on traces that are drawn.
+"""Compares a program with an oracle, on traces that are drawn.
 
 usage: tests/fuzz.py [--draws N] [--seed S] [--batch B] PROGRAM..
 
 Draws N traces, good and damaged, in both versions of the format, and puts them to the program in
 batches of up to 256: as files, through pipes and a standard input with writes cut anywhere, over
 sockets to `asancol serve`, with --live, and with options at the ends of their ranges. Everything
-that is printed, and the status, has to be what `second_reading.py` says, which was written from the
+that is printed, and the status, has to be what `oracle.py` says, which was written from the
 documents alone. Where --memory is as small as it may be, a process may end as no-memory, with the
 lines of its first events.
 
@@ -30,7 +30,7 @@ from typing import Dict, List, NamedTuple, Optional, Tuple
 sys.path.insert(0, f"{os.path.dirname(os.path.realpath(__file__))}/..")  # where `testing` is
 
 import draws
-import second_reading
+import oracle
 from testing.traces import layout_at, version_of
 
 # No batch may take longer, in seconds.
@@ -74,10 +74,10 @@ class Differs(Exception):
 
 def options(random: Random) -> Tuple[List[str], int, int, bool]:
     """Draws options, mostly none, and answers them and what they say."""
-    limit, quarantine = second_reading.MAX_LIMIT, second_reading.DEFAULT_QUARANTINE
+    limit, quarantine = oracle.MAX_LIMIT, oracle.DEFAULT_QUARANTINE
     words: List[str] = []
     if random.random() < 0.3:
-        limit = random.choice([1, 2, 3, 7, 12, 24, second_reading.MAX_LIMIT])
+        limit = random.choice([1, 2, 3, 7, 12, 24, oracle.MAX_LIMIT])
         words += ["--limit", str(limit)]
     if random.random() < 0.5:
         quarantine = random.choice([0, 63, 64, 71, 72, 80, 143, 144, 216, 1000, 1 << 40])
@@ -265,7 +265,7 @@ def lines_of_each(output: bytes, count: int, is_live: bool) -> List[List[str]]:
     return found
 
 
-def without_memory(process: int, last: str, verdicts: List[second_reading.Verdict], events: int) -> Optional[List[str]]:
+def without_memory(process: int, last: str, verdicts: List[oracle.Verdict], events: int) -> Optional[List[str]]:
     """The lines of a process whose checker had no more memory, if its end line says so."""
     words = last.split()
     if words[2:4] != ["no-memory", "checked"] or not words[4].isdigit() or int(words[4]) >= events:
@@ -280,9 +280,9 @@ def compare(batch: Batch, printed: Printed) -> None:
     ends: List[Tuple[str, int]] = []
     found = lines_of_each(printed.output, len(batch.traces), "--live" in batch.words)
     for process, trace in enumerate(batch.traces):
-        reading = second_reading.read(trace, batch.limit, batch.way == "failed input")
-        verdicts = second_reading.verdicts(reading.events, batch.quarantine)
-        wanted, got = second_reading.lines_of(process, reading, verdicts), found[process]
+        reading = oracle.read(trace, batch.limit, batch.way == "failed input")
+        verdicts = oracle.verdicts(reading.events, batch.quarantine)
+        wanted, got = oracle.lines_of(process, reading, verdicts), found[process]
         fate = reading.fate
         if got != wanted and got and batch.may_lack_memory:
             lacking = without_memory(process, got[-1], verdicts, len(reading.events))
@@ -292,7 +292,7 @@ def compare(batch: Batch, printed: Printed) -> None:
         ends.append((fate, len(verdicts)))
     if printed.faults:
         raise Differs(None, f"standard error has {printed.faults!r}")
-    wanted_status = second_reading.status_of(ends)
+    wanted_status = oracle.status_of(ends)
     if printed.status != wanted_status:
         raise Differs(None, f"got status {printed.status}, wanted {wanted_status}")
 

@@ -6,8 +6,8 @@ usage: tests/gate.py                      the gate
 
 The gate first runs `lint_tree.py`, in seconds, and ends there if that finds something. Then comes
 `rt ci`: it proves each crate from nothing and runs the tests. It builds the program with two
-compilers and leaves both. `runs.py` runs both programs with words, and `fuzz.py` holds them to a
-second reading of the documents. Beside all of them, at a lower priority, `planted.py` and `mutants.py`
+compilers and leaves both. `runs.py` runs both programs with words, and `fuzz.py` compares them with an
+oracle. Beside all of them, at a lower priority, `planted.py` and `mutants.py`
 try the mutants, and what they print comes at the end. A table shows the processor seconds of
 each crate (`costs.py` says how they are counted), and lines below it those of each part, and if all
 took longer than they should. The last line is 'N passed, M failed', of all of them together. The

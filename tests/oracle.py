@@ -1,7 +1,7 @@
 #!/usr/bin/env python3
 """Reads traces a second time: works out, slowly, what asancol has to print of them.
 
-usage: tests/second_reading.py [--limit L] [--quarantine B] [--failed-read] TRACE..
+usage: tests/oracle.py [--limit L] [--quarantine B] [--failed-read] TRACE..
 
 It was written from docs/FORMAT.md (a stream, ranges, flaws, fates, lines) and docs/inside/MODEL.md (the
 six events, rule by rule) alone, and shares nothing with the code. It keeps all that was marked,
