@@ -1,5 +1,5 @@
 """Traces, for the tests: their records as docs/FORMAT.md lays them out, built and read, in both versions; and events
-in the letters of docs/inside/MODEL.md, as they stand in the rows of examples/worked.
+in the letters of docs/inside/MODEL.md, as they stand in the rows of examples/golden.
 
 It knows where a number lies in a record, and no more: any number that has room can be built and is read, whether a
 checker takes it or not. What a checker makes of it is in oracle.py, which shares nothing with this.

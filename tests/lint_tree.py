@@ -9,14 +9,14 @@ usage: tests/lint_tree.py
 - Each file is as `rt fmt` lays it out. Without `rt` that is left out, and it says so.
 - No file is a link: `rt ci` takes no tree with one in it.
 - Each edit of a mutant can be made: what it takes away stands once in its file.
-- Each lemma right in a folder `proofs` is cited. `Examples` and `Refuted` are lists of worked
+- Each lemma right in a folder `proofs` is cited. `Examples` and `Refuted` are lists of
   examples, and are left out.
 - Each name that a file imports is used there (`names.py`). `rt tidy` drops those that are not; it
   proves the crate again, so this does not call it.
 - Each function, clause, file, test and target of make that a page names is there (`pages.py`).
 - No two tests have one name: of the rows, of the crates, and of `runs.py` and `failures.py`.
-- The worked examples that MODEL.md shows, the stored traces and the lemmas of `Examples` are what
-  the rows of their names say (`worked.py`).
+- The golden rows that MODEL.md shows, the stored traces and the lemmas of `Examples` are what
+  the rows of their names say (`golden.py`).
 - What a crate is for stands on its own page as in the table of ARCHITECTURE.md.
 - What is made of the tables in `options` is what `make options` would write.
 - The program says the release that VERSION says: it can't read the file, since it is proved.
@@ -35,9 +35,9 @@ from typing import Iterator, List, Tuple
 sys.path.insert(0, f"{os.path.dirname(os.path.realpath(__file__))}/..")  # where `testing` is
 
 import bodies
+import golden
 import names
 import pages
-import worked
 from files import TOP, files_of_tree
 
 Finding = Tuple[str, int, str]
@@ -150,8 +150,8 @@ def other_summaries() -> Iterator[Finding]:
             yield path, 3, f"docs/inside/ARCHITECTURE.md says: {does}"
 
 
-def all_tests(sources: List[names.Source], rows: List[worked.Row]) -> Iterator[names.Test]:
-    """Goes over the worked examples, the tests of the crates and the runs of built programs."""
+def all_tests(sources: List[names.Source], rows: List[golden.Row]) -> Iterator[names.Test]:
+    """Goes over the golden rows, the tests of the crates and the runs of built programs."""
     yield from (names.Test(row.name, row.path, row.line) for row in rows)
     yield from names.tests_of(sources)
     runs = [f"tests/runs/{it}" for it in sorted(os.listdir(f"{TOP}/tests/runs")) if it.endswith(".py")]
@@ -173,11 +173,11 @@ def findings() -> Iterator[Finding]:
     yield from other_summaries()
     yield from names.uncited_lemmas(sources)
     yield from names.unused_imports(sources)
-    rows = worked.rows()
-    known = worked.by_name(rows)
+    rows = golden.rows()
+    known = golden.by_name(rows)
     yield from names.repeated_tests(all_tests(sources, rows))
-    yield from worked.other_lemmas(known)
-    yield from worked.other_traces(known)
+    yield from golden.other_lemmas(known)
+    yield from golden.other_traces(known)
     yield from pages.findings(pages.Tree(TOP, files), known)
 
 

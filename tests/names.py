@@ -11,7 +11,7 @@ import functools
 import re
 from typing import Dict, Iterable, Iterator, List, NamedTuple, Set, Tuple
 
-# Modules of worked examples. They show what a definition means, and nothing cites them.
+# Modules of examples. They show what a definition means, and nothing cites them.
 EXAMPLES = ("Examples", "Refuted")
 
 ANTT_COMMENT = re.compile(r'"(?:[^"\\\n]|\\.)*"|\{-.*?-\}|(?<![^\s(){}\[\],;])--[^\n]*', re.S)

@@ -7,7 +7,7 @@ clause` each word of that column has to be a function, a clause, a definition or
 begins with a capital has to occur. What follows a function there, up to a `;` and not in brackets,
 has to be a clause of a function of that name, or a public function or a test; functions of one name
 count as one. A link that is no address has to lead to a file and, after `#`, to a heading of it. Each
-target of `make` has to be in the Makefile. A worked example has the events and the lines of the rows
+target of `make` has to be in the Makefile. A golden row has the events and the lines of the rows
 that its title names.
 """
 
@@ -15,8 +15,8 @@ import os
 import re
 from typing import Dict, Iterator, List, Optional, Set, Tuple
 
+from golden import Row
 from testing.traces import is_row
-from worked import Row
 
 Finding = Tuple[str, int, str]
 
@@ -63,8 +63,8 @@ DEFINED = re.compile(
 FUNCTION = re.compile(r"\bfn (\w+)")
 PUBLIC = re.compile(r"(?:\bpub (?:const )?|#\[test\]\s*)fn (\w+)")
 CLAUSE = re.compile(r"\b(?:ensures|requires)\*? (\w+)")
-# The worked examples of a page; and each of them, with the names of its rows and the rest up to the next one.
-EXAMPLES = re.compile(r"^## Worked examples\n.*?(?=^## |\Z)", re.M | re.S)
+# The golden rows of a page; and each of them, with the names of its rows and the rest up to the next one.
+EXAMPLES = re.compile(r"^## Golden rows\n.*?(?=^## |\Z)", re.M | re.S)
 EXAMPLE = re.compile(r"^\*\*([^*]+)\*\*(?: \((`\w+`(?:,\s`\w+`)*)\))?(.*?)(?=^\*\*|\Z)", re.M | re.S)
 MAKE = re.compile(r"(?:^|[\s`(])make((?: +(?:-\w+ +\w+|[A-Z]+=\S+|[a-z][a-z-]*))+)")
 
@@ -228,7 +228,7 @@ def bad_targets(page: str, text: str, targets: Dict[str, Set[str]]) -> Iterator[
 
 
 def is_as_rows(names: str, rest: str, known: Dict[str, Row]) -> bool:
-    """Returns whether a worked example has the events, the bounds of the quarantine and the lines of these rows."""
+    """Returns whether a golden row has the events, the bounds of the quarantine and the lines of these rows."""
     named = [known.get(it) for it in SPAN.findall(names)]
     rows = [it for it in named if it]
     events = [it for it in SPAN.findall(rest.replace("\n", " ")) if is_row(it)]
@@ -242,13 +242,13 @@ def is_as_rows(names: str, rest: str, known: Dict[str, Row]) -> bool:
 
 
 def bad_examples(page: str, text: str, known: Dict[str, Row]) -> Iterator[Finding]:
-    """Goes over the worked examples of a page that are not what the rows say which their titles name."""
+    """Goes over the golden rows of a page that are not what the rows say which their titles name."""
     for examples in EXAMPLES.finditer(text):
         for found in EXAMPLE.finditer(examples[0]):
             title, names, rest = found.groups()
             if not is_as_rows(names or "", rest, known):
                 line = text.count("\n", 0, examples.start() + found.start()) + 1
-                yield page, line, f"not what the rows of examples/worked say: {title}"
+                yield page, line, f"not what the rows of examples/golden say: {title}"
 
 
 def targets_of(tree: Tree) -> Dict[str, Set[str]]:

@@ -211,7 +211,7 @@ class Quick:
         if self.wants("fake: fuzz"):
             self.results.run("fake: fuzz", ["tests/fuzz.py", *DRAWS, path])
         if self.wants("fake: runs"):
-            self.results.run("fake: runs", ["tests/runs.py", path, "worked_rows"])
+            self.results.run("fake: runs", ["tests/runs.py", path, "golden_rows"])
 
     def suite(self, name: str, target: str, path: str, checker: str) -> None:
         """Runs the tests of a suite that are quick, and counts those that are left to a target."""

@@ -59,7 +59,7 @@ def quick_ones_and_the_rest_are_all(_: str) -> None:
 def copy_of_tree(folder: str) -> str:
     """Copies what tells of the crates, and what the fake is tested with."""
     left = shutil.ignore_patterns("out", "proofs")
-    for name in ("tests", "testing", "common", "examples/worked", "crates"):
+    for name in ("tests", "testing", "common", "examples/golden", "crates"):
         shutil.copytree(f"{TOP}/{name}", f"{folder}/{name}", ignore=left)
     for name in ("crates.txt", "Makefile", "install.mk"):
         shutil.copy(f"{TOP}/{name}", folder)

@@ -4,8 +4,8 @@ import fcntl
 import os
 import pty
 
+import golden
 import long_trace
-import worked
 from program import (
     CUT, PAST_THE_END, SOUND, closing, cut, lines_of_each, past_the_end, put, same,
     same_lines, sound,
@@ -14,7 +14,7 @@ from testing import test
 from testing.traces import HEADER, HEADER_2, closed, free, load, malloc, poison
 
 # Read here, while the tree can be read: the cases run as nobody.
-ROWS = worked.rows()
+ROWS = golden.rows()
 
 # A pipe with this room holds 256 bytes that are kept apart.
 ROOM_OF_A_PIPE = 1 << 20
@@ -56,7 +56,7 @@ def expect_row(program, row, version):
     run."""
     what = (row.name, version)
     trace = row.trace(version)
-    wanted = worked.printed(row, version, len(trace))
+    wanted = golden.printed(row, version, len(trace))
     whole = (wanted.status, wanted.text(0).encode(), b"")
     words = ["check", *row.options()]
     same(what, program.run([*words, put("trace", trace)]), whole)
@@ -66,15 +66,15 @@ def expect_row(program, row, version):
     finally:
         os.close(reader)
     names = [put(f"first {length}", trace[:length]) for length in range(len(trace) + 1)]
-    texts = [worked.printed(row, version, length).text(length) for length in range(len(trace) + 1)]
+    texts = [golden.printed(row, version, length).text(length) for length in range(len(trace) + 1)]
     status, output, faults = program.run([*words, *names])
     same(what, (status, faults), (3, b""))
     same_lines(what, output, "".join(texts))
 
 
 @test
-def worked_rows(program):
-    """Each row of examples/worked, in each version that can spell it."""
+def golden_rows(program):
+    """Each row of examples/golden, in each version that can spell it."""
     for row in ROWS:
         for version in row.versions():
             expect_row(program, row, version)

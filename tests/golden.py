@@ -1,4 +1,4 @@
-"""The worked examples: the rows of examples/worked, and what asancol prints of each in a version, whole and cut."""
+"""The golden rows: those of examples/golden, and what asancol prints of each in a version, whole and cut."""
 
 import glob
 import os
@@ -8,7 +8,7 @@ from typing import Dict, Iterator, List, NamedTuple, Tuple
 from files import TOP
 from testing.traces import HEADER, HEADERS, Event, events_of, is_row, trace_of
 
-FOLDER = "examples/worked"
+FOLDER = "examples/golden"
 
 Finding = Tuple[str, int, str]
 
