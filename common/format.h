@@ -210,7 +210,7 @@ struct side_beside_threads {
 
 /* A thread that a fault names. The first one of the process is not in the list. */
 struct side_thread {
-    uint64_t created;       /* the place of the call that has created it; 0: not known */
+    uint64_t created;       /* the call site that has created it; 0: not known */
     uint32_t created_stack; /* as of a fault */
     uint32_t creator;       /* as the thread of a fault */
     uint32_t number;        /* in the order in which threads were created, from 1; 0: there is none in this entry */
@@ -228,17 +228,18 @@ struct side_found {
 
 /* What was seen when an access or a free was bad by the recorder's shadow; or a finding. */
 struct side_fault {
-    uint64_t event; /* the first that has this fault; of a finding 0 */
-    uint64_t place; /* the address after the call */
-    uint64_t block; /* the start of the nearest block or variable; 0: none is near */
+    uint64_t event;     /* the first that has this fault; of a finding 0 */
+    uint64_t call_site; /* the address after the call */
+    uint64_t block;     /* the start of the nearest block or variable; 0: none is near */
     uint64_t block_size;
-    uint64_t allocated, freed; /* the places of the block's malloc and of its free; 0: not known, or not freed */
+    uint64_t allocated, freed; /* the call sites of the block's malloc and of its free; 0: not known, or not freed */
     uint32_t variable;         /* enum variable */
     uint32_t line;             /* where a variable of a frame is declared; 0: not known */
-    /* The stacks of these three places: the number of the word with how many frames there are. These come after it, the
-       innermost first. 0: only the place is known. */
+    /* The stacks of these three call sites: the number of the word with how many frames there are. These come after it,
+       the innermost first. 0: only the call site is known. */
     uint32_t stack, allocated_stack, freed_stack;
-    /* The threads of these three places: their numbers in the list, from 1; 0: the first thread; or SIDE_NO_THREAD. */
+    /* The threads of these three call sites: their numbers in the list, from 1; 0: the first thread; or
+       SIDE_NO_THREAD. */
     uint32_t thread, allocated_thread, freed_thread;
     /* The whole access, as the program has asked for it; of a free 0 bytes. Of a finding, what the call was given:
        where its range begins, or the alignment (0: none); and the size. Of a leak, how many bytes are lost. */

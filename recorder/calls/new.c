@@ -1,5 +1,5 @@
-/* Operators of C++. The malloc of a `new` is recorded with the place of that, and with the size that was asked for. And
-   a block is known by the operator that has allocated it: another family of functions must not free it. */
+/* Operators of C++. The malloc of a `new` is recorded with the call site of that, and with the size that was asked for.
+   And a block is known by the operator that has allocated it: another family of functions must not free it. */
 #define _GNU_SOURCE
 #include <dlfcn.h>
 #include <stdatomic.h>

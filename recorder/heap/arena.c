@@ -113,17 +113,17 @@ bool arena_find(void)
     return false;
 }
 
-void arena_keep_places(void)
+void arena_keep_call_sites(void)
 {
-    if (arena.places != NULL || (arena.bytes == NULL && !arena_find()))
+    if (arena.call_sites != NULL || (arena.bytes == NULL && !arena_find()))
         return;
     void *start = arena.spare + SPARE_BYTES;
-    size_t bytes = (size_t)UNITS * SLOTS * sizeof(struct places);
+    size_t bytes = (size_t)UNITS * SLOTS * sizeof(struct call_sites);
     if (!arena_give_memory(start, bytes))
         return;
     system_madvise(start, bytes, MADV_NOHUGEPAGE);
     system_madvise(start, bytes, MADV_DONTDUMP);
-    __atomic_store_n(&arena.places, start, __ATOMIC_RELEASE);
+    __atomic_store_n(&arena.call_sites, start, __ATOMIC_RELEASE);
 }
 
 /* Runs of units. */

@@ -56,8 +56,8 @@ struct block {
 enum block_state { BLOCK_FREE, BLOCK_LIVE, BLOCK_HELD, BLOCK_UNRECORDED };
 
 /* Where a block was allocated and freed; 0 if it is not known, or not freed. */
-struct places {
-    place_word allocated, freed;
+struct call_sites {
+    call_site allocated, freed;
 };
 
 enum unit_kind { UNIT_NEW, UNIT_SLAB, UNIT_RUN, UNIT_RUN_BODY, UNIT_FREE, UNIT_FREE_END };
@@ -78,12 +78,12 @@ struct unit {
 };
 
 extern struct arena {
-    /* Null until the first allocation. It is released, and without the lock it is acquired; so is `places`. */
+    /* Null until the first allocation. It is released, and without the lock it is acquired; so is `call_sites`. */
     unsigned char *bytes;
     struct unit *units;
     struct block *blocks; /* SLOTS for each unit, by block_number */
     unsigned char *spare; /* memory for signal handlers */
-    struct places *places; /* one for each of `blocks`; or null: they are not noted */
+    struct call_sites *call_sites; /* one for each of `blocks`; or null: they are not noted */
     uint32_t noted;       /* units that have notes, */
     uint32_t committed;   /* and memory */
     uint32_t top;         /* units used so far, with unit 0, which is never used: it is the first block's neighbour */
@@ -150,8 +150,8 @@ static inline uintptr_t block_address(const struct block *block, uintptr_t slot)
 
 /* Before the first allocation. False: there is no memory. */
 bool arena_find(void);
-/* Makes room for the places of blocks, which takes memory as it is written to. */
-void arena_keep_places(void);
+/* Makes room for the call sites of blocks, which takes memory as it is written to. */
+void arena_keep_call_sites(void);
 /* Makes whole pages of the range usable, which are zeros. */
 bool arena_give_memory(void *start, size_t bytes);
 /* Units in a row, of any bytes; 0 if there is no memory. */
@@ -177,7 +177,7 @@ static inline void arena_count_call(void)
 struct nearest {
     uintptr_t start;
     uint64_t size;
-    struct places places;
+    struct call_sites call_sites;
 };
 
 /* Without a lock, at any time: the notes may change meanwhile, and then what it answers is of no use. False: no block

@@ -112,7 +112,7 @@ void heap_release_oldest(void);
 /* As many as are needed for this many bytes of spans. */
 void heap_release_down_to(uint64_t bound);
 
-/* What the process calls is made of these, without the lock. Each is recorded with the place of its caller. */
+/* What the process calls is made of these, without the lock. Each is recorded with the call site in its caller. */
 
 /* Null, and ENOMEM: there is no memory. `zeroed`: all bytes are zeros. */
 void *heap_allocate(size_t size, size_t alignment, bool zeroed, uintptr_t caller);
@@ -120,7 +120,7 @@ void heap_give_back(void *pointer, uintptr_t caller);
 /* A malloc of the new, and then a free of the old, by this function. */
 void *heap_move(void *old, size_t size, uintptr_t caller, const char *call);
 
-/* The recorder's functions, whatever stands in their places. */
+/* The recorder's functions, whatever stands in their call_sites. */
 void heap_own_free(void *pointer);
 void *heap_own_realloc(void *old, size_t size);
 /* Where a call of one of these names leads, if it comes here. */

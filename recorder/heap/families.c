@@ -131,18 +131,18 @@ void families_look_at(const struct block *block, const struct release *release)
 {
     static const char *const made[] = {"malloc", "operator new", "operator new []"};
     static const char *const freed[] = {NULL, "operator delete", "operator delete []"};
-    if (!atomic_load_explicit(&are_checked, memory_order_relaxed) || arena.places == NULL)
+    if (!atomic_load_explicit(&are_checked, memory_order_relaxed) || arena.call_sites == NULL)
         return;
-    place_word allocated = arena.places[block - arena.blocks].allocated;
+    call_site allocated = arena.call_sites[block - arena.blocks].allocated;
     enum family family = (enum family)block->family;
     enum finding_kind kind = kind_of(block, release);
-    if (kind == FINDING_NONE || !is_known(family, place_address(allocated))
+    if (kind == FINDING_NONE || !is_known(family, call_site_address(allocated))
         || !is_known(release->family, release->caller) || !is_release(release))
         return;
     bool is_alignment = kind == FINDING_OTHER_ALIGNMENT;
     finding_note(&(struct finding){
         .kind = kind,
-        .place = place_from(release->frame, release->caller),
+        .call_site = call_site_from(release->frame, release->caller),
         .call = release->family == FAMILY_MALLOC ? release->call : freed[release->family],
         .name = made[family],
         .block = release->address,

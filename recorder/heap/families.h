@@ -10,7 +10,7 @@
 
 /* How a block is freed. */
 struct release {
-    uintptr_t address, caller, frame; /* of the block; and of the free, as place_from has them */
+    uintptr_t address, caller, frame; /* of the block; and of the free, as call_site_from has them */
     const char *call;                 /* `free` or `realloc`; an operator has its name by its family */
     enum family family;
     size_t alignment, size_and_one; /* as heap_called_by has them */

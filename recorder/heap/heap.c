@@ -307,8 +307,8 @@ static bool free_block(void *pointer, uintptr_t caller, const char *call, struct
         record_bad_free((uintptr_t)pointer, caller, call);
         return false;
     }
-    if (UNLIKELY(arena.places != NULL))
-        SET_NOTE(arena.places[block - arena.blocks].freed, place_from(borrowed.frame, caller));
+    if (UNLIKELY(arena.call_sites != NULL))
+        SET_NOTE(arena.call_sites[block - arena.blocks].freed, call_site_from(borrowed.frame, caller));
     if (is_recorded())
         record_free((uintptr_t)pointer);
     hold(block);
@@ -437,10 +437,10 @@ static uintptr_t place_in(const struct block *block, size_t size, size_t alignme
     return has_room ? at_page : rounded_up(first, alignment);
 }
 
-static void note_places(struct places *places, place_word allocated)
+static void note_call_sites(struct call_sites *call_sites, call_site allocated)
 {
-    SET_NOTE(places->allocated, allocated);
-    SET_NOTE(places->freed, 0);
+    SET_NOTE(call_sites->allocated, allocated);
+    SET_NOTE(call_sites->freed, 0);
 }
 
 /* How often this thread has said that what it allocates is no leak, less how often it has taken that back. */
@@ -484,8 +484,8 @@ static void *place_block(size_t size, size_t alignment, uintptr_t caller, const 
                         .is_ignored = ignoring != 0};
     now.offset = (address - start) / ALIGNMENT & ((1 << OFFSET_BITS) - 1);
     block_write(block, now);
-    if (UNLIKELY(arena.places != NULL))
-        note_places(&arena.places[block - arena.blocks], place_from(borrowed.frame, caller));
+    if (UNLIKELY(arena.call_sites != NULL))
+        note_call_sites(&arena.call_sites[block - arena.blocks], call_site_from(borrowed.frame, caller));
     poison_new(block, address, size);
     if (size <= MAX_BLOCK_SIZE) {
         SET_NOTE(block->size, (uint32_t)size);
@@ -671,9 +671,9 @@ void heap_paint(bool is_painted)
         leave();
 }
 
-void heap_keep_places(void)
+void heap_keep_call_sites(void)
 {
-    arena_keep_places();
+    arena_keep_call_sites();
 }
 
 bool heap_trim(void)

@@ -29,7 +29,7 @@ void heap_snapshot(uint64_t most_held, uint64_t room);
 void heap_paint(bool is_painted);
 /* until the process poisons a part of one. */
 void heap_is_poisoned(void);
-/* The next malloc of this thread is recorded with this place, and not with that of libc's code which calls it. */
+/* The next malloc of this thread is recorded with this call site, and not with that of libc's code which calls it. */
 void heap_called_from(uintptr_t caller);
 
 /* The next malloc or free of this thread is an operator's, which was given this alignment; or 0. One that knows the
@@ -40,8 +40,8 @@ bool heap_is_called_by_operator(void);
 /* Whether a free of another family, or a delete with another size or alignment, is noted. */
 void heap_check_families(bool is_on);
 
-/* The places of mallocs and frees are noted from now on. */
-void heap_keep_places(void);
+/* The call sites of mallocs and frees are noted from now on. */
+void heap_keep_call_sites(void);
 /* What this thread allocates from now on is no leak, until that is taken back as often as it was said. */
 void heap_ignore_next(bool is_on) OWN_NAME(heap_ignore_next);
 /* The block that has this byte is no leak; if there is none, nothing. */

@@ -34,12 +34,12 @@ static struct block block_now(size_t number)
     return now;
 }
 
-static struct places places_now(size_t number)
+static struct call_sites call_sites_now(size_t number)
 {
-    const struct places *all = __atomic_load_n(&arena.places, __ATOMIC_ACQUIRE);
+    const struct call_sites *all = __atomic_load_n(&arena.call_sites, __ATOMIC_ACQUIRE);
     if (all == NULL)
-        return (struct places){0, 0};
-    return (struct places){NOTE_NOW(all[number].allocated), NOTE_NOW(all[number].freed)};
+        return (struct call_sites){0, 0};
+    return (struct call_sites){NOTE_NOW(all[number].allocated), NOTE_NOW(all[number].freed)};
 }
 
 static void find_in_slab(uint32_t number, const struct unit *unit, uintptr_t address, struct slot *slot)
@@ -121,7 +121,7 @@ static bool look_at(const struct slot *slot, uintptr_t address, uint64_t *least,
         return false;
     if (far < *least || (far == *least && start < found->start)) {
         *least = far;
-        *found = (struct nearest){start, size, places_now(slot->block)};
+        *found = (struct nearest){start, size, call_sites_now(slot->block)};
     }
     return true;
 }

@@ -90,7 +90,7 @@ static void note(const struct lost *lost)
     for (size_t i = 0; i < lost->count; i++) {
         const struct lost_group *group = &lost->groups[i];
         finding_note(&(struct finding){.kind = group->is_indirect ? FINDING_INDIRECT_LEAK : FINDING_LEAK,
-                                       .place = group->place, .block = group->block, .block_size = group->size,
+                                       .call_site = group->call_site, .block = group->block, .block_size = group->size,
                                        .size = group->bytes, .count = group->count});
     }
 }

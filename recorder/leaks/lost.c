@@ -7,7 +7,7 @@
 #include "heap/blocks.h"
 #include "leaks/marking.h"
 
-/* More groups than there can be stacks: what comes after is counted with those of which no place is known. */
+/* More groups than there can be stacks: what comes after is counted with those of which no call site is known. */
 enum { MOST_GROUPS = 1 << 20 };
 
 static bool is_lost(const struct block *block)
@@ -20,24 +20,24 @@ static void count_if_lost(const struct block *block, void *count)
     *(size_t *)count += is_lost(block);
 }
 
-static place_word place_of_block(const struct block *block)
+static call_site call_site_of_block(const struct block *block)
 {
-    return arena.places != NULL ? arena.places[block - arena.blocks].allocated : 0;
+    return arena.call_sites != NULL ? arena.call_sites[block - arena.blocks].allocated : 0;
 }
 
-/* The group of a place in a table of which a part is free. */
-static struct lost_group *group_for(struct lost *lost, place_word place, bool is_indirect)
+/* The group of a call site in a table of which a part is free. */
+static struct lost_group *group_for(struct lost *lost, call_site site, bool is_indirect)
 {
-    place_word key = place_of_any_thread(lost->count < MOST_GROUPS / 2 ? place : 0);
+    call_site key = call_site_of_any_thread(lost->count < MOST_GROUPS / 2 ? site : 0);
     uint64_t hash = (key ^ is_indirect) * UINT64_C(0x9e3779b97f4a7c15) >> 20;
     for (;; hash++) {
         struct lost_group *group = &lost->groups[hash & (lost->room - 1)];
         if (group->count == 0) {
-            *group = (struct lost_group){.place = key == 0 ? 0 : place, .is_indirect = is_indirect};
+            *group = (struct lost_group){.call_site = key == 0 ? 0 : site, .is_indirect = is_indirect};
             lost->count++;
             return group;
         }
-        if (place_of_any_thread(group->place) == key && group->is_indirect == is_indirect)
+        if (call_site_of_any_thread(group->call_site) == key && group->is_indirect == is_indirect)
             return group;
     }
 }
@@ -48,7 +48,7 @@ static void add_if_lost(const struct block *block, void *to)
     if (!is_lost(block))
         return;
     uint64_t size = size_of(block) != 0 ? size_of(block) : 1;
-    struct lost_group *group = group_for(to, place_of_block(block), mark_of(block) == MARK_INDIRECT);
+    struct lost_group *group = group_for(to, call_site_of_block(block), mark_of(block) == MARK_INDIRECT);
     if (group->count++ == 0) {
         group->block = (uintptr_t)block_start(block);
         group->size = size;

@@ -10,7 +10,7 @@
 
 /* All of one stack, and of one kind. */
 struct lost_group {
-    place_word place; /* with the thread of the first one */
+    call_site call_site; /* with the thread of the first one */
     bool is_indirect;
     uintptr_t block; /* the first one, and its size */
     uint64_t size;

@@ -207,7 +207,8 @@ static void mark_if_root(const struct block *block, void *unused)
     (void)unused;
     if (!is_in_use(block) || mark_of(block) == MARK_REACHABLE)
         return;
-    uintptr_t caller = arena.places != NULL ? place_address(arena.places[block - arena.blocks].allocated) : 0;
+    uintptr_t caller =
+        arena.call_sites != NULL ? call_site_address(arena.call_sites[block - arena.blocks].allocated) : 0;
     bool is_of_loader = caller > seen.loader && caller <= seen.loader_end;
     if (block->is_ignored || is_of_loader || caller == 0)
         mark_block(block);

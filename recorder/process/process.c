@@ -38,7 +38,7 @@ static struct {
 } process;
 
 /* What is preloaded waits for the first module of asancol-cc, or the first bad access or free (halt.c). Whoever ends
-   that sets it to false. Until then blocks have redzones and places, and nothing else of the recorder is there. */
+   that sets it to false. Until then blocks have redzones and call sites, and nothing else of the recorder is there. */
 static _Atomic bool is_waiting;
 
 bool recorder_waits(void)
@@ -112,7 +112,7 @@ static bool begin(uint64_t most_held)
 {
     process.settings.is_full |= atomic_load(&is_to_be_full);
     if (process.settings.with_side)
-        heap_keep_places();
+        heap_keep_call_sites();
     heap_check_families(process.settings.mismatches);
     if (!open_stream())
         return false;
@@ -156,7 +156,7 @@ void recorder_start(void)
     atomic_store(&is_waiting, wanted && IS_PRELOADED);
     atomic_store(&halt_is_on, halt != HALT_NEVER || recorder_waits());
     if (recorder_waits() && process.settings.with_side)
-        heap_keep_places();
+        heap_keep_call_sites();
     if (!wanted || process.begins_late || !begin(UINT64_MAX)) {
         state_forget();
         be_idle();

@@ -56,11 +56,11 @@ static bool ends_process(int number)
 }
 
 /* Where this thread has called abort, or 0. */
-static _Thread_local place_word aborting;
+static _Thread_local call_site aborting;
 
 void signals_note_abort(uintptr_t caller)
 {
-    aborting = place_of(caller);
+    aborting = call_site_of(caller);
 }
 
 /* An access so near the stack pointer finds no memory only if the stack is used up: as AddressSanitizer has it. */
@@ -97,7 +97,7 @@ static void note_last(int number, const siginfo_t *info, const ucontext_t *conte
         now.instruction = *(const uintptr_t *)now.stack - 1;
         now.stack += sizeof(uintptr_t);
     }
-    place_word last = place_at(&now);
+    call_site last = call_site_at(&now);
     fault_note_last(number == SIGABRT && aborting != 0 ? aborting : last, has_address ? address : 0, how);
 }
 

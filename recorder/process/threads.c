@@ -419,7 +419,7 @@ static uintptr_t find_real(_Atomic uintptr_t *real, const char *name)
 static struct start *prepare(const pthread_attr_t *attributes, void *argument, uintptr_t caller)
 {
     bool is_idle = atomic_load_explicit(&stream_page.stream.is_idle, memory_order_relaxed);
-    unsigned number = thread_create(is_idle ? 0 : place_of(caller));
+    unsigned number = thread_create(is_idle ? 0 : call_site_of(caller));
     struct start *start = atomic_load(&has_key) ? take_start() : NULL;
     if (start == NULL)
         return NULL;

@@ -97,51 +97,51 @@ static uint32_t find_or_keep(const uint64_t *frames, unsigned count)
     }
 }
 
-place_word place_of(uintptr_t caller)
+call_site call_site_of(uintptr_t caller)
 {
-    return place_from(0, caller);
+    return call_site_from(0, caller);
 }
 
-/* The place of a stack; or only its innermost address, if there is no more of it, or no room. One that is none of the
-   program's, to which it has jumped, is a stack too. */
-static place_word place_of_frames(const uint64_t *frames, unsigned count)
+/* The call site of a stack; or only its innermost address, if there is no more of it, or no room. One that is none of
+   the program's, to which it has jumped, is a stack too. */
+static call_site call_site_of_frames(const uint64_t *frames, unsigned count)
 {
     uint32_t first = count > 1 || frames[0] > ADDRESS_MASK ? find_or_keep(frames, count) : 0;
-    place_word thread = (place_word)thread_number() << THREAD_SHIFT;
+    call_site thread = (call_site)thread_number() << THREAD_SHIFT;
     return thread | (first != 0 ? IS_STACK | first : frames[0] & ADDRESS_MASK);
 }
 
-place_word place_from(uintptr_t frame, uintptr_t caller)
+call_site call_site_from(uintptr_t frame, uintptr_t caller)
 {
     uint64_t frames[MAX_FRAMES];
     uintptr_t first = frame != 0 ? frame : (uintptr_t)__builtin_frame_address(0);
     frames[0] = caller;
-    return place_of_frames(frames, unwind_from_call(first, caller, frames, MAX_FRAMES));
+    return call_site_of_frames(frames, unwind_from_call(first, caller, frames, MAX_FRAMES));
 }
 
-place_word place_at(const struct registers *registers)
+call_site call_site_at(const struct registers *registers)
 {
     uint64_t frames[MAX_FRAMES];
     frames[0] = registers->instruction + 1;
-    return place_of_frames(frames, unwind_from_registers(registers, frames, MAX_FRAMES));
+    return call_site_of_frames(frames, unwind_from_registers(registers, frames, MAX_FRAMES));
 }
 
-uintptr_t place_address(place_word of)
+uintptr_t call_site_address(call_site of)
 {
     return of & IS_STACK ? words[(of & WORD_MASK) + 1] : of & ADDRESS_MASK;
 }
 
-unsigned place_thread(place_word of)
+unsigned call_site_thread(call_site of)
 {
     return of >> THREAD_SHIFT & THREAD_UNKNOWN;
 }
 
-place_word place_of_any_thread(place_word of)
+call_site call_site_of_any_thread(call_site of)
 {
-    return of & ~((place_word)THREAD_UNKNOWN << THREAD_SHIFT);
+    return of & ~((call_site)THREAD_UNKNOWN << THREAD_SHIFT);
 }
 
-unsigned place_frames(place_word of, const uint64_t **frames)
+unsigned call_site_frames(call_site of, const uint64_t **frames)
 {
     uint64_t first = of & WORD_MASK;
     if (!(of & IS_STACK))
@@ -157,25 +157,25 @@ static uint64_t upper_half(uint64_t word)
     return word >> COUNT_SHIFT << COUNT_SHIFT | recording << RECORDING_SHIFT;
 }
 
-uint32_t place_number(place_word of)
+uint32_t call_site_number(call_site of)
 {
     uint64_t word = of & IS_STACK ? atomic_load((_Atomic uint64_t *)&words[of & WORD_MASK]) : 0;
     return word >> RECORDING_SHIFT == upper_half(word) >> RECORDING_SHIFT ? (uint32_t)word : 0;
 }
 
-uint32_t place_give_number(place_word of, uint32_t number)
+uint32_t call_site_give_number(call_site of, uint32_t number)
 {
     _Atomic uint64_t *word = (_Atomic uint64_t *)&words[of & WORD_MASK];
     uint64_t seen = atomic_load(word);
     for (;;) {
-        if (place_number(of) != 0)
-            return place_number(of);
+        if (call_site_number(of) != 0)
+            return call_site_number(of);
         if (atomic_compare_exchange_strong(word, &seen, upper_half(seen) | number))
             return number;
     }
 }
 
-void places_forget_numbers(void)
+void call_sites_forget_numbers(void)
 {
     atomic_fetch_add(&stacks.recording, 1);
 }

@@ -27,14 +27,14 @@ static inline unsigned thread_number(void)
 }
 
 struct thread_note {
-    uint64_t created;       /* the place of the call, with the thread that made it (stacks.h) */
+    uint64_t created;       /* the call site, with the thread that made it (stacks.h) */
     uint32_t system_number; /* UINT32_MAX if the system does not say it */
     uint64_t name[NAME_WORDS];
 };
 
 /* In the first thread, at the start. */
 void thread_is_first(void);
-/* Answers the number of the thread that a call of this place is about to create. */
+/* Answers the number of the thread that a call at this site is about to create. */
 unsigned thread_create(uint64_t created);
 /* In that thread, before all that the program does there. */
 void thread_begins(unsigned number);

@@ -35,7 +35,7 @@ void faults_begin(unsigned char *bytes, unsigned window)
     list_begin(bytes, window);
 }
 
-uint32_t fault_put_stack(place_word of)
+uint32_t fault_put_stack(call_site of)
 {
     return list_put_stack(list_newest(), of);
 }
@@ -58,12 +58,12 @@ static uint64_t first_bad(unsigned width, uint64_t address)
 
 /* The list. */
 
-/* Of what the access has of it: the place with its stack, the kind, the size, the call, and the thread. Threads count
-   up to half of the list: those of a pool may meet in many ways. */
+/* Of what the access has of it: the call site with its stack, the kind, the size, the call, and the thread. Threads
+   count up to half of the list: those of a pool may meet in many ways. */
 static uint64_t hash_of_access(const struct list *list, enum code code, const struct side_fault *fault)
 {
     uint64_t first = 1 + list_window(list), has_threads = atomic_load(&list->taken) < SIDE_FAULTS / 2;
-    uint64_t hash = list_mix(list_mix(list_mix(list_mix(first, fault->place), fault->stack), code), fault->size);
+    uint64_t hash = list_mix(list_mix(list_mix(list_mix(first, fault->call_site), fault->stack), code), fault->size);
     return list_mix(fault_list_mix(hash, fault->call, SIDE_CALL), has_threads ? fault->thread : 0);
 }
 
@@ -129,8 +129,8 @@ void fault_end(unsigned window)
 static uint32_t find_fault(struct list *list, const struct access *access, unsigned width, uint64_t address)
 {
     uint64_t bad = first_bad(width, address);
-    struct side_fault fault = {.place = access->caller, .start = access->start, .size = access->size};
-    fault.stack = list_put_stack(list, place_of(access->caller));
+    struct side_fault fault = {.call_site = access->caller, .start = access->start, .size = access->size};
+    fault.stack = list_put_stack(list, call_site_of(access->caller));
     fault.thread = thread_number();
     fault_list_put_call(fault.call, access->call);
     keep_shadow(bad, &fault);
@@ -172,15 +172,15 @@ void fault_note(unsigned window, uint32_t entry, uint64_t event)
     atomic_store_explicit((_Atomic uint32_t *)(list_bytes(list) + offset), entry, memory_order_release);
 }
 
-void fault_note_last(place_word last, uint64_t address, uint32_t how)
+void fault_note_last(call_site last, uint64_t address, uint32_t how)
 {
     if (!side_is_there())
         return;
     side_note_last(&(struct side_last){
-        .place = place_address(last),
+        .call_site = call_site_address(last),
         .address = address,
         .stack = fault_put_stack(last),
-        .thread = list_put_thread(list_newest(), place_thread(last)),
+        .thread = list_put_thread(list_newest(), call_site_thread(last)),
         .how = how,
     });
 }

@@ -13,9 +13,9 @@
 void faults_begin(unsigned char *bytes, unsigned window);
 /* The side file was cut after what it has. */
 void faults_are_cut(void);
-/* Puts the stack of a place beside the stream, if it is not there yet. Answers its number; 0: it has none, or no
+/* Puts the stack of a call site beside the stream, if it is not there yet. Answers its number; 0: it has none, or no
    room. */
-uint32_t fault_put_stack(place_word of);
+uint32_t fault_put_stack(call_site of);
 /* A bad access or free is being noted from here on, and has an event now, or none in this window. The first is before
    the system is called: if that ends the process, who reads the memory knows that something is missing. */
 void fault_begin(unsigned window);
@@ -26,7 +26,7 @@ void fault_end(unsigned window);
    threads may wait. At any time, and in a signal handler too. */
 uint32_t fault_of(unsigned window, struct access *access, unsigned width, uint64_t address);
 /* Notes where a signal has met the process, the address that could not be accessed, and enum side_how. */
-void fault_note_last(place_word last, uint64_t address, uint32_t how);
+void fault_note_last(call_site last, uint64_t address, uint32_t how);
 /* Writes that to the index. */
 void fault_note(unsigned window, uint32_t entry, uint64_t event);
 

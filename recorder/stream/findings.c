@@ -32,12 +32,12 @@ static struct side_fault entry_for(struct list *list, const struct finding *find
 {
     struct side_fault entry = {.kind = finding->kind, .block = finding->block, .block_size = finding->block_size,
                                .start = finding->start, .size = finding->size};
-    entry.place = place_address(finding->place);
-    entry.stack = list_put_stack(list, finding->place);
-    entry.thread = place_thread(finding->place);
-    entry.allocated = place_address(finding->allocated);
+    entry.call_site = call_site_address(finding->call_site);
+    entry.stack = list_put_stack(list, finding->call_site);
+    entry.thread = call_site_thread(finding->call_site);
+    entry.allocated = call_site_address(finding->allocated);
     entry.allocated_stack = list_put_stack(list, finding->allocated);
-    entry.allocated_thread = place_thread(finding->allocated);
+    entry.allocated_thread = call_site_thread(finding->allocated);
     entry.found.other = finding->other;
     entry.found.after = events_now();
     fault_list_put_call(entry.call, finding->call);
@@ -48,7 +48,7 @@ static struct side_fault entry_for(struct list *list, const struct finding *find
 /* Of what makes one finding in a list. Sizes and addresses are those of the first one. */
 static uint64_t hash_of(const struct list *list, const struct side_fault *entry)
 {
-    uint64_t hash = list_mix(list_mix(1 + list_window(list), entry->kind), entry->place);
+    uint64_t hash = list_mix(list_mix(1 + list_window(list), entry->kind), entry->call_site);
     hash = list_mix(list_mix(hash, entry->stack), entry->allocated);
     hash = list_mix(hash, entry->allocated_stack);
     return fault_list_mix(fault_list_mix(hash, entry->call, SIDE_CALL), entry->name, SIDE_NAME);
@@ -106,6 +106,6 @@ void finding_note(const struct finding *finding)
 
 void finding_note_call(const struct wrong_call *wrong)
 {
-    finding_note(&(struct finding){.kind = wrong->kind, .place = place_of(wrong->caller), .call = wrong->call,
+    finding_note(&(struct finding){.kind = wrong->kind, .call_site = call_site_of(wrong->caller), .call = wrong->call,
                                    .start = wrong->start, .size = wrong->size, .other = wrong->other});
 }

@@ -1,5 +1,5 @@
 /* Findings: what the recorder knows to be wrong, and no event of the stream shows. Each is one entry in the list of
-   faults, for each place with its stack. Nobody checks it again: it is the recorder's word. */
+   faults, for each call site with its stack. Nobody checks it again: it is the recorder's word. */
 #ifndef ASANCOL_FINDINGS_H
 #define ASANCOL_FINDINGS_H
 
@@ -11,12 +11,12 @@
 
 struct finding {
     enum finding_kind kind;
-    place_word place;       /* of the call; of a leak, of the malloc */
+    call_site call_site;    /* of the call; of a leak, of the malloc */
     const char *call;       /* the function that was called; null: the program itself */
     const char *name;       /* what has allocated the block, in words; or null */
-    uint64_t block;         /* the block that it is about: its start, its size, and the place of its malloc; 0: none */
+    uint64_t block;         /* the block that it is about: its start, its size, and its malloc's call site; 0: none */
     uint64_t block_size;
-    place_word allocated;
+    call_site allocated;
     uint64_t start, size, other; /* what the call was given, as struct side_fault has it */
     uint64_t count;         /* of a leak: how many blocks, which replaces an earlier number; else 0 */
 };

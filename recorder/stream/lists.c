@@ -36,7 +36,7 @@ void list_begin(unsigned char *bytes, unsigned window)
     atomic_store(&list->taken, 0);
     atomic_store(&list->taken_words, 1);
     atomic_store(&list->number, ++begun);
-    places_forget_numbers();
+    call_sites_forget_numbers();
     atomic_store(&list->bytes, bytes);
     list_forget_backed(list);
     atomic_store(&newest, list);
@@ -93,12 +93,12 @@ void list_show_words(struct list *list, uint32_t end)
     list_raise((_Atomic uint32_t *)&((struct side *)list_bytes(list))->stack_words, end);
 }
 
-uint32_t list_put_stack(struct list *list, place_word of)
+uint32_t list_put_stack(struct list *list, call_site of)
 {
     const uint64_t *frames;
     uint64_t *words;
-    unsigned count = place_frames(of, &frames);
-    uint32_t number = place_number(of);
+    unsigned count = call_site_frames(of, &frames);
+    uint32_t number = call_site_number(of);
     if (count == 0 || number != 0)
         return number;
     if ((words = list_take_words(list, count + 1, &number)) == NULL)
@@ -106,5 +106,5 @@ uint32_t list_put_stack(struct list *list, place_word of)
     words[0] = count;
     memcpy(words + 1, frames, count * sizeof *frames);
     list_show_words(list, number + count + 1);
-    return atomic_load(&newest) == list ? place_give_number(of, number) : number;
+    return atomic_load(&newest) == list ? call_site_give_number(of, number) : number;
 }

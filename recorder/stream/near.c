@@ -154,10 +154,10 @@ void near_block(struct list *list, uint64_t address, struct side_fault *fault)
         return;
     fault->block = block.start;
     fault->block_size = block.size;
-    fault->allocated = place_address(block.places.allocated);
-    fault->allocated_stack = list_put_stack(list, block.places.allocated);
-    fault->allocated_thread = place_thread(block.places.allocated);
-    fault->freed = place_address(block.places.freed);
-    fault->freed_stack = list_put_stack(list, block.places.freed);
-    fault->freed_thread = place_thread(block.places.freed);
+    fault->allocated = call_site_address(block.call_sites.allocated);
+    fault->allocated_stack = list_put_stack(list, block.call_sites.allocated);
+    fault->allocated_thread = call_site_thread(block.call_sites.allocated);
+    fault->freed = call_site_address(block.call_sites.freed);
+    fault->freed_stack = list_put_stack(list, block.call_sites.freed);
+    fault->freed_thread = call_site_thread(block.call_sites.freed);
 }

@@ -439,7 +439,7 @@ void side_note_last(const struct side_last *last)
     struct side *side = side_now();
     if (side == NULL)
         return;
-    put_long(&side->last, last->place);
+    put_long(&side->last, last->call_site);
     put_word(&side->last_stack, last->stack);
     put_word(&beside_threads_in(side)->last, last->thread);
     put_word(&side->how, last->how);

@@ -60,10 +60,10 @@ void side_note_needed(uint64_t event);
 void side_note_left_out(void);
 /* How the process ends, with so many events in the stream: ENDING_NONE takes an exec back. What is lost stays lost. */
 void side_note_ending(enum ending ending, int number, uint64_t events);
-/* Where a signal has met it: the place, with its stack and its thread as of a fault; the address that could not be
+/* Where a signal has met it: the call site, with its stack and its thread as of a fault; the address that could not be
    accessed, and enum side_how. */
 struct side_last {
-    uint64_t place, address;
+    uint64_t call_site, address;
     uint32_t stack, thread, how;
 };
 void side_note_last(const struct side_last *last);

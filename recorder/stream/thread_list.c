@@ -55,7 +55,7 @@ static void fill_thread(struct list *list, uint32_t at, unsigned number, uint32_
 {
     struct side_thread *entry = thread_at(list, at);
     struct thread_note note, again = thread_note(number);
-    entry->created = place_address(again.created);
+    entry->created = call_site_address(again.created);
     entry->created_stack = list_put_stack(list, again.created);
     entry->creator = creator;
     do { /* who gives it another name meanwhile may not have seen this entry */
@@ -71,7 +71,7 @@ uint32_t list_put_thread(struct list *list, unsigned number)
     bool is_new, is_creator_new;
     uint32_t first = take_thread(list, number, &is_new), now = first;
     for (int i = 0; is_new; i++) {
-        unsigned creator = place_thread(thread_note(number).created);
+        unsigned creator = call_site_thread(thread_note(number).created);
         uint32_t next = take_thread(list, i < MOST_CREATORS ? creator : THREAD_UNKNOWN, &is_creator_new);
         fill_thread(list, now - 1, number, next);
         now = next, number = creator, is_new = is_creator_new;

@@ -59,7 +59,7 @@ void record_bad_free(uint64_t address, uintptr_t caller, const char *call)
     fprintf(stderr, "a bad %s of %llx from %llx\n", call, (unsigned long long)address, (unsigned long long)caller);
     exit(1);
 }
-place_word place_from(uintptr_t frame, uintptr_t caller) { return frame == 0 ? caller : frame; }
+call_site call_site_from(uintptr_t frame, uintptr_t caller) { return frame == 0 ? caller : frame; }
 
 static void expect(bool holds, const char *what)
 {
@@ -136,7 +136,7 @@ static void look_at(const struct mark *block)
     uintptr_t start = (uintptr_t)block, end = start + block->size;
     expect(((const unsigned char *)block)[block->size - 1] == block->byte, "a block's bytes");
     expect(arena_find_nearest(start, &found) && found.start == start && found.size == block->size, "the nearest block");
-    expect(arena_find_nearest(end - 1, &found) && found.start == start && found.places.freed == 0, "its last byte");
+    expect(arena_find_nearest(end - 1, &found) && found.start == start && found.call_sites.freed == 0, "its last byte");
     expect(arena_find_nearest(end, &found), "the byte after it");
     expect(heap_end_around(start) == end && heap_end_around(end - 1) == end, "a block's end");
     expect(heap_live_size((void *)(uintptr_t)block) == block->size, "a block's size");
@@ -206,14 +206,14 @@ static void *run(void *of)
     return NULL;
 }
 
-static void check_threads(bool with_places)
+static void check_threads(bool with_call_sites)
 {
     static struct thread threads[THREADS];
     heap_lock();
-    if (with_places)
-        heap_keep_places();
+    if (with_call_sites)
+        heap_keep_call_sites();
     heap_unlock();
-    heap_set_bound(with_places ? HELD_BYTES : HELD_BYTES / 16);
+    heap_set_bound(with_call_sites ? HELD_BYTES : HELD_BYTES / 16);
     for (unsigned i = 0; i < THREADS; i++) {
         threads[i] = (struct thread){.number = i, .draws = 12345 + i};
         expect(pthread_create(&threads[i].thread, NULL, run, &threads[i]) == 0, "a thread");
