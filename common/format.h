@@ -113,7 +113,7 @@ enum finding_kind {
 };
 enum { FINDING_LAST = FINDING_OTHER_ALIGNMENT };
 
-enum { SIDE_WORDS = 4000, SIDE_BUILD_COUNT = 112, SIDE_ID = 23, SIDE_FAULTS = 1 << 16, SIDE_THREADS = 1 << 12 };
+enum { SIDE_ARGV = 4000, SIDE_BUILD_COUNT = 112, SIDE_ID = 23, SIDE_FAULTS = 1 << 16, SIDE_THREADS = 1 << 12 };
 enum { SIDE_NAME = 120, SIDE_CALL = 32, SIDE_THREAD_NAME = 16 };
 /* The shadow round a bad byte: its row, and so many before and after it. */
 enum { SIDE_ROW = 16, SIDE_ROWS_BESIDE = 5, SIDE_SHADOW = SIDE_ROW * (2 * SIDE_ROWS_BESIDE + 1) };
@@ -158,7 +158,7 @@ struct side {
     uint32_t fault_count; /* how many faults are in the list */
     uint32_t stack_words; /* how many words of the stacks are in use, with the first, which is of no stack */
     uint64_t quarantine;  /* how many bytes of freed blocks are held */
-    char words[SIDE_WORDS]; /* of the command line, each ended by a zero, and a zero after them */
+    char argv[SIDE_ARGV]; /* of the command line, each ended by a zero, and a zero after them */
     /* Of the signal that has ended it: */
     uint64_t last;          /* one more than the address of the last instruction; 0: not known */
     uint64_t wrong_address; /* which that could not access */

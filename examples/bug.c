@@ -1,6 +1,6 @@
 #include <stdio.h>
 #include <stdlib.h>
 #include <string.h>
-int main(int count, char **words) {
-    char *word = words[count - 1], *copy = malloc(strlen(word));
+int main(int count, char **argv) {
+    char *word = argv[count - 1], *copy = malloc(strlen(word));
     return strcpy(copy, word) == NULL || puts(word) < 0; }

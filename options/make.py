@@ -65,8 +65,8 @@ def files_of(name: str, programs: List[table.Program]) -> Dict[str, str]:
 def differences(asancol: str, programs: List[table.Program]) -> Iterator[str]:
     """Goes over the options of asancol whose help, which is not made, has not the line of the table at its start."""
     for program in (it for it in programs if it.table == "asancol" and it.groups):
-        words = [asancol, *program.name.split()[1:], "--help"]
-        text = subprocess.run(words, stdout=subprocess.PIPE, text=True, check=True).stdout
+        argv = [asancol, *program.name.split()[1:], "--help"]
+        text = subprocess.run(argv, stdout=subprocess.PIPE, text=True, check=True).stdout
         said: Dict[str, str] = dict(re.findall(r"^ +(?:-\w, )?(--[\w-]+)(?: <\w+>)? {2,}(.*)$", text, re.M))
         wanted = {it.name: it for it in program.shown}
         for name in sorted({*said, *wanted}):
@@ -77,8 +77,8 @@ def differences(asancol: str, programs: List[table.Program]) -> Iterator[str]:
                 yield f"options/asancol.options:1: {program.name} {name}: {front}{end}; its help: {said.get(name)}"
 
 
-def main(words: List[str]) -> int:
-    if len(words) > 2 or words[:1] not in ([], ["--check"]):
+def main(argv: List[str]) -> int:
+    if len(argv) > 2 or argv[:1] not in ([], ["--check"]):
         print((__doc__ or "").split("\n\n")[1], file=sys.stderr)
         return 2
     programs: List[table.Program] = []
@@ -91,13 +91,13 @@ def main(words: List[str]) -> int:
     for name in TABLES:
         files.update(files_of(name, [it for it in programs if it.table == name]))
     others = [path for path, text in files.items() if text != text_of(path)]
-    if not words:
+    if not argv:
         for path in others:
             with open(f"{TOP}/{path}", "w", encoding="utf-8") as file:
                 file.write(files[path])
         return 0
     found = [f"{path}:1: it is not what options/ has: `make options` writes it anew" for path in others]
-    found += [line for asancol in words[1:] for line in differences(asancol, programs)]
+    found += [line for asancol in argv[1:] for line in differences(asancol, programs)]
     print("\n".join(found), end="\n" if found else "")
     return 1 if found else 0
 

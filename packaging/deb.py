@@ -27,8 +27,8 @@ PROGRAMS = ("asancol", "asancol-cc", "asancol-run")
 PRELOADED = "usr/lib/asancol/libasancol_preload.so"
 
 
-def output_of(words: List[str], folder: str = TOP) -> str:
-    ran = subprocess.run(words, cwd=folder, stdout=subprocess.PIPE, text=True, check=True)
+def output_of(argv: List[str], folder: str = TOP) -> str:
+    ran = subprocess.run(argv, cwd=folder, stdout=subprocess.PIPE, text=True, check=True)
     return ran.stdout
 
 
@@ -60,8 +60,8 @@ def time_of_sources() -> int:
 
 
 def install(root: str) -> None:
-    words = ["make", "-s", "install", "PREFIX=/usr", f"DESTDIR={root}"]
-    subprocess.run([*words, "ZSH_FUNCTIONS=/usr/share/zsh/vendor-completions"], cwd=TOP, check=True)
+    argv = ["make", "-s", "install", "PREFIX=/usr", f"DESTDIR={root}"]
+    subprocess.run([*argv, "ZSH_FUNCTIONS=/usr/share/zsh/vendor-completions"], cwd=TOP, check=True)
 
 
 def strip(root: str) -> None:
@@ -69,8 +69,8 @@ def strip(root: str) -> None:
     for name in PROGRAMS:
         subprocess.run(["strip", "--remove-section=.comment", f"{root}/usr/bin/{name}"], check=True)
     for archive in glob.glob(f"{root}/usr/lib/asancol/*.a"):
-        words = ["strip", "--strip-debug", "--enable-deterministic-archives", "--remove-section=.comment"]
-        subprocess.run([*words, archive], check=True)
+        argv = ["strip", "--strip-debug", "--enable-deterministic-archives", "--remove-section=.comment"]
+        subprocess.run([*argv, archive], check=True)
     subprocess.run(["strip", "--strip-unneeded", "--remove-section=.comment", f"{root}/{PRELOADED}"], check=True)
 
 
@@ -160,8 +160,8 @@ def main(folder_of_package: str = TOP) -> int:
         size = sum(os.lstat(f"{root}/{it}").st_size for it in files_below(root) if not os.path.isdir(f"{root}/{it}"))
         add_control(root, {"VERSION": version, "SIZE": str(-(-size // 1024)), "LIBRARIES": libraries_of(root)})
         environment = {**os.environ, "SOURCE_DATE_EPOCH": str(time)}
-        words = ["dpkg-deb", "--root-owner-group", "-Zxz", "--build", root, package]
-        subprocess.run(words, env=environment, stdout=subprocess.DEVNULL, check=True)
+        argv = ["dpkg-deb", "--root-owner-group", "-Zxz", "--build", root, package]
+        subprocess.run(argv, env=environment, stdout=subprocess.DEVNULL, check=True)
     print(os.path.basename(package))
     return 0
 

@@ -22,10 +22,10 @@ TOP = os.path.dirname(os.path.dirname(os.path.abspath(__file__)))
 MADE, BESIDE = "docs/CALLS.md", "docs/FORMAT.md"
 
 
-def git(*words: str) -> bytes:
+def git(*argv: str) -> bytes:
     """Returns what a git command prints, and ends this one if git fails. No setting of the user's counts."""
     settings = ["-c", "tar.umask=0022", "-c", "core.attributesFile=/dev/null", "-c", "core.autocrlf=false"]
-    ran = subprocess.run(["git", *settings, *words], cwd=TOP, stdout=subprocess.PIPE, check=False)
+    ran = subprocess.run(["git", *settings, *argv], cwd=TOP, stdout=subprocess.PIPE, check=False)
     if ran.returncode:
         sys.exit("dist.py: the archive is made from the repository, by git")
     return ran.stdout

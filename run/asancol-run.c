@@ -109,24 +109,24 @@ static void say_summary(const struct sum *sum, bool is_incomplete, bool lists_un
 }
 
 /* What holds of the run, and not of one process. */
-static struct words troubles_of(const struct outcome *outcome)
+static struct strings troubles_of(const struct outcome *outcome)
 {
     static char missing[96], lost[96]; /* there is one run */
-    struct words lines = {0};
+    struct strings lines = {0};
     snprintf(missing, sizeof missing, "INCOMPLETE: %" PRIu64 " fewer than --at-least asks for were recorded",
              outcome->missing);
     snprintf(lost, sizeof lost, "INCOMPLETE: %" PRIu64 " run%s inside this one left no result", outcome->lost,
              plural(outcome->lost, "s"));
     if (outcome->nothing)
-        words_add(&lines, "NOTHING WAS RECORDED: was a program built with asancol-cc?");
+        strings_add(&lines, "NOTHING WAS RECORDED: was a program built with asancol-cc?");
     else if (outcome->missing > 0)
-        words_add(&lines, missing);
+        strings_add(&lines, missing);
     if (outcome->is_running)
-        words_add(&lines, "INCOMPLETE: processes of the command still run");
+        strings_add(&lines, "INCOMPLETE: processes of the command still run");
     if (outcome->has_timed_out)
-        words_add(&lines, "INCOMPLETE: the command was ended by --timeout");
+        strings_add(&lines, "INCOMPLETE: the command was ended by --timeout");
     if (outcome->lost > 0)
-        words_add(&lines, lost);
+        strings_add(&lines, lost);
     return lines;
 }
 
@@ -164,12 +164,12 @@ static enum answer conclude(const struct options *options, const struct sum *sum
     }
     lines_say(options->quiet);
     for (size_t i = 0; i < outcome->troubles.count; i++)
-        say("asancol: %s", outcome->troubles.words[i]);
+        say("asancol: %s", outcome->troubles.items[i]);
     bool is_listed = options->unchecked != UNCHECKED_NO && unchecked_count() > 0;
     if (!options->quiet || is_incomplete || is_listed || answer == ANSWER_NONE || answer == ANSWER_ARGUMENTS)
         say_summary(sum, is_incomplete, options->unchecked != UNCHECKED_NO);
     for (size_t i = 0; i < outcome->notes.count && (!options->quiet || is_incomplete); i++)
-        say("asancol: %s", outcome->notes.words[i]);
+        say("asancol: %s", outcome->notes.items[i]);
     return answer;
 }
 
@@ -239,12 +239,12 @@ static int check_files(const struct options *options)
     return 0;
 }
 
-int main(int count, char **words)
+int main(int count, char **argv)
 {
     int signals;
     (void)count;
     fill_standard();
-    struct options options = options_read(words);
+    struct options options = options_read(argv);
     verdict_counts_leaks(options.leaks == LEAKS_YES);
     if (options.are_files) {
         checkers_begin(&options);

@@ -23,35 +23,35 @@
 
 static struct {
     char *program;
-    struct words options; /* of asancol check */
-    uint64_t quarantine;  /* that they say */
-    bool is_fixed;        /* whatever the process has held */
+    struct strings options; /* of asancol check */
+    uint64_t quarantine;    /* that they say */
+    bool is_fixed;          /* whatever the process has held */
     bool keeps;
 } checkers;
 
 /* What a checker runs as, with as much held as the process holds: else it would report what is sound. */
-static struct words words_for(const struct process *process)
+static struct strings argv_for(const struct process *process)
 {
     static const char option[] = "--quarantine";
     static char bytes[24];
-    struct words words = {0};
+    struct strings argv = {0};
     bool is_other = process->side != NULL && process->quarantine != checkers.quarantine && !checkers.is_fixed;
-    words_add(&words, "asancol");
+    strings_add(&argv, "asancol");
     if (checkers.options.count == 0 && !is_other)
-        return words;
-    words_add(&words, "check");
+        return argv;
+    strings_add(&argv, "check");
     for (size_t i = 0; i < checkers.options.count; i += 2)
-        if (!is_other || strcmp(checkers.options.words[i], option) != 0) {
-            words_add(&words, checkers.options.words[i]);
-            words_add(&words, checkers.options.words[i + 1]);
+        if (!is_other || strcmp(checkers.options.items[i], option) != 0) {
+            strings_add(&argv, checkers.options.items[i]);
+            strings_add(&argv, checkers.options.items[i + 1]);
         }
     if (is_other) {
         snprintf(bytes, sizeof bytes, "%" PRIu64, process->quarantine);
-        words_add(&words, option);
-        words_add(&words, bytes);
+        strings_add(&argv, option);
+        strings_add(&argv, bytes);
     }
-    words_add(&words, "-");
-    return words;
+    strings_add(&argv, "-");
+    return argv;
 }
 
 void checkers_begin(const struct options *options)
@@ -89,9 +89,9 @@ static bool start(struct process *process, int input)
     if (process->verdicts < 0)
         process->verdicts = memfd_create("verdicts", MFD_CLOEXEC);
     if (process->verdicts >= 0) {
-        struct words words = words_for(process);
-        process->checker = child_start(ROLE_CHECKER, process, checkers.program, words.words, input, process->verdicts);
-        free(words.words);
+        struct strings argv = argv_for(process);
+        process->checker = child_start(ROLE_CHECKER, process, checkers.program, argv.items, input, process->verdicts);
+        free(argv.items);
     }
     if (process->checker != 0) {
         process->stage = STAGE_CHECKED;

@@ -76,7 +76,7 @@ void child_keep_for_report(int descriptor)
         for_report[for_report_count++] = descriptor;
 }
 
-pid_t child_start(enum role role, struct process *process, const char *program, const char *const *words, int input,
+pid_t child_start(enum role role, struct process *process, const char *program, const char *const *argv, int input,
                   int output)
 {
     posix_spawn_file_actions_t actions;
@@ -98,7 +98,7 @@ pid_t child_start(enum role role, struct process *process, const char *program, 
     posix_spawnattr_setsigmask(&attributes, &mask);
     posix_spawnattr_setsigdefault(&attributes, &usual);
     char **environment = role == ROLE_CHECKER ? checkers_environment : environ;
-    int error = posix_spawn(&child, program, &actions, &attributes, (char *const *)(uintptr_t)words, environment);
+    int error = posix_spawn(&child, program, &actions, &attributes, (char *const *)(uintptr_t)argv, environment);
     posix_spawn_file_actions_destroy(&actions);
     posix_spawnattr_destroy(&attributes);
     if (error != 0) {

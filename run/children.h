@@ -18,7 +18,7 @@ void child_keep_for_report(int descriptor);
 
 /* Starts a program in a process group apart from the command's, with these descriptors as its standard input and
    output. Answers its number, or 0 and errno. */
-pid_t child_start(enum role role, struct process *process, const char *program, const char *const *words, int input,
+pid_t child_start(enum role role, struct process *process, const char *program, const char *const *argv, int input,
                   int output);
 /* Takes one that has ended out of the list. False: it is none of ours. */
 bool child_take(pid_t child, enum role *role, struct process **process);

@@ -38,17 +38,17 @@ void json_text(FILE *to, const char *text)
     fputc('"', to);
 }
 
-void json_list(FILE *to, char *const *words, size_t most)
+void json_list(FILE *to, char *const *items, size_t most)
 {
     size_t used = 0;
     fputc('[', to);
-    for (size_t i = 0; words[i] != NULL; i++) {
-        used += 6 * strlen(words[i]) + 3; /* at most */
+    for (size_t i = 0; items[i] != NULL; i++) {
+        used += 6 * strlen(items[i]) + 3; /* at most */
         if (used > most)
             break;
         if (i > 0)
             fputc(',', to);
-        json_text(to, words[i]);
+        json_text(to, items[i]);
     }
     fputc(']', to);
 }

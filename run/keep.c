@@ -114,10 +114,10 @@ int keep_start(struct process *process)
     if (made < 0)
         return -1;
     close(made);
-    const char *words[] = {"tee", "--", process->kept, NULL};
+    const char *argv[] = {"tee", "--", process->kept, NULL};
     if (pipe2(ends, O_CLOEXEC) != 0)
         return -1;
-    process->tee = child_start(ROLE_TEE, process, tee_program, words, process->connection, ends[1]);
+    process->tee = child_start(ROLE_TEE, process, tee_program, argv, process->connection, ends[1]);
     int error = errno;
     close(ends[1]);
     if (process->tee != 0)

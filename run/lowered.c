@@ -59,10 +59,10 @@ static const char *made(const struct line *line)
     return text;
 }
 
-struct words lowered_lines(const struct options *options, bool has_recorded)
+struct strings lowered_lines(const struct options *options, bool has_recorded)
 {
     struct line lines[MAX_LINES];
-    struct words words = {0};
+    struct strings texts = {0};
     size_t count = 0;
     char text[sizeof lines->text];
     if (has_recorded && options->held < QUARANTINE_BOUND) {
@@ -71,7 +71,7 @@ struct words lowered_lines(const struct options *options, bool has_recorded)
                      options->held, plural(options->held, "s"), options->held == 1 ? "is" : "are",
                      options->quarantine != NULL ? "--quarantine" : "ASANCOL_QUARANTINE") < 0)
             must(NULL);
-        words_add(&words, all);
+        strings_add(&texts, all);
     }
     for (size_t i = 0; i < process_count(); i++) {
         const struct process *process = process_at(i);
@@ -83,6 +83,6 @@ struct words lowered_lines(const struct options *options, bool has_recorded)
             note(lines, &count, process, text);
     }
     for (size_t i = 0; i < count; i++)
-        words_add(&words, made(&lines[i]));
-    return words;
+        strings_add(&texts, made(&lines[i]));
+    return texts;
 }

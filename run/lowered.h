@@ -8,6 +8,6 @@
 #include "options.h"
 
 /* A line for each bound and value, once all processes are done. */
-struct words lowered_lines(const struct options *options, bool has_recorded);
+struct strings lowered_lines(const struct options *options, bool has_recorded);
 
 #endif

@@ -214,9 +214,9 @@ static void demand(const char *dashed, const char *path, bool is_folder)
 
 static void pass(struct options *options, const char *dashed, const char *value)
 {
-    words_add(&options->report, dashed);
+    strings_add(&options->report, dashed);
     if (value != NULL)
-        words_add(&options->report, value);
+        strings_add(&options->report, value);
 }
 
 /* An output that is a descriptor of ours. The report has others under these numbers: it is given a copy. */
@@ -282,12 +282,12 @@ static void pass_check(struct options *options, const struct option *option, con
     if (option->offset != 0) /* --quarantine alone has a field of this kind */
         options->quarantine = value;
     for (size_t i = 0; i < options->check.count; i += 2)
-        if (strcmp(options->check.words[i], dashed) == 0) {
-            options->check.words[i + 1] = value;
+        if (strcmp(options->check.items[i], dashed) == 0) {
+            options->check.items[i + 1] = value;
             return;
         }
-    words_add(&options->check, dashed);
-    words_add(&options->check, value);
+    strings_add(&options->check, dashed);
+    strings_add(&options->check, value);
 }
 
 static _Noreturn void show(const char *text)
@@ -338,9 +338,9 @@ static void take_value(struct options *options, const struct option *option, con
 }
 
 /* Takes the option that begins at this word, and answers the word after it. */
-static char **take(struct options *options, char **words)
+static char **take(struct options *options, char **argv)
 {
-    char *word = *words++;
+    char *word = *argv++;
     char *equals = strchr(word, '=');
     const struct option *option = find(word, equals != NULL ? (size_t)(equals - word) : strlen(word));
     char *dashed;
@@ -350,13 +350,13 @@ static char **take(struct options *options, char **words)
         if (equals != NULL)
             fail(OWN_FAILURE, dashed, "it takes no value");
         take_flag(options, option, dashed);
-        return words;
+        return argv;
     }
-    const char *value = equals != NULL ? equals + 1 : *words++;
+    const char *value = equals != NULL ? equals + 1 : *argv++;
     if (value == NULL || (equals == NULL && strcmp(value, "--") == 0))
         fail(OWN_FAILURE, dashed, "it needs a value");
     take_value(options, option, dashed, value);
-    return words;
+    return argv;
 }
 
 /* What the recorder holds back, the checker has to hold too. A value that the recorder refuses is left to it. */
@@ -366,24 +366,24 @@ static void follow_recorder(struct options *options)
     if (value == NULL || !read_number(value, false, &options->held) || options->held > MAX_QUARANTINE) {
         options->held = QUARANTINE_BOUND;
     } else if (options->quarantine == NULL) {
-        words_add(&options->check, "--quarantine");
-        words_add(&options->check, value);
+        strings_add(&options->check, "--quarantine");
+        strings_add(&options->check, value);
     }
 }
 
-struct options options_read(char **words)
+struct options options_read(char **argv)
 {
     struct options options = {OPTION_DEFAULTS};
-    for (words++; *words != NULL && (*words)[0] == '-' && (*words)[1] != 0;) {
-        if (strcmp(*words, "--") == 0) {
-            words++;
+    for (argv++; *argv != NULL && (*argv)[0] == '-' && (*argv)[1] != 0;) {
+        if (strcmp(*argv, "--") == 0) {
+            argv++;
             break;
         }
-        words = take(&options, words);
+        argv = take(&options, argv);
     }
-    if (*words == NULL)
+    if (*argv == NULL)
         fail(OWN_FAILURE, "there is no command", "asancol-run --help says how to use it");
-    options.command = words;
+    options.command = argv;
     if (options.are_files)
         unsetenv("ASANCOL_QUARANTINE"); /* it says nothing of what was recorded before */
     follow_recorder(&options);

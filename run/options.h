@@ -6,7 +6,7 @@
 #include <stddef.h>
 #include <stdint.h>
 
-#include "common/words.h"
+#include "common/strings.h"
 #include "unchecked.h"
 
 /* What becomes of leaks: they are summed up, nobody looks for them, or each place is a report. */
@@ -31,14 +31,14 @@ struct options {
     uint64_t held;          /* how many bytes of freed blocks, if a process does not say otherwise */
     bool has_output;        /* a file is wanted that asancol-report writes */
     bool has_rules;         /* it has to read a file of what counts */
-    bool are_files;         /* the words of the command are traces */
-    struct words check;     /* for asancol check */
-    struct words report;    /* for asancol-report */
+    bool are_files;         /* the arguments of the command are traces */
+    struct strings check;   /* for asancol check */
+    struct strings report;  /* for asancol-report */
     char **command;
 };
 
 /* Prints the help or the version and ends with status 0, if this is what the options ask for. Fails if one of them is
    wrong: nothing has been started then. */
-struct options options_read(char **words);
+struct options options_read(char **argv);
 
 #endif

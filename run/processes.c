@@ -80,7 +80,7 @@ void process_name(struct process *process)
     process->quarantine = side != NULL ? side_quarantine(side) : UINT64_MAX;
     if (side != NULL)
         process->settings = side_settings(side);
-    process_set_name(process, side != NULL ? side->words : name_by_number(process->peer));
+    process_set_name(process, side != NULL ? side->argv : name_by_number(process->peer));
 }
 
 void process_set_name(struct process *process, const char *name)

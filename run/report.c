@@ -24,8 +24,8 @@
 #include "unchecked.h"
 #include "verdict.h"
 
-/* A packet has at most 65,536 bytes. So much of it may be the words of the command. */
-enum { MAX_RUN_WORDS = 40000, MAX_PROCESS_WORDS = 24000, MAX_WORDS = 1000, MAX_LINES = 6000 };
+/* A packet has at most 65,536 bytes. So much of it may be the arguments of the command. */
+enum { MAX_RUN_ARGV = 40000, MAX_PROCESS_ARGV = 24000, MAX_ARGUMENTS = 1000, MAX_LINES = 6000 };
 /* What is printed if asancol-report cannot run. */
 enum { RAW_PROCESSES = 20, RAW_LINES = 20, RAW_BYTES = 8192 };
 
@@ -39,7 +39,7 @@ struct message {
 static struct {
     struct message *first, **last;
     size_t held;
-    struct words words;
+    struct strings argv;
     int socket; /* -1: not started, or gone */
     pid_t child;
     bool was_started, had_child, is_broken, has_ended, is_over;
@@ -103,14 +103,14 @@ void report_begin(const struct options *options)
     struct timespec time;
     struct message *message;
     report.last = &report.first;
-    report.words = options->report;
+    report.argv = options->report;
     if (options->quiet)
-        words_add(&report.words, "--quiet");
+        strings_add(&report.argv, "--quiet");
     gethostname(host, sizeof host - 1);
     clock_gettime(CLOCK_REALTIME, &time);
     FILE *to = new_message(&message);
     fputs("{\"type\":\"run\",\"version\":1,\"command\":", to);
-    json_list(to, options->command, MAX_RUN_WORDS);
+    json_list(to, options->command, MAX_RUN_ARGV);
     fputs(",\"host\":", to);
     json_text(to, host);
     fputs(",\"directory\":", to);
@@ -123,23 +123,23 @@ void report_begin(const struct options *options)
     enqueue(message, to);
 }
 
-/* The words of the process's command line, or its name if that is all that is known. */
+/* The arguments of the process, or its name if that is all that is known. */
 static void put_words(FILE *to, const struct process *process)
 {
-    char words[SIDE_WORDS + 1], *list[MAX_WORDS + 1];
+    char argv[SIDE_ARGV + 1], *list[MAX_ARGUMENTS + 1];
     size_t count = 0;
     const struct side *side = process->side;
     if (side == NULL) {
         char *only[] = {process->name, NULL};
-        json_list(to, only, MAX_PROCESS_WORDS);
+        json_list(to, only, MAX_PROCESS_ARGV);
         return;
     }
-    memcpy(words, side->words, SIDE_WORDS); /* once: the process may write there */
-    words[SIDE_WORDS] = 0;
-    for (char *at = words; at < words + SIDE_WORDS && *at != 0 && count < MAX_WORDS; at += strlen(at) + 1)
+    memcpy(argv, side->argv, SIDE_ARGV); /* once: the process may write there */
+    argv[SIDE_ARGV] = 0;
+    for (char *at = argv; at < argv + SIDE_ARGV && *at != 0 && count < MAX_ARGUMENTS; at += strlen(at) + 1)
         list[count++] = at;
     list[count] = NULL;
-    json_list(to, list, MAX_PROCESS_WORDS);
+    json_list(to, list, MAX_PROCESS_ARGV);
 }
 
 /* What is known of a process; and of its segments the one whose descriptors come with it, if that is not null. So many
@@ -349,24 +349,24 @@ void report_has_ended(int status)
         give_up();
 }
 
-/* Its words: what the command line says, and what a run inside this one and one round it have to do with it. */
+/* Its arguments: what the command line says, and what a run inside this one and one round it have to do with it. */
 static const char *const *words_of_report(const char *program)
 {
-    struct words words = {0};
+    struct strings argv = {0};
     const char *outer = nested_result();
-    words_add(&words, program);
-    words_add(&words, "--run");
-    for (size_t i = 0; i < report.words.count; i++)
-        words_add(&words, report.words.words[i]);
+    strings_add(&argv, program);
+    strings_add(&argv, "--run");
+    for (size_t i = 0; i < report.argv.count; i++)
+        strings_add(&argv, report.argv.items[i]);
     if (outer != NULL) {
-        words_add(&words, "--json");
-        words_add(&words, outer);
+        strings_add(&argv, "--json");
+        strings_add(&argv, outer);
     }
     if (hub_folder() != NULL) {
-        words_add(&words, "--nested");
-        words_add(&words, hub_folder());
+        strings_add(&argv, "--nested");
+        strings_add(&argv, hub_folder());
     }
-    return words.words;
+    return argv.items;
 }
 
 bool report_is_at(int descriptor)
@@ -417,12 +417,12 @@ bool report_was_started(void)
     return report.was_started;
 }
 
-static void put_lines(FILE *to, const char *name, const struct words *lines)
+static void put_lines(FILE *to, const char *name, const struct strings *lines)
 {
     if (lines->count == 0)
         return;
     fprintf(to, ",\"%s\":", name);
-    json_list(to, (char *const *)(uintptr_t)lines->words, MAX_LINES);
+    json_list(to, (char *const *)(uintptr_t)lines->items, MAX_LINES);
 }
 
 void report_finish(const struct outcome *outcome)

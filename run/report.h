@@ -18,8 +18,8 @@ struct outcome {
     bool is_running; /* something of the command */
     bool has_timed_out;
     uint64_t lost;   /* runs inside this one that left no result */
-    struct words troubles; /* lines: why not all was seen, apart from processes. Nobody else says them */
-    struct words notes;    /* lines for the reader, which cost no status */
+    struct strings troubles; /* lines: why not all was seen, apart from processes. Nobody else says them */
+    struct strings notes;    /* lines for the reader, which cost no status */
 };
 
 enum answer { ANSWER_CLEAN, ANSWER_REPORTS, ANSWER_ARGUMENTS, ANSWER_INCOMPLETE, ANSWER_NOT_WRITTEN, ANSWER_NONE };

@@ -541,17 +541,17 @@ struct request {
 };
 
 /* Takes an option, as --name VALUE or --name=VALUE, and moves past it. Returns whether there is such a one. */
-static bool take_option(char ***words, struct request *request)
+static bool take_option(char ***argv, struct request *request)
 {
-    char *name = *(*words)++, *value = strchr(name, '=');
+    char *name = *(*argv)++, *value = strchr(name, '=');
     if (strcmp(name, "--live") == 0) {
         settings.is_live = true;
         return true;
     }
     if (value != NULL)
         *value++ = 0;
-    else if (**words != NULL)
-        value = *(*words)++;
+    else if (**argv != NULL)
+        value = *(*argv)++;
     else
         return false;
     uint64_t number = strtoull(value, NULL, 10);
@@ -570,27 +570,27 @@ static bool take_option(char ***words, struct request *request)
     return true;
 }
 
-int main(int count, char **words)
+int main(int count, char **argv)
 {
     static char *input[] = {"-"};
     struct request request = {0};
-    char **names = words + 1;
+    char **names = argv + 1;
     blocks.bound = QUARANTINE_BOUND;
     if (count == 1)
         return check_streams(1, open_file, input);
-    bool serves = strcmp(words[1], "serve") == 0;
-    if (!serves && strcmp(words[1], "check") != 0)
-        return refuse(words[1]);
-    for (char **rest = words + 2; *rest != NULL;) {
+    bool serves = strcmp(argv[1], "serve") == 0;
+    if (!serves && strcmp(argv[1], "check") != 0)
+        return refuse(argv[1]);
+    for (char **rest = argv + 2; *rest != NULL;) {
         char *word = *rest;
         if (strncmp(word, "--", 2) != 0)
             *names++ = *rest++;
         else if (!take_option(&rest, &request))
             return refuse(word);
     }
-    size_t named = (size_t)(names - words) - 1;
+    size_t named = (size_t)(names - argv) - 1;
     if (named == 0 || named > MAX_STREAMS || request.count > MAX_STREAMS || serves != (request.count > 0))
         return refuse(serves ? "serve" : "check");
-    return serves ? serve(words[1], (unsigned)request.count, request.ready)
-                  : check_streams((unsigned)named, open_file, words + 1);
+    return serves ? serve(argv[1], (unsigned)request.count, request.ready)
+                  : check_streams((unsigned)named, open_file, argv + 1);
 }

@@ -56,8 +56,8 @@ TARGETS = [
     Target("recorder: formats", [f"{OURS}/formats.c"], FORMATS, [b"%", b"*", b"hh", b"ll", b"%[", b"^]", b"%1$d"]),
     Target("recorder: frames", [f"{OURS}/frames.c", f"{RECORDER}/stacks/frames.c"],
            [b"2 32 16 4 name 64 8 9 other:123", b"18446744073709551616 0 99999999999999999999 5 a"]),
-    Target("asancol-cc: words",
-           [f"{OURS}/words.c",
+    Target("asancol-cc: arguments",
+           [f"{OURS}/arguments.c",
             *(f"{WRAPPER}/{it}.c" for it in ("arguments", "inputs", "left_out", "linked", "names", "response", "say",
                                                 "view"))],
            COMPILES, [b"-Xlinker", b"-fsanitize=", b"@response", b"-Wl,", b"-x"]),
@@ -72,8 +72,8 @@ TARGETS = [
             f"{COMMON}/path.c"],
            [SIDE + REPORT + b"p0 end " + it + b"\n" for it in ENDS],
            [b"p0 end ", b"events ", b" reports ", b" checked "]),
-    Target("asancol-run: words", [f"{THEIRS}/words.c", f"{THEIRS}/ends.c", f"{RUN}/options.c", f"{RUN}/names.c",
-                                   f"{RUN}/preload.c", f"{COMMON}/path.c", f"{COMMON}/words.c"],
+    Target("asancol-run: arguments", [f"{THEIRS}/arguments.c", f"{THEIRS}/ends.c", f"{RUN}/options.c", f"{RUN}/names.c",
+                                   f"{RUN}/preload.c", f"{COMMON}/path.c", f"{COMMON}/strings.c"],
            RUNS, [b"--wait=", b"--at-least=", b"%q{", b"}", b"--quarantine=", b"--html="],
            ["-Dexit=fuzz_exit", "-include", f"{THEIRS}/ends.h", '-DRELEASE="1"']),
 ]
@@ -88,22 +88,22 @@ SHARED = [
 ]
 
 
-def run(words: Sequence[str], folder: str, seconds: float = PATIENCE) -> str:
+def run(argv: Sequence[str], folder: str, seconds: float = PATIENCE) -> str:
     settings = {**os.environ, "ASAN_OPTIONS": "detect_leaks=0", "UBSAN_OPTIONS": "print_stacktrace=1"}
-    ran = subprocess.run(words, cwd=folder, env=settings, stdin=subprocess.DEVNULL, stdout=subprocess.PIPE,
+    ran = subprocess.run(argv, cwd=folder, env=settings, stdin=subprocess.DEVNULL, stdout=subprocess.PIPE,
                          stderr=subprocess.STDOUT, timeout=seconds, check=False)
     text = ran.stdout.decode(errors="replace")
     if ran.returncode != 0:
-        raise Failure(f"{os.path.basename(words[0])}: status {ran.returncode}: {text[-3000:]}")
+        raise Failure(f"{os.path.basename(argv[0])}: status {ran.returncode}: {text[-3000:]}")
     return text
 
 
 def build(compiler: str, target: Target, sanitizers: str, more: Sequence[str], folder: str) -> str:
     program = f"{folder}/{compiler}-{sanitizers.replace(',', '-')}"
-    words = [compiler, "-std=gnu11", "-g", "-O1", "-fno-omit-frame-pointer", *WARNINGS, *target.flags]
-    words += ["-iquote", RECORDER, "-iquote", RUN, "-iquote", TOP]
-    words += [f"-fsanitize={sanitizers}", "-fno-sanitize-recover=all", *target.sources, *more, "-o", program]
-    said = run(words, folder)
+    argv = [compiler, "-std=gnu11", "-g", "-O1", "-fno-omit-frame-pointer", *WARNINGS, *target.flags]
+    argv += ["-iquote", RECORDER, "-iquote", RUN, "-iquote", TOP]
+    argv += [f"-fsanitize={sanitizers}", "-fno-sanitize-recover=all", *target.sources, *more, "-o", program]
+    said = run(argv, folder)
     if said:
         raise Failure(said)
     return program

@@ -38,10 +38,10 @@ class Ran(NamedTuple):
     err: str
 
 
-def run(words: Sequence[str], folder: str, stdin: Optional[bytes] = None, /,
+def run(argv: Sequence[str], folder: str, stdin: Optional[bytes] = None, /,
         **settings: str) -> "subprocess.CompletedProcess[bytes]":
     """Runs a program in a folder, and takes what it prints."""
-    return subprocess.run(words, cwd=folder, env=environment(**settings), input=stdin or b"", capture_output=True,
+    return subprocess.run(argv, cwd=folder, env=environment(**settings), input=stdin or b"", capture_output=True,
                           timeout=PATIENCE, check=False)
 
 

@@ -82,7 +82,7 @@ def one_trace(folder: str) -> str:
     program = build(folder)
     faults = [freed_block(program), fault(program.places["drop"], 0x2000, 5, program.places["make"])]
     lines = "".join(FREED.replace("#5", f"#{event}") for event in (5, 6, 7))
-    parts = of_program(program, faults, [0, 2, 0, 0, 1, 1, 1], words=["./program", "an argument"])
+    parts = of_program(program, faults, [0, 2, 0, 0, 1, 1, 1], argv=["./program", "an argument"])
     return write_trace(folder, "a.trace", OVERFLOW + lines + END, parts)
 
 
@@ -112,8 +112,8 @@ def settings_in(folder: str, **settings: str) -> Dict[str, str]:
     return environment(**{"ASANCOL": f"{folder}/asancol", **settings})
 
 
-def report(folder: str, *words: str, stdin: object = subprocess.DEVNULL, **settings: str) -> Ran:
-    ran = subprocess.run([REPORT, *words], cwd=folder, env=settings_in(folder, **settings), stdin=stdin,  # type: ignore
+def report(folder: str, *argv: str, stdin: object = subprocess.DEVNULL, **settings: str) -> Ran:
+    ran = subprocess.run([REPORT, *argv], cwd=folder, env=settings_in(folder, **settings), stdin=stdin,  # type: ignore
                          stdout=subprocess.PIPE, stderr=subprocess.PIPE, check=False, timeout=PATIENCE)
     return Ran(ran.returncode, ran.stdout.decode("utf-8", "surrogateescape"), ran.stderr.decode())
 
@@ -127,9 +127,9 @@ def memory(text: bytes = b"") -> int:
 class Feed:
     """A run whose packets go to an asancol-report."""
 
-    def __init__(self, folder: str, *words: str, **settings: str) -> None:
+    def __init__(self, folder: str, *argv: str, **settings: str) -> None:
         self.ours, theirs = socket.socketpair(socket.AF_UNIX, socket.SOCK_SEQPACKET)
-        self.child = subprocess.Popen([REPORT, "--run", *words], cwd=folder, env=settings_in(folder, **settings),
+        self.child = subprocess.Popen([REPORT, "--run", *argv], cwd=folder, env=settings_in(folder, **settings),
                                       stdin=theirs.fileno(), stdout=subprocess.PIPE, stderr=subprocess.PIPE)
         theirs.close()
 

@@ -126,7 +126,7 @@ def thread(number: int, system_number: int, name: str = "", created: int = 0, st
 
 def side(maps: str = "", builds: Sequence[Tuple[int, str]] = (), faults: Sequence[bytes] = (),
          index: Sequence[int] = (), process: int = 7, ending: int = EXIT, signal: int = 0, events: int = 0,
-         left_out: int = 0, started: int = (1 << 63) - 1, words: Sequence[str] = ("./program",),
+         left_out: int = 0, started: int = (1 << 63) - 1, argv: Sequence[str] = ("./program",),
          stacks: Sequence[int] = (), needed: int = 0, segment: int = 1, stated: int = 0, is_at_limit: bool = False,
          quarantine: int = 1 << 28, noted: int = 0, calls: int = 0, starts: int = 0, has_checks: int = 1,
          has_begun: int = 1, threads: Sequence[bytes] = (), last_thread: int = 0, first_name: str = "",
@@ -136,12 +136,12 @@ def side(maps: str = "", builds: Sequence[Tuple[int, str]] = (), faults: Sequenc
     parent = 1
     head = layout.HEAD.pack(header, events, left_out, ending, signal, process, parent, started, has_checks,
                             is_at_limit, len(faults), len(stacks), quarantine)
-    names = b"".join(word.encode("utf-8", "surrogateescape") + b"\0" for word in words) + b"\0"
+    names = b"".join(word.encode("utf-8", "surrogateescape") + b"\0" for word in argv) + b"\0"
     ids = b"".join(layout.BUILD.pack(start, len(text) // 2, bytes.fromhex(text)) for start, text in builds)
     progress = layout.PROGRESS.pack(needed, segment - 1, stated, noted, *[0] * 4, calls, starts, has_begun, findings,
                                     findings_lost, leaks, leaks_missed, left_good)
     beside = layout.BESIDE_THREADS.pack(last_thread, 0, first_name.encode())
-    return [(0, head), (layout.WORDS_AT, names), (layout.BUILDS_AT, ids), (layout.PROGRESS_AT, progress),
+    return [(0, head), (layout.ARGV_AT, names), (layout.BUILDS_AT, ids), (layout.PROGRESS_AT, progress),
             (layout.BESIDE_THREADS_AT, beside),
             (MAPS_AT, maps.encode() + b"\0"), (INDEX_AT, struct.pack(f"<{len(index)}I", *index)),
             (THREADS_AT, b"".join(threads)), (FAULTS_AT, b"".join(faults)),

@@ -264,7 +264,7 @@ def handle_ignored() -> None:
 
 
 def run(make: Callable[[Sequence[str]], Suite], request: argparse.Namespace) -> int:
-    """Runs or lists the suite that is made with the words of a command line."""
+    """Runs or lists the suite that is made with the arguments of a command line."""
     handle_ignored()
     with make(request.words) as suite:
         suite.which = request.which

@@ -133,8 +133,8 @@ PAGES = (
 )
 
 
-def output_of(words: List[str], folder: str = TOP) -> str:
-    ran = subprocess.run(words, cwd=folder, stdout=subprocess.PIPE, text=True, timeout=60, check=False)
+def output_of(argv: List[str], folder: str = TOP) -> str:
+    ran = subprocess.run(argv, cwd=folder, stdout=subprocess.PIPE, text=True, timeout=60, check=False)
     return ran.stdout
 
 
@@ -169,8 +169,8 @@ def sample_is_printed(program: str) -> None:
     script, wanted = (it.replace("\\e", "\\") for it in blocks)
     with tempfile.TemporaryDirectory() as folder:
         path = f"{os.path.dirname(os.path.abspath(program))}:{os.environ['PATH']}"
-        words = ["env", f"PATH={path}", "sh", "-c", script]
-        expect(output_of(words, folder), wanted, "what the sample prints")
+        argv = ["env", f"PATH={path}", "sh", "-c", script]
+        expect(output_of(argv, folder), wanted, "what the sample prints")
 
 
 def settings_are_there(_: str) -> None:
@@ -197,8 +197,8 @@ def results_are_described(_: str) -> None:
 def pages_have_no_flaw(_: str) -> None:
     """Man sees no flaw in a page."""
     for page in PAGES:
-        words = ["man", "-l", "--warnings", "-E", "UTF-8", "-Tutf8", page]
-        ran = subprocess.run(words, cwd=TOP, env={**os.environ, "MANWIDTH": "80"}, check=False,
+        argv = ["man", "-l", "--warnings", "-E", "UTF-8", "-Tutf8", page]
+        ran = subprocess.run(argv, cwd=TOP, env={**os.environ, "MANWIDTH": "80"}, check=False,
                              stdout=subprocess.DEVNULL, stderr=subprocess.PIPE)
         expect((ran.returncode, ran.stderr), (0, b""), page)
 
@@ -206,8 +206,8 @@ def pages_have_no_flaw(_: str) -> None:
 def mandoc_sees_no_flaw(_: str) -> None:
     """Mandoc warns of nothing in a page that is written in its macros."""
     for page in filter(lambda it: ".Dd " in text_of(it), PAGES):
-        words = ["mandoc", "-Tlint", "-Wwarning", page]
-        ran = subprocess.run(words, cwd=TOP, stdout=subprocess.PIPE, stderr=subprocess.STDOUT, check=False)
+        argv = ["mandoc", "-Tlint", "-Wwarning", page]
+        ran = subprocess.run(argv, cwd=TOP, stdout=subprocess.PIPE, stderr=subprocess.STDOUT, check=False)
         expect((ran.returncode, ran.stdout), (0, b""), page)
 
 
@@ -218,11 +218,11 @@ def offers(shell: str) -> Callable[[str], None]:
                 os.mknod(f"{folder}/{name}")
             os.mkdir(f"{folder}/results")
             for rows, is_offered in ((OFFERED, True), (WITHHELD, False)):
-                for program, words, word in ((it, *row) for it, of_it in rows.items() for row in of_it):
+                for program, argv, word in ((it, *row) for it, of_it in rows.items() for row in of_it):
                     path = f"{TOP}/{FOLDERS[program]}/{program}.{shell}"
-                    text = output_of([*SHELLS[shell], path, program, *words], folder)
+                    text = output_of([*SHELLS[shell], path, program, *argv], folder)
                     offered = [it.rstrip("/=") for it in text.split("\n")]
-                    expect(word in offered, is_offered, f"{program} {' '.join(words)}: {word} in {offered}")
+                    expect(word in offered, is_offered, f"{program} {' '.join(argv)}: {word} in {offered}")
 
     return test
 
@@ -231,16 +231,16 @@ def files_can_be_read(_: str) -> None:
     """Each shell that is there reads its files without an error."""
     for shell in filter(shutil.which, SHELLS):
         for program, folder in FOLDERS.items():
-            words = [shell, "-n", f"{TOP}/{folder}/{program}.{shell}"]
-            ran = subprocess.run(words, stderr=subprocess.PIPE, check=False)
+            argv = [shell, "-n", f"{TOP}/{folder}/{program}.{shell}"]
+            ran = subprocess.run(argv, stderr=subprocess.PIPE, check=False)
             expect((ran.returncode, ran.stderr), (0, b""), f"{program}.{shell}")
 
 
 def are_installed(_: str) -> None:
     """They are where the shells look, and programs and pages beside them."""
     with tempfile.TemporaryDirectory() as folder:
-        words = ["make", "-s", "-C", TOP, "install-run", "PREFIX=/usr", f"DESTDIR={folder}"]
-        subprocess.run(words, check=True)
+        argv = ["make", "-s", "-C", TOP, "install-run", "PREFIX=/usr", f"DESTDIR={folder}"]
+        subprocess.run(argv, check=True)
         for it in ("asancol-run", "asancol-report", "asancol-listen"):
             for path in (f"share/man/man1/{it}.1", f"share/bash-completion/completions/{it}",
                          f"share/zsh/site-functions/_{it}", f"share/fish/vendor_completions.d/{it}.fish"):

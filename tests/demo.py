@@ -25,10 +25,10 @@ NOT_PROVED = "This run is by a program that is not proved yet; `make` proves and
 
 def run_command(program: str, command: List[str]) -> bool:
     """Runs a command under asancol-run, and returns whether it has a report."""
-    words = ["run/asancol-run", "--", *command]
+    argv = ["run/asancol-run", "--", *command]
     checker = f"{TOP}/tests/unproved.py" if program == "-" else os.path.abspath(program)
-    print(shlex.join(words), flush=True)
-    ran = subprocess.run(words, cwd=TOP, env={**os.environ, "ASANCOL": checker})
+    print(shlex.join(argv), flush=True)
+    ran = subprocess.run(argv, cwd=TOP, env={**os.environ, "ASANCOL": checker})
     print(f"status {ran.returncode}", flush=True)
     return ran.returncode == REPORTED
 
@@ -57,11 +57,11 @@ def show_traces(program: str, traces: List[str]) -> bool:
     return all(status == 1 for _, status in runs)
 
 
-def main(words: List[str]) -> int:
-    if len(words) < 2 or words[1:] == ["--"]:
+def main(argv: List[str]) -> int:
+    if len(argv) < 2 or argv[1:] == ["--"]:
         print((__doc__ or "").split("\n\n")[1], file=sys.stderr)
         return 2
-    program, *rest = words
+    program, *rest = argv
     if program == "-":
         print(NOT_PROVED, flush=True)
     found = run_command(program, rest[1:]) if rest[0] == "--" else show_traces(program, rest)

@@ -155,9 +155,9 @@ def small_stack(program):
     known = Traces(program, traces)
     names = [put(f"trace {i}", trace) for i, trace in enumerate(traces)]
     before = limit_of(resource.RLIMIT_STACK, 256 << 10)
-    for words in [[], ["--workers", "64"], ["--workers", "64", "--ring", "1"]]:
-        ran = program.run(["check", *words, *names], before=before)
-        same(words, known.explain(words, ran), 0)
+    for argv in [[], ["--workers", "64"], ["--workers", "64", "--ring", "1"]]:
+        ran = program.run(["check", *argv, *names], before=before)
+        same(argv, known.explain(argv, ran), 0)
     ran = program.run(["check", "--live", "--workers", "64", *names], before=before)
     same("--live", (ran[0], ran[2]), (3, b""))
     same("--live", len(ran[1].splitlines()), sum(map(len, known.alone)))
@@ -253,15 +253,15 @@ def peer_that_resets(program):
 def outputs_that_take_no_more(program):
     """The output is on a full device, or its reader is gone, at once or after some bytes."""
     names = [put(f"trace {i}", SPREAD) for i in range(10)]
-    for words in [[], ["check", *names]]:
-        program.expect_unwritten(words, given=SPREAD)
+    for argv in [[], ["check", *names]]:
+        program.expect_unwritten(argv, given=SPREAD)
         reader, writer = os.pipe()
         os.close(reader)
-        same(words, program.run(words, given=SPREAD, stdout=writer), (4, None, b""))
+        same(argv, program.run(argv, given=SPREAD, stdout=writer), (4, None, b""))
         os.close(writer)
     served = Served(program, "--count", "1").send(SPREAD)
     served.program.stdout.close()
-    same(served.words, served.answer(), (4, b"", b""))
+    same(served.argv, served.answer(), (4, b"", b""))
     # More than a pipe holds.
     _, text, _ = program.run(["check", *names])
     running = subprocess.Popen(

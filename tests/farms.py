@@ -80,9 +80,9 @@ def of_lines(folder: str) -> Statuses:
 
 
 def of_slurm(folder: str) -> Statuses:
-    words = ["scontrol", "--oneliner", "show", "job"]
+    argv = ["scontrol", "--oneliner", "show", "job"]
     settings = {**os.environ, "SLURM_CONF": f"{folder}/cluster/slurm.conf"}
-    shown = subprocess.run(words, env=settings, stdout=subprocess.PIPE, text=True, check=True).stdout
+    shown = subprocess.run(argv, env=settings, stdout=subprocess.PIPE, text=True, check=True).stdout
     found = re.findall(r"ArrayTaskId=(\d) .*?JobState=(\w+) .*?ExitCode=(\d+):", shown)
     return {TESTS[int(number)]: f"{state} {status}" for number, state, status in found}
 
@@ -94,10 +94,10 @@ def nothing_more(suite: Suite, folder: str) -> Iterator[Dict[str, str]]:
     yield {}
 
 
-def start(started: List["subprocess.Popen[bytes]"], log: str, *words: str) -> None:
+def start(started: List["subprocess.Popen[bytes]"], log: str, *argv: str) -> None:
     """Starts a daemon that stays in the foreground."""
     with open(log, "wb") as out:
-        started.append(subprocess.Popen(words, stdin=subprocess.DEVNULL, stdout=out, stderr=out))
+        started.append(subprocess.Popen(argv, stdin=subprocess.DEVNULL, stdout=out, stderr=out))
 
 
 def end(started: List["subprocess.Popen[bytes]"]) -> None:
@@ -175,9 +175,9 @@ PartitionName=all Nodes={host} Default=YES State=UP
 """
 
 
-def runs_quietly(words: List[str], settings: Dict[str, str]) -> bool:
+def runs_quietly(argv: List[str], settings: Dict[str, str]) -> bool:
     nothing = subprocess.DEVNULL
-    return subprocess.run(words, env=settings, stdout=nothing, stderr=nothing, check=False).returncode == 0
+    return subprocess.run(argv, env=settings, stdout=nothing, stderr=nothing, check=False).returncode == 0
 
 
 @contextlib.contextmanager

@@ -11,10 +11,10 @@ TOP = os.path.dirname(os.path.dirname(os.path.abspath(__file__)))
 
 def is_repository() -> bool:
     """Returns whether the tree is a repository, and not only inside one."""
-    words = ["git", "rev-parse", "--show-toplevel"]
+    argv = ["git", "rev-parse", "--show-toplevel"]
     try:
         ran = subprocess.run(
-            words, cwd=TOP, stdout=subprocess.PIPE, stderr=subprocess.DEVNULL, text=True, check=False
+            argv, cwd=TOP, stdout=subprocess.PIPE, stderr=subprocess.DEVNULL, text=True, check=False
         )
     except FileNotFoundError:
         return False
@@ -45,6 +45,6 @@ def files_of_tree() -> List[str]:
     """Returns their paths from the top, sorted."""
     if not is_repository():
         return sorted(files_beside_gitignore())
-    words = ["git", "ls-files", "--cached", "--others", "--exclude-standard"]
-    ran = subprocess.run(words, cwd=TOP, stdout=subprocess.PIPE, text=True, check=True)
+    argv = ["git", "ls-files", "--cached", "--others", "--exclude-standard"]
+    ran = subprocess.run(argv, cwd=TOP, stdout=subprocess.PIPE, text=True, check=True)
     return sorted(it for it in set(ran.stdout.splitlines()) if os.path.lexists(f"{TOP}/{it}"))

@@ -50,7 +50,7 @@ class Batch(NamedTuple):
     """Traces that are put to the program at once. `way` says how, and `words` are its options."""
 
     way: str
-    words: List[str]
+    argv: List[str]
     limit: int
     quarantine: int
     may_lack_memory: bool
@@ -75,23 +75,23 @@ class Differs(Exception):
 def options(random: Random) -> Tuple[List[str], int, int, bool]:
     """Draws options, mostly none, and answers them and what they say."""
     limit, quarantine = oracle.MAX_LIMIT, oracle.DEFAULT_QUARANTINE
-    words: List[str] = []
+    argv: List[str] = []
     if random.random() < 0.3:
         limit = random.choice([1, 2, 3, 7, 12, 24, oracle.MAX_LIMIT])
-        words += ["--limit", str(limit)]
+        argv += ["--limit", str(limit)]
     if random.random() < 0.5:
         quarantine = random.choice([0, 63, 64, 71, 72, 80, 143, 144, 216, 1000, 1 << 40])
-        words += ["--quarantine", str(quarantine)]
+        argv += ["--quarantine", str(quarantine)]
     if random.random() < 0.3:
-        words += ["--ring", str(random.choice([1, 2, 3, 1024, 65536]))]
+        argv += ["--ring", str(random.choice([1, 2, 3, 1024, 65536]))]
     if random.random() < 0.3:
-        words += ["--workers", str(random.choice([1, 2, 3, 64]))]
+        argv += ["--workers", str(random.choice([1, 2, 3, 64]))]
     memory = random.choice([0] * 8 + [1 << 20, 1 << 40])
     if memory:
-        words += [f"--memory={memory}"]
+        argv += [f"--memory={memory}"]
     if random.random() < 0.3:
-        words += ["--live"]
-    return words, limit, quarantine, memory == 1 << 20
+        argv += ["--live"]
+    return argv, limit, quarantine, memory == 1 << 20
 
 
 WAYS = ["files"] * 10 + ["pipes", "pipes", "served", "served"] + ["input", "failed input"] * 3
@@ -102,10 +102,10 @@ def draw_batch(seed: int, number: int) -> Batch:
     random = Random(f"{seed}/{number}")
     way = random.choice(WAYS)
     most = MAX_OF_WAY[way]
-    words, limit, quarantine, may_lack_memory = options(random)
+    argv, limit, quarantine, may_lack_memory = options(random)
     count = most if random.random() < 0.7 else random.randrange(1, most + 1)
     traces = [draws.draw(random) for _ in range(count)]
-    return Batch(way, words, limit, quarantine, may_lack_memory, traces, random)
+    return Batch(way, argv, limit, quarantine, may_lack_memory, traces, random)
 
 
 def pieces_of(random: Random, trace: bytes) -> List[bytes]:
@@ -125,9 +125,9 @@ def pieces_of(random: Random, trace: bytes) -> List[bytes]:
 # ---- ways to put traces to a program
 
 
-def ran(program: str, words: List[str], **how: object) -> Printed:
+def ran(program: str, argv: List[str], **how: object) -> Printed:
     done = subprocess.run(
-        [program, *words], stdout=subprocess.PIPE, stderr=subprocess.PIPE, timeout=PATIENCE, **how  # type: ignore
+        [program, *argv], stdout=subprocess.PIPE, stderr=subprocess.PIPE, timeout=PATIENCE, **how  # type: ignore
     )
     return Printed(done.returncode, done.stdout, done.stderr)
 
@@ -141,17 +141,17 @@ def write_traces(traces: List[bytes]) -> List[str]:
 
 
 def through_files(program: str, batch: Batch) -> Printed:
-    return ran(program, ["check", *batch.words, *write_traces(batch.traces)], stdin=subprocess.DEVNULL)
+    return ran(program, ["check", *batch.argv, *write_traces(batch.traces)], stdin=subprocess.DEVNULL)
 
 
 class Running:
     """A program that runs while it is written to. What it prints goes to files, so that it never
     waits for this one."""
 
-    def __init__(self, program: str, words: List[str], **how: object) -> None:
+    def __init__(self, program: str, argv: List[str], **how: object) -> None:
         self.output, self.faults = tempfile.TemporaryFile(), tempfile.TemporaryFile()
         self.program = subprocess.Popen(
-            [program, *words], stdout=self.output, stderr=self.faults, **how  # type: ignore
+            [program, *argv], stdout=self.output, stderr=self.faults, **how  # type: ignore
         )
 
     def printed(self) -> Printed:
@@ -187,8 +187,8 @@ def through_pipes(program: str, batch: Batch) -> Printed:
     """Each read gives one piece, or the first bytes of one: the pipes keep pieces apart."""
     pipes = [os.pipe2(os.O_DIRECT | os.O_CLOEXEC) for _ in batch.traces]
     readers = [reader for reader, _ in pipes]
-    words = ["check", *batch.words, *(f"/dev/fd/{reader}" for reader in readers)]
-    running = Running(program, words, pass_fds=readers, stdin=subprocess.DEVNULL)
+    argv = ["check", *batch.argv, *(f"/dev/fd/{reader}" for reader in readers)]
+    running = Running(program, argv, pass_fds=readers, stdin=subprocess.DEVNULL)
     feeds = {}
     for (_, writer), trace in zip(pipes, batch.traces):
         fcntl.fcntl(writer, F_SETPIPE_SZ, PIPE_ROOM)
@@ -208,8 +208,8 @@ def through_input(program: str, batch: Batch) -> Printed:
     theirs, ours = socket.socketpair(socket.AF_UNIX, kind)
     if batch.way == "failed input":
         theirs.send(b"unread")
-    words = ["check", *batch.words, "-"] if batch.words or batch.random.random() < 0.5 else []
-    running = Running(program, words, stdin=theirs)
+    argv = ["check", *batch.argv, "-"] if batch.argv or batch.random.random() < 0.5 else []
+    running = Running(program, argv, stdin=theirs)
     theirs.close()
     write_mixed(batch.random, {ours.detach(): pieces_of(batch.random, batch.traces[0])})
     return running.printed()
@@ -219,8 +219,8 @@ def through_socket(program: str, batch: Batch) -> Printed:
     for name in ["ready", "farm.sock"]:
         if os.path.exists(name):
             os.remove(name)
-    words = ["serve", *batch.words, "--count", str(len(batch.traces)), "--ready", "ready", "farm.sock"]
-    running = Running(program, words, stdin=subprocess.DEVNULL)
+    argv = ["serve", *batch.argv, "--count", str(len(batch.traces)), "--ready", "ready", "farm.sock"]
+    running = Running(program, argv, stdin=subprocess.DEVNULL)
     until = time.monotonic() + PATIENCE
     while not os.path.exists("ready") and time.monotonic() < until:
         time.sleep(0.001)
@@ -278,7 +278,7 @@ def without_memory(process: int, last: str, verdicts: List[oracle.Verdict], even
 def compare(batch: Batch, printed: Printed) -> None:
     """Raises Differs unless all that was printed is what the documents say."""
     ends: List[Tuple[str, int]] = []
-    found = lines_of_each(printed.output, len(batch.traces), "--live" in batch.words)
+    found = lines_of_each(printed.output, len(batch.traces), "--live" in batch.argv)
     for process, trace in enumerate(batch.traces):
         reading = oracle.read(trace, batch.limit, batch.way == "failed input")
         verdicts = oracle.verdicts(reading.events, batch.quarantine)
@@ -340,7 +340,7 @@ def shortened(program: str, batch: Batch) -> bytes:
 
 def show(program: str, here: str, seed: int, number: int, batch: Batch, found: Differs) -> None:
     """Says what differs, and leaves the trace here if one trace alone differs too."""
-    print(f"FAILED batch {number}, {batch.way}, {' '.join(batch.words)}: process {found.process}: {found}")
+    print(f"FAILED batch {number}, {batch.way}, {' '.join(batch.argv)}: process {found.process}: {found}")
     print(f"    again: tests/fuzz.py --seed {seed} --batch {number} --draws 1 {program}")
     if found.process is None:
         return
@@ -350,7 +350,7 @@ def show(program: str, here: str, seed: int, number: int, batch: Batch, found: D
     if difference(program, alone):
         alone = alone._replace(traces=[shortened(program, alone)])
         text = str(difference(program, alone))
-        print(f"    alone: asancol check {' '.join([*batch.words, name])}\n{text}")
+        print(f"    alone: asancol check {' '.join([*batch.argv, name])}\n{text}")
     with open(f"{here}/{name}", "wb") as file:
         file.write(alone.traces[0])
     print(f"    the trace: {name}, {alone.traces[0].hex(' ')}", flush=True)
@@ -371,13 +371,13 @@ def fuzz(program: str, here: str, seed: int, first: int, count: int) -> Tuple[in
     return number - first, 0
 
 
-def main(words: List[str]) -> int:
+def main(argv: List[str]) -> int:
     reader = argparse.ArgumentParser(description=(__doc__ or "").split("\n", 1)[0])
     reader.add_argument("--draws", type=int, default=100_000, help="how many traces are drawn")
     reader.add_argument("--seed", type=int, default=int(time.time()), help="what is drawn")
     reader.add_argument("--batch", type=int, default=0, help="the first batch")
     reader.add_argument("programs", nargs="+", metavar="PROGRAM")
-    request = reader.parse_args(words)
+    request = reader.parse_args(argv)
     here, passed, failed = os.getcwd(), 0, 0
     programs = [os.path.abspath(it) for it in request.programs]
     print(f"seed {request.seed}", flush=True)

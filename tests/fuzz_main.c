@@ -63,10 +63,10 @@ static int run_file(const char *path, long changes)
     return 0;
 }
 
-int main(int count, char **words)
+int main(int count, char **argv)
 {
     for (int i = 2; i < count; i++)
-        if (run_file(words[i], atol(words[1])) != 0)
+        if (run_file(argv[i], atol(argv[1])) != 0)
             return 2;
     return count > 2 ? 0 : 2;
 }

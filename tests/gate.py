@@ -97,15 +97,15 @@ class Steps:
         self.now: "Optional[subprocess.Popen[str]]" = None
 
     def run(self) -> None:
-        for part, words in self.steps:
+        for part, argv in self.steps:
             if self.failed == 0 and not self.is_over:
-                self.step(part, words)
+                self.step(part, argv)
 
-    def step(self, part: str, words: List[str]) -> None:
+    def step(self, part: str, argv: List[str]) -> None:
         """Runs a command. One that says nothing passed, or ends with another status than its counts
         say, counts as failed. One that was stopped counts for nothing."""
         last = ""
-        self.now = subprocess.Popen(words, cwd=TOP, stdout=subprocess.PIPE, text=True)
+        self.now = subprocess.Popen(argv, cwd=TOP, stdout=subprocess.PIPE, text=True)
         self.meter.begins(part, self.now.pid)
         for line in self.now.stdout or ():
             self.say(last)
@@ -176,11 +176,11 @@ def gate() -> int:
     return 1 if failed else 0
 
 
-def git(*words: str) -> str:
+def git(*argv: str) -> str:
     """Returns what a git command prints, and ends this one where git fails."""
-    ran = subprocess.run(["git", *words], cwd=TOP, stdout=subprocess.PIPE, text=True)
+    ran = subprocess.run(["git", *argv], cwd=TOP, stdout=subprocess.PIPE, text=True)
     if ran.returncode:
-        sys.exit(f"tests/gate.py: git {words[0]} failed")
+        sys.exit(f"tests/gate.py: git {argv[0]} failed")
     return ran.stdout
 
 
@@ -188,9 +188,9 @@ def base_of_branch() -> str:
     """Returns the commit where this branch left main, here or as it was cloned. Ends this command
     if there is neither: then it is to be said."""
     for main_branch in ("main", "origin/main"):
-        words = ["git", "merge-base", main_branch, "HEAD"]
+        argv = ["git", "merge-base", main_branch, "HEAD"]
         ran = subprocess.run(
-            words, cwd=TOP, stdout=subprocess.PIPE, stderr=subprocess.DEVNULL, text=True
+            argv, cwd=TOP, stdout=subprocess.PIPE, stderr=subprocess.DEVNULL, text=True
         )
         if ran.returncode == 0:
             return ran.stdout.strip()
@@ -200,8 +200,8 @@ def base_of_branch() -> str:
 
 def commit_of(name: str) -> str:
     """Returns the commit of this name, and ends this command if there is none."""
-    words = ["git", "rev-parse", "--verify", "--quiet", f"{name}^{{commit}}"]
-    ran = subprocess.run(words, cwd=TOP, stdout=subprocess.PIPE, text=True)
+    argv = ["git", "rev-parse", "--verify", "--quiet", f"{name}^{{commit}}"]
+    ran = subprocess.run(argv, cwd=TOP, stdout=subprocess.PIPE, text=True)
     if ran.returncode:
         print(f"there is no commit {name}", file=sys.stderr)
         sys.exit(2)
@@ -266,12 +266,12 @@ def check_changed(base: str) -> int:
     print(f"changed since {base[:12]}: {' '.join(sorted(changed)) or 'no crate'}")
     print(f"checked: {' '.join(above) or 'no crate'}", flush=True)
     failed = not is_clean()
-    for folder, words in steps_for(changed, listed):
+    for folder, argv in steps_for(changed, listed):
         began = time.monotonic()
-        print(f"== {folder}: {' '.join(words)}", flush=True)
-        if subprocess.run(words, cwd=f"{TOP}/{folder}").returncode:
+        print(f"== {folder}: {' '.join(argv)}", flush=True)
+        if subprocess.run(argv, cwd=f"{TOP}/{folder}").returncode:
             failed = True
-            print(f"FAILED: {' '.join(words)} in {folder}; nothing after it was tried")
+            print(f"FAILED: {' '.join(argv)} in {folder}; nothing after it was tried")
             break
         print(f"   {time.monotonic() - began:.0f} s", flush=True)
     others = [it for it in above if it not in changed]
@@ -285,12 +285,12 @@ def check_changed(base: str) -> int:
     return 1 if failed else 0
 
 
-def main(words: List[str]) -> int:
-    if not words:
+def main(argv: List[str]) -> int:
+    if not argv:
         return gate()
-    if words[0] == "--changed" and len(words) <= 2:
+    if argv[0] == "--changed" and len(argv) <= 2:
         stop_without_rt()
-        return check_changed(commit_of(words[1]) if len(words) == 2 else base_of_branch())
+        return check_changed(commit_of(argv[1]) if len(argv) == 2 else base_of_branch())
     print(__doc__.split("\n\n")[1], file=sys.stderr)
     return 2
 

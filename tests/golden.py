@@ -35,11 +35,11 @@ class Row(NamedTuple):
 
     def options(self) -> List[str]:
         """Returns the options of `asancol check` that the numbers ask for."""
-        words: List[str] = []
+        argv: List[str] = []
         for name, option in (("Q", "--quarantine"), ("limit", "--limit")):
             if name in self.numbers:
-                words += [option, str(self.numbers[name])]
-        return words
+                argv += [option, str(self.numbers[name])]
+        return argv
 
     def versions(self) -> List[int]:
         """Returns the versions that can spell it, or the only one that it is for."""

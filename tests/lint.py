@@ -59,17 +59,17 @@ def source_of(path: str) -> Source:
         return Source(path, file.read(64))
 
 
-def lines_of(words: List[str], **settings: str) -> List[str]:
+def lines_of(argv: List[str], **settings: str) -> List[str]:
     """Runs a linter, and returns the lines that it prints. A failure that it does not explain is one of them."""
-    ran = subprocess.run(words, cwd=TOP, env={**os.environ, **settings}, stdin=subprocess.DEVNULL,
+    ran = subprocess.run(argv, cwd=TOP, env={**os.environ, **settings}, stdin=subprocess.DEVNULL,
                          stdout=subprocess.PIPE, stderr=subprocess.STDOUT, text=True, check=False)
     lines = [it for it in ran.stdout.splitlines() if it]
-    return lines or ([f"{os.path.basename(words[0])}: status {ran.returncode}"] if ran.returncode else [])
+    return lines or ([f"{os.path.basename(argv[0])}: status {ran.returncode}"] if ran.returncode else [])
 
 
 def by_clang_format(program: str, sources: List[Source], base: str) -> List[str]:
-    words = [program, "--diff", "--quiet", "--extensions", "c,h", base or gate.base_of_branch()]
-    return [it for it in lines_of(words) if not it.startswith(("no modified files", "clang-format did not modify"))]
+    argv = [program, "--diff", "--quiet", "--extensions", "c,h", base or gate.base_of_branch()]
+    return [it for it in lines_of(argv) if not it.startswith(("no modified files", "clang-format did not modify"))]
 
 
 def by_cppcheck(program: str, sources: List[Source], base: str) -> List[str]:
@@ -110,8 +110,8 @@ def by_mypy(program: str, sources: List[Source], base: str) -> List[str]:
             groups.setdefault(folder_of(source.path), []).append(source.path)
     found = [f"{it}: it is in no folder that tests/lint.py knows" for it in groups.pop("", [])]
     for folder, files in groups.items():
-        words = [program, "--no-error-summary", f"--cache-dir=.mypy_cache/{folder}", *files]
-        found += lines_of(words, MYPYPATH=f"{folder}:report:.")
+        argv = [program, "--no-error-summary", f"--cache-dir=.mypy_cache/{folder}", *files]
+        found += lines_of(argv, MYPYPATH=f"{folder}:report:.")
     return [it for it in found if ": note: " not in it]
 
 

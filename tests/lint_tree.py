@@ -86,8 +86,8 @@ def bad_layouts(files: List[str]) -> Iterator[Finding]:
     if not os.path.isfile(rattle):
         yield "crates", 1, "no rattle beside rt: the layout was not looked at"
         return
-    words = [rattle, "fmt", "--check", *sources]
-    ran = subprocess.run(words, cwd=TOP, text=True, stdout=subprocess.PIPE, stderr=subprocess.STDOUT)
+    argv = [rattle, "fmt", "--check", *sources]
+    ran = subprocess.run(argv, cwd=TOP, text=True, stdout=subprocess.PIPE, stderr=subprocess.STDOUT)
     found = re.findall(r"^(\S+?):? (?:is not in the layout|it does not parse)", ran.stdout, re.M)
     for path in found:
         yield path, 1, "rt fmt would change it, or cannot read it"
@@ -130,8 +130,8 @@ def other_release() -> Iterator[Finding]:
 
 
 def other_options() -> Iterator[Finding]:
-    words = [f"{TOP}/options/make.py", "--check"]
-    ran = subprocess.run(words, stdout=subprocess.PIPE, text=True, check=False)
+    argv = [f"{TOP}/options/make.py", "--check"]
+    ran = subprocess.run(argv, stdout=subprocess.PIPE, text=True, check=False)
     for line in ran.stdout.splitlines():
         path, number, what = line.split(":", 2)
         yield path, int(number), what.strip()

@@ -18,8 +18,8 @@ UNUSED = "import os\n"
 UNQUOTED = "#!/bin/sh\necho $1\n"
 
 
-def run_in(folder: str, *words: str, **settings: str) -> Ran:
-    return ran_of(run(list(words), folder, **NAMED, **settings))
+def run_in(folder: str, *argv: str, **settings: str) -> Ran:
+    return ran_of(run(list(argv), folder, **NAMED, **settings))
 
 
 def clone(folder: str) -> str:

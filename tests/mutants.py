@@ -115,14 +115,14 @@ class Run:
 
     def check(self, crate: Crate, tried: Round, is_whole: bool) -> Ran:
         """Checks a crate with the texts of a round, or of it what is changed in place."""
-        words = ["rt", "check", "--jobs", "1"]
+        argv = ["rt", "check", "--jobs", "1"]
         for name in [] if is_whole else sorted({it for e in tried.edits for it in e.changes}):
             kind, _, function = name.rpartition("::")
             is_method = crate.source.functions[name][1].block
             path = f"{kind.rpartition('::')[2]}::{function}" if is_method else name
-            words += ["--only", path if is_method else name.partition("::")[2]]
+            argv += ["--only", path if is_method else name.partition("::")[2]]
         with crate.base.room(tried.texts, tried.all_copies()) as folder:
-            made = ran(words, folder)
+            made = ran(argv, folder)
         with self.lock:
             checks, edits, seconds = self.costs.get(crate.name, (0, 0, 0.0))
             costs = (checks + 1, edits + len(tried.edits), seconds + made.seconds)

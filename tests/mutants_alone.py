@@ -36,12 +36,12 @@ def copy_crates(to: str) -> None:
             os.rename(f"{to}/crates/{name}/mutants", f"{to}/crates/{name}/must-fail")
 
 
-def tried(words: List[str], names: List[str]) -> int:
+def tried(argv: List[str], names: List[str]) -> int:
     """Runs the toolchain's command, passes on what it prints, and returns how many are refused."""
     refused = 0
     with tempfile.TemporaryDirectory(prefix="asancol-alone-") as room:
         copy_crates(room)
-        command = ["rt", "must-fail", *words, *names]
+        command = ["rt", "must-fail", *argv, *names]
         with subprocess.Popen(command, cwd=room, stdout=subprocess.PIPE, text=True) as ran:
             for line in ran.stdout or ():
                 print(line, end="", flush=True)
@@ -51,9 +51,9 @@ def tried(words: List[str], names: List[str]) -> int:
     return refused
 
 
-def main(words: List[str]) -> int:
-    flags = [it for it in words if it.startswith("-")]
-    names = [it for it in words if it not in flags]
+def main(argv: List[str]) -> int:
+    flags = [it for it in argv if it.startswith("-")]
+    names = [it for it in argv if it not in flags]
     listed = gate.crates_listed()
     if any(it != "--anew" for it in flags) or any(it not in listed for it in names):
         print(__doc__.split("\n\n")[1], file=sys.stderr)

@@ -273,20 +273,20 @@ def status_of(ends: List[Tuple[str, int]]) -> int:
     return 1 if any(reports for _, reports in ends) else 0
 
 
-def main(words: List[str]) -> int:
+def main(argv: List[str]) -> int:
     limit, quarantine, failed_read = MAX_LIMIT, DEFAULT_QUARANTINE, False
-    while words and words[0].startswith("--"):
-        option = words.pop(0)
+    while argv and argv[0].startswith("--"):
+        option = argv.pop(0)
         if option == "--limit":
-            limit = int(words.pop(0))
+            limit = int(argv.pop(0))
         elif option == "--quarantine":
-            quarantine = int(words.pop(0))
+            quarantine = int(argv.pop(0))
         elif option == "--failed-read":
             failed_read = True
         else:
             sys.exit(__doc__)
     ends = []
-    for process, path in enumerate(words):
+    for process, path in enumerate(argv):
         with open(path, "rb") as file:
             reading = read(file.read(), limit, failed_read)
         found = verdicts(reading.events, quarantine)

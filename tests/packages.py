@@ -33,18 +33,18 @@ from testing.programs import PATIENCE, path_without, ran_of
 MADE = "docs/CALLS.md"
 
 
-def run(words: List[str], folder: str = TOP, **settings: str) -> Ran:
+def run(argv: List[str], folder: str = TOP, **settings: str) -> Ran:
     """Runs a command, in an environment that says nothing to make or to asancol."""
-    ran = subprocess.run(words, cwd=folder, env=environment("MAKE", "MFLAGS", "GIT_", **settings), capture_output=True,
+    ran = subprocess.run(argv, cwd=folder, env=environment("MAKE", "MFLAGS", "GIT_", **settings), capture_output=True,
                          stdin=subprocess.DEVNULL, timeout=PATIENCE, check=False)
     return ran_of(ran)
 
 
-def must(words: List[str], folder: str = TOP, **settings: str) -> str:
+def must(argv: List[str], folder: str = TOP, **settings: str) -> str:
     """Runs a command that has to end with status 0, and returns what it prints."""
-    ran = run(words, folder, **settings)
+    ran = run(argv, folder, **settings)
     if ran.status:
-        raise Failure(f"{' '.join(words)}: status {ran.status}: {ran.err[-1000:]}")
+        raise Failure(f"{' '.join(argv)}: status {ran.status}: {ran.err[-1000:]}")
     return ran.out
 
 
@@ -107,10 +107,10 @@ def archive_is_enough(program: str, folder: str) -> None:
 
 
 def what_is_installed_goes_again(_: str, folder: str) -> None:
-    words = [f"DESTDIR={folder}", "PREFIX=/usr"]
-    must(["make", "-s", "install", *words])
+    argv = [f"DESTDIR={folder}", "PREFIX=/usr"]
+    must(["make", "-s", "install", *argv])
     expect(os.path.isfile(f"{folder}/usr/bin/asancol"), True, "that it is installed")
-    must(["make", "-s", "uninstall", *words])
+    must(["make", "-s", "uninstall", *argv])
     left = [f"{place}/{name}" for place, _, names in os.walk(folder) for name in names]
     expect(left, [], "what is left")
 
@@ -165,10 +165,10 @@ class Root:
             with open(f"{self.folder}/var/lib/dpkg/{name}", "w", encoding="utf-8"):
                 pass
 
-    def dpkg(self, *words: str) -> None:
+    def dpkg(self, *argv: str) -> None:
         """Runs dpkg. The scripts of the package run too, and find the folder in DPKG_ROOT."""
         forced = "--force-script-chrootless,not-root,depends,bad-path"
-        must(["dpkg", f"--root={self.folder}", forced, "--log=/dev/null", *words])
+        must(["dpkg", f"--root={self.folder}", forced, "--log=/dev/null", *argv])
 
     def files(self) -> List[str]:
         """Returns the paths of all that is there but for what dpkg notes of itself."""

@@ -65,10 +65,10 @@ class Said(NamedTuple):
 
 
 def tried(room: str) -> Said:
-    words = [sys.executable, f"{room}/tests/mutants.py"]
+    argv = [sys.executable, f"{room}/tests/mutants.py"]
     there = {**os.environ, "XDG_CACHE_HOME": f"{room}/cache"}
     pipe, joined = subprocess.PIPE, subprocess.STDOUT
-    ran = subprocess.run(words, cwd=room, env=there, text=True, stdout=pipe, stderr=joined)
+    ran = subprocess.run(argv, cwd=room, env=there, text=True, stdout=pipe, stderr=joined)
     answers = dict(re.findall(rf"^{CRATE}/(\w+): ([^:]+):", ran.stdout, re.M))
     return Said(ran.returncode, answers, ran.stdout)
 

@@ -81,13 +81,13 @@ class Program:
     def __init__(self, path):
         self.path = path
 
-    def run(self, words, given=b"", before=None, **streams):
+    def run(self, argv, given=b"", before=None, **streams):
         """Runs it. `given` is what standard input holds, and `before` is called just before."""
         streams = {"stdout": subprocess.PIPE, "stderr": subprocess.PIPE, **streams}
         if "stdin" not in streams:
             streams["input"] = given
         ran = subprocess.run(
-            [self.path, *words],
+            [self.path, *argv],
             preexec_fn=prepared(before),
             timeout=PATIENCE,
             check=False,
@@ -101,27 +101,27 @@ class Program:
             if OF_CHECKS in file.read():
                 raise LeftOut(f"{why}, with checks in the place of a proof")
 
-    def expect(self, words, status, output="", faults="", **how):
+    def expect(self, argv, status, output="", faults="", **how):
         """Expects this status and exactly these texts."""
-        same(words, self.run(words, **how), (status, output.encode(), faults.encode()))
+        same(argv, self.run(argv, **how), (status, output.encode(), faults.encode()))
 
-    def expect_refused(self, words, *parts):
+    def expect_refused(self, argv, *parts):
         """Expects that the words are refused, by a text on standard error with these parts, and
         with a hint only where it is one of them."""
-        status, output, faults = self.run(words)
-        same(words, (status, output), (2, b""))
+        status, output, faults = self.run(argv)
+        same(argv, (status, output), (2, b""))
         for hint in HINTS.values():
-            holds(words, faults.endswith(hint.encode()) == (hint in parts), faults)
-        holds(words, faults.count(b"error: ") == 1, faults)
-        holds(words, faults.startswith(b"error: ") and faults.endswith(b"\n"), faults)
+            holds(argv, faults.endswith(hint.encode()) == (hint in parts), faults)
+        holds(argv, faults.count(b"error: ") == 1, faults)
+        holds(argv, faults.startswith(b"error: ") and faults.endswith(b"\n"), faults)
         for part in parts:
-            holds(words, part.encode() in faults, faults)
+            holds(argv, part.encode() in faults, faults)
 
-    def expect_unwritten(self, words, **how):
+    def expect_unwritten(self, argv, **how):
         """Expects status 4, and nothing on standard error, where the output takes nothing."""
         with open("/dev/full", "wb") as full:
-            same(words, self.run(words, stdout=full, **how), (4, None, b""))
-        same(words, self.run(words, before=lambda: os.close(1), **how), (4, b"", b""))
+            same(argv, self.run(argv, stdout=full, **how), (4, None, b""))
+        same(argv, self.run(argv, before=lambda: os.close(1), **how), (4, b"", b""))
 
 
 def same(what, got, wanted):
@@ -171,10 +171,10 @@ class Served:
     # Those that were started and not seen to end.
     running: List["Served"] = []
 
-    def __init__(self, program, *words, before=None):
-        self.words = ["serve", *words, "socket"]
+    def __init__(self, program, *argv, before=None):
+        self.argv = ["serve", *argv, "socket"]
         self.program = subprocess.Popen(
-            [program.path, *self.words],
+            [program.path, *self.argv],
             preexec_fn=prepared(before),
             stdin=subprocess.DEVNULL,
             stdout=subprocess.PIPE,
@@ -184,7 +184,7 @@ class Served:
 
     def connect(self):
         """Connects a peer, once the socket listens."""
-        return connected(self.words)
+        return connected(self.argv)
 
     def send(self, *traces):
         """Connects a peer for each trace, in order, which sends it and closes."""
@@ -202,7 +202,7 @@ class Served:
         return self.program.returncode, *said
 
     def expect(self, status, output):
-        same(self.words, self.answer(), (status, output.encode(), b""))
+        same(self.argv, self.answer(), (status, output.encode(), b""))
 
 
 def lines_of_each(output):
@@ -223,9 +223,9 @@ def without_threads():
     resource.setrlimit(resource.RLIMIT_NPROC, (0, 0))
 
 
-def with_refused(program, words, calls, refuses):
+def with_refused(program, argv, calls, refuses):
     """Runs it, where each of these calls fails whose number `refuses` chooses."""
-    return refused_calls.run([program.path, *words], calls, refuses, prepared(), PATIENCE)
+    return refused_calls.run([program.path, *argv], calls, refuses, prepared(), PATIENCE)
 
 
 # The status of the process of a test that is left out.

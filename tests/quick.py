@@ -72,10 +72,10 @@ class Ended(NamedTuple):
     seconds: float
 
 
-def ended(words: List[str], folder: str = TOP) -> Ended:
+def ended(argv: List[str], folder: str = TOP) -> Ended:
     """Runs a command and takes all that it prints. It finds no settings of make or asancol."""
     with subprocess.Popen(
-        words,
+        argv,
         cwd=folder,
         env=environment("MAKE", "MFLAGS"),
         stdin=subprocess.DEVNULL,
@@ -103,7 +103,7 @@ class Results:
         with self.changing:
             self.skipped[why] += count
 
-    def run(self, name: str, words: List[str], folder: str = TOP) -> bool:
+    def run(self, name: str, argv: List[str], folder: str = TOP) -> bool:
         """Runs the command of a part, and counts by the last line with counts. Returns whether
         nothing failed. A part with another status than 0 counts as one that failed, if it says
         nothing else."""
@@ -111,7 +111,7 @@ class Results:
             return False
         print(f"{name}: begins", flush=True)
         began = time.monotonic()
-        ran = ended(words, folder)
+        ran = ended(argv, folder)
         counts = COUNTS.findall(ran.printed)
         passed, failed = map(int, counts[-1]) if counts else (0, 0)
         failed = failed or int(ran.status != 0)
@@ -177,8 +177,8 @@ class Quick:
             self.results.skip("rt is not there: the tests of the crates", len(names))
 
     def crate(self, name: str) -> None:
-        words = ["rt", "try", "--test", "--seconds", PATIENCE]
-        self.results.run(f"crate {name}", words, f"{TOP}/crates/{name}")
+        argv = ["rt", "try", "--test", "--seconds", PATIENCE]
+        self.results.run(f"crate {name}", argv, f"{TOP}/crates/{name}")
 
     def built_program(self) -> Optional[str]:
         """Returns the path of the program, or None if it is not there or nobody wants it."""
@@ -234,9 +234,9 @@ class Quick:
             return
         fake = self.built_fake()
         beside = pool.submit(self.fake, fake) if fake else None
-        words = ["make", f"-j{processors()}", "recorder", "run", f"CC={self.compiler}"]
+        argv = ["make", f"-j{processors()}", "recorder", "run", f"CC={self.compiler}"]
         needs_build = self.wants("recorder", "asancol-run", "packages")
-        if needs_build and self.results.run("C programs: build", words):
+        if needs_build and self.results.run("C programs: build", argv):
             packages = pool.submit(lambda: self.packages(program.result() or fake))
             checker = PROVED if self.is_proved else fake
             if checker:
@@ -263,7 +263,7 @@ class Quick:
                 raise
 
 
-def main(words: List[str]) -> int:
+def main(argv: List[str]) -> int:
     about, _, more = (__doc__ or "").partition("usage: tests/quick.py [--checked] [WORD..]\n")
     reader = argparse.ArgumentParser(
         description=f"{about.strip()}\n{more}",
@@ -274,7 +274,7 @@ def main(words: List[str]) -> int:
         "--checked", action="store_true", help="leave out what make check has run"
     )
     reader.add_argument("words", nargs="*", metavar="WORD", help="the parts that are run")
-    request = reader.parse_args(words)
+    request = reader.parse_args(argv)
     began, results = time.monotonic(), Results()
     with tempfile.TemporaryDirectory(prefix="asancol-quick-") as room:
         quick = Quick(results, room, request.checked, request.words)

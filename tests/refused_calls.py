@@ -79,7 +79,7 @@ def follow(process: int, calls: Calls, refuses: Callable[[int], bool]) -> Tuple[
 
 
 def run(
-    words: List[str],
+    argv: List[str],
     calls: Calls,
     refuses: Callable[[int], bool],
     prepare: Callable[[], None],
@@ -94,7 +94,7 @@ def run(
         ptrace(TRACEME, 0)
 
     with subprocess.Popen(
-        words,
+        argv,
         preexec_fn=begin,
         stdin=subprocess.DEVNULL,
         stdout=subprocess.PIPE,

@@ -40,8 +40,8 @@ def git_folder() -> Optional[str]:
     """Returns the folder where git keeps what it knows of this tree, if it is a repository."""
     if not is_repository():
         return None
-    words = ["git", "rev-parse", "--absolute-git-dir"]
-    ran = subprocess.run(words, cwd=TOP, stdout=subprocess.PIPE, text=True, check=True)
+    argv = ["git", "rev-parse", "--absolute-git-dir"]
+    ran = subprocess.run(argv, cwd=TOP, stdout=subprocess.PIPE, text=True, check=True)
     return ran.stdout.rstrip("\n")
 
 
@@ -178,9 +178,9 @@ class Ran(NamedTuple):
     lines: List[str]
 
 
-def ran(words: List[str], folder: str) -> Ran:
+def ran(argv: List[str], folder: str) -> Ran:
     pipe, joined = subprocess.PIPE, subprocess.STDOUT
-    with subprocess.Popen(words, cwd=folder, stdout=pipe, stderr=joined) as command:
+    with subprocess.Popen(argv, cwd=folder, stdout=pipe, stderr=joined) as command:
         printed = command.stdout.read().decode(errors="replace") if command.stdout else ""
         _, status, used = os.wait4(command.pid, 0)
         command.returncode = os.WEXITSTATUS(status) if os.WIFEXITED(status) else -1

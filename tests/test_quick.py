@@ -66,10 +66,10 @@ def copy_of_tree(folder: str) -> str:
     return folder
 
 
-def run_in(folder: str, *words: str, **settings: str) -> "subprocess.CompletedProcess[str]":
-    words = (sys.executable, f"{folder}/tests/quick.py", *words)
+def run_in(folder: str, *argv: str, **settings: str) -> "subprocess.CompletedProcess[str]":
+    argv = (sys.executable, f"{folder}/tests/quick.py", *argv)
     own = environment("MAKE", **settings)
-    return subprocess.run(words, env=own, stdout=subprocess.PIPE, text=True, check=False)
+    return subprocess.run(argv, env=own, stdout=subprocess.PIPE, text=True, check=False)
 
 
 def wrong_fake_fails(_: str) -> None:

@@ -42,8 +42,8 @@ def by_try(traces: List[bytes]) -> List[Run]:
         for number, trace in enumerate(traces):
             with open(f"{room}/{number}", "wb") as file:
                 file.write(trace)
-        words = ["rt", "try", "--cases", room]
-        ran = subprocess.run(words, cwd=f"{TOP}/crates/asancol", text=True, capture_output=True)
+        argv = ["rt", "try", "--cases", room]
+        ran = subprocess.run(argv, cwd=f"{TOP}/crates/asancol", text=True, capture_output=True)
     texts: Dict[str, str] = dict(re.findall(r"^== (\d+)\n((?:(?!== ).*\n)*)", ran.stdout, re.M))
     statuses = dict(re.findall(r"^case=(\d+) run=ended status=(\d+)", ran.stderr, re.M))
     if len(statuses) < len(traces):
@@ -70,10 +70,10 @@ def build(path: str) -> None:
     at a socket."""
     need_toolchain()
     with tempfile.TemporaryDirectory(prefix="asancol-unproved-") as room:
-        words = ["rt", "try", "--", "serve", "--count", "1", f"{room}/socket"]
+        argv = ["rt", "try", "--", "serve", "--count", "1", f"{room}/socket"]
         folder = f"{TOP}/crates/asancol"
         tried = subprocess.Popen(
-            words, cwd=folder, stdout=subprocess.PIPE, stderr=subprocess.STDOUT, text=True
+            argv, cwd=folder, stdout=subprocess.PIPE, stderr=subprocess.STDOUT, text=True
         )
         with connected(f"{room}/socket", tried) as peer:
             made = peer.getsockopt(socket.SOL_SOCKET, socket.SO_PEERCRED, PEER.size)

@@ -155,18 +155,18 @@ static char *const *environment_now(void)
         return stay(leaving);                                                                                          \
     }
 
-EXEC(execve, (const char *path, char *const *words, char *const *environment), (path, words, environment),
+EXEC(execve, (const char *path, char *const *argv, char *const *environment), (path, argv, environment),
      .name = path, .environment = environment)
-EXEC(execv, (const char *path, char *const *words), (path, words), .name = path, .environment = environment_now())
-EXEC(execvpe, (const char *file, char *const *words, char *const *environment), (file, words, environment),
+EXEC(execv, (const char *path, char *const *argv), (path, argv), .name = path, .environment = environment_now())
+EXEC(execvpe, (const char *file, char *const *argv, char *const *environment), (file, argv, environment),
      .name = file, .is_looked_for = true, .environment = environment)
-EXEC(execvp, (const char *file, char *const *words), (file, words),
+EXEC(execvp, (const char *file, char *const *argv), (file, argv),
      .name = file, .is_looked_for = true, .environment = environment_now())
-EXEC(fexecve, (int descriptor, char *const *words, char *const *environment), (descriptor, words, environment),
+EXEC(fexecve, (int descriptor, char *const *argv, char *const *environment), (descriptor, argv, environment),
      .descriptor = descriptor, .environment = environment)
 
-/* How many words there are, with the null at their end. */
-static size_t count_words(va_list rest)
+/* How many arguments there are, with the null at their end. */
+static size_t count_argv(va_list rest)
 {
     size_t count = 2;
     while (va_arg(rest, char *) != NULL)
@@ -174,20 +174,20 @@ static size_t count_words(va_list rest)
     return count;
 }
 
-static void take_words(char **words, size_t count, const char *first, va_list rest)
+static void take_argv(char **argv, size_t count, const char *first, va_list rest)
 {
-    words[0] = (char *)first;
+    argv[0] = (char *)first;
     for (size_t i = 1; i < count; i++)
-        words[i] = va_arg(rest, char *);
+        argv[i] = va_arg(rest, char *);
 }
 
-#define WITH_WORDS(first, call)                                                                                        \
+#define WITH_ARGV(first, call)                                                                                         \
     va_list rest, again;                                                                                               \
     va_start(rest, first);                                                                                             \
     va_copy(again, rest);                                                                                              \
-    size_t count = count_words(rest);                                                                                  \
-    char *words[count];                                                                                                \
-    take_words(words, count, first, again);                                                                            \
+    size_t count = count_argv(rest);                                                                                   \
+    char *argv[count];                                                                                                 \
+    take_argv(argv, count, first, again);                                                                              \
     int result = call;                                                                                                 \
     va_end(again);                                                                                                     \
     va_end(rest);                                                                                                      \
@@ -196,17 +196,17 @@ static void take_words(char **words, size_t count, const char *first, va_list re
 GUARD_OWN(execl);
 CHECK int checked_execl(const char *path, const char *first, ...)
 {
-    WITH_WORDS(first, checked_execv(path, words));
+    WITH_ARGV(first, checked_execv(path, argv));
 }
 
 GUARD_OWN(execlp);
 CHECK int checked_execlp(const char *file, const char *first, ...)
 {
-    WITH_WORDS(first, checked_execvp(file, words));
+    WITH_ARGV(first, checked_execvp(file, argv));
 }
 
 GUARD_OWN(execle);
 CHECK int checked_execle(const char *path, const char *first, ...)
 {
-    WITH_WORDS(first, checked_execve(path, words, va_arg(again, char **)));
+    WITH_ARGV(first, checked_execve(path, argv, va_arg(again, char **)));
 }

@@ -6,9 +6,9 @@
 struct beginning beginning;
 
 /* What the system says of the process follows the environment, as long as nobody has moved that. */
-void beginning_note(char **words, char **variables)
+void beginning_note(char **argv, char **variables)
 {
-    beginning.words = words;
+    beginning.argv = argv;
 #ifndef IN_SHARED_OBJECT
     if (beginning.variables != NULL || variables == NULL)
         return;
@@ -29,5 +29,5 @@ void beginning_note(char **words, char **variables)
 
 const char *beginning_name(void)
 {
-    return beginning.words != NULL && beginning.words[0] != NULL ? beginning.words[0] : "";
+    return beginning.argv != NULL && beginning.argv[0] != NULL ? beginning.argv[0] : "";
 }

@@ -7,14 +7,14 @@
 
 #include "base/platform.h"
 
-/* The words of the command, and the environment as it was then. Null: it is too early. */
+/* The arguments of the command, and the environment as it was then. Null: it is too early. */
 extern struct beginning {
-    char **words, **variables;
+    char **argv, **variables;
     uint64_t is_set_user; /* or likewise: the environment is not to be believed */
     uint64_t system_code; /* where the code begins that the system maps into the process */
 } beginning OWN_NAME(beginning);
 
-void beginning_note(char **words, char **variables) OWN_NAME(beginning_note);
+void beginning_note(char **argv, char **variables) OWN_NAME(beginning_note);
 /* The first word, or an empty one. */
 const char *beginning_name(void) OWN_NAME(beginning_name);
 

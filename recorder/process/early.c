@@ -16,10 +16,10 @@
 /* Of the checks, if something has them (registering.c). */
 extern void asancol_register_early(void) __attribute__((weak, visibility("hidden")));
 
-static void map_early(int count, char **words, char **variables)
+static void map_early(int count, char **argv, char **variables)
 {
     (void)count;
-    beginning_note(words, variables);
+    beginning_note(argv, variables);
 #ifdef IN_SHARED_OBJECT
     shadow_map();
 #else

@@ -3,6 +3,6 @@
 #define ASANCOL_EARLY_H
 
 /* In an object's first constructor. The link asks for it by its name. */
-extern void (*const asancol_map_early)(int count, char **words, char **variables);
+extern void (*const asancol_map_early)(int count, char **argv, char **variables);
 
 #endif

@@ -5,11 +5,11 @@
 
 #include "process/early.h"
 
-typedef void start(int count, char **words, char **variables);
+typedef void start(int count, char **argv, char **variables);
 
-static void begin(int count, char **words, char **variables)
+static void begin(int count, char **argv, char **variables)
 {
-    asancol_map_early(count, words, variables);
+    asancol_map_early(count, argv, variables);
 }
 
 #ifdef IS_STATIC

@@ -58,13 +58,13 @@ static const char *value_after(const char *entry, const char *front)
     return *front == 0 ? entry : NULL;
 }
 
-/* The hub, by the words, variables and numbers with which the system begins each process; or null. */
-static const char *hub_at_start(char *const **words)
+/* The hub, by the arguments, variables and numbers with which the system begins each process; or null. */
+static const char *hub_at_start(char *const **argv)
 {
     const long *at = __libc_stack_end;
     const char *hub = NULL;
-    *words = (char *const *)(at + 1);
-    char *const *variable = *words + *at + 1;
+    *argv = (char *const *)(at + 1);
+    char *const *variable = *argv + *at + 1;
     for (; *variable != NULL; variable++)
         if (hub == NULL)
             hub = value_after(*variable, HUB_ENTRY);
@@ -77,8 +77,8 @@ static const char *hub_at_start(char *const **words)
 
 void first_resolver(void)
 {
-    char *const *words;
-    const char *hub = has_resolvers() ? hub_at_start(&words) : NULL;
+    char *const *argv;
+    const char *hub = has_resolvers() ? hub_at_start(&argv) : NULL;
     if (hub != NULL)
-        unseen_expect(hub, *words != NULL ? *words : "", NEVER_BEGAN);
+        unseen_expect(hub, *argv != NULL ? *argv : "", NEVER_BEGAN);
 }

@@ -75,17 +75,17 @@ static void register_ends(void)
 __attribute__((section(".fini_array.00000"), used)) static void (*last_destructor)(void) = after_destructors;
 
 /* They say who gets word. They are what the system has put on the stack. */
-static void find_words(void)
+static void find_argv(void)
 {
 #ifdef IS_STATIC
-    beginning_note(beginning.words, *library.environment); /* the library has begun, and its stack ends elsewhere */
+    beginning_note(beginning.argv, *library.environment); /* the library has begun, and its stack ends elsewhere */
 #else
     if (library.__libc_stack_end == NULL)
         return;
-    char **words = (char **)*library.__libc_stack_end + 1;
+    char **argv = (char **)*library.__libc_stack_end + 1;
     size_t count = ((const size_t *)*library.__libc_stack_end)[0];
-    if (words[count] == NULL)
-        beginning_note(words, words + count + 1);
+    if (argv[count] == NULL)
+        beginning_note(argv, argv + count + 1);
 #endif
 }
 
@@ -96,7 +96,7 @@ void asancol_start(void)
         return;
     has_begun = true;
     library_begin();
-    find_words();
+    find_argv();
     shadow_map();
     register_ends();
     interface_start();

@@ -23,7 +23,7 @@ void stack_start(void)
     uint64_t size = DEFAULT_STACK_SIZE;
     if (system_getrlimit(RLIMIT_STACK, &limit) == 0 && limit.rlim_cur > size)
         size = limit.rlim_cur < MAX_STACK_SIZE ? limit.rlim_cur : MAX_STACK_SIZE;
-    own_stack.top = page_above((uintptr_t)beginning.words);
+    own_stack.top = page_above((uintptr_t)beginning.argv);
     own_stack.low = own_stack.top - size;
     own_stack.may_grow = true;
 }

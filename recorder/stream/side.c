@@ -57,11 +57,11 @@ static size_t read_file(const char *path, char *to, size_t room)
     return length;
 }
 
-/* The words of the command line. Each has its zero, also one that was cut, and there is one more. */
-static void read_words(struct side *side)
+/* The arguments of the command line. Each has its zero, also one that was cut, and there is one more. */
+static void read_argv(struct side *side)
 {
-    if (read_file("/proc/self/cmdline", side->words, SIDE_WORDS - 2) == 0)
-        strncpy(side->words, beginning_name(), SIDE_WORDS - 2);
+    if (read_file("/proc/self/cmdline", side->argv, SIDE_ARGV - 2) == 0)
+        strncpy(side->argv, beginning_name(), SIDE_ARGV - 2);
 }
 
 static struct side_progress *progress_in(struct side *side)
@@ -130,7 +130,7 @@ void side_begin(unsigned char *bytes, uint64_t segment, const struct settings *s
     put_word(&side->has_checks, recorder_has_checks());
     put_long(&progress_in(side)->has_begun, recorder_has_begun());
     note_settings(side, settings);
-    read_words(side);
+    read_argv(side);
     atomic_store_explicit(needed_in(side), 1, memory_order_relaxed);
     memcpy(side->header, SIDE_HEADER, sizeof side->header);
     atomic_store_explicit(&current, side, memory_order_release);

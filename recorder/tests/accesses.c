@@ -12,7 +12,7 @@
 
 #ifndef OBJECT
 #define main_of_accesses main
-int in_library(int count, char **words);
+int in_library(int count, char **argv);
 #else
 #define main_of_accesses in_library
 #endif
@@ -221,30 +221,30 @@ static void go_with_handlers(void)
     printf("%ld %ld\n", calls, handled);
 }
 
-static int many(int count, char **words)
+static int many(int count, char **argv)
 {
-    if (strcmp(words[1], "threads") == 0)
+    if (strcmp(argv[1], "threads") == 0)
         go_in_threads();
-    else if (strcmp(words[1], "handlers") == 0)
+    else if (strcmp(argv[1], "handlers") == 0)
         go_with_handlers();
-    else if (strcmp(words[1], "often") == 0)
+    else if (strcmp(argv[1], "often") == 0)
         copy_often(NULL);
     else
         return 1;
     return count == 0;
 }
 
-int main_of_accesses(int count, char **words)
+int main_of_accesses(int count, char **argv)
 {
 #ifndef OBJECT
     if (count > 2)
-        return in_library(count - 1, words + 1);
+        return in_library(count - 1, argv + 1);
 #endif
     for (size_t i = 0; i < sizeof ways / sizeof *ways; i++) {
-        if (strcmp(words[1], ways[i].name) == 0) {
+        if (strcmp(argv[1], ways[i].name) == 0) {
             go(&ways[i]);
             return 0;
         }
     }
-    return many(count, words);
+    return many(count, argv);
 }

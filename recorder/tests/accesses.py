@@ -74,11 +74,11 @@ def seen_in(suite: Suite, trace: str) -> Seen:
     return Seen(reports, lines)
 
 
-def record(folder: str, *words: str, statuses: Tuple[int, ...] = (0,), **settings: str) -> str:
+def record(folder: str, *argv: str, statuses: Tuple[int, ...] = (0,), **settings: str) -> str:
     for old in glob.glob(f"{folder}/t.*"):
         os.unlink(old)
-    ran = run(["./accesses", *words], folder, ASANCOL_TRACE="t.trace", ASANCOL_WHERE="1", **settings)
-    expect((ran.returncode in statuses, ran.stderr), (True, b""), words)
+    ran = run(["./accesses", *argv], folder, ASANCOL_TRACE="t.trace", ASANCOL_WHERE="1", **settings)
+    expect((ran.returncode in statuses, ran.stderr), (True, b""), argv)
     return ran.stdout.decode()
 
 
@@ -158,7 +158,7 @@ static void in_array(int count, int at) { volatile char array[count]; use(array,
 static void in_alloca(int count, int at) {
     volatile char *p = __builtin_alloca(count), *q = __builtin_alloca(count + 7);
     use(q, 0); use(p, at); }
-int main(int count, char **words) {
+int main(int count, char **argv) {
     in_frame(6); in_frame(6);
     in_array(count + 12, 14); in_array(count + 12, -3);
     in_alloca(count + 20, 25); in_alloca(count + 15, 16);

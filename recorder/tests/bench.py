@@ -90,14 +90,14 @@ class Cost(NamedTuple):
 
 def build_small(compiler: Compiler, program: Program, flags: Sequence[str], is_recorded: bool, path: str) -> None:
     command = compiler.cxx if program.is_cpp else compiler.name
-    words = [CXX if program.is_cpp else CC] if is_recorded else [command]
-    words += [*flags, f"{TESTS}/{program.source}", "-o", path]
+    argv = [CXX if program.is_cpp else CC] if is_recorded else [command]
+    argv += [*flags, f"{TESTS}/{program.source}", "-o", path]
     if program.has_library:
         library = f"{path}.so"
         plain = ["-O2", ALIGNED[compiler.name], "-fno-builtin", "-fPIC", "-shared", "-DLIBRARY"]
         build([command, *plain, f"{TESTS}/{program.source}", "-o", library], ".")
-        words.append(library)
-    build(words, ".", **{"ASANCOL_CXX" if program.is_cpp else "ASANCOL_CC": command})
+        argv.append(library)
+    build(argv, ".", **{"ASANCOL_CXX" if program.is_cpp else "ASANCOL_CC": command})
 
 
 def build_real(compiler: Compiler, program: Program, flags: Sequence[str], is_recorded: bool, folder: str) -> None:
@@ -124,7 +124,7 @@ def make(compiler: Compiler, program: Program, way: str, folder: str) -> str:
     return path
 
 
-def measure_run(path: str, program: Program, words: Sequence[str], way: str, folder: str) -> Cost:
+def measure_run(path: str, program: Program, argv: Sequence[str], way: str, folder: str) -> Cost:
     """Runs a program once, with the libraries that were built beside it."""
     asked = {"detect_leaks": program.has_leaks, "detect_stack_use_after_return": program.finds_returns,
              "quarantine_size_mb": program.quarantine_mb}
@@ -138,7 +138,7 @@ def measure_run(path: str, program: Program, words: Sequence[str], way: str, fol
         if program.has_leaks:
             settings.update(ASANCOL_WHERE="1", ASANCOL_LEAKS="1")
     with tempfile.TemporaryFile() as said:
-        process = subprocess.Popen([path, *words], stdout=said, cwd=folder, env=environment(**settings))
+        process = subprocess.Popen([path, *argv], stdout=said, cwd=folder, env=environment(**settings))
         _, status, usage = os.wait4(process.pid, 0)
         process.returncode = status
         said.seek(0)
@@ -147,12 +147,12 @@ def measure_run(path: str, program: Program, words: Sequence[str], way: str, fol
         if name.endswith((".trace", ".where")):
             os.unlink(f"{folder}/{name}")
     if status:
-        raise Failure(f"{path} {' '.join(words)}: wait status {status}")
+        raise Failure(f"{path} {' '.join(argv)}: wait status {status}")
     return Cost(usage.ru_utime + usage.ru_stime, usage.ru_maxrss / 1024, rest)
 
 
 def measure(path: str, program: Program, way: str, folder: str) -> Cost:
-    costs = [measure_run(path, program, words, way, folder) for words in program.runs]
+    costs = [measure_run(path, program, argv, way, folder) for argv in program.runs]
     return Cost(sum(it.seconds for it in costs), max(it.megabytes for it in costs), costs[-1].rest_megabytes)
 
 
@@ -199,11 +199,11 @@ def chosen(names: Sequence[str]) -> List[Program]:
     return programs
 
 
-def main(words: Optional[List[str]] = None) -> int:
+def main(argv: Optional[List[str]] = None) -> int:
     parser = argparse.ArgumentParser(description="measures recorded programs")
     parser.add_argument("--rounds", type=int, default=5)
     parser.add_argument("names", nargs="*")
-    options = parser.parse_args(words)
+    options = parser.parse_args(argv)
     programs, found = chosen(options.names), compilers()
     heads = "".join(f"{way:>11}" for way in WAYS) + "".join(f"{way + '/':>10}" for way in RECORDED)
     heads += f"{'MB sanit.':>11}{'recorded':>10}"

@@ -14,13 +14,13 @@ class Builder:
         self.suite, self.folder, self.compiler = suite, folder, compiler
         write(folder, main_c=PAST_THE_END, helper_c=HELPER)
 
-    def cc(self, *words, stdin=None, warning=None, command=None):
+    def cc(self, *argv, stdin=None, warning=None, command=None):
         """Runs the wrapper, which gives this warning and no other, and returns what it prints."""
-        made = run([CC, *words], self.folder, stdin, ASANCOL_CC=command or self.compiler.name)
+        made = run([CC, *argv], self.folder, stdin, ASANCOL_CC=command or self.compiler.name)
         if made.returncode != 0:
-            raise Failure(f"{words}: {made.stderr.decode()}")
+            raise Failure(f"{argv}: {made.stderr.decode()}")
         wanted = f"asancol-cc: warning: {warning}\n" if warning else ""
-        expect(made.stderr.decode(), wanted, f"{words}")
+        expect(made.stderr.decode(), wanted, f"{argv}")
         return made.stdout
 
     def objects(self):
@@ -28,9 +28,9 @@ class Builder:
         self.cc("-c", "main.c")
         self.cc("-c", "-DVALUE=1", "-o", "helper.o", "helper.c")
 
-    def link(self, *words, **more):
+    def link(self, *argv, **more):
         """Makes the program, which has to show its mark."""
-        self.cc(*words, "-o", "program", **more)
+        self.cc(*argv, "-o", "program", **more)
         one_mark(self.suite, self.folder)
 
     def text_of(self, name):
@@ -96,7 +96,7 @@ def check_shared_object(suite, folder, compiler):
 
 SUM = """
 #include <limits.h>
-int main(int count, char **words) { (void)words; volatile int sum = INT_MAX; sum += count; return 0; }
+int main(int count, char **argv) { (void)argv; volatile int sum = INT_MAX; sum += count; return 0; }
 """
 
 LINKERS = [name for name in ("bfd", "gold", "lld", "mold") if shutil.which(f"ld.{name}")]
@@ -186,9 +186,9 @@ def check_new(suite, folder, compiler):
         expect((status, said), (1, ["load 4 +16 heap-buffer-overflow"]), f"{flags}")
         os.unlink(f"{folder}/lost.trace")
     made = Builder(suite, folder, compiler)
-    for words in (["-c", "code.s"], ["sound.c", "code.s"], ["-x", "c++", "lost.cpp", "-c"], ["-E", "sound.c"],
+    for argv in (["-c", "code.s"], ["sound.c", "code.s"], ["-x", "c++", "lost.cpp", "-c"], ["-E", "sound.c"],
                   ["-M", "sound.c"], ["-fsyntax-only", "sound.c"], ["-c", "sound.c"], ["sound.o", "-o", "sound"]):
-        made.cc("-Werror", *words)
+        made.cc("-Werror", *argv)
 
 
 def check_lacking_checks(suite, folder, compiler):
@@ -224,12 +224,12 @@ int main(int count, char **) { return say(count); }
 
 def check_cxx_inside(suite, folder, compiler):
     """The library of C++ as an archive, in a program and in a shared object that calls no operator itself."""
-    write(folder, say_cpp=STREAM, user_c="int say(int);\nint main(int count, char **words) { return say(count); }\n")
+    write(folder, say_cpp=STREAM, user_c="int say(int);\nint main(int count, char **argv) { return say(count); }\n")
     settings = {"ASANCOL_CC": compiler.name, "ASANCOL_CXX": compiler.cxx}
     for linker in LINKERS:
-        words = [CXX, f"-fuse-ld={linker}", "-static-libstdc++", "say.cpp"]
-        build([*words, "-DMAIN", "-o", "program"], folder, **settings)
-        build([*words, "-fPIC", "-shared", "-o", "libsay.so"], folder, **settings)
+        argv = [CXX, f"-fuse-ld={linker}", "-static-libstdc++", "say.cpp"]
+        build([*argv, "-DMAIN", "-o", "program"], folder, **settings)
+        build([*argv, "-fPIC", "-shared", "-o", "libsay.so"], folder, **settings)
         build([CC, f"-fuse-ld={linker}", "user.c", "./libsay.so", "-lm", "-o", "user"], folder, **settings)
         for program in ("./program", "./user"):
             ran = run([program], folder, ASANCOL_TRACE="t.trace")
@@ -261,8 +261,8 @@ def check_languages(suite, folder, compiler):
 def check_passed_on(suite, folder, compiler):
     """What compiles nothing is passed on as it is, and errors are the compiler's own, with its status."""
     made = Builder(suite, folder, compiler)
-    for words in (["--version"], ["-dumpmachine"], ["-print-prog-name=ld"], ["-print-search-dirs"]):
-        expect(made.cc(*words), run([compiler.name, *words], folder).stdout, f"{words}")
+    for argv in (["--version"], ["-dumpmachine"], ["-print-prog-name=ld"], ["-print-search-dirs"]):
+        expect(made.cc(*argv), run([compiler.name, *argv], folder).stdout, f"{argv}")
     ours = run([CC, "-v"], folder, ASANCOL_CC=compiler.name)
     theirs = run([compiler.name, "-v"], folder)
     expect((ours.returncode, ours.stderr.splitlines()[-1]), (0, theirs.stderr.splitlines()[-1]), "-v")
@@ -382,7 +382,7 @@ def check_own_options(suite, folder, compiler):
 def check_ccache(suite, folder, compiler):
     """Before the compiler it sees all, and before the wrapper the wrapper's options: each gives another object."""
     made = Builder(suite, folder, compiler)
-    words = ["-c", "-DVALUE=1", "helper.c", "-o", "helper.o"]
+    argv = ["-c", "-DVALUE=1", "helper.c", "-o", "helper.o"]
     setting = f"--asancol-compiler={compiler.name}"
     forms = {
         "inside": ([CC], {"ASANCOL_CC": f"ccache {compiler.name}"}, [CC], {"ASANCOL_ALL": "1"}),
@@ -391,7 +391,7 @@ def check_ccache(suite, folder, compiler):
     for name, (inline, settings, every, more) in forms.items():
         cache = {"CCACHE_DIR": f"{folder}/{name}", **settings}
         for command, added, call in ((inline, {}, "__asan_report_"), (every, more, "__asan_store1_noabort")) * 2:
-            build([*command, *words], folder, **cache, **added)
+            build([*command, *argv], folder, **cache, **added)
             undefined = run(["nm", "-u", "helper.o"], folder).stdout.decode()
             expect(call in undefined, True, f"{name}: {undefined}")
         said = run(["ccache", "--print-stats"], folder, **cache).stdout.decode()

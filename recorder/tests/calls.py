@@ -636,14 +636,14 @@ static void go_on(int number)
 }
 /* How many bytes less each block has, of which the C library knows then; and with another word that use alone, which
    may end the process. */
-int main(int count, char **words)
+int main(int count, char **argv)
 {
     static volatile size_t i;
-    size_t less = words[1][0] - '0';
+    size_t less = argv[1][0] - '0';
     prepare();
     signal(SIGABRT, go_on);
     for (i = 0; i < sizeof uses / sizeof *uses; i++) {
-        if (count > 2 ? i != (size_t)atoi(words[2]) : uses[i].ends)
+        if (count > 2 ? i != (size_t)atoi(argv[2]) : uses[i].ends)
             continue;
         size_t size = uses[i].size - less;
         char *p = malloc(size);
@@ -736,11 +736,11 @@ def names_there() -> List[str]:
 def found_by(suite: Suite, folder: str, less: int, alone: Sequence[int]) -> Tuple[Set[str], Set[int]]:
     """The lines that are found with so many bytes less, and the numbers of the uses that were left out."""
     lines, left_out = set(), set()
-    for words in [(), *([str(number)] for number in alone)]:
+    for argv in [(), *([str(number)] for number in alone)]:
         trace = f"{folder}/calls.trace"
-        ran = run(["./calls", str(less), *words], folder, ASANCOL_TRACE=trace, ASANCOL_WHERE="1")
+        ran = run(["./calls", str(less), *argv], folder, ASANCOL_TRACE=trace, ASANCOL_WHERE="1")
         end = reports(suite.asancol, trace)[2]
-        expect((ran.returncode, end.split()[0]), (0, "closed"), f"status, and the fate, of {less} {words}")
+        expect((ran.returncode, end.split()[0]), (0, "closed"), f"status, and the fate, of {less} {argv}")
         lines |= {it.line for it in placed(suite.asancol, trace)[0]}
         left_out |= {int(number) for number in re.findall(rb"^left out (\d+)$", ran.stdout, re.M)}
         os.unlink(trace)
@@ -776,9 +776,9 @@ def first_by_sanitizer(folder: str, ending: Sequence[int]) -> Dict[str, Tuple[st
     """What AddressSanitizer says first of each line: a load or a store, and the first bad byte."""
     found: Dict[str, Tuple[str, int]] = {}
     options = "detect_leaks=0:halt_on_error=0:suppress_equal_pcs=0:handle_abort=0:alloc_dealloc_mismatch=0"
-    for words in [(), *([str(number)] for number in ending)]:
-        ran = run(["./sanitized", "1", *words], folder, ASAN_OPTIONS=options)
-        expect(ran.returncode, 0, f"status with AddressSanitizer, {words}")
+    for argv in [(), *([str(number)] for number in ending)]:
+        ran = run(["./sanitized", "1", *argv], folder, ASAN_OPTIONS=options)
+        expect(ran.returncode, 0, f"status with AddressSanitizer, {argv}")
         for text in re.split(r"^={65}$", ran.stderr.decode(errors="replace"), flags=re.M):
             kind, line = re.search(r"^(READ|WRITE) of size", text, re.M), re.search(r"/(calls\.c:\d+)", text)
             place = PLACE.search(text)
@@ -799,8 +799,8 @@ def check_rows_beside(suite: Suite, folder: str, compiler: Compiler) -> None:
                native=True)
     ending = [number for number, use in enumerate(tried.values()) if use.split("(")[0] in ENDING_FORMS]
     found: Dict[str, Tuple[str, int]] = {}
-    for words in [(), *([str(number)] for number in ending)]:
-        run(["./calls", "1", *words], folder, ASANCOL_TRACE="calls.trace", ASANCOL_WHERE="1")
+    for argv in [(), *([str(number)] for number in ending)]:
+        run(["./calls", "1", *argv], folder, ASANCOL_TRACE="calls.trace", ASANCOL_WHERE="1")
         _, texts, _ = reports(suite.asancol, f"{folder}/calls.trace", most=1 << 20)
         for it, text in zip(placed(suite.asancol, f"{folder}/calls.trace")[0], texts):
             places = [int(word) for word in text.split() if word[0] in "+-"]
@@ -898,23 +898,23 @@ def check_fortified(suite: Suite, folder: str, compiler: Compiler, flags: Sequen
     with open(source, encoding="ascii") as file:
         lines = list(enumerate(file, 1))
     wanted = {f"fortified.c:{number}": line.strip() for number, line in lines if line.startswith("USES(")}
-    for words in ((), ["good"]):
-        trace = f"{folder}/fortified{len(words)}.trace"
-        ran = run(["./fortified", *words], folder, ASANCOL_TRACE=trace, ASANCOL_WHERE="1")
-        expect((ran.returncode, Trace(trace).is_closed), (0, True), f"status, and the close: {words}")
+    for argv in ((), ["good"]):
+        trace = f"{folder}/fortified{len(argv)}.trace"
+        ran = run(["./fortified", *argv], folder, ASANCOL_TRACE=trace, ASANCOL_WHERE="1")
+        expect((ran.returncode, Trace(trace).is_closed), (0, True), f"status, and the close: {argv}")
         found: Dict[str, List[int]] = {}
         side = side_of(trace)
         for line, fault in zip(innermost(f"{folder}/fortified", faults_of(trace)), side.faults()):
             found.setdefault(line, []).append(fault.variable)
-        good = dict.fromkeys(wanted, 0) if words else {}
+        good = dict.fromkeys(wanted, 0) if argv else {}
         seen = {it: sorted(set(found.get(name, []))) for name, it in wanted.items()}
         expect(set(found) - set(wanted), set(), "other lines")
         missed = {it: kinds for it, kinds in seen.items() if kinds != ([] if good else [NO_VARIABLE, OF_STACK, GLOBAL])}
-        expect(missed, {}, f"the memory of the reports of each line: {words}")
+        expect(missed, {}, f"the memory of the reports of each line: {argv}")
         fewer = [wanted[name] for name, kinds in found.items() if kinds.count(NO_VARIABLE) < 2]
         expect(fewer, [], "lines without a report of both blocks")
         ended = ran.stderr.count(b"buffer overflow detected")
-        expect(ended > 0, not words, "that the C library ends the process")
+        expect(ended > 0, not argv, "that the C library ends the process")
     ran = run(["./fortified", "dies"], folder, ASANCOL_TRACE="dies.trace", ASANCOL_WHERE="1")
     _, texts, end = reports(suite.asancol, f"{folder}/dies.trace")
     expect((ran.returncode, end.split()[0]), (-6, "no-close"), "if nobody handles its end")
@@ -962,7 +962,7 @@ PROGRAM = """
 #include <dlfcn.h>
 #include <stdlib.h>
 int use(char *, size_t);
-int main(int count, char **words)
+int main(int count, char **argv)
 {
     volatile size_t size = 9;
     char *p = malloc(count > 1 ? 9 : 8);
@@ -983,11 +983,11 @@ def check_objects(suite: Suite, folder: str, compiler: Compiler) -> None:
     compiler.c(folder, ["used.c"], f"{folder}/libused.so", "-fPIC", "-shared", "-w", "-Wl,-z,defs")
     for flags in (["-L.", "-lused", "-Wl,-rpath,$ORIGIN"], ["-DOPENS", "-ldl"]):
         compiler.c(folder, ["uses.c", *flags], f"{folder}/uses", "-w")
-        for words, wanted in (((), ["used.c:8", "used.c:9"]), (["good"], [])):
-            ran = run(["./uses", *words], folder, ASANCOL_TRACE="u.trace", ASANCOL_WHERE="1")
+        for argv, wanted in (((), ["used.c:8", "used.c:9"]), (["good"], [])):
+            ran = run(["./uses", *argv], folder, ASANCOL_TRACE="u.trace", ASANCOL_WHERE="1")
             expect((ran.returncode, ran.stderr), (0, b""))
             said = {it.line for it in placed(suite.asancol, f"{folder}/u.trace")[0]}
-            expect(sorted(said), wanted, f"{flags} {words}")
+            expect(sorted(said), wanted, f"{flags} {argv}")
             os.unlink(f"{folder}/u.trace")
         expect(run(["./uses"], folder).returncode, 0, "off")
         expect(run(["./uses"], folder, ASANCOL_HALT="1").returncode, -6, "to end at the first fault")
@@ -1014,7 +1014,7 @@ PARTED = """
 #include <math.h>
 #include <stdio.h>
 double turned(double by);
-int main(int count, char **words)
+int main(int count, char **argv)
 {
     double (*turn)(double) = NULL;
     int power;
@@ -1041,11 +1041,11 @@ def check_mathematics(suite: Suite, folder: str, compiler: Compiler) -> None:
     for flags in (["turned.o", "-lm"], ["turned.o", "-Wl,--as-needed", "-lm"], ["turned.o", "-l:libm.so.6"],
                   ["-DOPENS", "-ldl"]):
         compiler.c(folder, ["parted.c", *flags], f"{folder}/parted", "-w", "-fno-builtin")
-        for words, wanted in (((), []), (["less"], ["turned.c:9"])):
-            ran = run(["./parted", *words], folder, ASANCOL_TRACE="m.trace", ASANCOL_WHERE="1")
-            expect((ran.returncode, ran.stderr), (0, b""), f"{flags} {words}")
+        for argv, wanted in (((), []), (["less"], ["turned.c:9"])):
+            ran = run(["./parted", *argv], folder, ASANCOL_TRACE="m.trace", ASANCOL_WHERE="1")
+            expect((ran.returncode, ran.stderr), (0, b""), f"{flags} {argv}")
             said = {it.line for it in placed(suite.asancol, f"{folder}/m.trace")[0]}
-            expect(sorted(said), wanted, f"{flags} {words}")
+            expect(sorted(said), wanted, f"{flags} {argv}")
             os.unlink(f"{folder}/m.trace")
         expect(run(["./parted", "less"], folder).returncode, 0, f"{flags}, off")
     compiler.c(folder, ["parted.c"], f"{folder}/parted", "-w", "-fno-builtin", "-DALONE")

@@ -125,7 +125,7 @@ static const struct {
     BUG(regcomp),
 };
 
-int main(int count, char **words)
+int main(int count, char **argv)
 {
     zero = open("/dev/zero", O_RDONLY);
     if (chdir("/") != 0 || socketpair(AF_UNIX, SOCK_STREAM, 0, pair) != 0 || send(pair[1], "123456789", 9, 0) != 9)
@@ -141,7 +141,7 @@ int main(int count, char **words)
     pieces[0] = (struct iovec){block, 4};
     pieces[1] = (struct iovec){block + 4, 5};
     for (size_t i = 0; i < sizeof bugs / sizeof *bugs; i++) {
-        if (count > 1 && strcmp(words[1], bugs[i].name) == 0)
+        if (count > 1 && strcmp(argv[1], bugs[i].name) == 0)
             bugs[i].run();
         if (count == 1)
             puts(bugs[i].name);

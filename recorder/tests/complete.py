@@ -84,8 +84,8 @@ def check_greatest_limit(suite: Suite, folder: str, program: str) -> None:
 
 def check_no_room_at_the_limit(suite: Suite, folder: str, program: str) -> None:
     """The records up to the limit fill the file as far as it may grow: `no-close`."""
-    words = ["sh", "-c", f"ulimit -f 2048; exec {program} many_events_in_threads"]
-    ran = run(words, folder, ASANCOL_TRACE="t.trace", **limited(209714))
+    argv = ["sh", "-c", f"ulimit -f 2048; exec {program} many_events_in_threads"]
+    ran = run(argv, folder, ASANCOL_TRACE="t.trace", **limited(209714))
     expect(ran.returncode, 0, ran.stderr)
     expect(len(lines_of(ran.stderr)) >= 1, True, "that it says so")
     status, _, end = reports(suite.asancol, f"{folder}/t.trace")
@@ -103,10 +103,10 @@ def limit_tests(suite: Suite, compiler: Compiler, program: str) -> None:
 # Builds that record nothing, or not all.
 
 
-def warned(folder: str, compiler: Compiler, *words: str) -> List[str]:
+def warned(folder: str, compiler: Compiler, *argv: str) -> List[str]:
     """The warnings of a build that succeeds."""
-    made = run([CC, *words], folder, ASANCOL_CC=compiler.name)
-    expect(made.returncode, 0, f"{words}: {made.stderr.decode()}")
+    made = run([CC, *argv], folder, ASANCOL_CC=compiler.name)
+    expect(made.returncode, 0, f"{argv}: {made.stderr.decode()}")
     return lines_of(made.stderr)
 
 
@@ -246,9 +246,9 @@ def check_spellings(suite: Suite, folder: str, compiler: Compiler) -> None:
     build([*plain, "-S", "helper.c", "-o", "helper.txt"], folder)
     build([*plain, "-S", "helper.c", "-o", "helper.s"], folder)
     assembly = ["-x", "assembler", "helper.txt"]
-    for words in (["helper.os"], ["-Wl,helper.os"], ["-Xlinker", "helper.os"], assembly, ["helper.s"]):
-        expect_warnings(warned(folder, compiler, "main.c", *words, "-o", "program"))
-        expect_noted(folder, words[-1].replace("-Wl,", ""))
+    for argv in (["helper.os"], ["-Wl,helper.os"], ["-Xlinker", "helper.os"], assembly, ["helper.s"]):
+        expect_warnings(warned(folder, compiler, "main.c", *argv, "-o", "program"))
+        expect_noted(folder, argv[-1].replace("-Wl,", ""))
     if compiler.name == "clang":
         build([*plain, "-emit-llvm", "-c", "helper.c", "-o", "helper.bc"], folder)
         expect_warnings(warned(folder, compiler, "main.c", "helper.bc", "-o", "program"))
@@ -258,16 +258,16 @@ def check_spellings(suite: Suite, folder: str, compiler: Compiler) -> None:
     build([compiler.name, "-c", "main.c"], folder)
     expect_warnings(warned(folder, compiler, "-c", "empty.c"))
     build(["ar", "rcs", "libempty.a", "empty.o"], folder)
-    for words in (["libempty.a", "-o", "program"], ["--output", "program"]):
-        expect_warnings(warned(folder, compiler, "main.o", "helper.os", *words))
+    for argv in (["libempty.a", "-o", "program"], ["--output", "program"]):
+        expect_warnings(warned(folder, compiler, "main.o", "helper.os", *argv))
         expect_noted(folder, "main.o", "helper.os")
         expect_unseen(suite, folder)
     # What is no object is not warned of, and no flag hides what was compiled.
     flags = ["-fno-record-gcc-switches", "-DVALUE=1"]
     expect_warnings(warned(folder, compiler, *flags, "-c", "main.c", "helper.c"))
     libm = run([compiler.name, "-print-file-name=libm.so.6"], folder).stdout.decode().strip()
-    for words in ([libm], ["-nodefaultlibs", "-lgcc", "-lc"]):
-        expect_warnings(warned(folder, compiler, "main.o", "helper.o", *words, "-o", "program"))
+    for argv in ([libm], ["-nodefaultlibs", "-lgcc", "-lc"]):
+        expect_warnings(warned(folder, compiler, "main.o", "helper.o", *argv, "-o", "program"))
         one_mark(suite, folder)
 
 
@@ -283,8 +283,8 @@ def check_static(suite: Suite, folder: str, compiler: Compiler) -> None:
     """With the C library inside, calls of it are not recorded, and the program says so: a bad memcpy is missed."""
     write(folder, copy_c=COPY, main_c=PAST_THE_END, helper_c=HELPER)
     both = ["-DVALUE=1", "main.c", "helper.c"]
-    for words in (["-static"], ["-static-pie"], ["--static"], ["-no-pie", "-Wl,-Bstatic", "-static-libgcc"]):
-        expect_warnings(warned(folder, compiler, *both, *words, "-o", "program"))
+    for argv in (["-static"], ["-static-pie"], ["--static"], ["-no-pie", "-Wl,-Bstatic", "-static-libgcc"]):
+        expect_warnings(warned(folder, compiler, *both, *argv, "-o", "program"))
         expect_noted(folder, NO_CALLS)
         one_mark(suite, folder)
     expect_warnings(warned(folder, compiler, "-static", "-c", "main.c"))
@@ -300,14 +300,14 @@ def check_nothing_to_see(suite: Suite, folder: str, compiler: Compiler) -> None:
     """A program that makes no access was complete, if it was compiled for it."""
     write(folder, empty_c="int main(void) { return 0; }\n")
     expect_warnings(warned(folder, compiler, "-c", "empty.c"))
-    for words in (["empty.c"], ["empty.o"], ["-static", "empty.o"], ["-O2", "-flto", "empty.c"]):
-        if "-flto" in words and compiler.name == "clang":
+    for argv in (["empty.c"], ["empty.o"], ["-static", "empty.o"], ["-O2", "-flto", "empty.c"]):
+        if "-flto" in argv and compiler.name == "clang":
             continue
-        expect_warnings(warned(folder, compiler, *words, "-o", "program"))
-        expect_noted(folder, *[NO_CALLS] * ("-static" in words))
+        expect_warnings(warned(folder, compiler, *argv, "-o", "program"))
+        expect_noted(folder, *[NO_CALLS] * ("-static" in argv))
         ran = run(["./program"], folder, ASANCOL_TRACE="t.trace")
-        expect((ran.returncode, ran.stderr), (0, b""), words)
-        expect(reports(suite.asancol, f"{folder}/t.trace")[0], 0, words)
+        expect((ran.returncode, ran.stderr), (0, b""), argv)
+        expect(reports(suite.asancol, f"{folder}/t.trace")[0], 0, argv)
         os.unlink(f"{folder}/t.trace")
 
 
@@ -457,8 +457,8 @@ def check_second_allocator(suite: Suite, folder: str, compiler: Compiler) -> Non
     for linker, program in (("bfd", "ld.bfd"), ("gold", "ld.gold"), ("lld", "ld.lld")):
         if not shutil.which(program):
             continue
-        words = [CC, "-w", "-static", f"-fuse-ld={linker}", "second.c", "-o", "program"]
-        made = run(words, folder, ASANCOL_CC=compiler.name)
+        argv = [CC, "-w", "-static", f"-fuse-ld={linker}", "second.c", "-o", "program"]
+        made = run(argv, folder, ASANCOL_CC=compiler.name)
         said = [line for line in lines_of(made.stderr) if "asancol-cc: the C library's allocator (malloc.o" in line]
         expect((made.returncode != 0, len(said) >= 1), (True, True), f"{linker}: {made.stderr.decode()}")
 
@@ -539,7 +539,7 @@ GROWING = """
 #include <stdlib.h>
 #include <sanitizer/common_interface_defs.h>
 enum { MOST = 8000 };
-int main(int count, char **words)
+int main(int count, char **argv)
 {
     char *block = malloc(MOST);
     __sanitizer_annotate_contiguous_container(block, block + MOST, block + MOST, block);
@@ -642,8 +642,8 @@ def check_other_folder(suite: Suite, folder: str, program: str) -> None:
 
 def check_one_pipe(suite: Suite, folder: str, program: str) -> None:
     """A pipe takes one process. Its forked child, and a program that it starts, say that they are not recorded."""
-    for words, lines in (([program, "forks"], 1), (["sh", "-c", f"{program} ends_normally"], 0)):
-        text = " ".join(f"'{word}'" for word in words)
+    for argv, lines in (([program, "forks"], 1), (["sh", "-c", f"{program} ends_normally"], 0)):
+        text = " ".join(f"'{word}'" for word in argv)
         ran = run(["sh", "-c", f"ASANCOL_TRACE=/dev/fd/3 {text} 3>&1 >&2 | {suite.asancol}"], folder)
         expect(ran.stdout.decode().splitlines()[-1].split()[:3], ["p0", "end", "closed"], text)
         expect_said(lines_of(ran.stderr), *["another process writes into this pipe"] * lines)

@@ -5,9 +5,9 @@
 #include <string>
 #include <vector>
 
-int main(int count, char **words)
+int main(int count, char **argv)
 {
-    const long rounds = count > 1 ? std::atol(words[1]) : 1;
+    const long rounds = count > 1 ? std::atol(argv[1]) : 1;
     std::map<std::string, std::vector<long>> table;
     long sum = 0;
     for (long i = 0; i < rounds; i++) {

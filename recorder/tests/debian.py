@@ -14,10 +14,10 @@ Signed-By: /usr/share/keyrings/debian-archive-keyring.gpg
 """
 
 
-def run_in(folder: str, *words: str) -> None:
-    ran = subprocess.run(words, cwd=folder, capture_output=True, text=True, check=False)
+def run_in(folder: str, *argv: str) -> None:
+    ran = subprocess.run(argv, cwd=folder, capture_output=True, text=True, check=False)
     if ran.returncode != 0:
-        raise Failure(f"{' '.join(words)}: {ran.stderr.strip()}")
+        raise Failure(f"{' '.join(argv)}: {ran.stderr.strip()}")
 
 
 class Archive:
@@ -26,7 +26,7 @@ class Archive:
     def __init__(self, folder: str) -> None:
         self.state, self.sources = f"{folder}/apt", f"{folder}/sources"
 
-    def apt(self, *words: str) -> None:
+    def apt(self, *argv: str) -> None:
         settings = {
             "Dir::Etc::SourceList": "/dev/null",
             "Dir::Etc::SourceParts": f"{self.state}/parts",
@@ -35,7 +35,7 @@ class Archive:
             "APT::Update::Error-Mode": "any",
         }
         options = [piece for name, value in settings.items() for piece in ("-o", f"{name}={value}")]
-        run_in(self.sources, "apt-get", "-qq", *options, *words)
+        run_in(self.sources, "apt-get", "-qq", *options, *argv)
 
     def update(self) -> None:
         below = ("parts", "lists/partial", "cache/archives/partial")

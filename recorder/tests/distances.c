@@ -56,14 +56,14 @@ static void touch(int at)
         (void)*byte;
 }
 
-int main(int count, char **words)
+int main(int count, char **argv)
 {
     loads = count == 3;
-    state = strtoul(words[1], NULL, 10);
+    state = strtoul(argv[1], NULL, 10);
     setvbuf(stdout, NULL, _IOFBF, 1 << 16);
     for (int i = 0; i < BLOCKS; i++)
         begin(i);
-    for (long left = atol(words[2]); left > 0; left--) {
+    for (long left = atol(argv[2]); left > 0; left--) {
         int at = (int)draw(BLOCKS);
         switch (draw(4)) {
         case 0:

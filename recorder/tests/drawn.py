@@ -54,9 +54,9 @@ def faults_of(suite: Suite, trace: str) -> List[Fault]:
 def recorded(suite: Suite, folder: str, program: str, seed: int, threads: int, **settings: str) -> List[Fault]:
     """The faults of a run. Without random places the heap lies at the same ones in each."""
     trace = f"{program}-{seed}-{threads}.trace"
-    words = ["setarch", "-R", f"./{program}", str(seed), str(OPERATIONS), str(threads)]
-    ran = run(words, folder, ASANCOL_TRACE=trace, ASANCOL_QUARANTINE=QUARANTINE, **settings)
-    expect((ran.returncode, ran.stderr), (0, b""), " ".join(words))
+    argv = ["setarch", "-R", f"./{program}", str(seed), str(OPERATIONS), str(threads)]
+    ran = run(argv, folder, ASANCOL_TRACE=trace, ASANCOL_QUARANTINE=QUARANTINE, **settings)
+    expect((ran.returncode, ran.stderr), (0, b""), " ".join(argv))
     return faults_of(suite, f"{folder}/{trace}")
 
 

@@ -290,10 +290,10 @@ static const struct {
     MOMENT(in_a_library_that_is_closed), MOMENT(with_busy_threads), MOMENT(with_nothing_wrong),
 };
 
-int main(int count, char **words)
+int main(int count, char **argv)
 {
     for (size_t i = 0; i < sizeof moments / sizeof *moments; i++)
-        if (count > 1 && strcmp(words[1], moments[i].name) == 0)
+        if (count > 1 && strcmp(argv[1], moments[i].name) == 0)
             return moments[i].run(), 0;
     return 99;
 }

@@ -24,12 +24,12 @@ def build(compiler: Compiler, folder: str) -> None:
     shared = ["-shared", "-fPIC", f"{TESTS}/ends_library.c"]
     flags = ["-w", "-pthread", SOURCE, "-Wl,-fini=last_of_program"]
     names = ["-Dlibrary_at_exit=plugin_at_exit", "-Dlibrary_destructor=plugin_destructor"]
-    for name, words, native in (("", (), False), ("-sanitized", ["-fsanitize=address"], True)):
+    for name, argv, native in (("", (), False), ("-sanitized", ["-fsanitize=address"], True)):
         made = f"{folder}/{compiler}{name}"
         os.makedirs(made)
-        compiler.c(made, shared, "libends.so", *words, native=native)
-        compiler.c(made, shared, "libended.so", *names, *words, native=native)
-        compiler.c(made, [f"{made}/libends.so"], "ends", *flags, *words, native=native)
+        compiler.c(made, shared, "libends.so", *argv, native=native)
+        compiler.c(made, shared, "libended.so", *names, *argv, native=native)
+        compiler.c(made, [f"{made}/libends.so"], "ends", *flags, *argv, native=native)
     compiler.c(f"{folder}/{compiler}", [f"{TESTS}/ends_library.c"], "static", "-static", *flags)
 
 

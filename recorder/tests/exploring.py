@@ -45,8 +45,8 @@ def build_explorer(compiler: str, folder: str) -> str:
     return f"{folder}/explore"
 
 
-def explore(program: str, words: List[str]) -> None:
-    ran = subprocess.run([program, *words], stdout=subprocess.PIPE, stderr=subprocess.STDOUT, check=False)
+def explore(program: str, argv: List[str]) -> None:
+    ran = subprocess.run([program, *argv], stdout=subprocess.PIPE, stderr=subprocess.STDOUT, check=False)
     expect((ran.returncode, b"WRONG" in ran.stdout), (0, False), ran.stdout.decode()[-6000:])
 
 
@@ -66,14 +66,14 @@ def tests(suite: Suite, compiler: Compiler) -> None:
 
 
 def main() -> int:
-    words, compiler = sys.argv[1:], "cc"
-    if words[:1] == ["--compiler"]:
-        compiler, words = words[1], words[2:]
-    if words[:1] in (["-h"], ["--help"]):
+    argv, compiler = sys.argv[1:], "cc"
+    if argv[:1] == ["--compiler"]:
+        compiler, argv = argv[1], argv[2:]
+    if argv[:1] in (["-h"], ["--help"]):
         print(__doc__)
         return 0
     with tempfile.TemporaryDirectory(prefix="asancol-explore-") as folder:
-        return subprocess.run([build_explorer(compiler, folder), *words], check=False).returncode
+        return subprocess.run([build_explorer(compiler, folder), *argv], check=False).returncode
 
 
 if __name__ == "__main__":

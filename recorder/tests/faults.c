@@ -593,9 +593,9 @@ CLEAN(jumps)
 
 extern const struct test __start_tests[], __stop_tests[];
 
-int main(int count, char **words)
+int main(int count, char **argv)
 {
-    const char *name = count > 1 ? words[1] : "";
+    const char *name = count > 1 ? argv[1] : "";
     for (const struct test *test = __start_tests; test < __stop_tests; test++) {
         if (strcmp(name, "--list") == 0)
             printf("%s\t%s\t%s\n", test->name, test->expected, test->beside);

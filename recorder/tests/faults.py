@@ -38,8 +38,8 @@ def gap_of(size):
 def check_distances(suite, folder, program, sanitized, seed, steps):
     """Loads near blocks of drawn sizes. What is in a live block is good, what is near one is bad, by AddressSanitizer's
     distances. The checker says the same of each as the recorder's shadow."""
-    words = [str(seed), str(steps)]
-    ran = run([program, *words], folder, ASANCOL_TRACE="t.trace")
+    argv = [str(seed), str(steps)]
+    ran = run([program, *argv], folder, ASANCOL_TRACE="t.trace")
     loads = [[int(word) for word in line.split()] for line in ran.stdout.decode().splitlines()]
     live = [it for it in loads if it[1]]
     expect([it for it in live if 0 <= it[2] < it[0] and it[3]], [], "bad in a live block")
@@ -48,7 +48,7 @@ def check_distances(suite, folder, program, sanitized, seed, steps):
     checked = run([suite.asancol, "check", "t.trace"], folder).stdout.decode().splitlines()
     expect(len(checked) - 1, sum(it[3] for it in loads), "reports")
     if sanitized:
-        ran = run([sanitized, *words, "compare"], folder, ASAN_OPTIONS="detect_leaks=0")
+        ran = run([sanitized, *argv, "compare"], folder, ASAN_OPTIONS="detect_leaks=0")
         found = [line.endswith("1") for line in ran.stdout.decode().splitlines()]
         expect(len(found), len(loads), "loads with AddressSanitizer")
         expect(sum(it[3] for it in loads) >= sum(found), True, "as many as with AddressSanitizer")
@@ -95,9 +95,9 @@ template <class T> static T *make(int count)
     __asm__ volatile("" : "+r"(p) : : "memory");
     return p;
 }
-int main(int count, char **words)
+int main(int count, char **argv)
 {
-    const char *name = count > 1 ? words[1] : "";
+    const char *name = count > 1 ? argv[1] : "";
     Shape *p = make<Shape>(3);
     Wide *q = make<Wide>(2);
     if (!strcmp(name, "read"))

@@ -153,10 +153,10 @@ static const struct {
      [] { kept = malloc(4); free(kept); printf("%zu\n", malloc_usable_size(kept)); }}, // usable_of_freed
 };
 
-int main(int, char **words)
+int main(int, char **argv)
 {
     fill();
     for (auto &it : cases)
-        if (strcmp(it.name, words[1]) == 0)
+        if (strcmp(it.name, argv[1]) == 0)
             it.run();
 }

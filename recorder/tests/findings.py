@@ -148,8 +148,8 @@ OPENS = r"""
 #include <dlfcn.h>
 #include <stdio.h>
 #include <stdlib.h>
-int main(int count, char **words) {
-    void *library = dlopen(words[1], RTLD_NOW);
+int main(int count, char **argv) {
+    void *library = dlopen(argv[1], RTLD_NOW);
     if (library == NULL) return puts(dlerror()), count;
     free(((char *(*)(void))dlsym(library, "make_letters"))());
     ((void (*)(void *))dlsym(library, "drop_number"))(((void *(*)(void))dlsym(library, "make_number"))());
@@ -196,10 +196,10 @@ def check_handed_over(suite, folder, compiler):
             file.write(text)
     compiler.cpp(folder, ["l.cpp"], "l.so", "-O2", "-shared", "-fPIC", native=True)
     compiler.cpp(folder, ["p.cpp", "./l.so"], "p", "-w", "-fno-builtin")
-    for words, wanted in ((["./p"], []), (["./p", "wrong"], [FAMILY])):
-        run(words, folder, ASANCOL_TRACE=f"{len(words)}.trace", ASANCOL_WHERE="1")
-        found = side_of(f"{folder}/{len(words)}.trace").findings()
-        expect([FORMS[it.kind].class_of(it) for it in found], wanted, " ".join(words))
+    for argv, wanted in ((["./p"], []), (["./p", "wrong"], [FAMILY])):
+        run(argv, folder, ASANCOL_TRACE=f"{len(argv)}.trace", ASANCOL_WHERE="1")
+        found = side_of(f"{folder}/{len(argv)}.trace").findings()
+        expect([FORMS[it.kind].class_of(it) for it in found], wanted, " ".join(argv))
 
 
 def tests(suite, compiler):

@@ -111,10 +111,10 @@ static const uses *const all[] = {
     of_16, of_17, of_18, of_19, of_20, of_21, of_22, of_23, of_24, of_25, of_26, of_27, of_28, of_29, of_30,
     of_31, of_32, of_33};
 
-int main(int count, char **words)
+int main(int count, char **argv)
 {
     static volatile size_t i, j;
-    bool is_good = count > 1 && strcmp(words[1], "good") == 0;
+    bool is_good = count > 1 && strcmp(argv[1], "good") == 0;
     if (is_good) {
         most = ROOM;
         word = "abcdefghijk";

@@ -132,8 +132,8 @@ def check_libfuzzer(suite: Suite, folder: str, compiler: Compiler, is_cpp: bool)
         file.write(TARGET if not is_cpp else TARGET.replace("int LLVM", 'extern "C" int LLVM'))
     make = compiler.cpp if is_cpp else compiler.c
     make(folder, [name], f"{folder}/target", "-O2", "-fsanitize=fuzzer")
-    words = ["./target", "-seed=1", "-runs=2000000", "-max_len=64"]
-    ran = run(words, folder, ASANCOL_HALT="2", ASANCOL_TRACE="%p.trace")
+    argv = ["./target", "-seed=1", "-runs=2000000", "-max_len=64"]
+    ran = run(argv, folder, ASANCOL_HALT="2", ASANCOL_TRACE="%p.trace")
     expect((ran.returncode, len(glob.glob(f"{folder}/crash-*")), len(traces(folder))), (77, 1, 1), ran.stderr[-2000:])
     status, texts, end = reports(suite.asancol, traces(folder)[0])
     expect((status, len(texts), end.split()[0]), (1, 1, "closed"), texts)
@@ -158,8 +158,8 @@ def check_afl(suite: Suite, folder: str, compiler: Compiler) -> None:
         "AFL_BENCH_UNTIL_CRASH": "1",
         "AFL_NO_AFFINITY": "1",
     }
-    words = ["afl-fuzz", "-V", "120", "-s", "1", "-i", "in", "-o", "out", "--", "./target"]
-    ran = run(words, folder, ASANCOL_HALT="2", ASANCOL_TRACE=f"{folder}/%p.trace", **options)
+    argv = ["afl-fuzz", "-V", "120", "-s", "1", "-i", "in", "-o", "out", "--", "./target"]
+    ran = run(argv, folder, ASANCOL_HALT="2", ASANCOL_TRACE=f"{folder}/%p.trace", **options)
     crashes = glob.glob(f"{folder}/out/default/crashes/id*")
     expect((len(crashes) >= 1, len(traces(folder)) >= 1), (True, True), ran.stdout[-2000:])
     expect(reports(suite.asancol, traces(folder)[0])[0], 1, "the verdict")
@@ -172,8 +172,8 @@ def has_libfuzzer(compiler: Compiler, folder: str) -> bool:
 
 def tests(suite: Suite, compiler: Compiler) -> None:
     for level, flags in (("-O0", ()), ("-O2", ()), ("-O1", ["-static"])):
-        words = [level, "-w", "-pthread", *flags]
-        program = suite.built(compiler.c, [f"{TESTS}/halts.c"], f"halts-{compiler}{level}", *words)
+        argv = [level, "-w", "-pthread", *flags]
+        program = suite.built(compiler.c, [f"{TESTS}/halts.c"], f"halts-{compiler}{level}", *argv)
         for name, wrong in FAULTS.items():
             if not flags or name != "by_function":  # in a static program no function is wrapped
                 suite.test(f"{compiler} halt {level} {name}", check_fault, program, name, wrong)

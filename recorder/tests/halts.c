@@ -178,7 +178,7 @@ static void after_many(void)
     heap();
 }
 
-int main(int count, char **words)
+int main(int count, char **argv)
 {
     static const struct {
         const char *name;
@@ -195,7 +195,7 @@ int main(int count, char **words)
         {"of_vfork", of_vfork},         {"cancelled", cancelled},
     };
     for (size_t i = 0; i < sizeof runs / sizeof *runs; i++)
-        if (count > 1 && strcmp(words[1], runs[i].name) == 0)
+        if (count > 1 && strcmp(argv[1], runs[i].name) == 0)
             return runs[i].run(), 0;
     return 99;
 }

@@ -790,12 +790,12 @@ static const struct {
     NAMED(loads), NAMED(closes_library), NAMED(changes_root), NAMED(leaves_a_core),
 };
 
-int main(int count, char **words)
+int main(int count, char **argv)
 {
     for (size_t i = 0; count > 1 && i < sizeof runs / sizeof *runs; i++) {
-        if (strcmp(runs[i].name, words[1]) != 0)
+        if (strcmp(runs[i].name, argv[1]) != 0)
             continue;
-        if (count > 2 && strcmp(words[2], "at_exit") == 0)
+        if (count > 2 && strcmp(argv[2], "at_exit") == 0)
             atexit(aborts_at_exit);
         runs[i].run();
         return 0;

@@ -98,21 +98,21 @@ static void uses_numbers()
     put(reinterpret_cast<const char *>(made.data()), -1);
 }
 
-int main(int, char **words)
+int main(int, char **argv)
 {
-    if (std::strcmp(words[1], "text") == 0)
+    if (std::strcmp(argv[1], "text") == 0)
         uses_text();
-    if (std::strcmp(words[1], "words") == 0)
+    if (std::strcmp(argv[1], "words") == 0)
         uses_words();
-    if (std::strcmp(words[1], "numbers") == 0)
+    if (std::strcmp(argv[1], "numbers") == 0)
         uses_numbers();
-    if (std::strcmp(words[1], "past_new") == 0)
+    if (std::strcmp(argv[1], "past_new") == 0)
         past_new();
-    if (std::strcmp(words[1], "after_delete") == 0)
+    if (std::strcmp(argv[1], "after_delete") == 0)
         after_delete();
-    if (std::strcmp(words[1], "of_namespace") == 0)
+    if (std::strcmp(argv[1], "of_namespace") == 0)
         of_namespace();
-    if (std::strcmp(words[1], "on_stack") == 0)
+    if (std::strcmp(argv[1], "on_stack") == 0)
         on_stack();
     return kept[0];
 }

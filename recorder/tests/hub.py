@@ -101,20 +101,20 @@ class Hub:
         return self.peers
 
 
-def run_under(folder: str, words: List[str], status: int = 0, **settings: str) -> Tuple[List[Peer], bytes]:
+def run_under(folder: str, argv: List[str], status: int = 0, **settings: str) -> Tuple[List[Peer], bytes]:
     """Runs a command under a hub. What has connected, and what was said."""
     hub = Hub(f"{folder}/hub{next(NUMBERS)}")
     try:
-        ran = run(words, folder, ASANCOL_HUB=hub.path, **settings)
-        expect(ran.returncode, status, f"status of {words}: {ran.stderr.decode()}")
+        ran = run(argv, folder, ASANCOL_HUB=hub.path, **settings)
+        expect(ran.returncode, status, f"status of {argv}: {ran.stderr.decode()}")
     finally:
         peers = hub.close()
     return peers, ran.stderr
 
 
-def one(folder: str, words: List[str], status: int = 0, **settings: str) -> Peer:
-    peers, said = run_under(folder, words, status, **settings)
-    expect((len(peers), said), (1, b""), f"processes of {words}, and what was said")
+def one(folder: str, argv: List[str], status: int = 0, **settings: str) -> Peer:
+    peers, said = run_under(folder, argv, status, **settings)
+    expect((len(peers), said), (1, b""), f"processes of {argv}, and what was said")
     return peers[0]
 
 
@@ -328,7 +328,7 @@ def check_exec(suite: Suite, folder: str, program: str) -> None:
     expect((len(peers), said), (2, b""), "processes")
     first, second = (peer.side() for peer in peers)
     expect((first.ending, second.ending, first.process), (EXEC, EXIT, second.process), "endings")
-    expect(second.words()[:2], ["hub", "behind"], "the words of the second")
+    expect(second.argv()[:2], ["hub", "behind"], "the words of the second")
     expect([len(check(suite, folder, peer)[1]) for peer in peers], [1, 1], "reports")
 
 
@@ -416,7 +416,7 @@ def check_root(suite: Suite, folder: str, program: str) -> None:
     peers, said = run_under(folder, [program, "changes_root"])
     expect((len(peers), said), (2, b""), "processes")
     side = peers[1].side()
-    expect((side.ending, side.words()[0] != ""), (EXIT, True), "the child")
+    expect((side.ending, side.argv()[0] != ""), (EXIT, True), "the child")
     expect([fault.block_size for fault in faults_of(peers[1])], [24], "its fault")
 
 
@@ -616,8 +616,8 @@ def check_closed(suite: Suite, folder: str, program: str) -> None:
 def check_gone(suite: Suite, folder: str, program: str) -> None:
     """A hub that is gone: the program runs on, and what is lost is noted."""
     hub = Hub(f"{folder}/hub")
-    words = [program, "many_faults"]
-    with subprocess.Popen(words, env=environment(ASANCOL_HUB=hub.path), stderr=subprocess.PIPE) as process:
+    argv = [program, "many_faults"]
+    with subprocess.Popen(argv, env=environment(ASANCOL_HUB=hub.path), stderr=subprocess.PIPE) as process:
         while not (hub.peers and hub.peers[0].memory):
             time.sleep(0.01)
         hub.peers[0].connection.shutdown(socket.SHUT_RD)

@@ -149,9 +149,9 @@ def check_wild(suite: Suite, folder: str, compiler: Compiler) -> None:
 def check_no_shadow(suite: Suite, folder: str, compiler: Compiler) -> None:
     """Without room for the shadow a program ends at once, with what to do; one that is native runs."""
     make(compiler, folder, "three.c", f"{folder}/three", "-O0")
-    words = ["sh", "-c", "ulimit -v 1000000; exec ./three"]
+    argv = ["sh", "-c", "ulimit -v 1000000; exec ./three"]
     for settings in (NO_SETTINGS, {"ASANCOL_TRACE": "t.trace"}):
-        ran = run(words, folder, **settings)
+        ran = run(argv, folder, **settings)
         expect((ran.returncode, ran.stderr.count(b"\n")), (127, 1), ran.stderr)
         for piece in (b"asancol: ", b"ulimit -v", b"without asancol-cc"):
             expect(piece in ran.stderr, True, ran.stderr)
@@ -354,11 +354,11 @@ def check_fibers(suite: Suite, folder: str, compiler: Compiler) -> None:
 def check_sizes(suite: Suite, folder: str, compiler: Compiler) -> None:
     """A function of memory with a size that is a mistake: some of its bad pieces are recorded, and it takes no time."""
     make(compiler, folder, "sizes.c", f"{folder}/sizes", "-O0")
-    for words in ((), ["wrapped"]):
-        ran = run(["timeout", "60", "./sizes", *words], folder, ASANCOL_TRACE=f"t{len(words)}.trace")
-        expect(ran.stderr, b"", words)
-        status, texts, _ = reports(suite.asancol, f"{folder}/t{len(words)}.trace")
-        expect((status, 1 <= len(texts) <= 140), (1, True), f"{words}: {len(texts)}")
+    for argv in ((), ["wrapped"]):
+        ran = run(["timeout", "60", "./sizes", *argv], folder, ASANCOL_TRACE=f"t{len(argv)}.trace")
+        expect(ran.stderr, b"", argv)
+        status, texts, _ = reports(suite.asancol, f"{folder}/t{len(argv)}.trace")
+        expect((status, 1 <= len(texts) <= 140), (1, True), f"{argv}: {len(texts)}")
 
 
 def check_few_records(suite: Suite, folder: str, compiler: Compiler) -> None:

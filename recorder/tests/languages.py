@@ -74,13 +74,13 @@ def report_of(suite: Suite, folder: str, traces: List[str]) -> str:
     return ran.stdout.decode() + ran.stderr.decode()
 
 
-def said_of(suite: Suite, folder: str, words: List[str], status: int = 0, **settings: str) -> List[Said]:
+def said_of(suite: Suite, folder: str, argv: List[str], status: int = 0, **settings: str) -> List[Said]:
     """Runs a program, and returns what the report says of each bug. All of it was seen."""
-    ran = run(words, folder, ASANCOL_TRACE="t%p.trace", ASANCOL_WHERE="1", **settings)
-    expect(ran.returncode, status, f"{words}: {ran.stderr.decode()}")
+    ran = run(argv, folder, ASANCOL_TRACE="t%p.trace", ASANCOL_WHERE="1", **settings)
+    expect(ran.returncode, status, f"{argv}: {ran.stderr.decode()}")
     traces = sorted(it for it in os.listdir(folder) if it.endswith(".trace"))
     text = report_of(suite, folder, traces)
-    expect("all complete" in text, True, f"{words}: {text}")
+    expect("all complete" in text, True, f"{argv}: {text}")
     for name in traces:
         os.unlink(f"{folder}/{name}")
         os.unlink(f"{folder}/{name}.where")
@@ -103,9 +103,9 @@ def crate(folder: str, more: str = "", **files: str) -> None:
     write(f"{folder}/src", **files)
 
 
-def cargo(folder: str, *words: str, status: int = 0, **settings: str) -> Tuple[str, str]:
-    ran = run([CARGO, *words], folder, CARGO_TERM_COLOR="never", **settings)
-    expect(ran.returncode, status, f"{words}: {ran.stderr.decode()}")
+def cargo(folder: str, *argv: str, status: int = 0, **settings: str) -> Tuple[str, str]:
+    ran = run([CARGO, *argv], folder, CARGO_TERM_COLOR="never", **settings)
+    expect(ran.returncode, status, f"{argv}: {ran.stderr.decode()}")
     return ran.stdout.decode(), ran.stderr.decode()
 
 
@@ -195,7 +195,7 @@ char *block(void) { static char *kept; return kept = malloc(8); }
 C_MAIN = """
 #include <stdlib.h>
 void run(int);
-int main(int count, char **words) { run(count > 1 ? atoi(words[1]) : 0); return 0; }
+int main(int count, char **argv) { run(count > 1 ? atoi(argv[1]) : 0); return 0; }
 """
 MIXED: Dict[str, Optional[Said]] = {
     "0": None,
@@ -242,8 +242,8 @@ def check_rust_in_python(suite: Suite, folder: str) -> None:
         '{ let all = vec![1i32; count]; unsafe { *std::hint::black_box(all.as_ptr()).add(2) } }\n'))
     cargo(folder, "build", "-q")
     for count, status in ((3, 0), (2, 99)):
-        words = [sys.executable, "-c", FROM_PYTHON, built(folder, "debug", "libbug.so"), str(count)]
-        ran = run([RUN, "--preload", "--", *words], folder, ASANCOL=suite.asancol)
+        argv = [sys.executable, "-c", FROM_PYTHON, built(folder, "debug", "libbug.so"), str(count)]
+        ran = run([RUN, "--preload", "--", *argv], folder, ASANCOL=suite.asancol)
         expect((ran.returncode, b"heap-buffer-overflow: load of 4 bytes\n    #0" in ran.stderr), (status, status != 0),
                f"{count}: {ran.stderr.decode()}")
 
@@ -316,8 +316,8 @@ def check_folders(suite: Suite, folder: str) -> None:
     crate(own, main_rs="fn main() {}\n")
     host = host_of(folder)
     path = f"{os.path.dirname(CARGO)}:{os.environ['PATH']}"
-    for words in (["--manifest-path", "the crate/Cargo.toml"], ["--manifest-path=the crate/Cargo.toml"]):
-        made = run(["asancol-cargo", "build", "-q", *words], folder, PATH=path)
+    for argv in (["--manifest-path", "the crate/Cargo.toml"], ["--manifest-path=the crate/Cargo.toml"]):
+        made = run(["asancol-cargo", "build", "-q", *argv], folder, PATH=path)
         expect(made.returncode, 0, made.stderr.decode())
         expect(has_checks(built(own, "debug")), True, "from another folder")
         expect(os.listdir(f"{own}/target"), ["asancol"], "from another folder")
@@ -362,8 +362,8 @@ def check_fortran_projects(suite: Suite, folder: str, tool: str) -> None:
           meson_build="project('bug', 'fortran')\nexecutable('bug', 'tables.f90', 'bug.f90')\n")
     made = {"cmake": [["cmake", "-S", ".", "-B", "made", "-DCMAKE_BUILD_TYPE=Debug"], ["cmake", "--build", "made"]],
             "meson": [["meson", "setup", "made"], ["meson", "compile", "-C", "made"]]}[tool]
-    for words in made:
-        build(words, folder, FC=FC)
+    for argv in made:
+        build(argv, folder, FC=FC)
     check_cases(suite, folder, "made/bug", FORTRAN)
 
 

@@ -371,7 +371,7 @@ NOT_INLINE static void protected_block()
     global = block;
 }
 
-int main(int count, char **words)
+int main(int count, char **argv)
 {
     static const struct {
         const char *name;
@@ -391,7 +391,7 @@ int main(int count, char **words)
         {"protected_block", protected_block},
     };
     for (const auto &it : runs)
-        if (count > 1 && strcmp(words[1], it.name) == 0) {
+        if (count > 1 && strcmp(argv[1], it.name) == 0) {
             it.run();
             clear_stack();
             return 0;

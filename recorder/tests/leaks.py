@@ -75,9 +75,9 @@ def lost_in(path: str) -> Lost:
     return (*direct, *indirect)
 
 
-def recorded(folder: str, program: str, *words: str, **settings: str) -> Lost:
-    ran = run([program, *words], folder, ASANCOL_TRACE=f"{folder}/t.trace", **{**WANTED, **settings})
-    expect((ran.returncode, ran.stderr), (0, b""), words)
+def recorded(folder: str, program: str, *argv: str, **settings: str) -> Lost:
+    ran = run([program, *argv], folder, ASANCOL_TRACE=f"{folder}/t.trace", **{**WANTED, **settings})
+    expect((ran.returncode, ran.stderr), (0, b""), argv)
     return lost_in(f"{folder}/t.trace")
 
 
@@ -191,8 +191,8 @@ __attribute__((noinline)) static void lose(size_t size) { sink = malloc(size); s
 __attribute__((noinline, no_sanitize("address", "kernel-address"))) static void clear_stack(void) {
     volatile char bytes[16000];
     for (size_t i = 0; i < sizeof bytes; i++) bytes[i] = 0; }
-int main(int count, char **words) {
-    const char *how = words[1];
+int main(int count, char **argv) {
+    const char *how = argv[1];
     lose(40);
     clear_stack();
     if (strcmp(how, "_exit") == 0) _exit(0);
@@ -237,7 +237,7 @@ void *global;
 _Thread_local void *volatile of_thread;
 __attribute__((noinline)) static void lose(void) { sink = malloc(77); sink = NULL; global = malloc(10); }
 static void *wait_here(void *p) { void *volatile mine = malloc(13); of_thread = malloc(12); pause(); return mine; }
-int main(int count, char **words) {
+int main(int count, char **argv) {
     pthread_t thread;
     of_thread = malloc(11);
     if (count > 1 && pthread_create(&thread, NULL, wait_here, malloc(14)) == 0) usleep(50000);
@@ -284,8 +284,8 @@ def check_debugger(suite: Suite, folder: str, compiler: Compiler) -> None:
         return
     write(folder, stress_c=STRESS.replace("i < 100;", "i < 5;"))
     compiler.c(folder, ["stress.c"], "stress", "-O1", "-w", "-pthread")
-    words = ["gdb", "-batch", "-ex", "handle SIGUSR1 nostop noprint pass", "-ex", "run", "./stress"]
-    ran = run(words, folder, ASANCOL_TRACE=f"{folder}/t.trace", **WANTED)
+    argv = ["gdb", "-batch", "-ex", "handle SIGUSR1 nostop noprint pass", "-ex", "run", "./stress"]
+    ran = run(argv, folder, ASANCOL_TRACE=f"{folder}/t.trace", **WANTED)
     expect((b"exited normally" in ran.stdout, b"received signal" in ran.stdout), (True, False), ran.stdout.decode())
     expect(lost_in(f"{folder}/t.trace"), NOTHING, "leaks")
 
@@ -346,9 +346,9 @@ static void *wait_here(void *how) {
     if (strcmp(how, "vfork") == 0 && vfork() == 0) { sleep(4); _exit(0); }
     if (strcmp(how, "blocks") == 0) syscall(SYS_rt_sigprocmask, 0, &all, NULL, sizeof all);
     for (;;) pause(); }
-int main(int count, char **words) {
+int main(int count, char **argv) {
     pthread_t thread;
-    if (pthread_create(&thread, NULL, wait_here, words[1]) == 0) usleep(50000);
+    if (pthread_create(&thread, NULL, wait_here, argv[1]) == 0) usleep(50000);
     sink = malloc(100);
     sink = NULL;
     return 7; }

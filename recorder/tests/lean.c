@@ -97,16 +97,16 @@ static void stacks(int rounds)
     pthread_join(thread, NULL);
 }
 
-int main(int count, char **words)
+int main(int count, char **argv)
 {
-    int rounds = count == 3 ? atoi(words[2]) : 0;
-    if (rounds > 0 && strcmp(words[1], "handlers") == 0)
+    int rounds = count == 3 ? atoi(argv[2]) : 0;
+    if (rounds > 0 && strcmp(argv[1], "handlers") == 0)
         handlers(rounds);
-    if (rounds > 0 && strcmp(words[1], "turns") == 0)
+    if (rounds > 0 && strcmp(argv[1], "turns") == 0)
         turns(rounds);
-    if (rounds > 0 && strcmp(words[1], "vforks") == 0)
+    if (rounds > 0 && strcmp(argv[1], "vforks") == 0)
         vforks(rounds);
-    if (rounds > 0 && strcmp(words[1], "stacks") == 0)
+    if (rounds > 0 && strcmp(argv[1], "stacks") == 0)
         stacks(rounds);
     return rounds > 0 ? 0 : 2;
 }

@@ -25,11 +25,11 @@ def check_nothing(suite: Suite, folder: str, program: str) -> None:
 
 def check_same(suite: Suite, folder: str, program: str) -> None:
     """In segments of any length there are as many faults of each class as in one segment of all events."""
-    for words in (it.split() for it in PROGRAMS if not it.startswith("is_killed")):
-        wanted = kinds_of(record(suite, folder, [program, *words], ONE))
+    for argv in (it.split() for it in PROGRAMS if not it.startswith("is_killed")):
+        wanted = kinds_of(record(suite, folder, [program, *argv], ONE))
         for limit in (ONE, 3000, 100, 16):
-            found = kinds_of(record(suite, folder, [program, *words], limit, ASANCOL_FULL="0"))
-            expect(found, wanted, f"{words} in segments of at most {limit} events")
+            found = kinds_of(record(suite, folder, [program, *argv], limit, ASANCOL_FULL="0"))
+            expect(found, wanted, f"{argv} in segments of at most {limit} events")
 
 
 def check_children(suite: Suite, folder: str, program: str) -> None:

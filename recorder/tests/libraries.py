@@ -46,10 +46,10 @@ def faults_of(folder: str, name: str) -> List[Tuple[str, str]]:
     return found
 
 
-def seen(suite: Suite, folder: str, *words: str, **settings: str) -> Tuple[int, List[Tuple[str, str]]]:
+def seen(suite: Suite, folder: str, *argv: str, **settings: str) -> Tuple[int, List[Tuple[str, str]]]:
     """The status of the check, and the faults of a run."""
-    ran = run(list(words), folder, ASANCOL_TRACE="t.trace", ASANCOL_WHERE="1", **settings)
-    expect((ran.returncode, ran.stderr), (0, b""), f"{words}")
+    ran = run(list(argv), folder, ASANCOL_TRACE="t.trace", ASANCOL_WHERE="1", **settings)
+    expect((ran.returncode, ran.stderr), (0, b""), f"{argv}")
     status = reports(suite.asancol, f"{folder}/t.trace")[0]
     found = faults_of(folder, "t.trace")
     for name in ("t.trace", "t.trace.where"):
@@ -299,7 +299,7 @@ int leave(int way)
 CALLS_IT = """
 #include <stdlib.h>
 int leave(int);
-int main(int count, char **words) { free(malloc(8)); return leave(count > 1 ? atoi(words[1]) : 0); }
+int main(int count, char **argv) { free(malloc(8)); return leave(count > 1 ? atoi(argv[1]) : 0); }
 """
 
 

@@ -514,9 +514,9 @@ static void execs(void)
 
 static void execs_in_vain(void)
 {
-    char *words[] = {"none", NULL};
+    char *argv[] = {"none", NULL};
     fault();
-    if (execv("/nowhere/none", words) != -1 || errno != ENOENT)
+    if (execv("/nowhere/none", argv) != -1 || errno != ENOENT)
         exit(9);
     if (execlp("asancol-no-such-program", "none", (char *)NULL) != -1 || errno != ENOENT)
         exit(9);
@@ -785,11 +785,11 @@ static int is_same(const char *one, const char *other)
     return *one == *other;
 }
 
-int main(int count, char **words)
+int main(int count, char **argv)
 {
-    own_path = words[0];
+    own_path = argv[0];
     for (size_t i = 0; i < sizeof lives / sizeof *lives; i++)
-        if (count > 1 && is_same(words[1], lives[i].name))
+        if (count > 1 && is_same(argv[1], lives[i].name))
             return lives[i].run(), 0;
     return 99;
 }

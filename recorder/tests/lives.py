@@ -118,14 +118,14 @@ def check_exec(suite, folder, program):
 def check_other_name(suite, folder, program):
     """Where a trace went is said if an earlier run has left one: by the first process, and not by those after it."""
 
-    def said(*words):
+    def said(*argv):
         time.sleep(0.05)  # what has the same time is of the same run
-        return run([*words], folder, ASANCOL_TRACE="run.trace").stderr.decode()
+        return run([*argv], folder, ASANCOL_TRACE="run.trace").stderr.decode()
 
     line = "asancol: the trace goes to {0}/run.{1}.trace: {0}/run.trace was there before\n"
-    for count, words in enumerate((["ends_normally"], ["ends_normally"], ["execs"], ["forks"])):
+    for count, argv in enumerate((["ends_normally"], ["ends_normally"], ["execs"], ["forks"])):
         taken = len(traces(folder))
-        expect(said(program, *words), line.format(folder, taken) if taken else "", f"run {count}")
+        expect(said(program, *argv), line.format(folder, taken) if taken else "", f"run {count}")
     several = f"{program} ends_normally && sleep 0.05 && {program} execs && sleep 0.05 && {program} forks"
     taken = len(traces(folder))
     expect(said("sh", "-c", several), line.format(folder, taken), "a run of several")
@@ -145,8 +145,8 @@ def check_no_errors(suite, folder, program):
     reading, writing = os.pipe()
     os.close(reading)
     settings = environment(ASANCOL_TRACE="t.trace", **limited(100))
-    words = [program, "many_events"]
-    ran = subprocess.run(words, cwd=folder, stderr=writing, env=settings, timeout=PATIENCE, check=False)
+    argv = [program, "many_events"]
+    ran = subprocess.run(argv, cwd=folder, stderr=writing, env=settings, timeout=PATIENCE, check=False)
     os.close(writing)
     expect(ran.returncode, 0, "status of the program")
 

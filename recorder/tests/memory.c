@@ -246,7 +246,7 @@ static void is_refused(void)
     fill(1500, 40 * KB);
 }
 
-int main(int count, char **words)
+int main(int count, char **argv)
 {
     static const struct {
         const char *name;
@@ -263,7 +263,7 @@ int main(int count, char **words)
                     {"forks", forks},
                     {"is_refused", is_refused}};
     for (size_t i = 0; count > 1 && i < sizeof programs / sizeof *programs; i++)
-        if (strcmp(words[1], programs[i].name) == 0)
+        if (strcmp(argv[1], programs[i].name) == 0)
             return programs[i].run(), 0;
     return 99;
 }

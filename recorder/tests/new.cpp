@@ -102,9 +102,9 @@ static void clean()
     }
 }
 
-int main(int count, char **words)
+int main(int count, char **argv)
 {
-    std::string name = count > 1 ? words[1] : "";
+    std::string name = count > 1 ? argv[1] : "";
     if (name == "past_new")
         past_new();
     else if (name == "after_delete")

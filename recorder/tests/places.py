@@ -29,8 +29,8 @@ def check_stop(suite, folder, program):
 def check_debugger(suite, folder, compiler):
     """The commands of docs/RECORDER.md: a debugger stands at the access of the report."""
     build([CC, "-g", f"{RECORDER}/../examples/bug.c", "-o", "bug"], folder, ASANCOL_CC=compiler.name)
-    words = ["gdb", "-nx", "-batch", "-ex", "run", "-ex", "backtrace", "-ex", "continue", "--args", "./bug", "Alice"]
-    text = run(words, folder, ASANCOL_TRACE="/dev/null", ASANCOL_STOP="3").stdout.decode()
+    argv = ["gdb", "-nx", "-batch", "-ex", "run", "-ex", "backtrace", "-ex", "continue", "--args", "./bug", "Alice"]
+    text = run(argv, folder, ASANCOL_TRACE="/dev/null", ASANCOL_STOP="3").stdout.decode()
     expect(re.search(r"received signal SIGTRAP", text) is not None, True, text)
     expect(re.search(r"in main .*bug\.c:6\n", text) is not None, True, text)
     expect("exited normally" in text, True, text)
@@ -62,7 +62,7 @@ def check_where(suite, folder, compiler, level):
     expect([(it.kind, it.line) for it in said], [("store", "w.c:10")], "the access")
     side = side_of(f"{folder}/w.trace")
     fault = side.fault_at(said[0].number)
-    expect((side.is_good, side.words(), side.ending), (True, ["./w"], EXIT), "the head")
+    expect((side.is_good, side.argv(), side.ending), (True, ["./w"], EXIT), "the head")
     events = len(Trace(f"{folder}/w.trace").events)
     expect((side.events, side.fault_count, fault.block_size), (events, 1, 6), "events, faults, and the block")
     places = side.lines([fault.allocated[0], fault.freed[0]])
@@ -107,27 +107,27 @@ def check_far(suite, folder, compiler):
     """However far from a block an access is, that is named, if none is nearer; also in memory of freed blocks."""
     source = """
 #include <stdlib.h>
-int main(int count, char **words)
+int main(int count, char **argv)
 {
-    int others = atoi(words[1]);
+    int others = atoi(argv[1]);
     char *other[3], *volatile p;
     for (int i = 0; i < others; i++)
         other[i] = malloc(200000);
     for (int i = 0; i < others; i++)
         free(other[i]);
-    p = malloc(atol(words[2]));
-    return ((volatile char *)p)[atol(words[3])] & 0;
+    p = malloc(atol(argv[2]));
+    return ((volatile char *)p)[atol(argv[3])] & 0;
 }
 """
     write(folder, f_c=source)
     compiler.c(folder, ["f.c"], f"{folder}/f", "-w")
     for others, size, at in FAR:
-        words = [str(others), str(size), str(at)]
+        argv = [str(others), str(size), str(at)]
         settings = {"ASANCOL_TRACE": "f.trace", "ASANCOL_WHERE": "1", "ASANCOL_QUARANTINE": "0"}
-        expect(run(["./f", *words], folder, **settings).returncode, 0, words)
+        expect(run(["./f", *argv], folder, **settings).returncode, 0, argv)
         side = side_of(f"{folder}/f.trace")
         blocks = [(it.block_size, side.lines(it.allocated[:1])[0][1]) for it in side.faults()]
-        expect(blocks, [(size, "f.c:11")], words)
+        expect(blocks, [(size, "f.c:11")], argv)
         os.unlink(f"{folder}/f.trace")
 
 

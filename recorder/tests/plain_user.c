@@ -39,9 +39,9 @@ static void by_name(const char *library)
     dlclose(opened);
 }
 
-int main(int count, char **words)
+int main(int count, char **argv)
 {
-    const char *what = words[1];
+    const char *what = argv[1];
     int is_bad = count > 2;
     size_t size = is_bad ? 12 : 8;
     text = is_bad ? "too long" : "a text";

@@ -48,10 +48,10 @@ def build_both(folder: str, compiler: Compiler, link: str = "now") -> None:
     compiler.c(folder, [f"{TESTS}/preload_module.c"], "module.so", "-O1", "-fPIC", "-shared")
 
 
-def preloaded(folder: str, *words: str, **settings: str) -> "subprocess.CompletedProcess[bytes]":
+def preloaded(folder: str, *argv: str, **settings: str) -> "subprocess.CompletedProcess[bytes]":
     """Runs a command that has it preloaded. No setting but the given ones is there."""
     given = {"LD_PRELOAD": PRELOADED, "ASANCOL_TRACE": "t.%p.trace", "ASANCOL_WHERE": "1", **settings}
-    return run(list(words), folder, **{name: value for name, value in given.items() if value})
+    return run(list(argv), folder, **{name: value for name, value in given.items() if value})
 
 
 def traces_in(folder: str) -> List[str]:
@@ -159,10 +159,10 @@ HIDES = "{ global: main; local: *; };\n"
 COPIES = """
 #include <stdlib.h>
 #include <string.h>
-int main(int count, char **words)
+int main(int count, char **argv)
 {
-    char *copy = strdup(words[count - 1]);
-    int last = ((volatile char *)copy)[strlen(words[count - 1]) + (count > 2)];
+    char *copy = strdup(argv[count - 1]);
+    int last = ((volatile char *)copy)[strlen(argv[count - 1]) + (count > 2)];
     free(copy);
     return last;
 }
@@ -177,16 +177,16 @@ def check_aside(suite: Suite, folder: str, compiler: Compiler) -> None:
     compiler.c(folder, ["main.c", "helper.c"], "static", "-DVALUE=1", "-static")
     compiler.c(folder, ["copies.c"], "copies", "-fno-builtin")
     compiler.c(folder, ["copies.c"], "hides", "-fno-builtin", "-Wl,--version-script=one.map")
-    for words in (["./program"], ["./static"], ["./copies", "a text"], ["./copies", "a text", "more"],
+    for argv in (["./program"], ["./static"], ["./copies", "a text"], ["./copies", "a text", "more"],
                   ["./hides", "a text"]):
         seen = []
         for preload in ("", PRELOADED):
-            ran = preloaded(folder, *words, LD_PRELOAD=preload)
-            expect((ran.returncode, ran.stderr), (0, b""), f"{words}")
+            ran = preloaded(folder, *argv, LD_PRELOAD=preload)
+            expect((ran.returncode, ran.stderr), (0, b""), f"{argv}")
             trace = the_trace(folder)
             unchecked = [it.replace(os.path.basename(PRELOADED), "libc.so.6") for it in side_of(trace).unchecked()]
             seen.append((reports(suite.asancol, trace), unchecked))
-        expect(seen[1], seen[0], f"{words}")
+        expect(seen[1], seen[0], f"{argv}")
     expect("malloc of libc.so.6" in seen[0][1], True, "its malloc is hidden")
 
 
@@ -240,7 +240,7 @@ NEWS_HOST = """
 #include <dlfcn.h>
 #include <stdlib.h>
 #include <new>
-int main(int, char **words)
+int main(int, char **argv)
 {
     void *opened = dlopen("./news.so", RTLD_NOW);
     void *(*make)(int) = opened ? (void *(*)(int))dlsym(opened, "make") : 0;
@@ -253,7 +253,7 @@ int main(int, char **words)
     take(2, operator new[](5));
     take(0, malloc(5));
     operator delete(make(1));
-    if (words[1])
+    if (argv[1])
         take(1, make(0));
     return 0;
 }
@@ -291,11 +291,11 @@ def check_linked_otherwise(suite: Suite, folder: str, compiler: Compiler) -> Non
 LINKED_HOST = """
 #include <stdlib.h>
 void *act(const char *what, void *block);
-int main(int count, char **words)
+int main(int count, char **argv)
 {
     char *block = malloc(10);
     block[2] = 1;
-    act(words[count - 1], block);
+    act(argv[count - 1], block);
     free(block);
     return 0;
 }

@@ -1,4 +1,5 @@
-/* A plain program that opens a module. Of the words of the command the first is the module, the second what happens. */
+/* A plain program that opens a module. Of the arguments of the command the first is the module, the second what
+   happens. */
 #define _GNU_SOURCE
 #include <dlfcn.h>
 #include <pthread.h>
@@ -81,7 +82,7 @@ static int with_signals(void)
     return signal(SIGSEGV, SIG_DFL) != on_signal;
 }
 
-static int act_out(char *what, char **words)
+static int act_out(char *what, char **argv)
 {
     if (strcmp(what, "host frees twice") == 0) {
         char *given = module("give", NULL);
@@ -115,7 +116,7 @@ static int act_out(char *what, char **words)
         }
         return in_child(child);
     } else if (strcmp(what, "exec") == 0) {
-        execl(words[0], words[0], words[1], "over", (char *)NULL);
+        execl(argv[0], argv[0], argv[1], "over", (char *)NULL);
     } else if (strcmp(what, "signals") == 0) {
         return with_signals();
     } else if (strcmp(what, "term") == 0) {
@@ -128,7 +129,7 @@ static int act_out(char *what, char **words)
     return 0;
 }
 
-int main(int count, char **words)
+int main(int count, char **argv)
 {
     fill();
     if (count < 3) { /* no module */
@@ -136,16 +137,16 @@ int main(int count, char **words)
             free(block + size - 20); /* a byte past its start */
         return 0;
     }
-    if (!open_module(words[1]))
+    if (!open_module(argv[1]))
         return 120;
-    int status = act_out(words[2], words);
+    int status = act_out(argv[2], argv);
     /* The allocator's own functions, as a program may call them. */
     char *grown = realloc(calloc(3, 3), 100), *aligned = aligned_alloc(64, 128);
     if (grown == NULL || aligned == NULL)
         return 121;
     free(grown);
     free(aligned);
-    if (strncmp(words[2], "one", 3) != 0 && strncmp(words[2], "module", 6) != 0)
+    if (strncmp(argv[2], "one", 3) != 0 && strncmp(argv[2], "module", 6) != 0)
         free(block);
     return status;
 }

@@ -542,10 +542,10 @@ static const struct {
     {"asked", asked},
 };
 
-int main(int count, char **words)
+int main(int count, char **argv)
 {
     for (auto &it : cases)
-        if (count > 1 && strcmp(words[1], it.name) == 0)
+        if (count > 1 && strcmp(argv[1], it.name) == 0)
             it.run();
     return 0;
 }

@@ -104,7 +104,7 @@ def check_words(suite: Suite, folder: str, compiler: Compiler) -> None:
     found."""
     write(folder, bug_c=BUG, main_c=MAIN, a_rsp=f"-O1 '{ASKED}' \"-DNAME=a b\"\n", b_rsp="-Wall @a.rsp\n",
           c_rsp="-O1 --param asan-use-after-return=0 '-DFIRST=(void)\"a \\\\\\\\ \\\\\"b\";'\n")
-    for words, is_found in {
+    for argv, is_found in {
         (): False, (ASKED,): True, (OPTION + "always",): True, (OPTION + "never",): False,
         ("--param", "asan-use-after-return=1"): True, ("--param=asan-use-after-return=1",): True,
         ("--param", "asan-use-after-return=0"): False, (ASKED, "--param=asan-use-after-return=0"): False,
@@ -112,14 +112,14 @@ def check_words(suite: Suite, folder: str, compiler: Compiler) -> None:
         ("@a.rsp",): True, ("@b.rsp",): True, ("@b.rsp", "@c.rsp"): False, ("@c.rsp", ASKED): True,
         (ASKED, "--asancol-all"): True, (ASKED, "-O2"): True, (ASKED, "-no-pie"): True, (ASKED, "-flto"): True,
     }.items():
-        if "-flto" in words and compiler.name == "clang":
+        if "-flto" in argv and compiler.name == "clang":
             continue
-        made = run([CC, "-g", *words, "bug.c", "main.c", "-o", "program"], folder, ASANCOL_CC=compiler.name)
-        expect((made.returncode, made.stderr), (0, b""), f"{words}")
+        made = run([CC, "-g", *argv, "bug.c", "main.c", "-o", "program"], folder, ASANCOL_CC=compiler.name)
+        expect((made.returncode, made.stderr), (0, b""), f"{argv}")
         texts = found(suite, folder)
-        expect(FOUND in texts if "--asancol-all" in words else texts == [FOUND], is_found, f"{words}")
+        expect(FOUND in texts if "--asancol-all" in argv else texts == [FOUND], is_found, f"{argv}")
     build([CC, "-g", "bug.c", "main.c", "-o", "program"], folder, ASANCOL_CC=f"{compiler.name} {ASKED}")
-    expect(found(suite, folder), [FOUND], "among the compiler's words")
+    expect(found(suite, folder), [FOUND], "among the compiler's arguments")
 
 
 def check_steps(suite: Suite, folder: str, compiler: Compiler) -> None:
@@ -127,25 +127,25 @@ def check_steps(suite: Suite, folder: str, compiler: Compiler) -> None:
     write(folder, bug_c=BUG, main_c=MAIN)
     flags: List[List[str]] = [[], ["-flto"]] if compiler.name == "gcc" else [[]]
     for more in flags:
-        for words in ((), [ASKED], ["--param", "asan-use-after-return=1"]):
+        for argv in ((), [ASKED], ["--param", "asan-use-after-return=1"]):
             build([CC, "-O1", *more, ASKED, "-c", "bug.c"], folder, ASANCOL_CC=compiler.name)
             build([CC, "-O1", *more, "-c", "main.c"], folder, ASANCOL_CC=compiler.name)
-            made = run([CC, *more, *words, "bug.o", "main.o", "-o", "program"], folder, ASANCOL_CC=compiler.name)
-            expect((made.returncode, made.stderr), (0, b""), f"{words}")
-            expect(found(suite, folder), [FOUND], f"{more} {words}")
+            made = run([CC, *more, *argv, "bug.o", "main.o", "-o", "program"], folder, ASANCOL_CC=compiler.name)
+            expect((made.returncode, made.stderr), (0, b""), f"{argv}")
+            expect(found(suite, folder), [FOUND], f"{more} {argv}")
 
 
 def check_wrong_words(suite: Suite, folder: str, compiler: Compiler) -> None:
     write(folder, bug_c=BUG, a_rsp=OPTION + "maybe\n")
-    for words, why in {
+    for argv, why in {
         (OPTION + "maybe",): f"{OPTION}maybe: it takes never, runtime or always",
         (OPTION,): f"{OPTION}: it takes never, runtime or always",
         ("@a.rsp",): f"{OPTION}maybe: it takes never, runtime or always",
         ("--param", "asan-use-after-return=2"): "asan-use-after-return=2: it takes 0 or 1",
         ("--param=asan-use-after-return=yes",): "asan-use-after-return=yes: it takes 0 or 1",
     }.items():
-        made = run([CC, *words, "-c", "bug.c"], folder, ASANCOL_CC=compiler.name)
-        expect((made.returncode, made.stderr.decode()), (1, f"asancol-cc: error: {why}\n"), f"{words}")
+        made = run([CC, *argv, "-c", "bug.c"], folder, ASANCOL_CC=compiler.name)
+        expect((made.returncode, made.stderr.decode()), (1, f"asancol-cc: error: {why}\n"), f"{argv}")
     if compiler.has_sanitizer and compiler.name == "clang":
         made = run([CC, "-w", "-fsanitize=address", OPTION + "maybe", "-c", "bug.c"], folder, ASANCOL_CC=compiler.name)
         expect(b"unsupported argument 'maybe'" in made.stderr, True, "it is Clang's own word with another sanitizer")
@@ -215,12 +215,12 @@ def check_shared_object(suite: Suite, folder: str, compiler: Compiler) -> None:
         asked = OPTION + mode
         compiler.c(folder, ["bug.c"], f"{folder}/libbug.so", asked, "-shared", "-fPIC", "-Wl,-z,defs")
         linked = ("-L.", "-lbug", "-Wl,-rpath,$ORIGIN")
-        for words in (["main.c", *linked], ["main.c", *linked, asked], ["opens.c"]):
-            compiler.c(folder, words, f"{folder}/program")
-            expect(found(suite, folder), [FOUND], f"{mode} {words}")
-            compiler.c(folder, [it for it in words if it != asked], f"{folder}/plain", native=True)
+        for argv in (["main.c", *linked], ["main.c", *linked, asked], ["opens.c"]):
+            compiler.c(folder, argv, f"{folder}/program")
+            expect(found(suite, folder), [FOUND], f"{mode} {argv}")
+            compiler.c(folder, [it for it in argv if it != asked], f"{folder}/plain", native=True)
             ran = run(["./plain"], folder)
-            expect((ran.returncode, ran.stderr), (0, b""), f"{mode} {words}, a plain program")
+            expect((ran.returncode, ran.stderr), (0, b""), f"{mode} {argv}, a plain program")
     stays = compiler.name == "clang"
     expect(found(suite, folder, ASANCOL_USE_AFTER_RETURN="0"), [FOUND] if stays else [], "always, 0")
     # Linked by something else, it finds the program's.

@@ -278,11 +278,11 @@ static const struct {
     {"children", children}, {"is_killed", is_killed}, {"removes_hub", removes_hub},
 };
 
-int main(int count, char **words)
+int main(int count, char **argv)
 {
     for (size_t i = 0; count == 4 && i < sizeof programs / sizeof *programs; i++)
-        if (strcmp(words[1], programs[i].name) == 0) {
-            programs[i].run(atoi(words[2]), atoi(words[3]));
+        if (strcmp(argv[1], programs[i].name) == 0) {
+            programs[i].run(atoi(argv[2]), atoi(argv[3]));
             return 0;
         }
     return 99;

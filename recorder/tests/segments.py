@@ -41,12 +41,12 @@ def checked(suite: Suite, paths: List[str]) -> List[Segment]:
     return [Segment(*it) for it in zip(paths, lines)]
 
 
-def record(suite: Suite, folder: str, words: List[str], limit: int, status: int = 0, **settings: str) -> List[Segment]:
+def record(suite: Suite, folder: str, argv: List[str], limit: int, status: int = 0, **settings: str) -> List[Segment]:
     """Runs a program with a small limit: all its segments are closed, and it says nothing."""
     for old in glob.glob(f"{folder}/t.*trace*"):
         os.unlink(old)
-    ran = run(words, folder, ASANCOL_TRACE="t.trace", ASANCOL_LIMIT=str(limit), **settings)
-    expect((ran.returncode, ran.stderr), (status, b""), " ".join(words))
+    ran = run(argv, folder, ASANCOL_TRACE="t.trace", ASANCOL_LIMIT=str(limit), **settings)
+    expect((ran.returncode, ran.stderr), (status, b""), " ".join(argv))
     return segments_of(suite, f"{folder}/t.trace")
 
 
@@ -285,8 +285,8 @@ def check_hub(suite: Suite, folder: str, program: str) -> None:
 def check_hub_that_leaves(suite: Suite, folder: str, program: str) -> None:
     """The hub is gone at a switch: the process goes on, and a line says that the recording ends."""
     listening = hub.Hub(f"{folder}/hub", has_abstract=False)
-    words = [program, "removes_hub", "8000", "-1"]
-    ran = run(words, folder, ASANCOL_HUB=listening.path, ASANCOL_LIMIT="3000", ASANCOL_FULL="1")
+    argv = [program, "removes_hub", "8000", "-1"]
+    ran = run(argv, folder, ASANCOL_HUB=listening.path, ASANCOL_LIMIT="3000", ASANCOL_FULL="1")
     peers = listening.close()
     expect((ran.returncode, len(peers), len(ran.stderr.splitlines())), (0, 1, 1), ran.stderr)
     side = peers[0].side()

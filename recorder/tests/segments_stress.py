@@ -28,9 +28,9 @@ ROUNDS = 25_000_000  # a thread's: a malloc and a free each
 RUN = f"{os.path.dirname(RECORDER)}/run/asancol-run"
 
 
-def by_files(asancol: str, words: List[str], folder: str) -> str:
+def by_files(asancol: str, argv: List[str], folder: str) -> str:
     """What is wrong with the files of a run, or nothing."""
-    ran = subprocess.run(words, env=environment(ASANCOL_TRACE=f"{folder}/t.trace"), capture_output=True, check=False)
+    ran = subprocess.run(argv, env=environment(ASANCOL_TRACE=f"{folder}/t.trace"), capture_output=True, check=False)
     if ran.returncode != 0 or ran.stderr:
         return f"status {ran.returncode}: {ran.stderr.decode()}"
     reports = 0
@@ -43,10 +43,10 @@ def by_files(asancol: str, words: List[str], folder: str) -> str:
     return "" if reports == 1 else f"{reports} reports"
 
 
-def by_hub(asancol: str, words: List[str], folder: str) -> str:
+def by_hub(asancol: str, argv: List[str], folder: str) -> str:
     result = f"{folder}/result.jsonl"
     settings = environment(PATH=f"{os.path.dirname(asancol)}:{os.environ['PATH']}")
-    run = [RUN, "--json", result, "--", *words]
+    run = [RUN, "--json", result, "--", *argv]
     ran = subprocess.run(run, env=settings, capture_output=True, text=True, check=False)
     if ran.returncode != 99 or "INCOMPLETE" in ran.stderr:
         return f"status {ran.returncode}: {ran.stderr}"
@@ -66,8 +66,8 @@ def main() -> int:
         program = f"{folder}/segments"
         build([f"{RECORDER}/asancol-cc", "-g", "-O2", "-w", "-pthread", f"{TESTS}/segments.c", "-o", program], folder)
         start = time.monotonic()
-        words = [program, "threads", str(rounds), str(rounds - 1)]
-        wrong = by_files(asancol, words, folder) if options.files else by_hub(asancol, words, folder)
+        argv = [program, "threads", str(rounds), str(rounds - 1)]
+        wrong = by_files(asancol, argv, folder) if options.files else by_hub(asancol, argv, folder)
         print(f"{rounds * 8} events, {time.monotonic() - start:.0f} seconds: {wrong or 'as it should be'}")
     return 1 if wrong else 0
 

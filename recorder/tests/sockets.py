@@ -12,8 +12,8 @@ from testing.programs import PATIENCE
 
 def serve(suite, folder, count):
     ready = f"{folder}/ready"
-    words = [suite.asancol, "serve", "--count", str(count), "--ready", ready, "t.sock"]
-    server = subprocess.Popen(words, cwd=folder, stdout=subprocess.PIPE, env=environment())
+    argv = [suite.asancol, "serve", "--count", str(count), "--ready", ready, "t.sock"]
+    server = subprocess.Popen(argv, cwd=folder, stdout=subprocess.PIPE, env=environment())
     while not os.path.exists(ready):
         if server.poll() is not None:
             raise Failure("the collector ended")
@@ -98,8 +98,8 @@ def check_slow_reader(suite, folder, program):
 
 
 def check_pipe(suite, folder, program):
-    words = ["sh", "-c", f"ASANCOL_TRACE=/dev/fd/3 {program} many_events 3>&1 | {suite.asancol}"]
-    ran = run(words, folder)
+    argv = ["sh", "-c", f"ASANCOL_TRACE=/dev/fd/3 {program} many_events 3>&1 | {suite.asancol}"]
+    ran = run(argv, folder)
     lines = ran.stdout.decode().splitlines()
     expect((ran.stderr, len(lines), lines[-1].split()[:3]), (b"", 2, ["p0", "end", "closed"]))
 

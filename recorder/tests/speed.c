@@ -227,7 +227,7 @@ static long live(long count)
     return first != NULL;
 }
 
-int main(int count, char **words)
+int main(int count, char **argv)
 {
     static const struct {
         const char *name;
@@ -236,9 +236,9 @@ int main(int count, char **words)
                     {"frames", frames},  {"calls", calls},       {"copies", copies},     {"strings", strings},
                     {"40-kb", forty_kb}, {"100-kb", hundred_kb}, {"sawtooth", sawtooth}, {"live", live}};
     for (size_t i = 0; count == 3 && i < sizeof programs / sizeof *programs; i++) {
-        if (strcmp(words[1], programs[i].name) != 0)
+        if (strcmp(argv[1], programs[i].name) != 0)
             continue;
-        printf("%ld\n", programs[i].run(atol(words[2])));
+        printf("%ld\n", programs[i].run(atol(argv[2])));
         return 0;
     }
     return 2;

@@ -14,10 +14,10 @@ long plain_work(char *to, const char *text, size_t size)
 #include <stdio.h>
 #include <stdlib.h>
 #include <string.h>
-int main(int count, char **words)
+int main(int count, char **argv)
 {
     char *text = strdup("a string that is as long as many are in programs"), *to = malloc(64);
-    long sum = 0, rounds = count > 1 ? atol(words[1]) : 0;
+    long sum = 0, rounds = count > 1 ? atol(argv[1]) : 0;
     volatile size_t size = text != NULL ? strlen(text) + 1 : 0;
     for (long i = 0; text != NULL && to != NULL && i < rounds; i++)
         sum += plain_work(to, text, size);

@@ -971,7 +971,7 @@ static void run_line(struct store *store, char *line)
     printf("error: there is no command %s\n", name);
 }
 
-int main(int count, char **words)
+int main(int count, char **argv)
 {
     static const char *const bugs[] = {"none", "short-string", "old-array", "twice", "short-table", "read-past"};
     struct store store = {0};
@@ -979,7 +979,7 @@ int main(int count, char **words)
     size_t room = 0;
     ssize_t length;
     for (size_t i = 0; count == 3 && i < sizeof bugs / sizeof *bugs; i++)
-        if (strcmp(words[1], "--bug") == 0 && strcmp(words[2], bugs[i]) == 0)
+        if (strcmp(argv[1], "--bug") == 0 && strcmp(argv[2], bugs[i]) == 0)
             bug = (enum bug)i;
     while ((length = getline(&line, &room, stdin)) > 0) {
         if (line[length - 1] == '\n')

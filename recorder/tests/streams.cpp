@@ -35,8 +35,8 @@ static void demangle(const char *name) {
   std::free(abi::__cxa_demangle(name, nullptr, nullptr, &status));
 }
 
-int main(int count, char **words) {
-  const char *what = words[1];
+int main(int count, char **argv) {
+  const char *what = argv[1];
   bool is_bad = count > 2;
   char *block = static_cast<char *>(std::malloc(8));
   std::memset(block, 'a', 8);

@@ -40,14 +40,14 @@ class Case(NamedTuple):
 
     source: str
     flags: List[str]
-    words: List[str]
+    argv: List[str]
     part: int  # of all times, one in so many
     status: int
     reports: int
     classes: Dict[str, int]
 
     def __str__(self) -> str:
-        return " ".join([os.path.basename(self.source), *self.flags, *self.words])
+        return " ".join([os.path.basename(self.source), *self.flags, *self.argv])
 
 
 # The class of a fault past an array on the stack is what lies behind it, as with AddressSanitizer.
@@ -82,10 +82,10 @@ def build(case: Case, compiler: Compiler, folder: str) -> str:
 def what_is_wrong(asancol: str, case: Case, program: str, folder: str) -> Optional[str]:
     """Runs a program once."""
     trace = f"{folder}/t.trace"
-    words = [program, *case.words]
+    argv = [program, *case.argv]
     try:
         ran = subprocess.run(
-            words, env=environment(ASANCOL_TRACE=trace), cwd=folder, capture_output=True, timeout=LONGEST, check=False
+            argv, env=environment(ASANCOL_TRACE=trace), cwd=folder, capture_output=True, timeout=LONGEST, check=False
         )
     except subprocess.TimeoutExpired:
         return f"more than {LONGEST} seconds"

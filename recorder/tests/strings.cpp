@@ -83,14 +83,14 @@ static const test tests[] = {
     {"use_after_delete", use_after_delete},
 };
 
-int main(int, char **words)
+int main(int, char **argv)
 {
     block = static_cast<char *>(std::memset(new char[8], 'a', 8));
     short_block = new char[4];
     for (const test &it : tests)
-        if (std::strcmp(words[1], "--list") == 0)
+        if (std::strcmp(argv[1], "--list") == 0)
             std::puts(it.name);
-        else if (std::strcmp(words[1], it.name) == 0)
+        else if (std::strcmp(argv[1], it.name) == 0)
             it.run();
     return 0;
 }

@@ -17,8 +17,8 @@ LIBRARIES = {
 
 def has(compiler: Compiler, library: str) -> bool:
     flags, header = LIBRARIES[library]
-    words = [compiler.cxx, *flags, "-fsyntax-only", "-x", "c++", "-include", header, "/dev/null"]
-    return run(words, "/").returncode == 0
+    argv = [compiler.cxx, *flags, "-fsyntax-only", "-x", "c++", "-include", header, "/dev/null"]
+    return run(argv, "/").returncode == 0
 
 
 def check_faults(suite: Suite, folder: str, compiler: Compiler, library: str) -> None:
@@ -93,9 +93,9 @@ def check_objects(suite: Suite, folder: str, compiler: Compiler, flags: "list[st
     has of it; with no name shown but one; and with nothing undefined."""
     write(folder, object_cpp=OBJECT, host_cpp=HOST, one_map="{ global: *6object*; local: *; };\n")
     link = ["-L.", "-lobject", "-Wl,-rpath,$ORIGIN"]
-    for name, words in (("recorded", [CXX]), ("plain", [compiler.cxx])):
+    for name, argv in (("recorded", [CXX]), ("plain", [compiler.cxx])):
         build([compiler.cxx, *flags, "-shared", "-fPIC", "object.cpp", "-o", "libobject.so"], folder)
-        build([*words, *flags, "host.cpp", *link, "-o", name], folder, ASANCOL_CXX=compiler.cxx)
+        build([*argv, *flags, "host.cpp", *link, "-o", name], folder, ASANCOL_CXX=compiler.cxx)
     for more in ((), ["-Wl,--version-script=one.map"], ["-Wl,-Bsymbolic"]):
         shared = ["-shared", "-fPIC", "-fvisibility-inlines-hidden", "-Wl,-z,defs", "object.cpp"]
         build([CXX, *flags, *shared, *more, "-o", "libobject.so"], folder, ASANCOL_CXX=compiler.cxx)
@@ -107,7 +107,7 @@ def check_objects(suite: Suite, folder: str, compiler: Compiler, flags: "list[st
 
 
 INSTANTIATED = "_ZNSt7__cxx1112basic_stringIcSt11char_traitsIcESaIcEE9_M_appendEPKcm"
-SMALL = "#include <string>\nint main(int n, char **words) { return (std::string(words[0]) += words[n - 1]).empty(); }\n"
+SMALL = "#include <string>\nint main(int n, char **argv) { return (std::string(argv[0]) += argv[n - 1]).empty(); }\n"
 
 
 def check_texts(suite: Suite, folder: str, compiler: Compiler) -> None:

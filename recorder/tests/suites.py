@@ -79,10 +79,10 @@ def print_table(outcomes: Sequence[Outcome]) -> None:
         print("".join(f"{count:>10} left out: {why}\n" for why, count in whys.most_common()), end="")
 
 
-def jobs_for(kept: Kept, words: Sequence[str]) -> List[Job]:
+def jobs_for(kept: Kept, argv: Sequence[str]) -> List[Job]:
     there = compilers()
     found = [job for suite in SUITES for job in suite.jobs(kept, there)]
-    return [it for it in found if not words or any(word == it.suite or word in it.name for word in words)]
+    return [it for it in found if not argv or any(word == it.suite or word in it.name for word in argv)]
 
 
 def main() -> int:

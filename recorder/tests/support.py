@@ -23,10 +23,10 @@ def limited(events):
     return {"ASANCOL_LIMIT": str(events), "ASANCOL_SEGMENTS": "0"}
 
 
-def build(words, folder, **settings):
-    made = run(words, folder, **settings)
+def build(argv, folder, **settings):
+    made = run(argv, folder, **settings)
     if made.returncode != 0:
-        raise Failure(f"{' '.join(words)}: {made.stderr.decode()}")
+        raise Failure(f"{' '.join(argv)}: {made.stderr.decode()}")
 
 
 class Trace:
@@ -181,12 +181,12 @@ class Compiler:
         return self.name
 
     def c(self, folder, sources, program, *flags, native=False, **settings):
-        words = [self.name] if native else [CC]
-        build([*words, "-g", *flags, *sources, "-o", program], folder, ASANCOL_CC=self.name, **settings)
+        argv = [self.name] if native else [CC]
+        build([*argv, "-g", *flags, *sources, "-o", program], folder, ASANCOL_CC=self.name, **settings)
 
     def cpp(self, folder, sources, program, *flags, native=False, **settings):
-        words = [self.cxx] if native else [CXX]
-        build([*words, "-g", *flags, *sources, "-o", program], folder, ASANCOL_CXX=self.cxx, **settings)
+        argv = [self.cxx] if native else [CXX]
+        build([*argv, "-g", *flags, *sources, "-o", program], folder, ASANCOL_CXX=self.cxx, **settings)
 
 
 def has_sanitizer(compiler, folder):

@@ -261,7 +261,7 @@ static void of_c11(void)
         _exit(4);
 }
 
-int main(int count, char **words)
+int main(int count, char **argv)
 {
     static const struct {
         const char *name;
@@ -273,7 +273,7 @@ int main(int count, char **words)
         {"first_named", first_named}, {"wild", wild}, {"wild_first", wild_first}, {"gives_up", gives_up},
     };
     for (size_t i = 0; i < sizeof ways / sizeof *ways; i++)
-        if (count > 1 && strcmp(words[1], ways[i].name) == 0) {
+        if (count > 1 && strcmp(argv[1], ways[i].name) == 0) {
             ways[i].run();
             return 0;
         }

@@ -60,12 +60,12 @@ def seen_in(suite: Suite, path: str) -> Tuple[List[Threads], Creators]:
     return found, creators
 
 
-def recorded(suite: Suite, folder: str, program: str, *words: str, **settings: str) -> Tuple[List[Threads], Creators]:
+def recorded(suite: Suite, folder: str, program: str, *argv: str, **settings: str) -> Tuple[List[Threads], Creators]:
     """Likewise of a process, or of the one that has reports of several."""
     for path in glob.glob(f"{folder}/*.trace*"):
         os.unlink(path)
-    ran = run([program, *words], folder, ASANCOL_TRACE="%p.trace", ASANCOL_WHERE="1", **settings)
-    expect((ran.returncode, ran.stderr), (0, b""), words)
+    ran = run([program, *argv], folder, ASANCOL_TRACE="%p.trace", ASANCOL_WHERE="1", **settings)
+    expect((ran.returncode, ran.stderr), (0, b""), argv)
     seen = [seen_in(suite, path) for path in sorted(glob.glob(f"{folder}/*.trace"))]
     return next((it for it in seen if it[0]), ([], {}))
 

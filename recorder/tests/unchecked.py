@@ -30,9 +30,9 @@ void *realloc(void *p, size_t size) { return __libc_realloc(p, size); }
 """
 OPENS = """
 #include <dlfcn.h>
-int main(int count, char **words)
+int main(int count, char **argv)
 {
-    void *opened = count > 1 ? dlopen(words[1], RTLD_NOW) : 0;
+    void *opened = count > 1 ? dlopen(argv[1], RTLD_NOW) : 0;
     return (count > 1 && !opened) || (count > 2 && dlclose(opened) != 0);
 }
 """
@@ -44,10 +44,10 @@ def make(folder, compiler, *words):
     expect((made.returncode, made.stdout, made.stderr), (0, b"", b""), f"{words}")
 
 
-def unchecked(folder, *words, **settings):
+def unchecked(folder, *argv, **settings):
     """What stands beside the trace of a program that was not checked, without libraries of the system."""
-    ran = run(list(words), folder, ASANCOL_TRACE="t.trace", ASANCOL_WHERE="1", **settings)
-    expect(ran.returncode, 0, f"{words}: {ran.stderr.decode()}")
+    ran = run(list(argv), folder, ASANCOL_TRACE="t.trace", ASANCOL_WHERE="1", **settings)
+    expect(ran.returncode, 0, f"{argv}: {ran.stderr.decode()}")
     side = side_of(f"{folder}/t.trace")
     text = "".join(f"{it}\n" for it in side.unchecked())
     os.unlink(f"{folder}/t.trace")
@@ -62,10 +62,10 @@ OPENS_APART = """
 #define _GNU_SOURCE
 #include <dlfcn.h>
 #include <string.h>
-int main(int count, char **words)
+int main(int count, char **argv)
 {
-    int is_deep = strcmp(words[1], "deep") == 0, flags = is_deep ? RTLD_NOW | RTLD_DEEPBIND : RTLD_NOW;
-    void *opened = strcmp(words[1], "apart") == 0 ? dlmopen(LM_ID_NEWLM, words[2], flags) : dlopen(words[2], flags);
+    int is_deep = strcmp(argv[1], "deep") == 0, flags = is_deep ? RTLD_NOW | RTLD_DEEPBIND : RTLD_NOW;
+    void *opened = strcmp(argv[1], "apart") == 0 ? dlmopen(LM_ID_NEWLM, argv[2], flags) : dlopen(argv[2], flags);
     if (!opened || dlerror() || (count > 3 && dlclose(opened) != 0))
         return 1;
     return count > 3 && !dlopen("./libhelper.so", RTLD_NOW);
@@ -116,11 +116,11 @@ def check_links(suite, folder, compiler):
         (["-static", "main.o", "plain.o"], [["plain.o", STATIC]]),
     ]
     for linker in LINKERS:
-        for words, wanted in rows:
-            if linker == "mold" and ("-static" in words or "libours.a" in words):
+        for argv, wanted in rows:
+            if linker == "mold" and ("-static" in argv or "libours.a" in argv):
                 continue  # it has no ASSERT, and traces each member
-            make(folder, compiler, f"-fuse-ld={linker}", *words, "-o", "program")
-            expect(noted(f"{folder}/program") in wanted, True, f"{linker} {words}: {noted(f'{folder}/program')}")
+            make(folder, compiler, f"-fuse-ld={linker}", *argv, "-o", "program")
+            expect(noted(f"{folder}/program") in wanted, True, f"{linker} {argv}: {noted(f'{folder}/program')}")
 
 
 def check_descriptors(suite, folder, compiler):
@@ -133,16 +133,16 @@ def check_descriptors(suite, folder, compiler):
 
 def check_mathematics(suite, folder, compiler):
     """The library of mathematics, which brings another that calls it; the compilers of C++ add it by themselves."""
-    write(folder, root_c="#include <math.h>\nint main(int count, char **words) { return words && sqrt(count) < 1; }\n")
+    write(folder, root_c="#include <math.h>\nint main(int count, char **argv) { return argv && sqrt(count) < 1; }\n")
     write(folder, root_cpp="#include <cmath>\nint main(int count, char **) { return std::sqrt(count) < 1; }\n")
     for linker in LINKERS:
         for word in ("-lm", "-Wl,-lm"):
             make(folder, compiler, f"-fuse-ld={linker}", "root.c", word, "-o", "program")
             expect(unchecked(folder, "./program"), [], f"{linker} {word}")
         if compiler.cxx:
-            words = [CXX, f"-fuse-ld={linker}", "root.cpp", "-o", "program"]
-            made = run(words, folder, ASANCOL_CXX=compiler.cxx)
-            expect((made.returncode, made.stdout, made.stderr), (0, b"", b""), f"{words}")
+            argv = [CXX, f"-fuse-ld={linker}", "root.cpp", "-o", "program"]
+            made = run(argv, folder, ASANCOL_CXX=compiler.cxx)
+            expect((made.returncode, made.stdout, made.stderr), (0, b"", b""), f"{argv}")
             expect(unchecked(folder, "./program"), [], f"{linker} C++")
 
 
@@ -158,12 +158,12 @@ def check_parts(suite, folder, compiler):
         (["-x", "main.o", "plain.o"], ["some.o"]),
     ]
     for linker in LINKERS:
-        for words, wanted in rows:
-            if linker == "mold" and "-x" in words:
+        for argv, wanted in rows:
+            if linker == "mold" and "-x" in argv:
                 continue  # it ends by its own assertion
-            build([f"ld.{linker}", "-r", *words, "-o", "some.o"], folder)
+            build([f"ld.{linker}", "-r", *argv, "-o", "some.o"], folder)
             make(folder, compiler, f"-fuse-ld={linker}", "some.o", "-o", "program")
-            expect(noted(f"{folder}/program"), wanted, f"{linker} {words}")
+            expect(noted(f"{folder}/program"), wanted, f"{linker} {argv}")
 
 
 # Its variable has the name of a function that is wrapped, and the linker warns of what it calls.
@@ -179,14 +179,14 @@ def check_linker_words(suite, folder, compiler):
     """Words for the linker: an output, what it prints, and its warnings, which come once, also if it is run twice."""
     objects(folder, compiler)
     write(folder, own_c=OWN, warned_c=WARNED, strip_rsp="-s")
-    for words in (["-Wl,-o,program"], ["-Xlinker", "-o", "-Xlinker", "program"], ["-Wl,--output=program"]):
-        make(folder, compiler, "main.o", "plain.o", *words)
-        expect(noted(f"{folder}/program"), ["plain.o"], f"{words}")
+    for argv in (["-Wl,-o,program"], ["-Xlinker", "-o", "-Xlinker", "program"], ["-Wl,--output=program"]):
+        make(folder, compiler, "main.o", "plain.o", *argv)
+        expect(noted(f"{folder}/program"), ["plain.o"], f"{argv}")
         os.unlink(f"{folder}/program")
-    for words in ([], ["-s"], ["-Wl,-O1,-s"], ["-Xlinker", "--strip-all"], ["@strip.rsp"]):
-        made = run([CC, "-fuse-ld=bfd", "own.c", "warned.c", *words, "-o", "program"], folder, ASANCOL_CC=compiler.name)
-        expect((made.returncode, made.stderr.count(b"is dangerous")), (0, 1), f"{words}: {made.stderr.decode()}")
-        expect(unchecked(folder, "./program"), [], f"{words}")
+    for argv in ([], ["-s"], ["-Wl,-O1,-s"], ["-Xlinker", "--strip-all"], ["@strip.rsp"]):
+        made = run([CC, "-fuse-ld=bfd", "own.c", "warned.c", *argv, "-o", "program"], folder, ASANCOL_CC=compiler.name)
+        expect((made.returncode, made.stderr.count(b"is dangerous")), (0, 1), f"{argv}: {made.stderr.decode()}")
+        expect(unchecked(folder, "./program"), [], f"{argv}")
     for word in ("-Wl,-t", "-Wl,--trace", "-Wl,--verbose"):
         made = run([CC, "-fuse-ld=bfd", "main.o", "ours.o", word, "-o", "program"], folder, ASANCOL_CC=compiler.name)
         expect((made.returncode, b"\nours.o\n" in made.stdout), (0, True), word)

@@ -1,4 +1,4 @@
-/* Reads the words of a command line, and those of its response files, as a compiler reads them. It changes none. */
+/* Reads the arguments of a command line, and those of its response files, as a compiler reads them. It changes none. */
 #ifndef ASANCOL_ARGUMENTS_H
 #define ASANCOL_ARGUMENTS_H
 
@@ -11,7 +11,7 @@ struct option;
 /* What the next word for the linker is. */
 enum linker_value { VALUE_NONE, VALUE_OUTPUT, VALUE_WRAP };
 
-/* How far the words were read. */
+/* How far the arguments were read. */
 struct arguments {
     struct request *request;
     const struct option *option; /* whose value is the next word, or null */

@@ -14,13 +14,13 @@
 #include "wrapper/running.h"
 #include "wrapper/say.h"
 
-/* Of the compiler's words those that are options of it, as -m32, come before the caller's. */
+/* Of the compiler's arguments those that are options of it, as -m32, come before the caller's. */
 static void read_arguments(struct job *job)
 {
     struct arguments arguments = {.request = &job->request};
     for (size_t i = 1; i < job->command.count; i++)
-        if (job->command.words[i][0] == '-' || arguments.option != NULL)
-            arguments_take(&arguments, job->command.words[i]);
+        if (job->command.items[i][0] == '-' || arguments.option != NULL)
+            arguments_take(&arguments, job->command.items[i]);
     arguments.option = NULL;
     for (char **word = job->arguments; *word != NULL; word++)
         arguments_take(&arguments, *word);
@@ -37,7 +37,7 @@ static void warn_of_unrecorded(const struct job *job)
     const char *foreign = request->foreign;
     bool compiles = inputs->has_compiled || (job->links && inputs->linked.has_lto);
     if (foreign == NULL && inputs->has_compiled && job->compiler == NULL)
-        warn(job->command.words[0], UNKNOWN_COMPILER);
+        warn(job->command.items[0], UNKNOWN_COMPILER);
     if (foreign != NULL)
         warn(foreign, is_sanitizer(foreign) ? "take it out: " NOTHING : NOTHING);
     else if (!compiles)
@@ -48,15 +48,15 @@ static void warn_of_unrecorded(const struct job *job)
         left_out_warn(&request->left_out, job->compiler->check_place);
 }
 
-int main(int count, char **words)
+int main(int count, char **argv)
 {
     if (count == 0)
         return 1;
     fill_standard();
-    struct job job = {.front = front_of(words[0], (const char *)getauxval(AT_EXECFN)), .arguments = words + 1};
+    struct job job = {.front = front_of(argv[0], (const char *)getauxval(AT_EXECFN)), .arguments = argv + 1};
     struct request *request = &job.request;
     say_as(job.front->name);
-    struct own_options own = own_options_take(words, job.front);
+    struct own_options own = own_options_take(argv, job.front);
     request->is_all = own.is_all;
     job.command = command_of(own.compiler, job.front);
     read_arguments(&job);
@@ -64,7 +64,7 @@ int main(int count, char **words)
     job.links = request->inputs.has_linked && !request->stops_early && !request->link.is_partial;
     bool compiles = job.takes_part && (request->inputs.has_source || request->inputs.linked.has_marked);
     if (compiles || (request->foreign == NULL && request->says_use_after_return))
-        job.compiler = compiler_of(job.command.words, job.command.count);
+        job.compiler = compiler_of(job.command.items, job.command.count);
     if (job.compiler != NULL)
         use_after_return_take(&job);
     if (request->inputs.has_any)

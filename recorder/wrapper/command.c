@@ -11,13 +11,13 @@
 #include "wrapper/say.h"
 #include "wrapper/self.h"
 
-struct own_options own_options_take(char **words, const struct front *front)
+struct own_options own_options_take(char **argv, const struct front *front)
 {
     static const char all[] = "--asancol-all", compiler[] = "--asancol-compiler=";
     const char *setting = getenv("ASANCOL_ALL");
     struct own_options own = {getenv(front->variable), setting != NULL && strcmp(setting, "1") == 0};
-    char **kept = words + 1;
-    for (char **word = words + 1; *word != NULL; word++) {
+    char **kept = argv + 1;
+    for (char **word = argv + 1; *word != NULL; word++) {
         if (strcmp(*word, all) == 0)
             own.is_all = true;
         else if (begins_with(*word, compiler))
@@ -43,15 +43,15 @@ static const char *program_of(const char *word)
     return word;
 }
 
-struct words command_of(const char *text, const struct front *front)
+struct strings command_of(const char *text, const struct front *front)
 {
-    struct words command = {0};
+    struct strings command = {0};
     char *rest = must(strdup(text != NULL ? text : "")), *word;
     while ((word = strsep(&rest, " \t\n")) != NULL)
         if (*word != 0)
-            words_add(&command, word);
+            strings_add(&command, word);
     if (command.count == 0)
-        words_add(&command, front->usual);
-    command.words[0] = program_of(command.words[0]);
+        strings_add(&command, front->usual);
+    command.items[0] = program_of(command.items[0]);
     return command;
 }

@@ -4,7 +4,7 @@
 
 #include <stdbool.h>
 
-#include "common/words.h"
+#include "common/strings.h"
 #include "wrapper/fronts.h"
 
 /* What is for the wrapper itself. ccache sees options, and no variables. */
@@ -13,9 +13,10 @@ struct own_options {
     bool is_all;
 };
 
-/* Takes its options out of the words, and what they do not say from the environment. */
-struct own_options own_options_take(char **words, const struct front *front);
-/* The words of the compiler. The first one is the path of a program, and never of this one. Fails if there is none. */
-struct words command_of(const char *text, const struct front *front);
+/* Takes its options out of the arguments, and what they do not say from the environment. */
+struct own_options own_options_take(char **argv, const struct front *front);
+/* The arguments of the compiler. The first one is the path of a program, and never of this one. Fails if there is
+   none. */
+struct strings command_of(const char *text, const struct front *front);
 
 #endif

@@ -80,17 +80,17 @@ static const struct compiler compilers[] = {
 /* In the child: runs the command with --version, which reads nothing and whose errors nobody wants. */
 static _Noreturn void ask(const char *const *command, size_t count, int output)
 {
-    const char **words = calloc(count + 2, sizeof *words);
+    const char **argv = calloc(count + 2, sizeof *argv);
     int nothing = open("/dev/null", O_RDWR);
-    if (words == NULL)
+    if (argv == NULL)
         _exit(127);
     for (size_t i = 0; i < count; i++)
-        words[i] = command[i];
-    words[count] = "--version";
+        argv[i] = command[i];
+    argv[count] = "--version";
     dup2(nothing, STDIN_FILENO);
     dup2(nothing, STDERR_FILENO);
     dup2(output, STDOUT_FILENO);
-    execv(words[0], (char *const *)words);
+    execv(argv[0], (char *const *)argv);
     _exit(127);
 }
 

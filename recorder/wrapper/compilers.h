@@ -9,7 +9,7 @@
 #include "wrapper/use_after_return.h"
 
 struct flags {
-    const char *const *words;
+    const char *const *items;
     size_t count;
 };
 
@@ -17,15 +17,15 @@ struct flags {
 struct compiler {
     const char *says;       /* what it prints if it is asked for its version */
     const char *made_of;    /* the library of which most programs of it are made: such a one is not asked. Or null */
-    struct flags flags;     /* before the caller's words: its own check, inline, and a call if an access is bad by it */
+    struct flags flags;     /* before the caller's arguments: its inline check, and a call if an access is bad by it */
     struct flags all_flags; /* or a call before each access */
     struct flags use_after_return[USES_AFTER_RETURN]; /* with these */
-    struct flags after;     /* after the caller's words, with inline checks */
+    struct flags after;     /* after the caller's arguments, with inline checks */
     struct flags last;      /* after them in any case, for what is compiled: none of them takes these back */
     const char *header;     /* a file of the recorder's that it includes after the caller's, likewise; or null */
     const char *own_number; /* before a number that makes the noted switches of each object its own, or null */
-    bool has_driver;        /* a program that runs it, and hands it words after -Xclang without a look at them */
-    enum check_place check_place; /* where words stand that take some of its checks away */
+    bool has_driver;        /* a program that runs it, and hands it arguments after -Xclang without a look at them */
+    enum check_place check_place; /* where arguments stand that take some of its checks away */
     bool compiles_at_link;  /* what it made with -flto is compiled with the settings that are given to the link */
 };
 

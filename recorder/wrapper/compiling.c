@@ -15,7 +15,7 @@
 
 /* Linkers keep one of the noted switches that are the same. Clang notes the names of its files, and so they differ. GCC
    gets a threshold that comes of the name, and is still so large that no function reaches it. */
-static void add_own_number(struct words *line, const struct job *job)
+static void add_own_number(struct strings *line, const struct job *job)
 {
     enum { LARGE = 1 << 30 };
     const struct request *request = &job->request;
@@ -26,8 +26,8 @@ static void add_own_number(struct words *line, const struct job *job)
     const char *name = request->link.output != NULL ? request->link.output : sources->names[0];
     if (asprintf(&word, "%s%u", job->compiler->own_number, LARGE + hash_of(name, strlen(name)) % LARGE) < 0)
         no_memory();
-    words_add(line, "--param");
-    words_add(line, word);
+    strings_add(line, "--param");
+    strings_add(line, word);
 }
 
 /* GCC compiles at the link what was made with -flto. */
@@ -38,7 +38,7 @@ static bool compiles_at_link(const struct job *job)
 
 /* The calls before accesses: when compiling, and for GCC when linking too. It would compile then with the settings of
    an object that was made without these flags. */
-static void add_checks(struct words *line, const struct job *job)
+static void add_checks(struct strings *line, const struct job *job)
 {
     const struct compiler *compiler = job->compiler;
     const struct inputs *inputs = &job->request.inputs;
@@ -47,25 +47,25 @@ static void add_checks(struct words *line, const struct job *job)
     if (compiler->compiles_at_link && !job->request.stops_early && inputs->linked.unmarked_lto != NULL)
         fail(inputs->linked.unmarked_lto, "it was made with -flto, but not by asancol-cc: compile it again");
     const struct flags *flags = job->request.is_all ? &compiler->all_flags : &compiler->flags;
-    words_add_all(line, flags->words, flags->count);
+    strings_add_all(line, flags->items, flags->count);
     const struct flags *returns = &compiler->use_after_return[job->request.use_after_return];
-    words_add_all(line, returns->words, returns->count);
+    strings_add_all(line, returns->items, returns->count);
     add_own_number(line, job);
     for (size_t i = 0; compiler->has_driver && i < job->request.kept.count; i++) {
-        words_add(line, "-Xclang");
-        words_add(line, job->request.kept.names[i]);
+        strings_add(line, "-Xclang");
+        strings_add(line, job->request.kept.names[i]);
     }
 }
 
-static void add_file(struct words *line, const char *option, const char *name)
+static void add_file(struct strings *line, const char *option, const char *name)
 {
-    words_add(line, option);
-    words_add(line, self_file(name));
+    strings_add(line, option);
+    strings_add(line, self_file(name));
 }
 
 /* Where the headers of the library of C++ are that have its strings and streams compiled here. They stand before others
    that are looked for in the same way, and include these. */
-static void add_headers(struct words *line, const struct request *request)
+static void add_headers(struct strings *line, const struct request *request)
 {
     const char *option = request->is_without_cxx ? "-I" : "-isystem";
     if (!request->inputs.has_text)
@@ -76,7 +76,7 @@ static void add_headers(struct words *line, const struct request *request)
         add_file(line, option, "cxx/libc++");
 }
 
-void compiling_add_before(struct words *line, const struct job *job)
+void compiling_add_before(struct strings *line, const struct job *job)
 {
     if (job->compiler == NULL || job->request.refusal != NULL)
         return;
@@ -84,27 +84,27 @@ void compiling_add_before(struct words *line, const struct job *job)
     add_headers(line, &job->request);
 }
 
-void compiling_add_after(struct words *line, const struct job *job)
+void compiling_add_after(struct strings *line, const struct job *job)
 {
     const struct compiler *compiler = job->compiler;
     const struct request *request = &job->request;
     if (compiler == NULL || request->refusal != NULL)
         return;
     if (request->inputs.has_compiled || compiles_at_link(job))
-        words_add_all(line, compiler->last.words, compiler->last.count);
+        strings_add_all(line, compiler->last.items, compiler->last.count);
     if (!request->inputs.has_source)
         return;
-    words_add(line, NOTE_SWITCHES); /* whatever the caller's words say of it */
+    strings_add(line, NOTE_SWITCHES); /* whatever the caller's arguments say of it */
     if (request->is_all || !request->inputs.has_compiled)
         return;
-    words_add_all(line, compiler->after.words, compiler->after.count);
+    strings_add_all(line, compiler->after.items, compiler->after.count);
     if (compiler->header != NULL && request->inputs.has_text && !request->is_shown)
         add_file(line, "-include", compiler->header);
 }
 
-void compiling_add_note(struct words *line, const struct job *job)
+void compiling_add_note(struct strings *line, const struct job *job)
 {
     const struct request *request = &job->request;
     if (request->inputs.has_source && request->foreign != NULL && is_sanitizer(request->foreign))
-        words_add(line, NOTE_SWITCHES); /* by which the link sees why nothing of it is recorded */
+        strings_add(line, NOTE_SWITCHES); /* by which the link sees why nothing of it is recorded */
 }

@@ -2,14 +2,14 @@
 #ifndef ASANCOL_JOB_H
 #define ASANCOL_JOB_H
 
-#include "common/words.h"
+#include "common/strings.h"
 #include "wrapper/compilers.h"
 #include "wrapper/fronts.h"
 #include "wrapper/request.h"
 
 struct job {
     const struct front *front;
-    struct words command;            /* of the compiler */
+    struct strings command;          /* of the compiler */
     const struct compiler *compiler; /* null: it was not asked which it is, or it is not known */
     struct request request;
     char **arguments; /* of the caller's, with a null at the end */

@@ -1,4 +1,4 @@
-/* The caller's words that take some of our checks away, and leave others. */
+/* The caller's arguments that take some of our checks away, and leave others. */
 #ifndef ASANCOL_WRAPPER_LEFT_OUT_H
 #define ASANCOL_WRAPPER_LEFT_OUT_H
 

@@ -70,17 +70,17 @@ static bool has_start(const struct link_request *link)
     return !link->is_shared && (!link->is_bare || link->has_libc);
 }
 
-static void add_file(struct words *line, const char *name)
+static void add_file(struct strings *line, const char *name)
 {
     static const char front[] = "-Wl,";
     const char *path = self_file(name);
     char *word = must(malloc(sizeof front + strlen(path)));
     stpcpy(stpcpy(word, front), path);
-    words_add(line, word);
+    strings_add(line, word);
 }
 
 /* One word for all of them. What calls a function that is left alone by its other name still finds it. */
-static void add_wraps(struct words *line, size_t count)
+static void add_wraps(struct strings *line, size_t count)
 {
     static const char front[] = "-Wl", wrap[] = ",--wrap=", other[] = ",--defsym=__real_";
     size_t length = sizeof front;
@@ -92,15 +92,15 @@ static void add_wraps(struct words *line, size_t count)
         if (is_own[i])
             end = stpcpy(stpcpy(end, "="), wraps[i]);
     }
-    words_add(line, word);
+    strings_add(line, word);
 }
 
-void linking_add_before(struct words *line, const struct job *job)
+void linking_add_before(struct strings *line, const struct job *job)
 {
     const struct link_request *link = &job->request.link;
     if (!has_start(link))
         return;
-    words_add(line, "-Wl,--undefined=asancol_first");
+    strings_add(line, "-Wl,--undefined=asancol_first");
     add_file(line, linking_is_static(link) ? "libasancol_first_static.a" : "libasancol_first.a");
 }
 
@@ -112,46 +112,46 @@ static bool has_checks(const struct request *request)
     return (linked->has_marked && !(is_refused && linked->has_lto)) || (request->inputs.has_compiled && !is_refused);
 }
 
-static void add_static(struct words *line)
+static void add_static(struct strings *line)
 {
-    words_add(line, "-Wl,--eh-frame-hdr"); /* by which stacks lead through the C library */
-    words_add_all(line, program_flags, COUNT(program_flags));
+    strings_add(line, "-Wl,--eh-frame-hdr"); /* by which stacks lead through the C library */
+    strings_add_all(line, program_flags, COUNT(program_flags));
     add_file(line, "libasancol_static.a");
     add_file(line, "no-second-allocator.ld");
 }
 
 /* Linkers wrap the operators that the library of C++ calls too, and see that once they have read the recorder. */
-static void ask_for_operators(struct words *line, const struct job *job)
+static void ask_for_operators(struct strings *line, const struct job *job)
 {
     if (job->front->has_new && (job->request.is_libcxx || job->request.link.has_cxx_inside))
-        words_add(line, "-Wl,--undefined=__wrap__Znwm");
+        strings_add(line, "-Wl,--undefined=__wrap__Znwm");
 }
 
-static void add_to_shared_object(struct words *line, const struct job *job)
+static void add_to_shared_object(struct strings *line, const struct job *job)
 {
     ask_for_operators(line, job);
-    words_add(line, "-Wl,--undefined=asancol_map_early");
-    words_add(line, "-Wl,--undefined=asancol_link_note");
+    strings_add(line, "-Wl,--undefined=asancol_map_early");
+    strings_add(line, "-Wl,--undefined=asancol_link_note");
     add_file(line, "libasancol_shared.a");
 }
 
-static void add_to_program(struct words *line, const struct job *job)
+static void add_to_program(struct strings *line, const struct job *job)
 {
     const struct link_request *link = &job->request.link;
     ask_for_operators(line, job);
     if (has_start(link))
-        words_add_all(line, program_flags, COUNT(program_flags));
+        strings_add_all(line, program_flags, COUNT(program_flags));
     add_file(line, "libasancol_record.a");
     if (link->has_libc)
-        words_add(line, "-lc"); /* for what the recorder calls */
+        strings_add(line, "-lc"); /* for what the recorder calls */
 }
 
-void linking_add_after(struct words *line, const struct job *job)
+void linking_add_after(struct strings *line, const struct job *job)
 {
     const struct link_request *link = &job->request.link;
-    words_add(line, TAKEN_FLAGS);
+    strings_add(line, TAKEN_FLAGS);
     if (has_checks(&job->request))
-        words_add(line, "-Wl,--undefined=asancol_checks");
+        strings_add(line, "-Wl,--undefined=asancol_checks");
     if (linking_is_static(link)) {
         add_static(line);
         return;
@@ -161,12 +161,12 @@ void linking_add_after(struct words *line, const struct job *job)
     /* gold wraps what shared objects call too, as libmvec, which comes with it: it must see that before
        the recorder. */
     if (has_libm)
-        words_add(line, LIBM);
+        strings_add(line, LIBM);
     if (link->is_shared)
         add_to_shared_object(line, job);
     else
         add_to_program(line, job);
     /* What was called of it is called by the recorder now, which stands behind it. */
     if (has_libm)
-        words_add(line, LIBM);
+        strings_add(line, LIBM);
 }

@@ -4,10 +4,10 @@
 
 #include "wrapper/job.h"
 
-/* Before the caller's words: what comes first in the program. */
-void linking_add_before(struct words *line, const struct job *job);
+/* Before the caller's arguments: what comes first in the program. */
+void linking_add_before(struct strings *line, const struct job *job);
 /* After them. */
-void linking_add_after(struct words *line, const struct job *job);
+void linking_add_after(struct strings *line, const struct job *job);
 /* Whether a program gets the C library into itself. Then no function is wrapped. */
 bool linking_is_static(const struct link_request *link);
 /* Looks into what was linked: a function is left alone if the program has a variable of its name, whose uses would

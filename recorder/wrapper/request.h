@@ -1,4 +1,4 @@
-/* What the words of a command line ask the compiler for. */
+/* What the arguments of a command line ask the compiler for. */
 #ifndef ASANCOL_REQUEST_H
 #define ASANCOL_REQUEST_H
 
@@ -48,7 +48,7 @@ struct request {
     bool is_libcxx;      /* the library of C++ is that of LLVM */
     bool is_without_cxx; /* it is not looked for at its place: the caller says where it is */
     char *foreign;       /* a word for another sanitizer, which brings its own runtime, or another machine; or null */
-    struct names kept;   /* words that Clang's driver passes on if it knows of a sanitizer */
+    struct names kept;   /* arguments that Clang's driver passes on if it knows of a sanitizer */
     bool says_use_after_return; /* in a word of its own */
     enum use_after_return use_after_return;
     char *refusal;       /* a word by which the compiler puts no calls before accesses, or null */

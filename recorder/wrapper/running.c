@@ -25,35 +25,35 @@ static bool keeps_symbols(const char *word)
     return strcmp(word, "-s") != 0 && strcmp(word, "-Wl,-s") != 0 && strcmp(word, "-Wl,--strip-all") != 0;
 }
 
-/* What is run: the compiler with its caller's words and ours. */
-static struct words make_line(const struct job *job, bool is_try)
+/* What is run: the compiler with its caller's arguments and ours. */
+static struct strings make_line(const struct job *job, bool is_try)
 {
-    struct words line = {0};
-    words_add_all(&line, job->command.words, job->command.count);
+    struct strings line = {0};
+    strings_add_all(&line, job->command.items, job->command.count);
     if (job->takes_part)
         compiling_add_before(&line, job);
     if (job->takes_part && job->links)
         linking_add_before(&line, job);
     for (char **word = job->arguments; *word != NULL; word++)
         if (!is_try || keeps_symbols(*word))
-            words_add(&line, *word);
+            strings_add(&line, *word);
     if (job->takes_part)
         compiling_add_after(&line, job);
     else
         compiling_add_note(&line, job);
     if (job->takes_part && job->links)
         linking_add_after(&line, job);
-    /* BFD and LLD heed the last: one may stand among other words, or in a response file. */
+    /* BFD and LLD heed the last: one may stand among other arguments, or in a response file. */
     if (is_try && job->request.link.is_stripped)
-        words_add(&line, "-Wl,-S");
+        strings_add(&line, "-Wl,-S");
     return line;
 }
 
 void running_become(const struct job *job)
 {
-    struct words line = make_line(job, false);
-    execv(line.words[0], (char *const *)line.words);
-    fail(line.words[0], strerror(errno));
+    struct strings line = make_line(job, false);
+    execv(line.items[0], (char *const *)line.items);
+    fail(line.items[0], strerror(errno));
 }
 
 /* What a link has said, and what it has taken in. */
@@ -114,7 +114,7 @@ static off_t keep_standard_input(void)
 }
 
 /* In the child. */
-static _Noreturn void run(const struct words *line, int ends[2], bool is_silent)
+static _Noreturn void run(const struct strings *line, int ends[2], bool is_silent)
 {
     dup2(ends[1], STDOUT_FILENO);
     close(ends[0]);
@@ -122,26 +122,26 @@ static _Noreturn void run(const struct words *line, int ends[2], bool is_silent)
         close(ends[1]);
     if (is_silent)
         dup2(open("/dev/null", O_WRONLY), STDERR_FILENO);
-    execv(line->words[0], (char *const *)line->words);
-    fail(line->words[0], strerror(errno));
+    execv(line->items[0], (char *const *)line->items);
+    fail(line->items[0], strerror(errno));
 }
 
 /* Links, and returns the status, or ends as the compiler has ended. */
 static int link_once(const struct job *job, bool is_try, struct link *link, bool is_silent)
 {
     int status = 0, ends[2];
-    struct words line = make_line(job, is_try);
+    struct strings line = make_line(job, is_try);
     if (job->request.inputs.has_standard)
         lseek(STDIN_FILENO, link->start, SEEK_SET);
     if (pipe(ends) != 0)
-        fail(line.words[0], strerror(errno));
+        fail(line.items[0], strerror(errno));
     pid_t child = fork();
     if (child == 0)
         run(&line, ends, is_silent);
     close(ends[1]);
     char *text = read_all(ends[0]);
     if (child < 0 || waitpid(child, &status, 0) != child)
-        fail(line.words[0], strerror(errno));
+        fail(line.items[0], strerror(errno));
     take_lines(link, job->request.link.is_traced, text);
     free(text);
     if (WIFSIGNALED(status))

@@ -44,9 +44,9 @@ static const struct front_word {
     const char *word, *value;
 } fronts[] = {{"--param", USE_AFTER_RETURN_OF_GCC}, {"-Xclang", USE_AFTER_RETURN_OF_CLANG}};
 
-/* A list of words that is gone over. */
+/* A list of arguments that is gone over. */
 struct pass {
-    struct words kept;
+    struct strings kept;
     enum use_after_return last;
     bool has_any;
     const struct front_word *front; /* the word before, or null */
@@ -84,7 +84,7 @@ static bool is_response_file(const char *word)
 static void keep_front(struct pass *pass)
 {
     if (pass->front != NULL)
-        words_add(&pass->kept, pass->front->word);
+        strings_add(&pass->kept, pass->front->word);
     pass->front = NULL;
 }
 
@@ -103,16 +103,16 @@ static void take(void *to, const char *word)
     }
     pass->front = front_word(word);
     if (pass->front == NULL)
-        words_add(&pass->kept, must(strdup(word)));
+        strings_add(&pass->kept, must(strdup(word)));
 }
 
-/* Writes words so that a compiler reads them again as they are. */
-static void write_words(int file, const struct words *words)
+/* Writes arguments so that a compiler reads them again as they are. */
+static void write_arguments(int file, const struct strings *argv)
 {
     FILE *to = must(fdopen(file, "w"));
-    for (size_t i = 0; i < words->count; i++) {
+    for (size_t i = 0; i < argv->count; i++) {
         fputc('"', to);
-        for (const char *at = words->words[i]; *at != 0; at++)
+        for (const char *at = argv->items[i]; *at != 0; at++)
             fprintf(to, *at == '"' || *at == '\\' ? "\\%c" : "%c", *at);
         fputs("\"\n", to);
     }
@@ -128,27 +128,27 @@ static void take_response_file(struct pass *pass, const char *word)
     response_read(word + 1, take, &inner);
     keep_front(&inner);
     if (!inner.has_any) {
-        words_add(&pass->kept, word);
+        strings_add(&pass->kept, word);
         return;
     }
-    int file = memfd_create("words", 0);
+    int file = memfd_create("arguments", 0);
     if (file < 0)
         fail(word, strerror(errno));
-    write_words(file, &inner.kept);
+    write_arguments(file, &inner.kept);
     if (asprintf(&name, "@/proc/self/fd/%d", file) < 0)
         no_memory();
-    words_add(&pass->kept, name);
+    strings_add(&pass->kept, name);
     pass->last = inner.last;
 }
 
-static struct words taken_from(const char *const *words, enum use_after_return *last)
+static struct strings taken_from(const char *const *argv, enum use_after_return *last)
 {
     struct pass pass = {.last = *last};
-    for (; *words != NULL; words++) {
-        if (pass.front == NULL && is_response_file(*words))
-            take_response_file(&pass, *words);
+    for (; *argv != NULL; argv++) {
+        if (pass.front == NULL && is_response_file(*argv))
+            take_response_file(&pass, *argv);
         else
-            take(&pass, *words);
+            take(&pass, *argv);
     }
     keep_front(&pass);
     *last = pass.last;
@@ -159,8 +159,8 @@ void use_after_return_take(struct job *job)
 {
     static char *nothing[] = {NULL};
     enum use_after_return last = USE_AFTER_RETURN_NEVER;
-    job->command = taken_from(job->command.words, &last);
-    struct words arguments = taken_from((const char *const *)job->arguments, &last);
-    job->arguments = arguments.count != 0 ? (char **)arguments.words : nothing;
+    job->command = taken_from(job->command.items, &last);
+    struct strings arguments = taken_from((const char *const *)job->arguments, &last);
+    job->arguments = arguments.count != 0 ? (char **)arguments.items : nothing;
     job->request.use_after_return = last;
 }

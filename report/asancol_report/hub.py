@@ -182,11 +182,11 @@ class Files(Hub):
     def check(self, asancol_run: str, options: List[str]) -> None:
         """Has the traces checked. Broken, if one was not read to its end."""
         look_at_sides(self.segments, self.results.notes)
-        words = [asancol_run, "--files", *options, "--", *(f"{it.number}:{it.path}" for it in self.segments)]
+        argv = [asancol_run, "--files", *options, "--", *(f"{it.number}:{it.path}" for it in self.segments)]
         ours, theirs = socket.socketpair(socket.AF_UNIX, socket.SOCK_SEQPACKET)
         try:
             with theirs, open(os.devnull, "rb") as nothing:
-                child = start(words, nothing.fileno(), theirs.fileno())
+                child = start(argv, nothing.fileno(), theirs.fileno())
         except OSError as error:
             ours.close()
             raise CannotCheck(f"{asancol_run} can't be run: {reason(error)}") from None

@@ -292,7 +292,7 @@ def end_run(run: Run, entry: Entry) -> None:
 
 
 def command_of(value: object, commands: Commands) -> Tuple[str, ...]:
-    """Returns the words of a command. Processes that have the same command share it."""
+    """Returns the arguments of a command. Processes that have the same command share it."""
     if type(value) is not list:
         return ()
     try:

@@ -285,12 +285,12 @@ def set_signals(is_fed: bool) -> None:
         signal.signal(signal.SIGINT, signal.SIG_DFL)
 
 
-def main(words: List[str], beside: str) -> int:
-    """Runs the program with the words of its command line, and returns its status."""
-    set_signals("--run" in words)
+def main(argv: List[str], beside: str) -> int:
+    """Runs the program with the arguments of its command line, and returns its status."""
+    set_signals("--run" in argv)
     sys.stdout = open(1, "w", encoding="utf-8", errors="surrogateescape", newline="\n", closefd=False)
     try:
-        options = command_line.read(words)
+        options = command_line.read(argv)
         if options.switches["--help"]:
             sys.stdout.write(option_table.HELP)
         elif options.switches["--version"]:

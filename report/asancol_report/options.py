@@ -62,9 +62,9 @@ def take(options: Options, name: str, rest: List[str], value: str, has_value: bo
         raise Refused(f"there is no option {name}{closest(name)}")
 
 
-def read(words: List[str]) -> Options:
+def read(argv: List[str]) -> Options:
     """Reads the command line. Refused, if it makes no sense."""
-    options, rest = Options(), list(words)
+    options, rest = Options(), list(argv)
     while rest:
         word = rest.pop(0)
         if word == "--":

@@ -326,6 +326,6 @@ class Results:
 
 def program_of(run: Run, process: Optional[Process]) -> str:
     """Returns the path of a process's program, as far as it is known."""
-    words = (process.command if process else ()) or run.command
-    return os.path.normpath(os.path.join(run.directory, words[0])) if words and "/" in words[0] else "".join(words[:1])
+    argv = (process.command if process else ()) or run.command
+    return os.path.normpath(os.path.join(run.directory, argv[0])) if argv and "/" in argv[0] else "".join(argv[:1])
 

@@ -20,14 +20,14 @@ def in_memory(text: bytes = b"") -> BinaryIO:
     return file
 
 
-def start(words: Sequence[str], stdin: int, stdout: int, given: int = -1, is_silent: bool = False) -> int:
+def start(argv: Sequence[str], stdin: int, stdout: int, given: int = -1, is_silent: bool = False) -> int:
     """Starts a program and returns its number. OSError, if it can't be run."""
     actions = [(os.POSIX_SPAWN_DUP2, stdin, INPUT), (os.POSIX_SPAWN_DUP2, stdout, OUTPUT)]
     if is_silent:
         actions.append((os.POSIX_SPAWN_OPEN, ERRORS, os.devnull, os.O_WRONLY, 0))  # type: ignore[arg-type]
     if given >= 0:
         actions.append((os.POSIX_SPAWN_DUP2, given, GIVEN))
-    return os.posix_spawn(words[0], list(words), os.environ, file_actions=actions)
+    return os.posix_spawn(argv[0], list(argv), os.environ, file_actions=actions)
 
 
 def wait(child: int, patience: float = 0) -> int:

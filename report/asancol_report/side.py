@@ -20,7 +20,7 @@ VERSION_AT, OLDEST = 4, 4
 HEADERS = tuple(HEADER[:VERSION_AT] + bytes([it]) + HEADER[VERSION_AT + 1:]
                 for it in range(OLDEST, HEADER[VERSION_AT] + 1))
 HEAD = struct.Struct("<8sQQIIIIQIIIIQ")
-WORDS_AT, WORDS_ROOM = 72, 4000
+ARGV_AT, ARGV_ROOM = 72, 4000
 LAST_AT, LAST = 4072, struct.Struct("<QQII")
 HAS_ADDRESS, BY_LOAD, BY_STORE, BY_JUMP, STACK_USED_UP = 1, 2, 4, 8, 16
 ACCESSES = {BY_LOAD: "load", BY_STORE: "store", BY_JUMP: "jump"}
@@ -211,9 +211,9 @@ class Side:
         last, _, name = BESIDE_THREADS.unpack(text)
         return last, text_of(name)
 
-    def words(self) -> List[str]:
+    def argv(self) -> List[str]:
         """Returns the command line, as far as it was kept."""
-        text = read_at(self.descriptor, WORDS_AT, WORDS_ROOM) if self.is_good else b""
+        text = read_at(self.descriptor, ARGV_AT, ARGV_ROOM) if self.is_good else b""
         return [os.fsdecode(word) for word in text.split(b"\0\0")[0].split(b"\0")] if text.strip(b"\0") else []
 
     def unchecked(self) -> List[str]:

@@ -39,10 +39,10 @@ def whole_characters(text: str) -> str:
     return text if text.isascii() else SURROGATE.sub("\ufffd", text)
 
 
-def command_line(words: Sequence[str]) -> str:
+def command_line(argv: Sequence[str]) -> str:
     """Returns a command as a shell would show it: words that have blanks in them are quoted."""
     return " ".join(word if word and not re.search(r"[\s'\"]", word) else "'" + word.replace("'", "'\\''") + "'"
-                    for word in words)
+                    for word in argv)
 
 
 def signal_name(number: int) -> str:

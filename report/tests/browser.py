@@ -129,9 +129,9 @@ class Browser:
         self.ours_in, theirs_out = os.pipe()
         # The browser reads its descriptor 3 and writes its descriptor 4.
         line = f'exec "$0" "$@" 3<&{theirs_in} 4>&{theirs_out}'
-        words = [tool, "--headless", "--no-sandbox", "--disable-gpu", "--no-first-run", "--window-size=380,800",
+        argv = [tool, "--headless", "--no-sandbox", "--disable-gpu", "--no-first-run", "--window-size=380,800",
                  "--disable-background-networking", f"--user-data-dir={folder}/browser", "--remote-debugging-pipe"]
-        self.child = subprocess.Popen(["bash", "-c", line, *words], pass_fds=[theirs_in, theirs_out],
+        self.child = subprocess.Popen(["bash", "-c", line, *argv], pass_fds=[theirs_in, theirs_out],
                                       stdout=subprocess.DEVNULL, stderr=subprocess.DEVNULL)
         os.close(theirs_in)
         os.close(theirs_out)

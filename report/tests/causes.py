@@ -125,9 +125,9 @@ def a_consequence_stands_by_itself(folder: str) -> None:
         file.writelines(it for it in lines if json.loads(it)["type"] != "finding" or json.loads(it)["event"] == 4)
     with open(f"{folder}/rules", "w", encoding="utf-8") as file:
         file.write("at:*:make@program.c\n")
-    for words in (["--suppressions", "rules"], ["--baseline", "known.jsonl"]):
-        ran = report(folder, "a.jsonl", *words)
-        expect(ran.status, 1, str(words))
+    for argv in (["--suppressions", "rules"], ["--baseline", "known.jsonl"]):
+        ran = report(folder, "a.jsonl", *argv)
+        expect(ran.status, 1, str(argv))
         expect(len(heads(ran.out)), 3, ran.out)
         expect_in(ran.out, "==ERROR: asancol: heap-use-after-free: load of 4 bytes (2 times, 1 process)\n")
         expect_not_in(ran.out, "also at")

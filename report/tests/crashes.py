@@ -18,10 +18,10 @@ def crashed(program: Program, place: str, address: int = 0x10, how: int = layout
     return [*parts, (layout.LAST_AT, layout.LAST.pack(program.places[place], address, 0, how))]
 
 
-def feed_crashes(folder: str, *words: str, reports: str = "") -> Feed:
+def feed_crashes(folder: str, *argv: str, reports: str = "") -> Feed:
     """A command that did not mind: of its processes two have crashed at one place, and one at another."""
     program = build(folder)
-    feed = Feed(folder, *words, "--source-root", ".")
+    feed = Feed(folder, *argv, "--source-root", ".")
     feed.begin()
     died = {"signal": 11, "fate": "no-close", "why": "ended by SIGSEGV"}
     feed.process(0, NO_REPORTS)
@@ -31,13 +31,13 @@ def feed_crashes(folder: str, *words: str, reports: str = "") -> Feed:
     return feed
 
 
-def entries(folder: str, *words: str) -> List[Any]:
-    ran = report(folder, "a.jsonl", "--json", "-", *words)
+def entries(folder: str, *argv: str) -> List[Any]:
+    ran = report(folder, "a.jsonl", "--json", "-", *argv)
     return [json.loads(line) for line in ran.out.splitlines() if line.startswith("{")]
 
 
-def test_case(folder: str, *words: str) -> Any:
-    report(folder, "a.jsonl", "--junit", "out.xml", "--source-root", ".", *words)
+def test_case(folder: str, *argv: str) -> Any:
+    report(folder, "a.jsonl", "--junit", "out.xml", "--source-root", ".", *argv)
     return xml.dom.minidom.parse(f"{folder}/out.xml").getElementsByTagName("testcase")[0]
 
 

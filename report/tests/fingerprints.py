@@ -64,9 +64,9 @@ def write_program(folder: str, source: str = SOURCE) -> None:
     reports.write_checker(folder)
 
 
-def prints_of(folder: str, *words: str, **settings: str) -> Prints:
+def prints_of(folder: str, *argv: str, **settings: str) -> Prints:
     """Returns the fingerprint of each place of the program."""
-    ran = report(folder, "--trace", "a.trace", "--json", "-", *words, **settings)
+    ran = report(folder, "--trace", "a.trace", "--json", "-", *argv, **settings)
     entries = [json.loads(line) for line in ran.out.splitlines()]
     return {NAMES[int(entry["address"], 16) - 0x2001]: entry["fingerprint"]
             for entry in entries if entry["type"] == "finding"}

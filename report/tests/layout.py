@@ -10,9 +10,9 @@ from testing.reports import report_test
 NUMBERS = [
     ("sizeof SIDE_HEADER - 1", len(side.HEADER)),
     *[(f"SIDE_HEADER[{at}]", byte) for at, byte in enumerate(side.HEADER)],
-    ("offsetof(struct side, words)", side.HEAD.size),
-    ("offsetof(struct side, words)", side.WORDS_AT),
-    ("SIDE_WORDS", side.WORDS_ROOM),
+    ("offsetof(struct side, argv)", side.HEAD.size),
+    ("offsetof(struct side, argv)", side.ARGV_AT),
+    ("SIDE_ARGV", side.ARGV_ROOM),
     ("offsetof(struct side, last)", side.LAST_AT),
     ("sizeof(struct side) - offsetof(struct side, last)", side.LAST.size),
     ("SIDE_BUILDS", side.BUILDS_AT),

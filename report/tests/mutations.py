@@ -43,7 +43,7 @@ class Case(NamedTuple):
 
     name: str
     whole: bytes
-    words: List[str]
+    argv: List[str]
 
 
 def damaged_text(random: Random, text: bytes) -> bytes:
@@ -84,7 +84,7 @@ def damaged_side(random: Random, text: bytes) -> bytes:
     return bytes(made[: random.randrange(len(made))]) if random.random() < 0.05 else bytes(made)
 
 
-def status_of(words: List[str]) -> Tuple[int, str]:
+def status_of(argv: List[str]) -> Tuple[int, str]:
     """Runs asancol-report in its own process, and returns its status and what it wrote to standard error. A
     traceback is a status of 70, and one that takes too long of 128 and more."""
     reader, writer = os.pipe()
@@ -96,7 +96,7 @@ def status_of(words: List[str]) -> Tuple[int, str]:
         sys.stderr = open(2, "w", encoding="utf-8", errors="surrogateescape", closefd=False)
         status = 70
         try:
-            status = report_main(words, f"{TOP}/report")
+            status = report_main(argv, f"{TOP}/report")
             sys.stdout.flush()
         except BaseException:
             traceback.print_exc()
@@ -155,7 +155,7 @@ def damage(count: int, seed: int) -> Tuple[int, int]:
             data = damage_of(random, case)
             with open(f"{folder}/{case.name}", "wb") as file:
                 file.write(data)
-            status, errors = status_of(case.words)
+            status, errors = status_of(case.argv)
             is_good = status in STATUSES and "Traceback" not in errors and (status not in (2, 4) or errors != "")
             passed, failed = passed + is_good, failed + (not is_good)
             if not is_good and failed <= 3:

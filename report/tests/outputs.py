@@ -100,8 +100,8 @@ def bad_results(folder: str) -> None:
     expect((ran.status, ran.err), (1, ""), "fields of other types")
 
 
-def sarif_of(folder: str, *words: str) -> dict:
-    ran = report(folder, "--trace", "a.trace", "--sarif", "-", *words)
+def sarif_of(folder: str, *argv: str) -> dict:
+    ran = report(folder, "--trace", "a.trace", "--sarif", "-", *argv)
     expect(ran.err, "", "errors")
     return json.loads(ran.out)
 
@@ -152,7 +152,7 @@ def sarif_has_its_schema(folder: str) -> None:
         ("cut", FREED + "p0 end no-close events 9 offset 9 reports 1\n", side(ending=4)),
         ("unknown", FREED + END, None),
         ("odd", FREED + END, side("1000-9000 r-xp 0 0:0 1 /tmp/\xff </script> %41\n", [], [fault(0x2000)],
-                                  [0, 0, 0, 0, 1], words=["\udcff<&\1"])),
+                                  [0, 0, 0, 0, 1], argv=["\udcff<&\1"])),
     ):
         write_trace(folder, f"{name}.trace", verdicts, parts)
         ran = report(folder, "--trace", f"{name}.trace", "a.trace", "--sarif", "-")
@@ -178,7 +178,7 @@ def junit(folder: str) -> None:
     one_trace(folder)
     write_trace(folder, "b\1<&\".trace", END, side())
     write_trace(folder, "c.trace", "p0 end no-close events 9 offset 9 reports 0\n",
-                side(words=["\udcff\x1b[31m"], ending=2))
+                side(argv=["\udcff\x1b[31m"], ending=2))
     report(folder, "--trace", "a.trace", "b\1<&\".trace", "c.trace", "--junit", "out.xml")
     document = xml.dom.minidom.parse(f"{folder}/out.xml")
     (suite,) = document.getElementsByTagName("testsuite")
@@ -199,11 +199,11 @@ def junit_has_its_schema(folder: str) -> None:
     schema = f"{os.path.dirname(os.path.abspath(__file__))}/junit-schema.xsd"
     one_trace(folder)
     write_trace(folder, "b\1<&\".trace", END, side())
-    odd = side(words=["\udcff\x1b[31m"], ending=2)
+    odd = side(argv=["\udcff\x1b[31m"], ending=2)
     write_trace(folder, "c.trace", "p0 end no-close events 9 offset 9 reports 0\n", odd)
-    for words in (["--trace", "a.trace", "b\1<&\".trace", "c.trace"], ["--trace", "a.trace", "a.trace"],
+    for argv in (["--trace", "a.trace", "b\1<&\".trace", "c.trace"], ["--trace", "a.trace", "a.trace"],
                   ["--trace", "a.trace", "c.trace", "--no-machines"]):
-        report(folder, *words, "--junit", "out.xml")
+        report(folder, *argv, "--junit", "out.xml")
         ran = subprocess.run(["xmllint", "--noout", "--schema", schema, "out.xml"], cwd=folder, capture_output=True,
                              text=True, check=False)
         expect(ran.returncode, 0, ran.stderr)
@@ -246,14 +246,14 @@ def junit_has_what_a_run_has(folder: str) -> None:
 @report_test
 def junit_names(folder: str) -> None:
     """Merged, no two test cases have one name, and none has the name of a machine or what differs on it."""
-    def names(*runs: Tuple[str, str, List[str]], words: Tuple[str, ...] = ()) -> List[str]:
+    def names(*runs: Tuple[str, str, List[str]], argv: Tuple[str, ...] = ()) -> List[str]:
         files = []
         for number, (host, directory, command) in enumerate(runs):
             run = {"type": "run", "version": 1, "run": 0, "id": str(number), "command": command, "host": host,
                    "directory": directory}
             reports.write_text(f"{folder}/{number}.jsonl", json.dumps(run) + "\n")
             files.append(f"{number}.jsonl")
-        report(folder, *files, "--junit", "out.xml", *words)
+        report(folder, *files, "--junit", "out.xml", *argv)
         cases = xml.dom.minidom.parse(f"{folder}/out.xml").getElementsByTagName("testcase")
         return [case.getAttribute("name") for case in cases]
 
@@ -265,7 +265,7 @@ def junit_names(folder: str) -> None:
            ["make check (in x/b)", "make check (in y/b)", "make check (in x/b) #2"], "folders")
     on_two = [("a", "/home/a/s", check), ("b", "/builds/7/s", check)]
     expect(names(*on_two), ["make check", "make check #2"], "machines")
-    expect(names(*on_two, words=("--no-machines",)), ["make check", "make check #2"], "machines that have no names")
+    expect(names(*on_two, argv=("--no-machines",)), ["make check", "make check #2"], "machines that have no names")
     odd = [*check, "#2"]
     expect(len(set(names(("a", "/s", check), ("a", "/s", odd), ("a", "/s", check)))), 3, "a name that is like another")
 
@@ -304,7 +304,7 @@ class Links(html.parser.HTMLParser):
 @report_test
 def page_is_safe(folder: str) -> None:
     odd = '1000-9000 r-xp 0 0:0 1 /tmp/</script><!--NOTES--><img src="http://x/" onerror=alert(1)>\n'
-    write_trace(folder, "a.trace", FREED + END, side(odd, [], [fault(0x2000)], [0, 0, 0, 0, 1], words=["</script><b>"]))
+    write_trace(folder, "a.trace", FREED + END, side(odd, [], [fault(0x2000)], [0, 0, 0, 0, 1], argv=["</script><b>"]))
     report(folder, "--trace", "a.trace", "--html", "out.html")
     with open(f"{folder}/out.html", encoding="utf-8") as file:
         text = file.read()

@@ -121,7 +121,7 @@ def trace_of_a_killed_process(folder: str) -> None:
 @report_test
 def trace_has_any_name(folder: str) -> None:
     for name in ("-", "a:b.trace", "1:2.trace", "b\udcff \n.trace"):
-        write_trace(folder, name, FREED + END, side(words=[]))
+        write_trace(folder, name, FREED + END, side(argv=[]))
         ran = report(folder, "--trace", f"./{name}", "--json", "out.jsonl")
         expect((ran.status, ran.err), (1, ""), name)
         with open(f"{folder}/out.jsonl", encoding="utf-8") as file:
@@ -147,13 +147,13 @@ def trace_is_interrupted(folder: str) -> None:
 @report_test
 def trace_has_failures(folder: str) -> None:
     write_trace(folder, "a.trace", FREED + END)
-    for words, settings, text in (
+    for argv, settings, text in (
         (["no.trace"], NO_SETTINGS, "no.trace: No such file or directory"),
         (["a.trace"], {"ASANCOL": "/nonexistent/asancol"},
          "/nonexistent/asancol: the program that checks is not there"),
         (["a.trace"], {"ASANCOL": "/bin/false"}, "a.trace: its checker printed no verdict, and ended with status 1"),
     ):
-        ran = report(folder, "--trace", *words, **settings)
+        ran = report(folder, "--trace", *argv, **settings)
         expect(ran.status, 4, text)
         expect_in(ran.err, text)
         expect("INCOMPLETE: a.trace" in ran.out, settings.get("ASANCOL") == "/bin/false", ran.out)
@@ -330,8 +330,8 @@ def run_gets_signals(folder: str) -> None:
     numbers = (signal.SIGINT, signal.SIGTERM, signal.SIGHUP, signal.SIGQUIT)
     everything = sum(1 << number - 1 for number in numbers)
     program = build(folder)
-    for words in (["--live"], ["--json", "out.jsonl"]):
-        feed = Feed(folder, *words)
+    for argv in (["--live"], ["--json", "out.jsonl"]):
+        feed = Feed(folder, *argv)
         wait_until(functools.partial(ignores, feed.child.pid, everything), "that signals are ignored")
         for turn in range(30):
             for number in numbers:
@@ -441,7 +441,7 @@ def text_does_nothing_to_a_terminal(folder: str) -> None:
 
 @report_test
 def words_are_refused(folder: str) -> None:
-    for words, text in (
+    for argv, text in (
         ((), "no file was named"),
         (["--jsn", "x", "y"], "there is no option --jsn; did you mean --json?"),
         (["a.jsonl", "--json"], "--json needs a value"),
@@ -460,11 +460,11 @@ def words_are_refused(folder: str) -> None:
         (["a.jsonl", "--baseline", "b.jsonl", "--sarif=b.jsonl"], "--sarif would write over b.jsonl, which is read"),
         (["a.jsonl", "--suppressions", "b", "--json", "b"], "--json would write over b, which is read"),
     ):
-        ran = report(folder, *words)
-        expect((ran.status, ran.out), (2, ""), str(words))
+        ran = report(folder, *argv)
+        expect((ran.status, ran.out), (2, ""), str(argv))
         expect_in(ran.err, "asancol-report: " + text)
-    for words in (["--help"], ["-h"], ["--version"], ["nothing", "--help"]):
-        ran = report(folder, *words)
-        expect((ran.status, ran.err), (0, ""), str(words))
+    for argv in (["--help"], ["-h"], ["--version"], ["nothing", "--help"]):
+        ran = report(folder, *argv)
+        expect((ran.status, ran.err), (0, ""), str(argv))
     lines = report(folder, "--help").out.splitlines()
     expect(len(lines) <= 40 and max(map(len, lines)) <= 80, True, "one screen")

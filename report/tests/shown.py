@@ -70,7 +70,7 @@ def carets_stand_under_columns(folder: str) -> None:
         expect(report(folder, "a.jsonl").out, ran.out, "read again")
 
 
-def stack_of(folder: str, names: List[str], *words: str) -> List[str]:
+def stack_of(folder: str, names: List[str], *argv: str) -> List[str]:
     """Returns the lines of a stack whose functions a symbolizer calls so, the innermost first."""
     program = build(folder)
     places = program.places
@@ -82,7 +82,7 @@ def stack_of(folder: str, names: List[str], *words: str) -> List[str]:
     os.chmod(tool, 0o755)
     faults = [fault(places["use"], 0x2000, 8, variable=1, name="x")]
     write_trace(folder, "a.trace", OVERFLOW + END, of_program(program, faults, [0, 1]))
-    text = report(folder, "--trace", "a.trace", *words, ASANCOL_SYMBOLIZER=tool).out
+    text = report(folder, "--trace", "a.trace", *argv, ASANCOL_SYMBOLIZER=tool).out
     return re.findall(r"^    ((?:#|\.\.).*)$", re.sub(r"0x[0-9a-f]+ in ", "", text), re.M)
 
 

@@ -124,42 +124,42 @@ static void forbid_calls(const char *way)
 /* What the program does where calls are forbidden, before it has a bug. */
 static void work(const char *what, char *program)
 {
-    char *words[] = {program, "call", "0", NULL};
+    char *argv[] = {program, "call", "0", NULL};
     pid_t made = 0;
     for (int i = 0; i < 100 && strcmp(what, "allocate") == 0; i++) {
         free((void *)(volatile char *){malloc(8)});
         usleep(200);
     }
-    if (strcmp(what, "spawn") == 0 && posix_spawn(&made, program, NULL, NULL, words, environ) == 0)
+    if (strcmp(what, "spawn") == 0 && posix_spawn(&made, program, NULL, NULL, argv, environ) == 0)
         waitpid(made, NULL, 0);
     if (strcmp(what, "vfork") == 0 && (made = vfork()) == 0) {
-        execv(program, words);
+        execv(program, argv);
         _exit(127);
     }
     if (made > 0)
         waitpid(made, NULL, 0);
-    words[1] = "bug";
+    argv[1] = "bug";
     if (strcmp(what, "exec") == 0)
-        execv(program, words);
+        execv(program, argv);
 }
 
-static void forbidden(char **words)
+static void forbidden(char **argv)
 {
     pid_t made = fork();
     if (made == 0) {
-        forbid_calls(words[2]);
-        work(words[3], words[0]);
-        if (strcmp(words[3], "vfork") != 0 && strcmp(words[3], "nothing") != 0)
+        forbid_calls(argv[2]);
+        work(argv[3], argv[0]);
+        if (strcmp(argv[3], "vfork") != 0 && strcmp(argv[3], "nothing") != 0)
             store_past(block);
         exit(0);
     }
     waitpid(made, NULL, 0);
 }
 
-int main(int count, char **words)
+int main(int count, char **argv)
 {
-    const char *way = count > 1 ? words[1] : "";
-    int number = count > 2 ? atoi(words[2]) : 0;
+    const char *way = count > 1 ? argv[1] : "";
+    int number = count > 2 ? atoi(argv[2]) : 0;
     block = malloc(8);
     if (strcmp(way, "call") == 0)
         leave_by_call(number);
@@ -179,11 +179,11 @@ int main(int count, char **words)
     if (strcmp(way, "child") == 0)
         children(number);
     if (strcmp(way, "sandbox") == 0)
-        sandbox(words[2]);
+        sandbox(argv[2]);
     if (strcmp(way, "forbidden") == 0)
-        forbidden(words);
+        forbidden(argv);
     for (int i = 0; i < number && strcmp(way, "spawns") == 0; i++)
-        plain_spawn(words[3]);
+        plain_spawn(argv[3]);
     if (strcmp(way, "churn") == 0)
         threads(churn, 4);
     if (strcmp(way, "stores") == 0)
@@ -193,7 +193,7 @@ int main(int count, char **words)
         if (made == 0 && way[0] == 'f')
             _exit(0);
         if (made == 0) {
-            execl("/proc/self/exe", words[0], "none", NULL);
+            execl("/proc/self/exe", argv[0], "none", NULL);
             _exit(1);
         }
         waitpid(made, NULL, 0);

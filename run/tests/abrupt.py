@@ -23,8 +23,8 @@ def build(compiler: str, folder: str, program: str) -> None:
     os.mkdir(folder)
     library = f"{folder}/libplain.so"
     subprocess.run(["cc", "-shared", "-fPIC", f"{TESTS}/plain.c", "-o", library], check=True)
-    words = [CC, "-g", "-O1", "-pthread", f"{TESTS}/abrupt.c", library, "-o", program]
-    subprocess.run(words, check=True, env={**os.environ, "ASANCOL_CC": compiler})
+    argv = [CC, "-g", "-O1", "-pthread", f"{TESTS}/abrupt.c", library, "-o", program]
+    subprocess.run(argv, check=True, env={**os.environ, "ASANCOL_CC": compiler})
 
 
 # The library's calls are not seen.
@@ -57,7 +57,7 @@ def check_bug(suite: Suite, folder: str, program: str) -> None:
     for kind, text in wanted.items():
         with open(f"{folder}/{kind}", encoding="utf-8") as file:
             expect(text in file.read(), True, f"{kind}: {text}")
-    again = suite.run_words([REPORT, f"{folder}/json"])
+    again = suite.run_argv([REPORT, f"{folder}/json"])
     expect((again.status, SEEN in again.out + again.err), (1, True), again.out + again.err)
     ran = suite.run(*outputs, "--", program, "call", ASANCOL_REPORT=REPORT)
     expect_ran(ran, 0, "with status 0: seen up to there", SEEN)
@@ -124,12 +124,12 @@ def check_daemon(suite: Suite, folder: str, program: str) -> None:
     expect_ran(ran, 99, "in store_past", "2 processes", "1 ended abruptly; not checked: ")
 
 
-def killed(suite: Suite, words: List[str], least: float, most: float, **settings: Any) -> List[str]:
+def killed(suite: Suite, argv: List[str], least: float, most: float, **settings: Any) -> List[str]:
     """Runs a program, and kills it some time after it is ready: the status, and what was printed."""
-    line = f"sh -c 'echo $$; exec {' '.join(words)}' & wait $!; true"
+    line = f"sh -c 'echo $$; exec {' '.join(argv)}' & wait $!; true"
     started = suite.start("--", "setsid", "sh", "-c", line, **settings)
     number = int(started.stdout.readline() if started.stdout else 0)
-    if started.stdout and words[1] in ("churn", "stores"):
+    if started.stdout and argv[1] in ("churn", "stores"):
         started.stdout.readline()
     time.sleep(random.uniform(least, most))
     try:

@@ -28,7 +28,7 @@ PLACES = 2000
 class Row(NamedTuple):
     name: str
     program: str  # NATIVE stands for the folder of native programs in the command, and is replaced
-    words: List[str]
+    argv: List[str]
     bar: int  # milliseconds
     needs_report: bool = False
 
@@ -36,12 +36,12 @@ class Row(NamedTuple):
 TINY = "int main(void) { volatile char *block = malloc(8); block[0] = 1; free((void *)block); return 0; }"
 # A loop of stores; each is an event if it is compiled with ASANCOL_ALL=1.
 STORES = (
-    "int main(int count, char **words) { long most = count > 1 ? atol(words[1]) : 0;"
+    "int main(int count, char **argv) { long most = count > 1 ? atol(argv[1]) : 0;"
     " volatile long *block = malloc(8192); for (long i = 0; i < most; i++) block[i % 1024] = i;"
     " free((void *)block); return 0; }"
 )
 PAST = (
-    "int main(int count, char **words) { long most = count > 1 ? atol(words[1]) : 1; volatile char *block = malloc(8);"
+    "int main(int count, char **argv) { long most = count > 1 ? atol(argv[1]) : 1; volatile char *block = malloc(8);"
     " for (long i = 0; i < most; i++) block[8] = 1; free((void *)block); return 0; }"
 )
 MANY = "".join(
@@ -65,23 +65,23 @@ ROWS = [
 def build(folder: str) -> None:
     """Builds each program, native and recorded."""
     sources = {"tiny": TINY, "stores": STORES, "past": PAST, "many": MANY}
-    for way, words in (("native", [os.environ.get("ASANCOL_CC", "cc")]), ("recorded", [CC])):
+    for way, argv in (("native", [os.environ.get("ASANCOL_CC", "cc")]), ("recorded", [CC])):
         os.mkdir(f"{folder}/{way}")
         for name, text in sources.items():
             source = f"{folder}/{name}.c"
             with open(source, "w", encoding="utf-8") as file:
                 file.write(f"#include <stdlib.h>\n{text}\n")
             settings = {"ASANCOL_ALL": "1"} if name == "stores" else {}
-            made = [*words, "-g", "-O1", source, "-o", f"{folder}/{way}/{name}"]
+            made = [*argv, "-g", "-O1", source, "-o", f"{folder}/{way}/{name}"]
             subprocess.run(made, env={**os.environ, **settings}, check=True)
 
 
-def measure(words: List[str], settings: Dict[str, str]) -> Tuple[float, float]:
+def measure(argv: List[str], settings: Dict[str, str]) -> Tuple[float, float]:
     """Runs once, and returns wall and processor time in milliseconds."""
     before = resource.getrusage(resource.RUSAGE_CHILDREN)
     begun = time.perf_counter()
     nothing = subprocess.DEVNULL
-    subprocess.run(words, env=settings, stdout=nothing, stderr=nothing, check=False)
+    subprocess.run(argv, env=settings, stdout=nothing, stderr=nothing, check=False)
     wall = time.perf_counter() - begun
     after = resource.getrusage(resource.RUSAGE_CHILDREN)
     processor = after.ru_utime + after.ru_stime - before.ru_utime - before.ru_stime
@@ -89,8 +89,8 @@ def measure(words: List[str], settings: Dict[str, str]) -> Tuple[float, float]:
 
 
 def table_row(row: Row, rounds: int, folder: str, settings: Dict[str, str]) -> str:
-    native = [it.replace("FOLDER", f"{folder}/native") for it in row.words]
-    checked = [RUN, "-q", "--", *[it.replace("FOLDER", f"{folder}/recorded") for it in row.words]]
+    native = [it.replace("FOLDER", f"{folder}/native") for it in row.argv]
+    checked = [RUN, "-q", "--", *[it.replace("FOLDER", f"{folder}/recorded") for it in row.argv]]
     seen: Dict[str, List[Tuple[float, float]]] = {"native": [], "checked": []}
     for _ in range(rounds):
         seen["native"].append(measure(native, settings))
@@ -101,12 +101,12 @@ def table_row(row: Row, rounds: int, folder: str, settings: Dict[str, str]) -> s
     return f"{row.name:<36}{figures}{row.bar:>8}"
 
 
-def main(words: Optional[List[str]] = None) -> int:
+def main(argv: Optional[List[str]] = None) -> int:
     parser = argparse.ArgumentParser(description="measures commands under asancol-run")
     parser.add_argument("--rounds", type=int, default=5)
     parser.add_argument("asancol")
     parser.add_argument("names", nargs="*")
-    options = parser.parse_args(words)
+    options = parser.parse_args(argv)
     settings = environment(ASANCOL=os.path.abspath(options.asancol))
     folder = tempfile.mkdtemp(prefix="asancol-bench-")
     try:

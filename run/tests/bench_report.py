@@ -32,14 +32,14 @@ class Measured(NamedTuple):
     megabytes: float
 
 
-def measure(folder: str, words: List[str], **settings: str) -> Measured:
+def measure(folder: str, argv: List[str], **settings: str) -> Measured:
     began = time.perf_counter()
-    child = os.posix_spawn(reports.REPORT, [reports.REPORT, *words], reports.settings_in(folder, **settings),
+    child = os.posix_spawn(reports.REPORT, [reports.REPORT, *argv], reports.settings_in(folder, **settings),
                            file_actions=[(os.POSIX_SPAWN_OPEN, 1, os.path.join(folder, "out"),
                                           os.O_WRONLY | os.O_CREAT | os.O_TRUNC, 0o600)])
     _, status, used = os.wait4(child, 0)
     if os.waitstatus_to_exitcode(status) not in (0, 1):
-        raise SystemExit(f"{' '.join(words)} ended with {status}")
+        raise SystemExit(f"{' '.join(argv)} ended with {status}")
     return Measured(time.perf_counter() - began, used.ru_utime + used.ru_stime, used.ru_maxrss / 1024)
 
 
@@ -125,7 +125,7 @@ def result_finding(run: int, n: int, place: int) -> Dict[str, Any]:
 class Row(NamedTuple):
     name: str
     make: Callable[[str], str]
-    words: List[str]
+    argv: List[str]
     bar: float
     most_megabytes: float
     symbolizer: str = ""
@@ -153,7 +153,7 @@ def main() -> int:
         reports.write_checker(folder)
         for row in ROWS:
             path = row.make(folder)
-            runs = [measure(folder, [*row.words, path], ASANCOL_SYMBOLIZER=row.symbolizer)
+            runs = [measure(folder, [*row.argv, path], ASANCOL_SYMBOLIZER=row.symbolizer)
                     for _ in range(1 if row.bar > 20 else 3)]
             best = min(runs)
             is_over = best.seconds > row.bar or best.megabytes > row.most_megabytes

@@ -61,9 +61,9 @@ class Bench:
         subprocess.run([*compiler, "-g", "-O1", f"{TESTS}/programs.c", "-o", self.native], check=True)
         self.environment = self.suite.environment(ASANCOL_REPORT=REPORT)
 
-    def run(self, *words: str, given: Optional[str] = None, output: str = os.devnull, **settings: str) -> None:
+    def run(self, *argv: str, given: Optional[str] = None, output: str = os.devnull, **settings: str) -> None:
         with open(given or os.devnull, "rb") as standard, open(output, "wb") as out:
-            subprocess.run(words, stdin=standard, stdout=out, stderr=subprocess.DEVNULL, check=False,
+            subprocess.run(argv, stdin=standard, stdout=out, stderr=subprocess.DEVNULL, check=False,
                            env={**self.environment, **settings}, cwd=self.folder)
 
     # One process.
@@ -88,8 +88,8 @@ class Bench:
             "the same under asancol-run, with others": [RUN, "-q", "--", "sh", "-c", line % self.suite.program],
             "the same under an asancol-run for it alone": ["sh", "-c", line % f"{RUN} -q -- {self.suite.program}"],
         }
-        for of, words in ways.items():
-            show(1000 * least(functools.partial(self.run, *words)) / loops, "ms", of)
+        for of, argv in ways.items():
+            show(1000 * least(functools.partial(self.run, *argv)) / loops, "ms", of)
 
     def kept(self) -> None:
         """What asancol-run still holds of processes that have ended."""
@@ -196,7 +196,7 @@ def rows(bench: Bench) -> Sequence[Tuple[str, Callable[[], None]]]:
         ("merges", bench.merges), ("results", bench.results), ("traces", bench.traces),
         ("processes", bench.processes), ("kept", bench.kept), ("events", bench.events),
         ("connections", bench.connections)]
-    if shutil.which("systemd-nspawn") and bench.suite.run_words([*service.CONTAINER, "/usr/bin/true"]).status == 0:
+    if shutil.which("systemd-nspawn") and bench.suite.run_argv([*service.CONTAINER, "/usr/bin/true"]).status == 0:
         found.append(("systemd", bench.connections_of_systemd))
     else:
         leave_out("systemd-nspawn is not there, or has no container")

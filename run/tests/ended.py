@@ -23,11 +23,11 @@ USUAL = (("close", 1), ("cut", 0), ("kill", 0), ("exec", 0), ("blocks", 0))
 FAR = 1 << 24
 
 
-def main(words: List[str]) -> None:
-    numbers = {name: int(number) for name, _, number in (word.partition("=") for word in words)}
+def main(argv: List[str]) -> None:
+    numbers = {name: int(number) for name, _, number in (word.partition("=") for word in argv)}
     close, cut, kill, becomes, blocks = (numbers.pop(name, usual) for name, usual in USUAL)
     wanted: Dict[str, Any] = {"events": 11, "needed": 1, **numbers}
-    parts = side.side(process=os.getpid(), started=time.time_ns(), words=["./ended"], **wanted)
+    parts = side.side(process=os.getpid(), started=time.time_ns(), argv=["./ended"], **wanted)
     stream = segmented.records("" if close else "o")
     far = [struct.pack("<BQQ", 3, segmented.BLOCK + number * FAR, segmented.SIZE) for number in range(1, blocks + 1)]
     text = stream[:8] + b"".join(far) + stream[8:]

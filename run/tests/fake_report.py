@@ -3,7 +3,7 @@
 
 FAKE says what it does: a status to end with; `dies`, at once; `hangs-up`: ends with 0 and reads nothing; `stays`: reads
 nothing and does not end; `killed`: by SIGKILL, after the first packet. Without it the status is 1 if there is a report,
-3 if a process was incomplete, and else 0. Each line of FAKE_PACKETS has the words of the command line, or a packet
+3 if a process was incomplete, and else 0. Each line of FAKE_PACKETS has the arguments of the command line, or a packet
 and in it what came with it.
 """
 
@@ -38,9 +38,9 @@ def add_descriptors(message: Dict[str, Any], descriptors: List[int]) -> None:
         os.close(descriptors[1])
 
 
-def leave_result(words: List[str]) -> None:
+def leave_result(argv: List[str]) -> None:
     """Makes the file of each --json, without a line: a run round this one looks for its own."""
-    for option, path in zip(words, words[1:]):
+    for option, path in zip(argv, argv[1:]):
         if option == "--json":
             with open(path, "w", encoding="utf-8"):
                 pass

@@ -12,9 +12,9 @@ from support import FAKE_REPORT, RUN, SEGMENTED, Failure, Suite, expect, expect_
 def check_packets(suite: Suite, folder: str) -> None:
     """A run, its processes, each when its check has ended, and the end."""
     line = f"{suite.program} sound; {suite.program} past 3; exit 5"
-    words, run, *processes, end = suite.packets(folder, "--", "sh", "-c", line)
+    argv, run, *processes, end = suite.packets(folder, "--", "sh", "-c", line)
     sound, past = sorted(processes, key=lambda it: it["n"])
-    expect(words[0], "--run", "words")
+    expect(argv[0], "--run", "words")
     expect((run["type"], run["version"], run["command"]), ("run", 1, ["sh", "-c", line]), "run")
     expect(sorted(run), ["command", "directory", "host", "id", "time", "type", "version"], "run")
     names = ("type", "n", "fate", "events", "reports", "whole")
@@ -29,8 +29,8 @@ def check_packets(suite: Suite, folder: str) -> None:
 
 def check_second_message(suite: Suite, folder: str) -> None:
     """What is left out grows after the end of the check: a second message says it."""
-    words = ["--json", f"{folder}/x", "--", suite.program, "many", "10000"]
-    packets = suite.packets(folder, *words, ASANCOL_LIMIT="5000", ASANCOL_SEGMENTS="0")
+    argv = ["--json", f"{folder}/x", "--", suite.program, "many", "10000"]
+    packets = suite.packets(folder, *argv, ASANCOL_LIMIT="5000", ASANCOL_SEGMENTS="0")
     of_process = [it for it in packets[1:] if it["type"] == "process"]
     last = of_process[-1]
     expect((last["n"], last["whole"], last["left_out"]), (0, False, 15003), "the last message")
@@ -42,10 +42,10 @@ def check_words(suite: Suite, folder: str) -> None:
     """Names are expanded, and reach the report from the root."""
     with open(f"{folder}/known", "w", encoding="utf-8"):
         pass
-    words = ["--suppressions", "known", "--suppressions=known", "--baseline", f"{folder}/known", "--gen-suppressions"]
-    words += ["--color", "never", "--live", "--source-root", ".", "--html", "of-%q{WHO}-%%", "-q"]
+    argv = ["--suppressions", "known", "--suppressions=known", "--baseline", f"{folder}/known", "--gen-suppressions"]
+    argv += ["--color", "never", "--live", "--source-root", ".", "--html", "of-%q{WHO}-%%", "-q"]
     packets = f"{folder}/packets"
-    suite.run(*words, "--", suite.program, "past", cwd=folder, WHO="me", FAKE_PACKETS=packets)
+    suite.run(*argv, "--", suite.program, "past", cwd=folder, WHO="me", FAKE_PACKETS=packets)
     given = read_packets(packets)[0]
     here = os.path.realpath(folder)
     expect([given.count(it) for it in (f"{here}/known", "--suppressions", "--baseline")], [3, 2, 1], "files")
@@ -151,7 +151,7 @@ def check_full_log(suite: Suite, folder: str) -> None:
 def check_closed_log(suite: Suite, folder: str) -> None:
     """A pipe without a reader ends nothing."""
     line = f"{{ {RUN} -- sh -c '{suite.program} sound; exit 5'; echo $? > {folder}/status; }} 2>&1 | true"
-    suite.run_words(["sh", "-c", line])
+    suite.run_argv(["sh", "-c", line])
     with open(f"{folder}/status", encoding="utf-8") as status:
         if status.read() not in ("5\n", "98\n", "141\n"):
             raise Failure("another status")
@@ -168,7 +168,7 @@ def check_keep(suite: Suite, folder: str) -> None:
     paths = [it["kept"] for it in last.values() if "kept" in it]
     expect(sorted(os.path.basename(it) for it in paths), [it for it in names if it.endswith(".trace")], "names")
     (past,) = [it["kept"] for it in packets[1:] if it.get("reports")]
-    checked = suite.run_words([suite.asancol, "check", past])
+    checked = suite.run_argv([suite.asancol, "check", past])
     expect(checked.status, 1, checked.out)
     with open(past + ".where", "rb") as where:
         expect(where.read(5), b"ASWH\5", "side memory")
@@ -203,7 +203,7 @@ def check_keep_on_full_disk(suite: Suite, folder: str) -> None:
         f"mount -t tmpfs -o size=64k,nr_inodes=4 none {folder} && dd if=/dev/zero of={folder}/x bs=4k 2>/dev/null; "
         f"exec {RUN} --keep {folder} -- {suite.program} past 5000"
     )
-    expect_ran(suite.run_words(["unshare", "-rm", "sh", "-c", line]), 99, "not all of the trace could be kept")
+    expect_ran(suite.run_argv(["unshare", "-rm", "sh", "-c", line]), 99, "not all of the trace could be kept")
 
 
 def check_live_is_passed(suite: Suite, folder: str) -> None:
@@ -231,5 +231,5 @@ def tests(suite: Suite) -> None:
     suite.test("keep, names", check_keep_names)
     suite.test("keep, links", check_keep_beside_links)
     suite.test("live", check_live_is_passed)
-    if suite.run_words(["unshare", "-rm", "true"]).status == 0:
+    if suite.run_argv(["unshare", "-rm", "true"]).status == 0:
         suite.test("keep, full disk", check_keep_on_full_disk)

@@ -149,7 +149,7 @@ def check_one_text(suite: Suite, folder: str, end: End) -> None:
     said, quoted, _ = text_of(both).partition("SUMMARY: asancol: ")
     expect(said, text_of(alone), f"the text of {end.words}")
     expect(bool(quoted), " crashed\n" in said, f"the last line of {end.words}")
-    merged = suite.run_words([REPORT, f"{folder}/x"])
+    merged = suite.run_argv([REPORT, f"{folder}/x"])
     expect(merged.out, both.err, f"the text of the result of {end.words}")
 
 
@@ -196,8 +196,8 @@ int main(void)
 def check_end_lines(suite: Suite, folder: str) -> None:
     with open(f"{folder}/reads.c", "w", encoding="utf-8") as file:
         file.write(READS_LINES)
-    words = ["cc", f"-I{TOP}", f"{folder}/reads.c", f"{TOP}/run/end_line.c", "-o", f"{folder}/reads"]
-    subprocess.run(words, check=True)
+    argv = ["cc", f"-I{TOP}", f"{folder}/reads.c", f"{TOP}/run/end_line.c", "-o", f"{folder}/reads"]
+    subprocess.run(argv, check=True)
     for text, wanted in LINES.items():
         with open(f"{folder}/lines", "w", encoding="utf-8") as file:
             file.write(text)

@@ -20,7 +20,7 @@ __attribute__((noinline)) static void lose_two(void) {
 __attribute__((noinline, no_sanitize("address", "kernel-address"))) static void clear_stack(void) {
     volatile char bytes[16000];
     for (size_t i = 0; i < sizeof bytes; i++) bytes[i] = 0; }
-int main(int count, char **words) {
+int main(int count, char **argv) {
     for (volatile int i = 0; i < 3; i++) lose(100);
     if (count > 1) lose_two();
     clear_stack();
@@ -29,15 +29,15 @@ int main(int count, char **words) {
 SUMMED = "asancol: leaks: 370 bytes in 5 blocks at 3 places; --leaks=yes shows them\n"
 
 
-def run_it(suite: Suite, *words: str) -> Ran:
-    return suite.run(*words, ASANCOL_REPORT=REPORT)
+def run_it(suite: Suite, *argv: str) -> Ran:
+    return suite.run(*argv, ASANCOL_REPORT=REPORT)
 
 
 def make(folder: str, compiler: str, text: str = PROGRAM, *flags: str) -> str:
     with open(f"{folder}/leak.c", "w", encoding="utf-8") as file:
         file.write(text)
-    words = [CC, "-g", "-O1", "-w", *flags, "leak.c", "-o", "leak"]
-    subprocess.run(words, cwd=folder, env={**os.environ, "ASANCOL_CC": compiler}, check=True)
+    argv = [CC, "-g", "-O1", "-w", *flags, "leak.c", "-o", "leak"]
+    subprocess.run(argv, cwd=folder, env={**os.environ, "ASANCOL_CC": compiler}, check=True)
     return f"{folder}/leak"
 
 
@@ -109,10 +109,10 @@ def check_several(suite: Suite, folder: str, compiler: str) -> None:
     ran = run_it(suite, "--leaks=yes", "--", "sh", "-c", f"{program}; {program}; {program} two")
     expect_ran(ran, 99, "detected memory leaks (by the recorder, 3 times, 3 processes)\n",
                "\nDirect leak of 900 byte(s) in 9 object(s) allocated from:\n", "asancol: 5 reports at 3 places ")
-    words = [f"--json={folder}/{name}.json" for name in ("one", "two")]
-    run_it(suite, "--leaks=yes", words[0], "--", program)
-    run_it(suite, "--leaks=yes", words[1], "--", "sh", "-c", f"{program}; {program} two")
-    merged = suite.run_words([REPORT, f"{folder}/one.json", f"{folder}/two.json"])
+    argv = [f"--json={folder}/{name}.json" for name in ("one", "two")]
+    run_it(suite, "--leaks=yes", argv[0], "--", program)
+    run_it(suite, "--leaks=yes", argv[1], "--", "sh", "-c", f"{program}; {program} two")
+    merged = suite.run_argv([REPORT, f"{folder}/one.json", f"{folder}/two.json"])
     texts = [text.split("asancol: 5 reports")[0] for text in (ran.err, merged.out)]
     first, again = (re.findall("==ERROR: .*\n.* allocated from:", text) for text in texts)
     expect(first, again, "merged")
@@ -144,7 +144,7 @@ def check_stuck(suite: Suite, folder: str, compiler: str) -> None:
     ran = run_it(suite, f"--json={folder}/out.json", "--", program)
     note = "asancol: leaks of a process were not looked for, as if a thread does not stop\n"
     expect_ran(ran, 7, said, "all complete\n", note)
-    expect_in(suite.run_words([REPORT, f"{folder}/out.json"]).out, note)
+    expect_in(suite.run_argv([REPORT, f"{folder}/out.json"]).out, note)
     expect_ran(run_it(suite, "--leaks=no", "--", program), 7, "all complete\n", absent=["leaks"])
 
 
@@ -161,7 +161,7 @@ FILTERED = """
 #include <unistd.h>
 static void *volatile sink;
 #define ALLOW(name) BPF_JUMP(BPF_JMP | BPF_JEQ | BPF_K, SYS_##name, 0, 1), BPF_STMT(BPF_RET | BPF_K, SECCOMP_RET_ALLOW)
-int main(int count, char **words) {
+int main(int count, char **argv) {
     sink = malloc(100);
     sink = NULL;
     struct sock_filter code[] = {
@@ -171,9 +171,9 @@ int main(int count, char **words) {
         ALLOW(fstat), ALLOW(newfstatat),
         BPF_STMT(BPF_RET | BPF_K, SECCOMP_RET_KILL_PROCESS)};
     struct sock_fprog filter = {sizeof code / sizeof *code, code};
-    if (strcmp(words[1], "errno") == 0) code[filter.len - 1].k = SECCOMP_RET_ERRNO | 1;
+    if (strcmp(argv[1], "errno") == 0) code[filter.len - 1].k = SECCOMP_RET_ERRNO | 1;
     prctl(PR_SET_NO_NEW_PRIVS, 1, 0, 0, 0);
-    if (strcmp(words[1], "strict") == 0 ? prctl(PR_SET_SECCOMP, SECCOMP_MODE_STRICT)
+    if (strcmp(argv[1], "strict") == 0 ? prctl(PR_SET_SECCOMP, SECCOMP_MODE_STRICT)
                                         : prctl(PR_SET_SECCOMP, SECCOMP_MODE_FILTER, &filter)) return 1;
     if (count > 2) syscall(SYS_exit, 7);
     return 7; }

@@ -19,9 +19,9 @@ SOURCES: Dict[str, List[List[str]]] = {
 }
 
 
-def said_of(suite: Suite, words: List[str], full: str, quarantine: str = "") -> str:
+def said_of(suite: Suite, argv: List[str], full: str, quarantine: str = "") -> str:
     """What is said of a run, without the numbers of processes and events. Its addresses are the same each time."""
-    ran = suite.run("--shadow", "--full-stacks", "--leaks=yes", "--", "setarch", "-R", *words,
+    ran = suite.run("--shadow", "--full-stacks", "--leaks=yes", "--", "setarch", "-R", *argv,
                     ASANCOL_REPORT=REPORT, ASANCOL_QUARANTINE=quarantine, ASANCOL_FULL=full)
     text = re.sub(r"==\d+==|\b(?:process|PID) \d+|\d+ events", "", ran.err)
     return f"{text}\nstatus {ran.status}"
@@ -29,8 +29,8 @@ def said_of(suite: Suite, words: List[str], full: str, quarantine: str = "") -> 
 
 def check_same(suite: Suite, folder: str, compiler: str, source: str) -> None:
     program = f"{folder}/program"
-    words = [CC, "-g", "-O1", "-w", "-pthread", f"{RECORDED}/{source}", "-o", program]
-    subprocess.run(words, check=True, env={**os.environ, "ASANCOL_CC": compiler})
+    argv = [CC, "-g", "-O1", "-w", "-pthread", f"{RECORDED}/{source}", "-o", program]
+    subprocess.run(argv, check=True, env={**os.environ, "ASANCOL_CC": compiler})
     for arguments in SOURCES[source]:
         full = said_of(suite, [program, *arguments], "1")
         expect_in(full, "ERROR: asancol: ")

@@ -65,9 +65,9 @@ def check_hurry(suite: Suite, folder: str) -> None:
 
 def check_group_signal(suite: Suite, folder: str) -> None:
     """Sent to the process and to its group, as `timeout` does, it is one: what was found is still reported."""
-    words = ["timeout", "-s", "TERM", "0.7", RUN, "--", suite.program, "past_and_sleeps", "30"]
+    argv = ["timeout", "-s", "TERM", "0.7", RUN, "--", suite.program, "past_and_sleeps", "30"]
     for _ in range(3):
-        ran = suite.run_words(words, folder, FAKE="1")
+        ran = suite.run_argv(argv, folder, FAKE="1")
         expect((ran.status, "the report" in ran.err), (124, True), ran.err)
 
 
@@ -123,14 +123,14 @@ def check_signal(suite: Suite, folder: str, number: int, way: str, status: int, 
 
 def check_timeout_program(suite: Suite, folder: str) -> None:
     """As under timeout(1)."""
-    ran = suite.run_words(["timeout", "0.7", RUN, "--", suite.program, "sleeps", "30"])
+    ran = suite.run_argv(["timeout", "0.7", RUN, "--", suite.program, "sleeps", "30"])
     expect_ran(ran, 124, "1 process", "all complete")
 
 
 def check_ignored_signals(suite: Suite, folder: str) -> None:
     """What was ignored before stays so, as under nohup."""
-    words = ["sh", "-c", f"trap '' HUP; exec {RUN} -- sh -c '{suite.program} sleeps 0.5; exit 5'"]
-    started = subprocess.Popen(words, env=suite.environment(), stderr=subprocess.PIPE, text=True)
+    argv = ["sh", "-c", f"trap '' HUP; exec {RUN} -- sh -c '{suite.program} sleeps 0.5; exit 5'"]
+    started = subprocess.Popen(argv, env=suite.environment(), stderr=subprocess.PIPE, text=True)
     time.sleep(0.3)
     started.send_signal(signal.SIGHUP)
     expect_ran(finish(started), 5)
@@ -140,9 +140,9 @@ def check_child_signal_ignored(suite: Suite, folder: str) -> None:
     """A parent that ignores its children's ends is no harm."""
     before = signal.getsignal(signal.SIGCHLD)
     expect(before, signal.SIG_DFL, "the test's own")
-    words = [RUN, "--", suite.program, "sound"]
-    line = f"import os, signal; signal.signal(signal.SIGCHLD, signal.SIG_IGN); os.execv({RUN!r}, {words!r})"
-    expect_ran(suite.run_words(["python3", "-c", line]), 0, "all complete")
+    argv = [RUN, "--", suite.program, "sound"]
+    line = f"import os, signal; signal.signal(signal.SIGCHLD, signal.SIG_IGN); os.execv({RUN!r}, {argv!r})"
+    expect_ran(suite.run_argv(["python3", "-c", line]), 0, "all complete")
 
 
 def check_time_limit(suite: Suite, folder: str) -> None:
@@ -179,14 +179,14 @@ def check_time_limit_not_reached(suite: Suite, folder: str) -> None:
 def check_time_limit_spares_others(suite: Suite, folder: str) -> None:
     """Processes of the same group that the command has not started are left alone."""
     line = f"sleep 1 & {RUN} --timeout 0.3 -- {suite.program} sleeps 30; wait $! && echo spared"
-    expect(suite.run_words(["sh", "-c", line]).out, "spared\n", "the other process")
+    expect(suite.run_argv(["sh", "-c", line]).out, "spared\n", "the other process")
 
 
-def at_terminal(suite: Suite, words: List[str], typed: bytes, after: float, **settings: str) -> Ran:
+def at_terminal(suite: Suite, argv: List[str], typed: bytes, after: float, **settings: str) -> Ran:
     """Runs at a terminal, on which something is typed after so many seconds."""
     child, terminal = pty.fork()
     if child == 0:
-        os.execve(words[0], words, suite.environment(**{"TERM": "xterm", **settings}))
+        os.execve(argv[0], argv, suite.environment(**{"TERM": "xterm", **settings}))
     time.sleep(after)
     os.write(terminal, typed)
     seen = b""
@@ -228,8 +228,8 @@ def check_progress(suite: Suite, folder: str) -> None:
     ran = at_terminal(suite, [RUN, "--", suite.program, "orphan", "2.7"], b"", 0.1, FAKE="1")
     expect_ran(ran, 99, "asancol: waiting for processes: 1 checked, 1 to go\r\033[K", "the report")
     for option, terminal in (("-q", "xterm"), ("-v", "dumb"), ("--live", "xterm")):
-        words = [RUN, option, "--", suite.program, "orphan", "2.4"]
-        expect_ran(at_terminal(suite, words, b"", 0.1, TERM=terminal), 99, absent=["waiting"])
+        argv = [RUN, option, "--", suite.program, "orphan", "2.4"]
+        expect_ran(at_terminal(suite, argv, b"", 0.1, TERM=terminal), 99, absent=["waiting"])
 
 
 def state_of(number: int) -> str:
@@ -245,8 +245,8 @@ def child_of(number: int) -> int:
 
 def check_stop(suite: Suite, folder: str) -> None:
     """SIGTSTP stops both, and SIGCONT lets both go on. In a process group that a shell looks after."""
-    words = [RUN, "--", suite.program, "handles", "1.5"]
-    started = subprocess.Popen(words, env=suite.environment(), text=True, preexec_fn=os.setpgrp,
+    argv = [RUN, "--", suite.program, "handles", "1.5"]
+    started = subprocess.Popen(argv, env=suite.environment(), text=True, preexec_fn=os.setpgrp,
                                stdout=subprocess.PIPE, stderr=subprocess.PIPE)
     expect(started.stdout.readline() if started.stdout else "", "ready\n", "the program")
     command = child_of(started.pid)
@@ -271,16 +271,16 @@ def check_hub_is_killed(suite: Suite, folder: str) -> None:
 
 def check_crowd(suite: Suite, folder: str, count: int, descriptors: int) -> None:
     line = f"i=0; while [ $i -lt {count} ]; do {suite.program} sleeps 1 & i=$((i+1)); done; wait"
-    words = ["sh", "-c", f"ulimit -n {descriptors}; exec {RUN} -- sh -c '{line}'"]
-    expect_ran(suite.run_words(words), 0, f"{count} processes", "all complete")
+    argv = ["sh", "-c", f"ulimit -n {descriptors}; exec {RUN} -- sh -c '{line}'"]
+    expect_ran(suite.run_argv(argv), 0, f"{count} processes", "all complete")
 
 
 def check_crowd_with_reports(suite: Suite, folder: str) -> None:
     """Processes with reports hold no descriptors for long."""
     line = f"i=0; while [ $i -lt 200 ]; do {suite.program} past & i=$((i+1)); done; wait"
     packets = f"{folder}/packets"
-    words = ["sh", "-c", f"ulimit -n 64; exec {RUN} -- sh -c '{line}'"]
-    expect_ran(suite.run_words(words, FAKE_PACKETS=packets), 99, "the report")
+    argv = ["sh", "-c", f"ulimit -n 64; exec {RUN} -- sh -c '{line}'"]
+    expect_ran(suite.run_argv(argv, FAKE_PACKETS=packets), 99, "the report")
     with open(packets, encoding="utf-8") as lines:
         expect(sum('"verdicts"' in it for it in lines), 200, "processes with their verdicts")
 
@@ -289,7 +289,7 @@ def check_short_for_ever(suite: Suite, folder: str) -> None:
     """Those that hold all descriptors and do not end hold nobody up for ever."""
     line = f"i=0; while [ $i -lt 30 ]; do {suite.program} sleeps 8 > /dev/null 2>&1 & i=$((i+1)); done; sleep 1"
     begun = time.monotonic()
-    ran = suite.run_words(["sh", "-c", f"ulimit -n 64; exec {RUN} --wait 1 -- sh -c '{line}'"])
+    ran = suite.run_argv(["sh", "-c", f"ulimit -n 64; exec {RUN} --wait 1 -- sh -c '{line}'"])
     expect_ran(ran, 98, "still ran at the end of asancol-run")
     if time.monotonic() - begun > 7:
         raise Failure("it has waited")
@@ -316,8 +316,8 @@ def check_garbage(suite: Suite, folder: str) -> None:
 
 def check_standard_closed(suite: Suite, folder: str, closing: str, status: int) -> None:
     """What is closed is closed for the command too, and nothing gets into its place."""
-    words = ["sh", "-c", f"exec {RUN} -q -- {suite.program} open_ones {closing}"]
-    expect(suite.run_words(words).status, status, closing)
+    argv = ["sh", "-c", f"exec {RUN} -q -- {suite.program} open_ones {closing}"]
+    expect(suite.run_argv(argv).status, status, closing)
 
 
 def check_standard_streams(suite: Suite, folder: str) -> None:
@@ -337,7 +337,7 @@ def tests(suite: Suite) -> None:
     suite.test("cut process runs on", check_cut_process_runs_on)
     spaces = {"": "", "in a namespace": "unshare -rpf", "in a namespace with /proc": "unshare -rpf --mount-proc"}
     for where, words in spaces.items():
-        if words and suite.run_words([*words.split(), "true"]).status != 0:
+        if words and suite.run_argv([*words.split(), "true"]).status != 0:
             leave_out("unshare cannot make namespaces")
             continue
         for name, (line, status) in INHERITED.items():

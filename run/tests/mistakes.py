@@ -17,18 +17,18 @@ MISTAKES = r"""
 static char letters[64] = "abcdefghijklmnopqrstuvwxyz";
 static void *volatile kept;
 __attribute__((noinline)) void overlap(volatile unsigned long size) { memcpy(letters + 2, letters, size); }
-int main(int count, char **words) {
-    int times = count > 2 ? atoi(words[2]) : 1;
+int main(int count, char **argv) {
+    int times = count > 2 ? atoi(argv[2]) : 1;
     for (int i = 0; i < times; i++) overlap(10);
-    if (strcmp(words[1], "fork") == 0 && fork() == 0) overlap(20);
-    if (strcmp(words[1], "exec") == 0) execl(words[0], words[0], "once", (char *)0);
-    for (int i = 0; strcmp(words[1], "segments") == 0 && i < 3000; i++) {
+    if (strcmp(argv[1], "fork") == 0 && fork() == 0) overlap(20);
+    if (strcmp(argv[1], "exec") == 0) execl(argv[0], argv[0], "once", (char *)0);
+    for (int i = 0; strcmp(argv[1], "segments") == 0 && i < 3000; i++) {
         free(malloc(10));
         if (i == 2000) overlap(10);
     }
-    if (strcmp(words[1], "bad") == 0) *((volatile char *)malloc(8) + 8) = 1;
-    if (strcmp(words[1], "crash") == 0) raise(11);
-    if (strcmp(words[1], "killed") == 0) raise(9);
+    if (strcmp(argv[1], "bad") == 0) *((volatile char *)malloc(8) + 8) = 1;
+    if (strcmp(argv[1], "crash") == 0) raise(11);
+    if (strcmp(argv[1], "killed") == 0) raise(9);
     while (wait(NULL) > 0)
         ;
     return 0;
@@ -44,8 +44,8 @@ def built(folder: str) -> str:
     return program
 
 
-def run_real(suite: Suite, *words: str, **settings: str) -> Ran:
-    return suite.run(*words, ASANCOL_REPORT=REPORT, **settings)
+def run_real(suite: Suite, *argv: str, **settings: str) -> Ran:
+    return suite.run(*argv, ASANCOL_REPORT=REPORT, **settings)
 
 
 TITLE = "ERROR: asancol: memcpy-param-overlap: memory ranges [0x"
@@ -54,7 +54,7 @@ TITLE = "ERROR: asancol: memcpy-param-overlap: memory ranges [0x"
 def check_each_end(suite: Suite, folder: str) -> None:
     """However the process ends, what was found is there, and its status."""
     program = built(folder)
-    for words, texts in (
+    for argv, texts in (
         (["once"], ["1 report at 1 place (1 by the recorder); 1 process", "all complete"]),
         (["once", "3"], ["(by the recorder, 3 times, 1 process)", "3 reports at 1 place (3 by the recorder)"]),
         (["fork"], ["2 reports at 1 place (2 by the recorder); 2 processes"]),
@@ -63,7 +63,7 @@ def check_each_end(suite: Suite, folder: str) -> None:
         (["crash"], ["1 report at 1 place (1 by the recorder)", "1 crashed"]),
         (["killed"], ["1 report at 1 place (1 by the recorder)", "1 ended abruptly"]),
     ):
-        expect_ran(run_real(suite, "--", program, *words), 99, TITLE, "in overlap ", *texts)
+        expect_ran(run_real(suite, "--", program, *argv), 99, TITLE, "in overlap ", *texts)
     expect_ran(run_real(suite, "--exitcode", "7", "-q", "--", program, "once"), 7, TITLE)
     expect_ran(run_real(suite, "--live", "--", program, "once"), 99, TITLE, "SUMMARY: asancol: memcpy-param-overlap ")
 
@@ -100,9 +100,9 @@ def check_rules(suite: Suite, folder: str) -> None:
 def check_traces(suite: Suite, folder: str) -> None:
     """Of a trace in a file it stands beside that, and asancol-report reads it there."""
     program = built(folder)
-    ran = suite.run_words([program, "once"], ASANCOL_TRACE=f"{folder}/a.trace", ASANCOL_WHERE="1")
+    ran = suite.run_argv([program, "once"], ASANCOL_TRACE=f"{folder}/a.trace", ASANCOL_WHERE="1")
     expect((ran.status, ran.err), (0, ""), "the program")
-    ran = suite.run_words([REPORT, "--trace", f"{folder}/a.trace"])
+    ran = suite.run_argv([REPORT, "--trace", f"{folder}/a.trace"])
     expect((ran.status, TITLE in ran.out), (1, True), ran.out)
     ran = run_real(suite, "--keep", f"{folder}/kept", "--", program, "once")
     kept = [it for it in os.listdir(f"{folder}/kept") if it.endswith(".trace")]

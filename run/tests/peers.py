@@ -82,9 +82,9 @@ class Run:
             self.hub = file.read().strip()
         self.abstract = f"@{self.hub.rpartition('-')[0]}"
 
-    def run_as(self, user: int, *words: str) -> str:
+    def run_as(self, user: int, *argv: str) -> str:
         """Runs a command of a user that this run has not started, and returns what it says on standard error."""
-        return self.suite.run_words([*as_user(user), *words]).err
+        return self.suite.run_argv([*as_user(user), *argv]).err
 
     def end(self, status: int, *texts: str, **more: List[str]) -> str:
         with open(self.end_mark, "w", encoding="utf-8"):
@@ -111,8 +111,8 @@ def check_secret(suite: Suite, folder: str) -> None:
         # A connection that is open stands there too, under the name of its socket.
         listed = set(re.findall(rf"\S*{re.escape(private)}\S*", names.read()))
     expect(sorted(listed), [f"{private}/hub", f"@{private}/hub"], "names that the system lists")
-    for words in (["ls", private], ["touch", f"{private}/mark"], ["cat", f"/proc/{run.program.pid}/environ"]):
-        expect("Permission denied" in run.run_as(OTHER, *words), True, " ".join(words))
+    for argv in (["ls", private], ["touch", f"{private}/mark"], ["cat", f"/proc/{run.program.pid}/environ"]):
+        expect("Permission denied" in run.run_as(OTHER, *argv), True, " ".join(argv))
     # Who has it may connect, whoever that is.
     expect(run.run_as(OTHER, "python3", "-c", STAYS, run.hub, "0", "1"), "", "another user who has it")
     run.end(99, absent=["refused"])
@@ -150,7 +150,7 @@ def check_gone(suite: Suite, folder: str) -> None:
     why = f"INCOMPLETE: it is of user {OTHER}, and had ended before it was seen who has started it"
     os.kill(run.program.pid, signal.SIGSTOP)
     gone = [*as_user(OTHER), "python3", "-c", GONE, run.abstract, "1"]
-    expect(suite.run_words(gone).out, "gone\n", "the process that has connected")
+    expect(suite.run_argv(gone).out, "gone\n", "the process that has connected")
     os.kill(run.program.pid, signal.SIGCONT)
     run.end(98, why, "a connection was refused", "2 processes, ")
 
@@ -185,11 +185,11 @@ def check_squatter(suite: Suite, folder: str) -> None:
     os.chmod(folder, 0o777)
     hub = f"{folder}/hub"
     for user, gets in ((OTHER, "0"), (NOBODY, "8")):
-        words = [*as_user(user), "python3", "-c", SQUATTER, hub]
-        squatter = subprocess.Popen(words, stdout=subprocess.PIPE, text=True)
+        argv = [*as_user(user), "python3", "-c", SQUATTER, hub]
+        squatter = subprocess.Popen(argv, stdout=subprocess.PIPE, text=True)
         out = squatter.stdout
         expect(out.readline() if out else "", "listens\n", "the other")
-        ran = suite.run_words([*as_user(NOBODY), suite.program, "sound"], ASANCOL_HUB=hub)
+        ran = suite.run_argv([*as_user(NOBODY), suite.program, "sound"], ASANCOL_HUB=hub)
         expect(out.readline() if out else "", f"{gets}\n", f"what user {user} gets")
         squatter.communicate()
         is_file = "so the trace goes to a file: " in ran.err and "its name is another user's" in ran.err

@@ -105,10 +105,10 @@ def check_processes(suite: Suite, folder: str, compiler: str) -> None:
 
 def check_own_programs(suite: Suite, folder: str, compiler: str) -> None:
     """A program of asancol-cc has what it has without the option."""
-    words = [CC, "-g", f"{TOP}/examples/bug.c", "-o"]
+    argv = [CC, "-g", f"{TOP}/examples/bug.c", "-o"]
     environment = {**os.environ, "ASANCOL_CC": compiler}
-    subprocess.run([*words, f"{folder}/bug"], check=True, env=environment)
-    subprocess.run([*words, f"{folder}/static", "-static"], check=True, env=environment)
+    subprocess.run([*argv, f"{folder}/bug"], check=True, env=environment)
+    subprocess.run([*argv, f"{folder}/static", "-static"], check=True, env=environment)
     for name in ("bug", "static"):
         said = []
         for option in ((), ["--preload"]):
@@ -130,15 +130,15 @@ def check_places(suite: Suite, folder: str) -> None:
     run = copied("all", "bin", "asancol-run")
     used = copied("all", "lib", "asancol", PRELOADED)
     say = ["--preload", "sh", "-c", "echo $LD_PRELOAD"]
-    expect(suite.run_words([run, *say]).out, f"{os.path.realpath(used)}\n", "as it is installed")
+    expect(suite.run_argv([run, *say]).out, f"{os.path.realpath(used)}\n", "as it is installed")
     other = "/lib/x86_64-linux-gnu/libm.so.6"
     for before, after in (("", ""), (other, f":{other}")):
         expect(suite.run(*say, LD_PRELOAD=before).out, f"{os.path.realpath(library)}{after}\n", "as it is built")
-    ran = suite.run_words([copied("alone", "bin", "asancol-run"), *say])
+    ran = suite.run_argv([copied("alone", "bin", "asancol-run"), *say])
     expect((ran.status, ran.out, PRELOADED in ran.err), (125, "", True), ran.err)
     run = copied("a folder", "bin", "asancol-run")
     copied("a folder", "lib", "asancol", PRELOADED)
-    ran = suite.run_words([run, *say])
+    ran = suite.run_argv([run, *say])
     expect((ran.status, ran.out, "with a blank or a colon in its path" in ran.err), (125, "", True), ran.err)
 
 
@@ -153,15 +153,15 @@ def check_python(suite: Suite, folder: str, compiler: str) -> None:
     for name, text in (("texts.c", EXTENSION), ("setup.py", SETUP), ("test_texts.py", TESTS)):
         write_text(f"{folder}/{name}", text)
     python = os.path.realpath(sys.executable)
-    made = suite.run_words([python, "setup.py", "-q", "build_ext", "--inplace"], cwd=folder, CC=CC,
+    made = suite.run_argv([python, "setup.py", "-q", "build_ext", "--inplace"], cwd=folder, CC=CC,
                            ASANCOL_CC=compiler, CFLAGS="-g")
     expect(made.status, 0, made.err)
     for allocator in ("", "malloc"):
         settings = {"PYTHONMALLOC": allocator} if allocator else {}
-        words = ["--preload", "--", python, "-m", "unittest"]
-        ran = suite.run(*words, cwd=folder, ASANCOL_REPORT=REPORT, **settings)
+        argv = ["--preload", "--", python, "-m", "unittest"]
+        ran = suite.run(*argv, cwd=folder, ASANCOL_REPORT=REPORT, **settings)
         expect_ran(ran, 0, "asancol: no reports; ", "not checked: ", absent=["INCOMPLETE"])
-        ran = suite.run(*words, cwd=folder, ASANCOL_REPORT=REPORT, MORE="0", **settings)
+        ran = suite.run(*argv, cwd=folder, ASANCOL_REPORT=REPORT, MORE="0", **settings)
         expect_ran(ran, 99, "heap-buffer-overflow: store of 7 bytes in strcpy", f"in copy {folder}/texts.c:11:",
                    absent=["INCOMPLETE"])
 

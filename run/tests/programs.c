@@ -25,24 +25,24 @@ static void nap(const char *seconds)
     usleep((useconds_t)(atof(seconds) * 1e6));
 }
 
-static int sound(char **words)
+static int sound(char **argv)
 {
-    (void)words;
+    (void)argv;
     return write(1, "sound\n", 6) != 6;
 }
 
 /* So many bad stores; 1 without a word. */
-static int past(char **words)
+static int past(char **argv)
 {
-    for (long i = words[0] != NULL ? atol(words[0]) : 1; i > 0; i--)
+    for (long i = argv[0] != NULL ? atol(argv[0]) : 1; i > 0; i--)
         store_past(block);
     return 0;
 }
 
-static int child(char **words)
+static int child(char **argv)
 {
     int status;
-    (void)words;
+    (void)argv;
     pid_t made = fork();
     if (made == 0) {
         free((void *)block);
@@ -52,10 +52,10 @@ static int child(char **words)
     return WEXITSTATUS(status);
 }
 
-static int aborts(char **words)
+static int aborts(char **argv)
 {
     int status;
-    (void)words;
+    (void)argv;
     pid_t made = fork();
     if (made == 0)
         abort();
@@ -64,9 +64,9 @@ static int aborts(char **words)
 }
 
 /* The recorder does not see it made. */
-static int forks_unseen(char **words)
+static int forks_unseen(char **argv)
 {
-    (void)words;
+    (void)argv;
     pid_t made = _Fork();
     if (made == 0) {
         free((void *)block);
@@ -76,43 +76,43 @@ static int forks_unseen(char **words)
     return 0;
 }
 
-static int execs(char **words)
+static int execs(char **argv)
 {
-    execvp(words[0], words);
+    execvp(argv[0], argv);
     return 127;
 }
 
 /* So many mallocs, and as many frees. */
-static int many(char **words)
+static int many(char **argv)
 {
-    for (long i = atol(words[0]); i > 0; i--) {
+    for (long i = atol(argv[0]); i > 0; i--) {
         void *volatile made = malloc(8);
         free(made);
     }
     return 0;
 }
 
-static int sleeps(char **words)
+static int sleeps(char **argv)
 {
-    nap(words[0]);
+    nap(argv[0]);
     return 0;
 }
 
-static int past_and_sleeps(char **words)
+static int past_and_sleeps(char **argv)
 {
     store_past(block);
     puts("ready");
     fflush(stdout);
-    nap(words[0]);
+    nap(argv[0]);
     return 0;
 }
 
 /* A process that outlives its parent, and has a report at its end. */
-static int orphan(char **words)
+static int orphan(char **argv)
 {
     if (fork() == 0) {
         setsid();
-        nap(words[0]);
+        nap(argv[0]);
         store_past(block);
         exit(0);
     }
@@ -120,11 +120,11 @@ static int orphan(char **words)
 }
 
 /* A daemon that lets go of everything. */
-static int becomes_daemon(char **words)
+static int becomes_daemon(char **argv)
 {
     if (daemon(0, 0) != 0)
         return 1;
-    nap(words[0]);
+    nap(argv[0]);
     store_past(block);
     return 0;
 }
@@ -135,42 +135,42 @@ static void end_well(int number)
     exit(3);
 }
 
-static int handles(char **words)
+static int handles(char **argv)
 {
     signal(SIGTERM, end_well);
     signal(SIGUSR1, end_well);
     puts("ready");
     fflush(stdout);
-    nap(words[0]);
+    nap(argv[0]);
     return 0;
 }
 
-static int ignores(char **words)
+static int ignores(char **argv)
 {
     signal(SIGTERM, SIG_IGN);
     puts("ready");
     fflush(stdout);
-    nap(words[0]);
+    nap(argv[0]);
     return 0;
 }
 
-static int crashes(char **words)
+static int crashes(char **argv)
 {
-    (void)words;
+    (void)argv;
     *(volatile int *)16 = 1;
     return 0;
 }
 
-static int kills_itself(char **words)
+static int kills_itself(char **argv)
 {
-    return raise(atoi(words[0]));
+    return raise(atoi(argv[0]));
 }
 
 /* Whether standard input, output and error are open, as the status: 1, 2 and 4. */
-static int open_ones(char **words)
+static int open_ones(char **argv)
 {
     int status = 0;
-    (void)words;
+    (void)argv;
     for (int i = 0; i < 3; i++)
         status |= (fcntl(i, F_GETFD) >= 0) << i;
     return status;
@@ -178,7 +178,7 @@ static int open_ones(char **words)
 
 static const struct {
     const char *name;
-    int (*run)(char **words);
+    int (*run)(char **argv);
 } ways[] = {
     {"sound", sound}, {"past", past}, {"child", child}, {"forks_unseen", forks_unseen},
     {"aborts", aborts}, {"execs", execs}, {"many", many},
@@ -187,12 +187,12 @@ static const struct {
     {"crashes", crashes}, {"open_ones", open_ones},
 };
 
-int main(int count, char **words)
+int main(int count, char **argv)
 {
     block = malloc(8);
     block[0] = 1;
     for (size_t i = 0; count > 1 && i < sizeof ways / sizeof *ways; i++)
-        if (strcmp(words[1], ways[i].name) == 0)
-            return ways[i].run(words + 2);
+        if (strcmp(argv[1], ways[i].name) == 0)
+            return ways[i].run(argv + 2);
     return 100;
 }

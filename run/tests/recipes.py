@@ -20,15 +20,15 @@ def write_programs(folder: str) -> None:
             file.write(SOURCE.replace("WHERE", where))
 
 
-def write_cmake(suite: Suite, folder: str, *words: str) -> None:
+def write_cmake(suite: Suite, folder: str, *argv: str) -> None:
     write_programs(folder)
     with open(f"{folder}/CMakeLists.txt", "w", encoding="utf-8") as file:
         file.write("cmake_minimum_required(VERSION 3.10)\nproject(sample C)\ninclude(CTest)\n")
         for name in ("good", "bad"):
             file.write(f"add_executable({name} {name}.c)\nadd_test(NAME {name} COMMAND {name})\n")
-    made = suite.run_words(["cmake", "-B", "build", *words], cwd=folder, CC=CC)
+    made = suite.run_argv(["cmake", "-B", "build", *argv], cwd=folder, CC=CC)
     expect(made.status, 0, made.err)
-    made = suite.run_words(["cmake", "--build", "build"], cwd=folder)
+    made = suite.run_argv(["cmake", "--build", "build"], cwd=folder)
     expect(made.status, 0, made.out)
 
 
@@ -39,7 +39,7 @@ def check_hidden(suite: Suite, folder: str) -> None:
         file.write("set_tests_properties(bad PROPERTIES WILL_FAIL TRUE)\n")
         file.write("add_test(NAME prints COMMAND bad)\n")
         file.write("set_tests_properties(prints PROPERTIES PASS_REGULAR_EXPRESSION report)\n")
-    made = suite.run_words(["cmake", "--build", "build"], cwd=folder)
+    made = suite.run_argv(["cmake", "--build", "build"], cwd=folder)
     expect(made.status, 0, made.out)
     ran = suite.run("--", "ctest", cwd=f"{folder}/build", ASANCOL_REPORT=REPORT)
     expect_ran(ran, 99, "2 reports at 1 place")
@@ -48,9 +48,9 @@ def check_hidden(suite: Suite, folder: str) -> None:
 
 def check_memcheck(suite: Suite, folder: str) -> None:
     """ctest -T memcheck shows no status, but what is printed is in its logs."""
-    words = [f"-DMEMORYCHECK_COMMAND={RUN}", "-DMEMORYCHECK_TYPE=Valgrind", "-DMEMORYCHECK_COMMAND_OPTIONS=-q"]
-    write_cmake(suite, folder, *words)
-    ran = suite.run_words(["ctest", "-T", "memcheck"], cwd=f"{folder}/build")
+    argv = [f"-DMEMORYCHECK_COMMAND={RUN}", "-DMEMORYCHECK_TYPE=Valgrind", "-DMEMORYCHECK_COMMAND_OPTIONS=-q"]
+    write_cmake(suite, folder, *argv)
+    ran = suite.run_argv(["ctest", "-T", "memcheck"], cwd=f"{folder}/build")
     logs = ""
     for path, _, names in os.walk(f"{folder}/build/Testing"):
         for name in names:
@@ -70,10 +70,10 @@ def check_scripts(suite: Suite, folder: str) -> None:
         file.write("TEST_EXTENSIONS = .sh\nTESTS = script.sh\ncheck_PROGRAMS = bad\nbad_SOURCES = bad.c\n")
     with open(f"{folder}/script.sh", "w", encoding="utf-8") as file:
         file.write("./bad\n")
-    for words in (["autoreconf", "-i"], ["./configure", f"CC={CC}"]):
-        made = suite.run_words(words, cwd=folder)
+    for argv in (["autoreconf", "-i"], ["./configure", f"CC={CC}"]):
+        made = suite.run_argv(argv, cwd=folder)
         expect(made.status, 0, made.out + made.err)
-    ran = suite.run_words(["make", "check", f"SH_LOG_COMPILER={RUN} -q -- sh"], cwd=folder)
+    ran = suite.run_argv(["make", "check", f"SH_LOG_COMPILER={RUN} -q -- sh"], cwd=folder)
     expect("ERROR: script.sh" in ran.out, True, ran.out + ran.err)
 
 
@@ -99,8 +99,8 @@ def check_make(suite: Suite, folder: str) -> None:
         file.write("all: $(foreach i,1 2 3 4 5 6 7 8,run-$(i))\nrun-%:\n\t@PROGRAM sound\n".replace("PROGRAM",
                                                                                                     suite.program))
     environment = suite.environment()
-    words = [RUN, "--", "make", "-s", "-j4"]
-    ran = subprocess.run(words, cwd=folder, env=environment, stderr=subprocess.PIPE, stdout=subprocess.PIPE,
+    argv = [RUN, "--", "make", "-s", "-j4"]
+    ran = subprocess.run(argv, cwd=folder, env=environment, stderr=subprocess.PIPE, stdout=subprocess.PIPE,
                          check=False)
     expect((ran.returncode, ran.stdout.count(b"sound")), (0, 8), "make")
     expect(b"8 processes, 16 events; all complete" in ran.stderr, True, ran.stderr.decode())
@@ -113,7 +113,7 @@ def check_scale(suite: Suite, folder: str) -> None:
     expect(len(commands), 1, "scripts on the page")
     shutil.copytree(f"{TOP}/examples/farms/project", f"{folder}/project")
     path = f"{TOP}/recorder:{TOP}/run:{TOP}/report:{os.environ.get('PATH', os.defpath)}"
-    ran = suite.run_words(["sh", "-c", commands[0]], f"{folder}/project", PATH=path, ASANCOL_REPORT=REPORT)
+    ran = suite.run_argv(["sh", "-c", commands[0]], f"{folder}/project", PATH=path, ASANCOL_REPORT=REPORT)
     expect(ran.status, 1, ran.err)
     kept = [f"{name}.jsonl" for name in ("child", "join", "vendor", "wait")]
     expect(sorted(os.listdir(f"{folder}/project/results")), kept, "results")

@@ -36,14 +36,14 @@ def check_full_folder(suite: Suite, folder: str) -> None:
         f"mount -t tmpfs -o size=4k,nr_inodes=2 none {folder} && touch {folder}/x && "
         f"TMPDIR={folder} exec {RUN} -- {suite.program} sound"
     )
-    ran = suite.run_words(["unshare", "-rm", "sh", "-c", line])
+    ran = suite.run_argv(["unshare", "-rm", "sh", "-c", line])
     expect_ran(ran, 0, "all complete")
 
 
 def check_no_folder_at_all(suite: Suite, folder: str) -> None:
     """Everything is read-only, /tmp and /dev/shm too: the name that needs no folder serves."""
-    words = ["bwrap", "--ro-bind", "/", "/", "--proc", "/proc", RUN, "--", suite.program, "past"]
-    expect_ran(suite.run_words(words), 99)
+    argv = ["bwrap", "--ro-bind", "/", "/", "--proc", "/proc", RUN, "--", suite.program, "past"]
+    expect_ran(suite.run_argv(argv), 99)
 
 
 def check_folder_is_removed(suite: Suite, folder: str) -> None:
@@ -149,13 +149,13 @@ def tests(suite: Suite) -> None:
     suite.test("nested run that is killed", check_nested_lost)
     suite.test("nested run without a folder", check_nested_without_folder)
     suite.test("nested result", check_nested_result)
-    alone = suite.run_words(["unshare", "-rmn", "true"]).status == 0
+    alone = suite.run_argv(["unshare", "-rmn", "true"]).status == 0
     if alone:
         suite.test("TMPDIR full", check_full_folder)
         suite.test("file instead of the socket", check_file_instead)
     else:
         leave_out("unshare cannot make namespaces")
-    if shutil.which("bwrap") and suite.run_words(["bwrap", "--dev-bind", "/", "/", "true"]).status == 0:
+    if shutil.which("bwrap") and suite.run_argv(["bwrap", "--dev-bind", "/", "/", "true"]).status == 0:
         for name, box in BOXES.items():
             suite.test(f"bubblewrap, {name}", check_box, box)
         suite.test("bubblewrap, own /tmp and network", check_closed_box)

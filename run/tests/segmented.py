@@ -49,7 +49,7 @@ def side_of(word: str, number: int, started: int) -> side.Parts:
     ending = 0 if "k" in word or "t" in word else ending_of(word)
     return side.side(process=os.getpid(), started=started, ending=ending, segment=number, stated=int(number > 1),
                       events=1 + LOADS, left_out=int("l" in word), is_at_limit="l" in word, needed=1,
-                      quarantine=1 << 28, words=["./segmented", *sys.argv[1:]])
+                      quarantine=1 << 28, argv=["./segmented", *sys.argv[1:]])
 
 
 def connect() -> socket.socket:
@@ -88,10 +88,10 @@ def leave(word: str, number: int, started: int) -> None:
         file.write(records(word))
 
 
-def main(words: List[str]) -> None:
+def main(argv: List[str]) -> None:
     held: List[socket.socket] = []
     started = time.time_ns()
-    for word in words:
+    for word in argv:
         number = int("".join(it for it in word if it.isdigit()) or 0)
         if word == "exec":
             started = time.time_ns()
@@ -100,7 +100,7 @@ def main(words: List[str]) -> None:
         elif word == "wait":
             print("ready", flush=True)
             signal.pause()
-        elif words[0] == "--files":
+        elif argv[0] == "--files":
             if number:
                 leave(word, number, started)
         else:

@@ -104,7 +104,7 @@ def check_outputs(suite: Suite, folder: str) -> None:
     (finding,) = lines_of(f"{folder}/json", "finding")
     numbers = ("count", "processes", "segment", "event")
     expect([finding[it] for it in numbers], [4, 1, 2, 12], "the finding")
-    again = suite.run_words([REPORT, f"{folder}/json", "--json", f"{folder}/again"])
+    again = suite.run_argv([REPORT, f"{folder}/json", "--json", f"{folder}/again"])
     expect((again.status, said in again.out), (1, True), again.out)
     for path in ("json", "again"):
         with open(f"{folder}/{path}", encoding="utf-8") as file:
@@ -197,7 +197,7 @@ def check_taken_names(suite: Suite, folder: str) -> None:
     wanted = ["1.segment-002.1.trace", "1.segment-002.trace", "1.segment-003.trace", "1.trace", "trace"]
     expect(sorted(it.split(".", 2)[2] for it in names), wanted, "names")
     (first,) = [it for it in names if it.endswith(".1.trace") and "segment-" not in it]
-    ran = suite.run_words([REPORT, "--trace", f"{folder}/{first}"])
+    ran = suite.run_argv([REPORT, "--trace", f"{folder}/{first}"])
     expect_in(ran.out, "2 reports at 1 place; 1 process, 33 events; all complete")
 
 
@@ -219,13 +219,13 @@ def check_kept_traces(suite: Suite, folder: str) -> None:
     traces = sorted(os.path.join(folder, it) for it in os.listdir(folder) if it.endswith(".trace"))
     first = [it["kept"] for it in lines_of(f"{folder}/result.jsonl", "process")]
     expect([it for it in traces if "segment-" not in it], first, "kept")
-    for words in (traces, traces[::-1], *[[it] for it in traces], [*traces, *traces]):
-        ran = suite.run_words([REPORT, "--json", f"{folder}/again.jsonl", "--trace", *words])
+    for argv in (traces, traces[::-1], *[[it] for it in traces], [*traces, *traces]):
+        ran = suite.run_argv([REPORT, "--json", f"{folder}/again.jsonl", "--trace", *argv])
         expect((ran.status, said in ran.out, BAD in ran.out), (1, True, True), ran.out + ran.err)
         (process,) = lines_of(f"{folder}/again.jsonl", "process")
         expect((process["segments"], process["kept"]), (3, first[0]), "JSON")
     os.unlink(next(it for it in traces if "segment-002" in it))
-    ran = suite.run_words([REPORT, "--trace", first[0]])
+    ran = suite.run_argv([REPORT, "--trace", first[0]])
     expect_in(ran.out, "INCOMPLETE: its next segment did not come, and later ones did", "1 process")
 
 
@@ -240,7 +240,7 @@ class Trace(NamedTuple):
     left_out: int = 0
 
 
-def say(folder: str, traces: Sequence[Trace], *words: str) -> Ran:
+def say(folder: str, traces: Sequence[Trace], *argv: str) -> Ran:
     """Writes traces, and runs asancol-report on some of them, or on all."""
     reports.write_checker(folder)
     for it in traces:
@@ -248,7 +248,7 @@ def say(folder: str, traces: Sequence[Trace], *words: str) -> Ran:
                            left_out=it.left_out, is_at_limit=it.left_out > 0)
         verdicts = f"p0 end {it.fate} events 9 offset 99 reports 0\n"
         reports.write_trace(folder, it.name, verdicts, parts if it.started else None)
-    return reports.report(folder, "--trace", *(words or [it.name for it in traces]))
+    return reports.report(folder, "--trace", *(argv or [it.name for it in traces]))
 
 
 FIRST, SECOND, LAST = Trace("a.trace"), Trace("a.segment-002.trace", 2), Trace("a.segment-003.trace", 3, 1)
@@ -284,8 +284,8 @@ CASES: Dict[str, Tuple[List[Trace], List[str], str]] = {
 
 
 def check_traces(suite: Suite, folder: str, name: str) -> None:
-    traces, words, said = CASES[name]
-    ran = say(folder, traces, *words)
+    traces, argv, said = CASES[name]
+    ran = say(folder, traces, *argv)
     expect((ran.status, ran.err), (3 if "INCOMPLETE" in said else 0, ""), ran.out)
     expect_in(ran.out, said)
 
@@ -315,7 +315,7 @@ def check_older_results(suite: Suite, folder: str) -> None:
         text = file.read()
     with open(f"{folder}/old", "w", encoding="utf-8") as file:
         file.write(text.replace(',"segments":3', "").replace('"segment":2,', ""))
-    ran = suite.run_words([REPORT, f"{folder}/old", "--json", f"{folder}/again"])
+    ran = suite.run_argv([REPORT, f"{folder}/old", "--json", f"{folder}/again"])
     expect((ran.status, "1 process, 33 events; all complete" in ran.out), (1, True), ran.out)
     with open(f"{folder}/again", encoding="utf-8") as file:
         expect_not_in(file.read(), "segment\"", "segments\"")
@@ -323,8 +323,8 @@ def check_older_results(suite: Suite, folder: str) -> None:
 
 def build(compiler: str, program: str) -> None:
     """Builds the recorder's program for this, by this compiler."""
-    words = [CC, "-g", "-O1", "-pthread", f"{TOP}/recorder/tests/segments.c", "-o", program]
-    subprocess.run(words, check=True, env={**os.environ, "ASANCOL_CC": compiler})
+    argv = [CC, "-g", "-O1", "-pthread", f"{TOP}/recorder/tests/segments.c", "-o", program]
+    subprocess.run(argv, check=True, env={**os.environ, "ASANCOL_CC": compiler})
 
 
 def check_recorded(suite: Suite, folder: str, program: str) -> None:
@@ -348,9 +348,9 @@ def check_recorded(suite: Suite, folder: str, program: str) -> None:
 def check_recorded_kills(suite: Suite, folder: str, program: str) -> None:
     """Killed at a moment that nobody chooses: it is one process without a false report, and what is missing is said."""
     for _ in range(20):
-        words = [program, "threads", "1000000", "-1"]
+        argv = [program, "threads", "1000000", "-1"]
         settings = {"ASANCOL_REPORT": REPORT, "ASANCOL_LIMIT": "2000", "ASANCOL_FULL": "1"}
-        status, _, said = killed(suite, words, 0, 0.1, **settings)
+        status, _, said = killed(suite, argv, 0, 0.1, **settings)
         expect("no reports; " in said and "2 processes" not in said, True, said)
         expect(status, "0" if SEEN in said else "98", said)
 
@@ -367,19 +367,19 @@ def check_recorded_limit(suite: Suite, folder: str, program: str) -> None:
 def check_recorded_traces(suite: Suite, folder: str, program: str) -> None:
     """Traces that were kept, or that the process has left by itself, have the report that the run had."""
     settings = {"ASANCOL_REPORT": REPORT, "ASANCOL_LIMIT": "500", "ASANCOL_FULL": "1"}
-    words = [program, "blocks", "1000", "700"]
+    argv = [program, "blocks", "1000", "700"]
     said = "1 report at 1 place; 1 process, 2003 events; all complete\n"
-    expect_ran(suite.run("--keep", f"{folder}/kept", "--", *words, **settings), 99, said, "in blocks ")
+    expect_ran(suite.run("--keep", f"{folder}/kept", "--", *argv, **settings), 99, said, "in blocks ")
     settings["ASANCOL_WHERE"] = "1"
-    suite.run_words(words, cwd=folder, ASANCOL_TRACE="t.trace", **settings)
-    suite.run_words(words, cwd=folder, ASANCOL_TRACE="newest.trace", ASANCOL_SEGMENTS="2", **settings)
+    suite.run_argv(argv, cwd=folder, ASANCOL_TRACE="t.trace", **settings)
+    suite.run_argv(argv, cwd=folder, ASANCOL_TRACE="newest.trace", ASANCOL_SEGMENTS="2", **settings)
     kept = [f"{folder}/kept/{it}" for it in os.listdir(f"{folder}/kept") if it.endswith(".trace")]
     for traces in (kept, kept[:1], [f"{folder}/t.trace"], [f"{folder}/t.segment-003.trace"]):
-        ran = suite.run_words([REPORT, "--trace", *traces])
+        ran = suite.run_argv([REPORT, "--trace", *traces])
         expect((ran.status, said in ran.out, "in blocks " in ran.out), (1, True, True), ran.out + ran.err)
     newest = sorted(it for it in os.listdir(folder) if it.startswith("newest.") and it.endswith(".trace"))
     expect(len(newest), 2, newest)
-    ran = suite.run_words([REPORT, "--trace", f"{folder}/{newest[1]}"])
+    ran = suite.run_argv([REPORT, "--trace", f"{folder}/{newest[1]}"])
     expect_in(ran.out, "INCOMPLETE: segment ", " is the first that was seen", "1 process, ")
 
 
@@ -400,7 +400,7 @@ def tests(suite: Suite) -> None:
         suite.test(f"{compiler} segments, recorded kills", check_recorded_kills, program)
         suite.test(f"{compiler} segments, recorded limit", check_recorded_limit, program)
         suite.test(f"{compiler} segments, recorded traces", check_recorded_traces, program)
-        if suite.run_words(["unshare", "-rn", "true"]).status == 0:
+        if suite.run_argv(["unshare", "-rn", "true"]).status == 0:
             suite.test(f"{compiler} segments, recorded files", check_recorded_files, program)
     suite.test("segments, complete", check_complete)
     for words, why in INCOMPLETE.items():

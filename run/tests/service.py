@@ -49,9 +49,9 @@ class Service:
         self.suite = suite
         self.socket, self.folder = f"{folder}/socket", f"{folder}/results"
         os.makedirs(self.folder, exist_ok=True)
-        words = [LISTEN, *options, self.socket, self.folder, *(command or [suite.asancol, "check", "--live", "-"])]
+        argv = [LISTEN, *options, self.socket, self.folder, *(command or [suite.asancol, "check", "--live", "-"])]
         before = self.made_at()
-        self.program = subprocess.Popen(words, env=suite.environment(), stderr=subprocess.PIPE, text=True)
+        self.program = subprocess.Popen(argv, env=suite.environment(), stderr=subprocess.PIPE, text=True)
         wait_until(lambda: self.program.poll() is not None or self.made_at() not in (0, before), "the socket")
 
     def made_at(self) -> int:
@@ -62,13 +62,13 @@ class Service:
             return 0
         return seen.st_mtime_ns if seen.st_mode & 0o200 else 0
 
-    def record(self, *words: str, **settings: Any) -> int:
+    def record(self, *argv: str, **settings: Any) -> int:
         """Runs a recorded program, and returns the number of its process."""
-        return self.start(*words, **settings).pid
+        return self.start(*argv, **settings).pid
 
-    def start(self, *words: str, ends: bool = True, **settings: str) -> "subprocess.Popen[bytes]":
+    def start(self, *argv: str, ends: bool = True, **settings: str) -> "subprocess.Popen[bytes]":
         environment = self.suite.environment(**{"ASANCOL_SOCKET": self.socket, **settings})
-        program = subprocess.Popen(words, env=environment, stdout=subprocess.DEVNULL, stderr=subprocess.DEVNULL)
+        program = subprocess.Popen(argv, env=environment, stdout=subprocess.DEVNULL, stderr=subprocess.DEVNULL)
         if ends:
             program.wait(PATIENCE)
         return program
@@ -215,7 +215,7 @@ def check_refused(suite: Suite, folder: str) -> None:
     long_path = f"{folder}/{'s' * 100}"
     os.mkdir(results)
     write_text(file, "mine\n")
-    for words, status, said in (
+    for argv, status, said in (
         ((), 2, "there is no SOCKET"),
         ([socket_path, results], 2, "there is no COMMAND"),
         (["--mod", "600", socket_path, results, "true"], 2, "there is no option --mod"),
@@ -233,14 +233,14 @@ def check_refused(suite: Suite, folder: str) -> None:
         ([file, results, "true"], 1, f"{file}: File exists"),
         ([results, results, "true"], 1, f"{results}: File exists"),
     ):
-        ran = suite.run_words([LISTEN, *words])
-        expect((ran.status, ran.out, ran.err.count("\n")), (status, "", 1), f"{words}: {ran.err}")
+        ran = suite.run_argv([LISTEN, *argv])
+        expect((ran.status, ran.out, ran.err.count("\n")), (status, "", 1), f"{argv}: {ran.err}")
         expect_in(ran.err, "asancol-listen: ", said)
     expect((sorted(os.listdir(folder)), text_of(file)), (["file", "results"], "mine\n"), "what is there")
 
 
 def check_help(suite: Suite, folder: str) -> None:
-    ran = suite.run_words([LISTEN, "--help"])
+    ran = suite.run_argv([LISTEN, "--help"])
     expect((ran.status, ran.err, "--connections" in ran.out), (0, "", True), ran.out)
 
 
@@ -254,10 +254,10 @@ def check_strangers(suite: Suite, folder: str) -> None:
     wait_until(lambda: os.path.exists(f"{folder}/socket"), "the socket")
     os.rename(results, f"{folder}/moved")
     for _ in range(2):
-        suite.run_words([suite.program, "sound"], ASANCOL_SOCKET=f"{folder}/socket")
+        suite.run_argv([suite.program, "sound"], ASANCOL_SOCKET=f"{folder}/socket")
     time.sleep(0.2)
     os.rename(f"{folder}/moved", results)
-    suite.run_words([suite.program, "sound"], ASANCOL_SOCKET=f"{folder}/socket")
+    suite.run_argv([suite.program, "sound"], ASANCOL_SOCKET=f"{folder}/socket")
     wait_until(lambda: [result_of(results, it).status for it in os.listdir(results)] == ["0"], "the result")
     os.remove(f"{folder}/socket")
     write_text(f"{folder}/socket", "another's")
@@ -274,7 +274,7 @@ def check_closed(suite: Suite, folder: str) -> None:
     programs = [subprocess.Popen(["sh", "-c", line], env=suite.environment()) for _ in range(6)]
     wait_until(lambda: sum(it.poll() is None for it in programs) == 1, "the end of all but one")
     expect(sorted(it.poll() or 0 for it in programs), [0, 1, 1, 1, 1, 1], "statuses")
-    suite.run_words([suite.program, "past"], ASANCOL_SOCKET=f"{folder}/socket")
+    suite.run_argv([suite.program, "past"], ASANCOL_SOCKET=f"{folder}/socket")
     for program in programs:
         program.terminate()
         program.wait(PATIENCE)
@@ -298,22 +298,22 @@ def check_full(suite: Suite, folder: str) -> None:
 def check_mode(suite: Suite, folder: str) -> None:
     """Who may connect is what the mode of the socket says: at first its user alone."""
     os.chmod(folder, 0o755)
-    words = ["setpriv", "--reuid=65534", "--regid=65534", "--clear-groups", "python3", "-c",
+    argv = ["setpriv", "--reuid=65534", "--regid=65534", "--clear-groups", "python3", "-c",
              f"import socket; socket.socket(socket.AF_UNIX).connect('{folder}/socket')"]
     for options, mode, refused in (((), 0o600, True), (("--mode", "666"), 0o666, False),
                                    (("--group", "nogroup", "--mode", "660"), 0o660, False)):
         service = Service(suite, folder, *options)
         expect(os.stat(service.socket).st_mode & 0o777, mode, "the mode")
-        ran = suite.run_words(words)
+        ran = suite.run_argv(argv)
         expect("PermissionError" in ran.err, refused, f"{options}: {ran.err}")
         service.end()
     expect([it.user for it in service.results()], [65534] * 2, "users")
     service = Service(suite, folder)
     another = ["setpriv", "--reuid=65534", "--regid=65534", "--clear-groups", LISTEN]
-    for words, said in (([service.socket], "Permission denied"),
+    for argv, said in (([service.socket], "Permission denied"),
                         (["--group", "root", "/tmp/asancol-none"], "its group can't be root: Operation not permitted")):
-        ran = suite.run_words([*another, *words, "/tmp", "true"])
-        expect((ran.status, ran.err), (1, f"asancol-listen: {words[-1]}: {said}\n"), "another user's")
+        ran = suite.run_argv([*another, *argv, "/tmp", "true"])
+        expect((ran.status, ran.err), (1, f"asancol-listen: {argv[-1]}: {said}\n"), "another user's")
     service.end()
 
 
@@ -322,7 +322,7 @@ def check_script(suite: Suite, folder: str) -> None:
     os.symlink(suite.asancol, f"{folder}/asancol")
     write_text(f"{folder}/program", f"#!/bin/sh\nexec {suite.program} past\n", 0o755)
     path = f"{folder}:{os.path.dirname(LISTEN)}:{os.environ['PATH']}"
-    ran = suite.run_words(["sh", f"{EXAMPLES}/listen.sh"], folder, PATH=path)
+    ran = suite.run_argv(["sh", f"{EXAMPLES}/listen.sh"], folder, PATH=path)
     lines = r"results/[\d.]+-\d+-\d+\.1:p0 #3 store 1 at .*\nresults/\S+\.1:p0 end closed events 3 .* reports 1\n"
     expect((ran.status, re.fullmatch(lines, ran.out) is not None, ran.err), (0, True, ""), ran.out)
 
@@ -338,7 +338,7 @@ def check_page(suite: Suite, folder: str) -> None:
 
 def check_soak(suite: Suite, folder: str) -> None:
     """The soak itself, for some seconds."""
-    ran = suite.run_words([f"{TESTS}/soak.py", "--hours", "0.002", suite.asancol])
+    ran = suite.run_argv([f"{TESTS}/soak.py", "--hours", "0.002", suite.asancol])
     expect((ran.status, ran.err), (0, ""), ran.out)
     expect_in(ran.out, "false 0\n", "\n0 failures\n")
 
@@ -348,10 +348,10 @@ def check_mode_of_serve(suite: Suite, folder: str) -> None:
     os.chmod(folder, 0o755)
     line = f"import socket; socket.socket(socket.AF_UNIX).connect('{folder}/socket')"
     for mask, refused in ((0o022, True), (0o000, False)):
-        words = [suite.asancol, "serve", "--count", "1", "--ready", f"{folder}/ready", f"{folder}/socket"]
-        program = subprocess.Popen(words, stdout=subprocess.DEVNULL, umask=mask)
+        argv = [suite.asancol, "serve", "--count", "1", "--ready", f"{folder}/ready", f"{folder}/socket"]
+        program = subprocess.Popen(argv, stdout=subprocess.DEVNULL, umask=mask)
         wait_until(lambda: os.path.exists(f"{folder}/ready"), "the socket")
-        ran = suite.run_words(["setpriv", "--reuid=65534", "--regid=65534", "--clear-groups", "python3", "-c", line])
+        ran = suite.run_argv(["setpriv", "--reuid=65534", "--regid=65534", "--clear-groups", "python3", "-c", line])
         expect("PermissionError" in ran.err, refused, ran.err)
         program.terminate()
         program.wait()
@@ -398,10 +398,10 @@ def check_units(suite: Suite, folder: str) -> None:
     units = install_units(suite, folder)
     names = sorted(f"{units}/{it}" for it in os.listdir(units))
     expect(len(names), 3, "units")
-    ran = suite.run_words(["systemd-analyze", "verify", "--man=no", *names])
+    ran = suite.run_argv(["systemd-analyze", "verify", "--man=no", *names])
     expect((ran.status, ran.out, ran.err), (0, "", ""), "verify")
     threshold = f"--threshold={MAX_EXPOSED * 10:.0f}"
-    ran = suite.run_words(["systemd-analyze", "security", "--offline=yes", "--no-pager", threshold,
+    ran = suite.run_argv(["systemd-analyze", "security", "--offline=yes", "--no-pager", threshold,
                            f"{units}/asancol@.service"])
     if ran.status != 0:
         raise Failure(f"security: {ran.out[-300:]} {ran.err}")
@@ -413,12 +413,12 @@ def check_socket_activate(suite: Suite, folder: str) -> None:
     listen, results = f"{folder}/socket", f"{folder}/results"
     # Without the setting StandardOutput it would be the connection, too.
     command = ["sh", "-c", f"exec {unit['ExecStart'][0]} >> {results}"]
-    words = ["systemd-socket-activate", "--accept", "--inetd", f"--listen={listen}", *command]
+    argv = ["systemd-socket-activate", "--accept", "--inetd", f"--listen={listen}", *command]
     nothing = subprocess.DEVNULL
-    program = subprocess.Popen(words, env=suite.environment(), stdout=nothing, stderr=nothing)
+    program = subprocess.Popen(argv, env=suite.environment(), stdout=nothing, stderr=nothing)
     wait_until(lambda: os.path.exists(listen), "the socket")
     for word in ("sound", "past"):
-        suite.run_words([suite.program, word], ASANCOL_SOCKET=listen)
+        suite.run_argv([suite.program, word], ASANCOL_SOCKET=listen)
 
     def ends() -> List[str]:
         text = text_of(results) if os.path.exists(results) else ""
@@ -457,10 +457,10 @@ def boot(folder: str, units: str) -> None:
     """Boots systemd with the units, and with one that runs the probe."""
     write_text(f"{units}/probe.service", f"[Service]\nType=oneshot\nExecStart={PREFIX}/probe\n")
     mounts = [f"--bind-ro={units}/{name}:/etc/systemd/system/{name}" for name in os.listdir(units)]
-    words = [*CONTAINER, f"--bind={folder}{PREFIX}:{PREFIX}", *mounts, "--boot", "systemd.firstboot=no",
+    argv = [*CONTAINER, f"--bind={folder}{PREFIX}:{PREFIX}", *mounts, "--boot", "systemd.firstboot=no",
              "systemd.wants=probe.service"]
     nothing = subprocess.DEVNULL
-    subprocess.run(words, stdin=nothing, stdout=nothing, stderr=nothing, check=True, timeout=PATIENCE)
+    subprocess.run(argv, stdin=nothing, stdout=nothing, stderr=nothing, check=True, timeout=PATIENCE)
 
 
 def check_systemd(suite: Suite, folder: str) -> None:
@@ -545,13 +545,13 @@ def check_filter(suite: Suite, folder: str) -> None:
     unit = settings_of(f"{install_units(suite, folder)}/asancol@.service")
     apply = apply_filter(filter_of(allowed_calls(unit["SystemCallFilter"])))
     trace = f"{folder}/past.trace"
-    suite.run_words([suite.program, "past", "3000"], ASANCOL_TRACE=trace)
+    suite.run_argv([suite.program, "past", "3000"], ASANCOL_TRACE=trace)
     for name in (trace, f"{TOP}/examples/one_byte_past_the_end.trace", "/dev/null"):
         ran = {}
         for way, before in (("with", apply), ("without", None)):
             with open(name, "rb") as given:
-                words = unit["ExecStart"][0].split()
-                done = subprocess.run(words, stdin=given, capture_output=True, check=False, preexec_fn=before)
+                argv = unit["ExecStart"][0].split()
+                done = subprocess.run(argv, stdin=given, capture_output=True, check=False, preexec_fn=before)
             ran[way] = (done.returncode, done.stdout, done.stderr)
         expect(ran["with"], ran["without"], name)
     mount = ["mount", "-t", "tmpfs", "none", folder]
@@ -587,7 +587,7 @@ def tests(suite: Suite) -> None:
             suite.test(f"service: {name}", check)
         else:
             leave_out(f"service: {name}: {program} is not there")
-    if shutil.which("systemd-nspawn") and suite.run_words([*CONTAINER, "/usr/bin/true"]).status == 0:
+    if shutil.which("systemd-nspawn") and suite.run_argv([*CONTAINER, "/usr/bin/true"]).status == 0:
         suite.test("service: systemd", check_systemd)
     else:
         leave_out("service: systemd: systemd-nspawn is not there, or has no container")

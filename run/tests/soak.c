@@ -145,21 +145,21 @@ static void work_on(void)
 }
 
 /* WAY BUG [NUMBER] */
-int main(int count, char **words)
+int main(int count, char **argv)
 {
     if (count < 3)
         return 2;
-    const char *way = words[1];
-    long number = count > 3 ? atol(words[3]) : 0;
+    const char *way = argv[1];
+    long number = count > 3 ? atol(argv[3]) : 0;
     work(20);
     if (strcmp(way, "threads") == 0)
-        use_threads(words[2]);
+        use_threads(argv[2]);
     else if (strcmp(way, "children") == 0)
-        use_children(words[2], number);
+        use_children(argv[2], number);
     else if (strcmp(way, "flood") == 0)
         flood(number);
     else
-        make_bug(words[2]);
+        make_bug(argv[2]);
     if (strcmp(way, "works") == 0)
         work(number);
     else if (strcmp(way, "works_on") == 0)
@@ -167,6 +167,6 @@ int main(int count, char **words)
     else if (strcmp(way, "crashes") == 0)
         raise(SIGSEGV);
     else if (strcmp(way, "execs") == 0)
-        execl("/proc/self/exe", words[0], "works", words[2], "50", (char *)NULL);
+        execl("/proc/self/exe", argv[0], "works", argv[2], "50", (char *)NULL);
     return 0;
 }

@@ -82,9 +82,9 @@ class Service:
         self.socket, self.folder, self.said = f"{folder}/socket", f"{folder}/results", f"{folder}/said"
         os.makedirs(self.folder, exist_ok=True)
         unit = settings_of(f"{TOP}/packaging/systemd/asancol@.service")
-        words = [LISTEN, self.socket, self.folder, *front, asancol, *unit["ExecStart"][0].split()[1:]]
+        argv = [LISTEN, self.socket, self.folder, *front, asancol, *unit["ExecStart"][0].split()[1:]]
         with open(self.said, "wb") as said:
-            self.program = subprocess.Popen(words, stderr=said, stdin=subprocess.DEVNULL)
+            self.program = subprocess.Popen(argv, stderr=said, stdin=subprocess.DEVNULL)
         while not os.path.exists(self.socket) or not os.stat(self.socket).st_mode & 0o200:
             if self.program.poll() is not None:
                 raise SystemExit(text_of(self.said))
@@ -130,10 +130,10 @@ class Soak:
 
     # What scenarios are made of.
 
-    def start(self, *words: str, as_hub: bool, **settings: str) -> "subprocess.Popen[str]":
+    def start(self, *argv: str, as_hub: bool, **settings: str) -> "subprocess.Popen[str]":
         where = {"ASANCOL_HUB" if as_hub else "ASANCOL_SOCKET": self.service.socket}
         self.count("processes")
-        return subprocess.Popen([self.program, *words], env=environment(**where, **settings), text=True,
+        return subprocess.Popen([self.program, *argv], env=environment(**where, **settings), text=True,
                                 stdout=subprocess.PIPE, stderr=subprocess.PIPE)
 
     def verdict(self, process: int, service: Optional[Service] = None) -> Verdict:
@@ -278,8 +278,8 @@ class Soak:
         """A process that connects, sends this, holds on and ends. Answers its number."""
         line = ("import os, socket, sys, time\ns = socket.socket(socket.AF_UNIX)\ns.connect(sys.argv[1])\n"
                 "s.sendall(sys.stdin.buffer.read())\ntime.sleep(float(sys.argv[2]))")
-        words = [sys.executable, "-IS", "-c", line, self.service.socket, str(seconds)]
-        program = subprocess.Popen(words, stdin=subprocess.PIPE, stderr=subprocess.PIPE)
+        argv = [sys.executable, "-IS", "-c", line, self.service.socket, str(seconds)]
+        program = subprocess.Popen(argv, stdin=subprocess.PIPE, stderr=subprocess.PIPE)
         program.communicate(data)
         self.count("processes")
         return program.pid
@@ -303,8 +303,8 @@ class Soak:
         """A trace on a full disk: the program runs on, and says so."""
         with small_disk(f"{self.folder}/disk-{threading.get_ident()}") as (disk, front):
             trace = f"{disk}/%p.trace"
-            words = [*front, self.program, "works", "past_heap", "200000"]
-            ran = subprocess.run(words, env=environment(ASANCOL_TRACE=trace), stderr=subprocess.PIPE, text=True,
+            argv = [*front, self.program, "works", "past_heap", "200000"]
+            ran = subprocess.run(argv, env=environment(ASANCOL_TRACE=trace), stderr=subprocess.PIPE, text=True,
                                  check=False)
         self.count("processes")
         self.count("words")
@@ -320,8 +320,8 @@ class Soak:
         with small_disk(f"{folder}/results") as (_, front):
             service = Service(folder, self.asancol, front)
             try:
-                words = [self.program, "flood", "past_heap", "40000"]
-                program = subprocess.Popen(words, env=environment(ASANCOL_SOCKET=service.socket))
+                argv = [self.program, "flood", "past_heap", "40000"]
+                program = subprocess.Popen(argv, env=environment(ASANCOL_SOCKET=service.socket))
                 program.wait()
                 self.count("processes")
                 self.count("full")

@@ -65,26 +65,26 @@ class Suite(testing.Suite):
             ours.update(ASAN_OPTIONS=sanitizers, UBSAN_OPTIONS=f"{sanitizers}:print_stacktrace=1")
         return environment(**{**ours, **settings})
 
-    def run(self, *words: str, cwd: Optional[str] = None, **settings: str) -> Ran:
+    def run(self, *argv: str, cwd: Optional[str] = None, **settings: str) -> Ran:
         """Runs asancol-run."""
-        return self.run_words([RUN, *words], cwd, **settings)
+        return self.run_argv([RUN, *argv], cwd, **settings)
 
-    def run_words(self, words: Sequence[str], cwd: Optional[str] = None, **settings: str) -> Ran:
+    def run_argv(self, argv: Sequence[str], cwd: Optional[str] = None, **settings: str) -> Ran:
         """Runs any command."""
-        ran = subprocess.run(words, env=self.environment(**settings), cwd=cwd, stdin=subprocess.DEVNULL,
+        ran = subprocess.run(argv, env=self.environment(**settings), cwd=cwd, stdin=subprocess.DEVNULL,
                              capture_output=True, timeout=PATIENCE, check=False)
         return ran_of(ran)
 
-    def start(self, *words: str, user: Optional[int] = None, **settings: str) -> "subprocess.Popen[str]":
+    def start(self, *argv: str, user: Optional[int] = None, **settings: str) -> "subprocess.Popen[str]":
         """Starts asancol-run, as another user if one is named."""
         environment = self.environment(**settings)
-        return subprocess.Popen([RUN, *words], env=environment, stdin=subprocess.DEVNULL, text=True, user=user,
+        return subprocess.Popen([RUN, *argv], env=environment, stdin=subprocess.DEVNULL, text=True, user=user,
                                 stdout=subprocess.PIPE, stderr=subprocess.PIPE)
 
-    def packets(self, folder: str, *words: str, **settings: str) -> List[Any]:
+    def packets(self, folder: str, *argv: str, **settings: str) -> List[Any]:
         """Runs asancol-run, and returns what the report was sent; first its words."""
         path = f"{folder}/packets"
-        self.run(*words, FAKE_PACKETS=path, **settings)
+        self.run(*argv, FAKE_PACKETS=path, **settings)
         return read_packets(path)
 
     def show_findings(self) -> None:

@@ -52,10 +52,10 @@ static void clone_one(void)
         perror("threads");
 }
 
-int main(int count, char **words)
+int main(int count, char **argv)
 {
     static pthread_t thread;
-    const char *name = count > 1 ? words[1] : "";
+    const char *name = count > 1 ? argv[1] : "";
     if (strcmp(name, "joined") == 0) {
         pthread_create(&thread, NULL, takes_long_to_end, NULL);
         pthread_join(thread, NULL);

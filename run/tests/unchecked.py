@@ -47,7 +47,7 @@ def build(folder: str, compiler: str) -> None:
 
 def check_summary(suite: Suite, folder: str, compiler: str) -> None:
     build(folder, compiler)
-    for words, status, text in (
+    for argv, status, text in (
         (["./some"], 0, " events; not checked: u.o\n"),
         (["--unchecked", "list", "./some"], 0, "; not checked: u.o\n"),
         (["--unchecked=no", "./some"], 0, " events\n"),
@@ -73,7 +73,7 @@ def check_summary(suite: Suite, folder: str, compiler: str) -> None:
         for reporter in (NO_SETTINGS, {"ASANCOL_REPORT": REPORT}):
             if status == 99 and not reporter:
                 continue
-            expect_ran(suite.run(*words, cwd=folder, **reporter), status, text, absent=absent)
+            expect_ran(suite.run(*argv, cwd=folder, **reporter), status, text, absent=absent)
     for quiet in (["--unchecked=no", "./some"], ["./libraries"]):
         expect_ran(suite.run("-q", *quiet, cwd=folder), 0, absent=["asancol"])
 
@@ -91,15 +91,15 @@ def check_outputs(suite: Suite, folder: str, compiler: str) -> None:
     for kind in ("sarif", "html"):
         with open(f"{folder}/{kind}", encoding="utf-8") as file:
             expect_in(file.read(), "not checked: u.o")
-    for words, status, text in (((), 0, "; not checked: u.o\n"), (["--unchecked=error"], 3, "; not checked: u.o\n"),
+    for argv, status, text in (((), 0, "; not checked: u.o\n"), (["--unchecked=error"], 3, "; not checked: u.o\n"),
                                 (["--unchecked=no"], 0, " events\n"), (["-q"], 0, "; not checked: u.o\n")):
-        ran = suite.run_words([REPORT, *words, "json"], cwd=folder)
+        ran = suite.run_argv([REPORT, *argv, "json"], cwd=folder)
         expect((ran.status, text in ran.out), (status, True), ran.out + ran.err)
     ran = suite.run(RUN, "./more", cwd=folder, ASANCOL_REPORT=REPORT)
     expect_ran(ran, 0, "not checked: u.o, n0.o")
     expect(ran.err.count("; not checked: u.o, n0.o"), 2, ran.err)
-    ran = suite.run_words(["./some"], cwd=folder, ASANCOL_TRACE="t.trace", ASANCOL_WHERE="1")
-    ran = suite.run_words([REPORT, "--trace", "t.trace"], cwd=folder)
+    ran = suite.run_argv(["./some"], cwd=folder, ASANCOL_TRACE="t.trace", ASANCOL_WHERE="1")
+    ran = suite.run_argv([REPORT, "--trace", "t.trace"], cwd=folder)
     expect_in(ran.out, "; not checked: u.o\n")
     expect_not_in(ran.out, "all complete")
 
@@ -114,19 +114,19 @@ def check_libraries(suite: Suite, folder: str, compiler: str) -> None:
     """Libraries of the system are counted, each once, by asancol-run and asancol-report; those of C and C++ are not.
     And whose calls were not checked is said if it was so."""
     build(folder, compiler)
-    words = ["./libraries"]
+    argv = ["./libraries"]
     for name in ("one", "other"):
-        suite.run(f"--json={name}", "--", *words, cwd=folder, ASANCOL_REPORT=REPORT)
-    ran = suite.run_words([REPORT, "one", "other", "--json=both"], cwd=folder)
+        suite.run(f"--json={name}", "--", *argv, cwd=folder, ASANCOL_REPORT=REPORT)
+    ran = suite.run_argv([REPORT, "one", "other", "--json=both"], cwd=folder)
     expect_in(ran.out, f"; all complete; {TWO}\n")
-    expect_in(suite.run_words([REPORT, "both"], cwd=folder).out, f"; all complete; {TWO}\n")
-    suite.run_words(words, cwd=folder, ASANCOL_TRACE="t.trace", ASANCOL_WHERE="1")
-    expect_in(suite.run_words([REPORT, "--trace", "t.trace"], cwd=folder).out, f"; all complete; {TWO}\n")
+    expect_in(suite.run_argv([REPORT, "both"], cwd=folder).out, f"; all complete; {TWO}\n")
+    suite.run_argv(argv, cwd=folder, ASANCOL_TRACE="t.trace", ASANCOL_WHERE="1")
+    expect_in(suite.run_argv([REPORT, "--trace", "t.trace"], cwd=folder).out, f"; all complete; {TWO}\n")
     with open(f"{folder}/plus.cpp", "w", encoding="utf-8") as file:
         file.write(CXX_MAIN)
     cxx = {"gcc": "g++", "clang": "clang++"}[compiler]
-    for words in (["plus"], ["plus-static", "-static"]):
-        subprocess.run([CXX, "plus.cpp", "-o", *words], cwd=folder, check=True, env={**os.environ, "ASANCOL_CXX": cxx})
+    for argv in (["plus"], ["plus-static", "-static"]):
+        subprocess.run([CXX, "plus.cpp", "-o", *argv], cwd=folder, check=True, env={**os.environ, "ASANCOL_CXX": cxx})
     calls, static = "calls of libraries (ASANCOL_LIBRARIES=0)", "; not checked: calls of the C library (-static)\n"
     for program, status, on, off in (
         ("./bad", 99, "; all complete\n", "; all complete\n"),

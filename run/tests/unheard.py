@@ -63,9 +63,9 @@ static int is(const char *way, const char *what) { return strcmp(way, what) == 0
 static void limit(void) {
     if (getenv("NO_DESCRIPTORS")) setrlimit(RLIMIT_NOFILE, &(struct rlimit){0, 0});
 }
-int main(int count, char **words) {
-    const char *way = words[1];
-    char **rest = words + 2, *none[] = {NULL};
+int main(int count, char **argv) {
+    const char *way = argv[1];
+    char **rest = argv + 2, *none[] = {NULL};
     pid_t child = 0;
     if (is(way, "clearenv")) clearenv();
     if (is(way, "spawn") || is(way, "spawnp")) {
@@ -94,7 +94,7 @@ int main(void) { call(); return 0; }
 """
 # Dies before all constructors.
 EARLY = """
-static void early(int count, char **words) { if (count > 1) *(volatile int *)8 = 1; }
+static void early(int count, char **argv) { if (count > 1) *(volatile int *)8 = 1; }
 __attribute__((section(".preinit_array"), used)) static void (*const entry)(int, char **) = early;
 int main(void) { return 0; }
 """
@@ -102,8 +102,8 @@ int main(void) { return 0; }
 HOST = """
 #define _GNU_SOURCE
 #include <dlfcn.h>
-int main(int count, char **words) {
-    return (count > 2 ? dlmopen(LM_ID_NEWLM, words[1], RTLD_NOW) : dlopen(words[1], RTLD_NOW)) == 0;
+int main(int count, char **argv) {
+    return (count > 2 ? dlmopen(LM_ID_NEWLM, argv[1], RTLD_NOW) : dlopen(argv[1], RTLD_NOW)) == 0;
 }
 """
 # Forbids all that leads to the hub, and then forks, or becomes another program; or a fork fails.
@@ -131,22 +131,22 @@ static void forbid(int first, int second, int third) {
     struct sock_fprog filter = {sizeof lines / sizeof *lines, lines};
     if (prctl(PR_SET_NO_NEW_PRIVS, 1, 0, 0, 0) || prctl(PR_SET_SECCOMP, SECCOMP_MODE_FILTER, &filter)) exit(1);
 }
-int main(int count, char **words) {
-    if (strcmp(words[1], "fails") == 0) {
+int main(int count, char **argv) {
+    if (strcmp(argv[1], "fails") == 0) {
         forbid(SYS_clone, SYS_clone3, SYS_fork);
         errno = 0;
         return fork() == -1 && errno == EAGAIN ? 0 : 1;
     }
-    if (strcmp(words[1], "forks") == 0) {
+    if (strcmp(argv[1], "forks") == 0) {
         errno = EXDEV;
         if (fork() == 0) _exit(errno == EXDEV ? 0 : 1);
         int status;
         return errno == EXDEV && wait(&status) > 0 && status == 0 ? 0 : 1;
     }
     forbid(SYS_socket, SYS_symlink, SYS_symlinkat);
-    if (strcmp(words[1], "exec") == 0) execv(words[2], words + 2);
+    if (strcmp(argv[1], "exec") == 0) execv(argv[2], argv + 2);
     for (int i = 0; i < 2; i++)
-        if (fork() == 0) { if (count > 2) execv(words[2], words + 2); _exit(0); }
+        if (fork() == 0) { if (count > 2) execv(argv[2], argv + 2); _exit(0); }
     while (wait(NULL) > 0) continue;
     return 0;
 }
@@ -272,13 +272,13 @@ def check_out_of_reach(suite: Suite, folder: str) -> None:
     alone = build(folder, "alone", ALONE)
     good = build(folder, "good", GOOD)
     plain = build(folder, "plain", GOOD, compiler="cc")
-    for words in (["fork"], ["fork", good], ["fork", plain]):
-        ran = suite.run("--", "sh", "-c", f"{alone} {' '.join(words)} 2>/dev/null")
+    for argv in (["fork"], ["fork", good], ["fork", plain]):
+        ran = suite.run("--", "sh", "-c", f"{alone} {' '.join(argv)} 2>/dev/null")
         expect_ran(ran, 98, f"{alone}: INCOMPLETE: 2 children that it forked never connected", "; 1 INCOMPLETE")
     ran = suite.run("--json", f"{folder}/x", "--", alone, "exec", good, ASANCOL_REPORT=REPORT)
     expect_ran(ran, 98, f"{alone}: INCOMPLETE: it became a program of asancol-cc that never connected")
-    for words in (["exec", plain], ["fails"], ["forks"]):
-        expect_ran(suite.run("--", alone, *words), 0, "all complete")
+    for argv in (["exec", plain], ["fails"], ["forks"]):
+        expect_ran(suite.run("--", alone, *argv), 0, "all complete")
 
 
 def tests(suite: Suite) -> None:

@@ -16,8 +16,8 @@ CRASHED = "ended by SIGSEGV, by a store at address 0x10"
 FREED = "heap-use-after-free: load of 1 byte"
 
 
-def run_real(suite: Suite, *words: str, **settings: str) -> Ran:
-    return suite.run(*words, ASANCOL_REPORT=REPORT, **settings)
+def run_real(suite: Suite, *argv: str, **settings: str) -> Ran:
+    return suite.run(*argv, ASANCOL_REPORT=REPORT, **settings)
 
 
 def read(path: str) -> str:
@@ -46,10 +46,10 @@ __attribute__((noinline)) void fill(int size) {
     memset(buffer, 1, size);
     __asm__ volatile("" : : "r"(buffer) : "memory");
 }
-int main(int count, char **words) {
+int main(int count, char **argv) {
     const char *volatile literal = "Alice";
     fill(10 + count);
-    table[3 + count] = words != 0;
+    table[3 + count] = argv != 0;
     return table[0] + literal[6 + count] - literal[6 + count];
 }
 """
@@ -60,8 +60,8 @@ def check_variables(suite: Suite, folder: str) -> None:
     with open(f"{folder}/variables.c", "w", encoding="utf-8") as file:
         file.write(VARIABLES)
     for compiler in filter(shutil.which, ("gcc", "clang")):
-        words = [CC, "-g", "variables.c", "-o", compiler]
-        subprocess.run(words, cwd=folder, check=True, env={**os.environ, "ASANCOL_CC": compiler})
+        argv = [CC, "-g", "variables.c", "-o", compiler]
+        subprocess.run(argv, cwd=folder, check=True, env={**os.environ, "ASANCOL_CC": compiler})
         ran = run_real(suite, "--json", f"{folder}/x", "--", f"{folder}/{compiler}")
         expect_ran(ran, 99, " in fill ",
                    " 0 bytes past the end of 'buffer' (10 bytes) on the stack, declared in line 5",
@@ -96,8 +96,8 @@ APART void poisoned(char *p) { __asan_poison_memory_region(p, 8); p[7] = 1; free
 APART void unused(char *p) { CONTAINER(p, p + 16, p + 16, p + 2); p[2] = 1; } // container-overflow
 APART void apart(char *p) { CONTAINER(p, p + 16, p + 16, p + 2); p[8] = 1; } // container-overflow
 APART void between(char *p) { __asan_poison_intra_object_redzone(p, 8); p[1] = 1; free(p); } // intra-object-overflow
-int main(int count, char **words) {
-    (void)words; char *first = malloc(8);
+int main(int count, char **argv) {
+    (void)argv; char *first = malloc(8);
     ended(); past(15 + count); before(count); dynamic(9 + count); global(3 + count); heap(4 + count);
     freed(first); twice(malloc(9)); wild();
     poisoned(malloc(8)); unused(malloc(16)); apart(of_container); between(malloc(8));
@@ -118,10 +118,10 @@ def check_names(suite: Suite, folder: str) -> None:
     lines = FAULTS.splitlines()
     wanted = [(it.partition("// ")[2], str(at)) for at, it in enumerate(lines, 1) if it.startswith("APART")]
     for compiler in filter(shutil.which, ("gcc", "clang")):
-        words = [CC, "-g", "-w", "faults.c", "-o", compiler + "-faults"]
-        subprocess.run(words, cwd=folder, check=True, env={**os.environ, "ASANCOL_CC": compiler})
-        words = ["--source-root", folder, "--shadow", "--", f"{folder}/{compiler}-faults"]
-        ran = run_real(suite, "--json", f"{folder}/x", *words)
+        argv = [CC, "-g", "-w", "faults.c", "-o", compiler + "-faults"]
+        subprocess.run(argv, cwd=folder, check=True, env={**os.environ, "ASANCOL_CC": compiler})
+        argv = ["--source-root", folder, "--shadow", "--", f"{folder}/{compiler}-faults"]
+        ran = run_real(suite, "--json", f"{folder}/x", *argv)
         found = re.findall(r"ERROR: asancol: (.*?)(?:: .*)?\n    #0 .* faults\.c:(\d+):\d+\n", ran.err)
         expect(found, [(ATTEMPTS.get(name, name), line) for name, line in wanted], ran.err)
         names = {name for name, said in table_of_classes().items() if said == THE_SAME} - SHOWN_ELSEWHERE
@@ -133,7 +133,7 @@ def check_names(suite: Suite, folder: str) -> None:
                    "Shadow byte legend", "reports at 14 places; 1 process")
         expect(re.fullmatch(rf"SUMMARY: asancol: {wanted[0][0]} faults\.c:{wanted[0][1]}:\d+ in ended",
                             ran.err.splitlines()[-1]) is not None, True, ran.err)
-        again = suite.run_words([REPORT, f"{folder}/x", "--source-root", folder, "--shadow"])
+        again = suite.run_argv([REPORT, f"{folder}/x", "--source-root", folder, "--shadow"])
         expect(again.out, ran.err, "read again")
 
 
@@ -145,8 +145,8 @@ CONTAINERS = """
 typedef std::pair<std::string, std::vector<std::vector<std::string> > > Named;
 static int *gone;
 static bool comes_first(const Named &one, const Named &other) { return one.first.size() + *gone < other.first.size(); }
-int main(int count, char **words) {
-    std::vector<Named> named(3, Named(words[0], {}));
+int main(int count, char **argv) {
+    std::vector<Named> named(3, Named(argv[0], {}));
     gone = new int(count);
     delete gone;
     std::sort(named.begin(), named.end(), comes_first);
@@ -160,8 +160,8 @@ def check_short_stacks(suite: Suite, folder: str) -> None:
     with open(f"{folder}/named.cpp", "w", encoding="utf-8") as file:
         file.write(CONTAINERS)
     for compiler in filter(shutil.which, ("g++", "clang++")):
-        words = [os.path.join(os.path.dirname(CC), "asancol-c++"), "-g", "-w", "named.cpp", "-o", compiler + "-named"]
-        subprocess.run(words, cwd=folder, check=True, env={**os.environ, "ASANCOL_CXX": compiler})
+        argv = [os.path.join(os.path.dirname(CC), "asancol-c++"), "-g", "-w", "named.cpp", "-o", compiler + "-named"]
+        subprocess.run(argv, cwd=folder, check=True, env={**os.environ, "ASANCOL_CXX": compiler})
         ran = run_real(suite, "--", f"{folder}/{compiler}-named")
         stack = re.findall(r"^    (?:#\d+ 0x\w+ |\.\. \d+ )(.*)", ran.err.partition("is byte 0")[0], re.M)
         expect([it.partition("(")[0].partition(" /")[0] for it in stack],
@@ -181,19 +181,19 @@ def check_lowered(suite: Suite, folder: str) -> None:
     expect_ran(ran, 99, "asancol: process ", *texts)
     notes = [it["text"] for it in read_lines(f"{folder}/x") if it["type"] == "note"]
     expect([sum(text in it for it in notes) for text in texts], [1, 1, 1], "notes")
-    merged = suite.run_words([REPORT, f"{folder}/x"])
+    merged = suite.run_argv([REPORT, f"{folder}/x"])
     expect([text in merged.out for text in texts], [True] * 3, merged.out)
 
 
 def check_colors(suite: Suite, folder: str) -> None:
     """Colors go to a terminal only, and not if somebody asks for none."""
     red = "\033[1;31m=="
-    words, report = ["--", suite.program, "past"], {"ASANCOL_REPORT": REPORT}
+    argv, report = ["--", suite.program, "past"], {"ASANCOL_REPORT": REPORT}
     result = f"{folder}/result.jsonl"
     for name, command in (("asancol-run", [RUN]), ("asancol-report", [REPORT])):
-        rest = words if command == [RUN] else [result]
+        rest = argv if command == [RUN] else [result]
         if command == [REPORT]:
-            suite.run("--json", result, *words, **report)
+            suite.run("--json", result, *argv, **report)
         ran = at_terminal(suite, [*command, *rest], b"", 0.1, NO_COLOR="", **report)
         expect(red in ran.err, True, f"{name}: colors")
         for settings in ({"NO_COLOR": "1"}, {"TERM": "dumb"}):
@@ -202,10 +202,10 @@ def check_colors(suite: Suite, folder: str) -> None:
         ran = at_terminal(suite, [*command, "--color", "never", *rest], b"", 0.1, **report)
         expect((PAST in ran.err, "\033" in ran.err), (True, False), f"{name}: never")
         for when, has_colors in (("auto", False), ("always", True)):
-            ran = suite.run_words([*command, "--color", when, *rest], **report)
+            ran = suite.run_argv([*command, "--color", when, *rest], **report)
             expect(red in ran.out + ran.err, has_colors, f"{name}, no terminal: {when}")
     log = f"{folder}/log"
-    at_terminal(suite, [RUN, "--log-file", log, *words], b"", 0.1, **report)
+    at_terminal(suite, [RUN, "--log-file", log, *argv], b"", 0.1, **report)
     with open(log, encoding="utf-8") as lines:
         text = lines.read()
     expect((PAST in text, "\033" in text), (True, False), "a log file has no colors")
@@ -213,7 +213,7 @@ def check_colors(suite: Suite, folder: str) -> None:
 
 def check_summaries_are_the_same(suite: Suite, folder: str) -> None:
     """asancol-run and asancol-report say the same of a run without reports."""
-    for words in (
+    for argv in (
         ["--", "true"],
         ["--", suite.program, "sound"],
         ["--at-least", "2", "--", suite.program, "sound"],
@@ -222,17 +222,17 @@ def check_summaries_are_the_same(suite: Suite, folder: str) -> None:
         ["--", "sh", "-c", f"{suite.program} crashes; {suite.unchecked} sound; true"],
         ["--timeout", "0.5", "--", suite.program, "sleeps", "30"],
     ):
-        alone = run_real(suite, *words)
-        both = run_real(suite, "--json", f"{folder}/x", *words)
+        alone = run_real(suite, *argv)
+        both = run_real(suite, "--json", f"{folder}/x", *argv)
         # Numbers of processes and names of sockets differ. What a killed process had not sent yet is not seen: that is
         # up to some milliseconds of events.
         differs = r"process \d+|asancol-\w{6}/hub-\w+"
-        if "kills_itself" in words:
+        if "kills_itself" in argv:
             differs += r"|\d+ events?"
         seen = [re.sub(differs, "", ran.err) for ran in (alone, both)]
-        expect((both.status, seen[1]), (alone.status, seen[0]), str(words))
-        merged = suite.run_words([REPORT, f"{folder}/x"])
-        expect([it for it in merged.out.splitlines() if it not in both.err], [], f"what the result of {words} adds")
+        expect((both.status, seen[1]), (alone.status, seen[0]), str(argv))
+        merged = suite.run_argv([REPORT, f"{folder}/x"])
+        expect([it for it in merged.out.splitlines() if it not in both.err], [], f"what the result of {argv} adds")
 
 
 def check_suppressed(suite: Suite, folder: str) -> None:
@@ -253,10 +253,10 @@ def check_baseline(suite: Suite, folder: str) -> None:
 
 
 def check_outputs(suite: Suite, folder: str) -> None:
-    words: List[str] = []
+    argv: List[str] = []
     for form in ("json", "sarif", "codequality", "junit", "html"):
-        words += [f"--{form}", f"{folder}/{form}"]
-    expect_ran(run_real(suite, *words, "--", suite.program, "past"), 99, PAST)
+        argv += [f"--{form}", f"{folder}/{form}"]
+    expect_ran(run_real(suite, *argv, "--", suite.program, "past"), 99, PAST)
     expect(sorted(os.listdir(folder)), ["codequality", "html", "json", "junit", "sarif"], "files")
     kinds = [it["type"] for it in read_lines(f"{folder}/json")]
     expect(kinds, ["run", "process", "finding"], "JSON lines")
@@ -272,14 +272,14 @@ def check_outputs_to_descriptors(suite: Suite, folder: str) -> None:
         (">> log", 1, "/dev/stdout"), ("2> log", 2, "/dev/stderr"), ("7> log", 7, "/dev/fd/7")
     ):
         line = f"{{ echo before >&{number}; {run.replace('NAME', name)}; echo after >&{number}; }} {redirected}"
-        suite.run_words(["sh", "-c", line], folder, ASANCOL_REPORT=REPORT)
+        suite.run_argv(["sh", "-c", line], folder, ASANCOL_REPORT=REPORT)
         with open(f"{folder}/log", encoding="utf-8") as log:
             lines = log.read().split("\n")
         kinds = [json.loads(it)["type"] if it.startswith("{") else it for it in lines]
         expect(kinds, ["before", "run", "process", "finding", "after", ""], name)
         os.unlink(f"{folder}/log")
     line = f"echo before; {RUN} --log-file /dev/stdout -- {suite.program} past"
-    out = suite.run_words(["sh", "-c", f"({line}) > log; cat log"], folder, ASANCOL_REPORT=REPORT).out
+    out = suite.run_argv(["sh", "-c", f"({line}) > log; cat log"], folder, ASANCOL_REPORT=REPORT).out
     expect((out.startswith("before\n"), PAST in out), (True, True), out)
 
 
@@ -311,10 +311,10 @@ def check_removed(suite: Suite, folder: str, compiler: str) -> None:
     removed = "rm program library.so"
     renewed = "cp program.c new; mv new program; cp program.c new; mv new library.so"
     for build_id, after in (("sha1", removed), ("sha1", renewed), ("none", removed), ("none", renewed)):
-        words = [CC, "-g", f"-Wl,--build-id={build_id}"]
+        argv = [CC, "-g", f"-Wl,--build-id={build_id}"]
         for more in (["-shared", "-fPIC", "library.c", "-o", "library.so"],
                      ["program.c", "./library.so", f"-Wl,-rpath,{folder}", "-o", "program"]):
-            subprocess.run([*words, *more], cwd=folder, check=True, env={**os.environ, "ASANCOL_CC": compiler})
+            subprocess.run([*argv, *more], cwd=folder, check=True, env={**os.environ, "ASANCOL_CC": compiler})
         ran = suite.run("--", "sh", "-c", f"./program; {after}", cwd=folder, ASANCOL_REPORT=REPORT)
         expect_ran(ran, 99, f"in of_library {folder}/library.c:5:", f"in main {folder}/program.c:5:",
                    f"in main {folder}/program.c:7:", absent=["no lines"])
@@ -323,8 +323,8 @@ def check_removed(suite: Suite, folder: str, compiler: str) -> None:
 def check_bare(suite: Suite, folder: str, compiler: str) -> None:
     """Why places have no lines is said once for each program, also beside one that has them; and where /proc is not."""
     source = f"{TOP}/examples/bug.c"
-    for name, words in (("lines", ["-g"]), ("plain", ()), ("stripped", ["-g", "-s"])):
-        subprocess.run([CC, *words, source, "-o", f"{folder}/{name}"], check=True,
+    for name, argv in (("lines", ["-g"]), ("plain", ()), ("stripped", ["-g", "-s"])):
+        subprocess.run([CC, *argv, source, "-o", f"{folder}/{name}"], check=True,
                        env={**os.environ, "ASANCOL_CC": compiler})
     line = "; ".join(f"{folder}/{name} A" for name in ("lines", "plain", "plain", "stripped"))
     ran = run_real(suite, "--json", f"{folder}/x", "--", "sh", "-c", line)
@@ -335,7 +335,7 @@ def check_bare(suite: Suite, folder: str, compiler: str) -> None:
     alone = run_real(suite, "--", f"{folder}/stripped", "A")
     expect("compile" in alone.err or "compiled with -g?" in alone.err, True, alone.err)
     expect_ran(run_real(suite, "--", f"{folder}/lines", "A"), 99, absent=["-g"])
-    if suite.run_words(["unshare", "-rm", "true"]).status == 0:
+    if suite.run_argv(["unshare", "-rm", "true"]).status == 0:
         hidden = ["unshare", "-rm", "sh", "-c", f"mount -t tmpfs none /proc; exec {folder}/lines A"]
         expect_ran(run_real(suite, "--", *hidden), 99, "the modules of a process are not known, as where /proc is not")
 
@@ -345,7 +345,7 @@ def check_many_removed(suite: Suite, folder: str) -> None:
     word."""
     shutil.copy(suite.program, f"{folder}/program")
     line = f"ulimit -n 64; exec {RUN} -- sh -c 'for i in $(seq 30); do cp program p$i; ./p$i past; rm p$i; done'"
-    ran = suite.run_words(["sh", "-c", line], folder, ASANCOL_REPORT=REPORT)
+    ran = suite.run_argv(["sh", "-c", line], folder, ASANCOL_REPORT=REPORT)
     expect_ran(ran, 99, "30 processes", "all complete", "in store_past")
 
 
@@ -386,7 +386,7 @@ def check_crash(suite: Suite, folder: str) -> None:
     process = crashed[0]
     expect((process["signal"], process["address"], process["stack"][0]["function"]), (11, "10", "crashes"),
            "JSON lines")
-    merged = suite.run_words([REPORT, f"{folder}/x"])
+    merged = suite.run_argv([REPORT, f"{folder}/x"])
     expect((merged.status, CRASHED in merged.out), (0, True), merged.out)
     expect_ran(run_real(suite, "-q", "--", "sh", "-c", line), 0, f"{suite.program}: {CRASHED}")
     check_crash_in_outputs(suite, folder, line)
@@ -421,7 +421,7 @@ def check_kept(suite: Suite, folder: str) -> None:
     """The same report can be made again from the traces."""
     run_real(suite, "--keep", f"{folder}/kept", "--", suite.program, "past", "3")
     traces = [f"{folder}/kept/{it}" for it in os.listdir(f"{folder}/kept") if it.endswith(".trace")]
-    ran = suite.run_words([REPORT, "--trace", *traces])
+    ran = suite.run_argv([REPORT, "--trace", *traces])
     expect((ran.status, [it in ran.out for it in (PAST, "in store_past", "3 times")]), (1, [True] * 3), ran.out)
 
 
@@ -430,18 +430,18 @@ def check_killed_in_a_file(suite: Suite, folder: str) -> None:
     why = "INCOMPLETE: ended abruptly, as by SIGKILL, or an _exit or exec in a library, or still running\n"
     for where in ("0", "1"):
         trace = f"{folder}/{where}.trace"
-        suite.run_words([suite.program, "kills_itself", "9"], ASANCOL_TRACE=trace, ASANCOL_WHERE=where)
-        ran = suite.run_words([REPORT, "--trace", trace])
+        suite.run_argv([suite.program, "kills_itself", "9"], ASANCOL_TRACE=trace, ASANCOL_WHERE=where)
+        ran = suite.run_argv([REPORT, "--trace", trace])
         expect((ran.status, why in ran.out), (3, True), ran.out)
 
 
 def check_without_quarantine(suite: Suite, folder: str) -> None:
     """A trace is checked with as much held as its process has held, also if that is nothing."""
     trace = f"{folder}/t.trace"
-    suite.run_words([suite.program, "many", "9"], ASANCOL_TRACE=trace, ASANCOL_WHERE="1", ASANCOL_QUARANTINE="0")
-    ran = suite.run_words([REPORT, "--trace", trace])
+    suite.run_argv([suite.program, "many", "9"], ASANCOL_TRACE=trace, ASANCOL_WHERE="1", ASANCOL_QUARANTINE="0")
+    ran = suite.run_argv([REPORT, "--trace", trace])
     expect((ran.status, "held back 0 bytes of freed memory (ASANCOL_QUARANTINE)" in ran.out), (0, True), ran.out)
-    ran = suite.run_words([REPORT, "--quarantine", str(1 << 28), "--trace", trace])
+    ran = suite.run_argv([REPORT, "--quarantine", str(1 << 28), "--trace", trace])
     expect((ran.status, "bad-malloc" in ran.out), (1, True), ran.out)
 
 
@@ -471,8 +471,8 @@ def check_without_python(suite: Suite, folder: str) -> None:
 def check_many(suite: Suite, folder: str) -> None:
     """More processes with reports than descriptors, and all are reported."""
     line = f"i=0; while [ $i -lt 100 ]; do {suite.program} past & i=$((i+1)); done; wait"
-    words = ["sh", "-c", f"ulimit -n 64; exec {RUN} -- sh -c '{line}'"]
-    ran = suite.run_words(words, ASANCOL_REPORT=REPORT)
+    argv = ["sh", "-c", f"ulimit -n 64; exec {RUN} -- sh -c '{line}'"]
+    ran = suite.run_argv(argv, ASANCOL_REPORT=REPORT)
     expect_ran(ran, 99, "asancol: 100 reports at 1 place; 100 processes, 300 events; all complete")
 
 
@@ -480,8 +480,8 @@ def check_first_steps(suite: Suite, folder: str) -> None:
     """From an installation: what the first page says."""
     where = f"{folder}/installed"
     for part in ("recorder", "run", "report"):
-        words = ["make", "-s", "-C", f"{TOP}/{part}", "install", f"PREFIX={where}", "DESTDIR="]
-        subprocess.run(words, check=True, stdout=subprocess.DEVNULL)
+        argv = ["make", "-s", "-C", f"{TOP}/{part}", "install", f"PREFIX={where}", "DESTDIR="]
+        subprocess.run(argv, check=True, stdout=subprocess.DEVNULL)
     shutil.copy(suite.asancol, f"{where}/bin/asancol")
     build = [f"{where}/bin/asancol-cc", "-g", f"{TOP}/examples/bug.c", "-o", f"{folder}/bug"]
     subprocess.run(build, check=True)
@@ -524,5 +524,5 @@ def tests(suite: Suite) -> None:
             suite.test(f"whole: removed, {compiler}", check_removed, compiler)
             suite.test(f"whole: without lines, {compiler}", check_bare, compiler)
     suite.test("whole: many removed", check_many_removed)
-    if suite.run_words(["unshare", "-rn", "true"]).status == 0:
+    if suite.run_argv(["unshare", "-rn", "true"]).status == 0:
         suite.test("whole: file instead of the socket", check_file_instead)

@@ -44,17 +44,17 @@ class Cost(NamedTuple):
     memory: int
 
 
-def run(words: List[str], source: Optional[str], is_huge: bool) -> Cost:
+def run(argv: List[str], source: Optional[str], is_huge: bool) -> Cost:
     environment = {name: value for name, value in os.environ.items() if name != "GLIBC_TUNABLES"}
     if is_huge:
         environment["GLIBC_TUNABLES"] = HUGE_PAGES
     before = time.monotonic()
     with open(source or os.devnull, "rb") as file:
-        child = subprocess.Popen(words, stdin=file, stdout=subprocess.DEVNULL, env=environment)
+        child = subprocess.Popen(argv, stdin=file, stdout=subprocess.DEVNULL, env=environment)
         _, status, used = os.wait4(child.pid, 0)
     child.returncode = os.waitstatus_to_exitcode(status)
     if child.returncode not in (0, 1):
-        sys.exit(f"bench.py: {words[0]} ended with status {child.returncode}")
+        sys.exit(f"bench.py: {argv[0]} ended with status {child.returncode}")
     return Cost(used.ru_utime + used.ru_stime, time.monotonic() - before, used.ru_maxrss * 1024)
 
 
@@ -89,9 +89,9 @@ class Bench:
     def files(self, events: int) -> Tuple[Cost, Cost]:
         """Returns the cost of some files one after another, and side by side."""
         path = self.trace("local", events)
-        words = [self.program, "check", "--workers", str(FILES_WORKERS)] + [path] * FILES
+        argv = [self.program, "check", "--workers", str(FILES_WORKERS)] + [path] * FILES
         alone = least([run([self.program], path, True) for _ in range(self.rounds)])
-        together = least([run(words, None, True) for _ in range(self.rounds)])
+        together = least([run(argv, None, True) for _ in range(self.rounds)])
         return Cost(alone.processor * FILES, alone.wall * FILES, alone.memory * FILES), together
 
     def release(self) -> float:

@@ -303,11 +303,11 @@ static void release(uint64_t events)
     put_free(at + count * 80 + large);
 }
 
-int main(int count, char **words)
+int main(int count, char **argv)
 {
-    const char *way = count > 1 ? words[1] : "";
-    uint64_t events = count > 2 ? strtoull(words[2], NULL, 10) : 0;
-    out.file = count > 3 && events > 1 ? fopen(words[3], "wb") : NULL;
+    const char *way = count > 1 ? argv[1] : "";
+    uint64_t events = count > 2 ? strtoull(argv[2], NULL, 10) : 0;
+    out.file = count > 3 && events > 1 ? fopen(argv[3], "wb") : NULL;
     out.left = events;
     if (out.file == NULL) {
         fputs("usage: traces local|buggy|random|churn|poison|release EVENTS FILE\n", stderr);

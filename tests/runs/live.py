@@ -22,17 +22,17 @@ def live_files(program):
     status, output, _ = program.run(["check", *names])
     wanted = lines_of_each(output)
     for ring, workers in [("1", "1"), ("1", "64"), ("1024", "2")]:
-        words = ["check", "--live", "--ring", ring, "--workers", workers, *names]
-        got = program.run(words)
-        same(words, (got[0], lines_of_each(got[1]), got[2]), (status, wanted, b""))
+        argv = ["check", "--live", "--ring", ring, "--workers", workers, *names]
+        got = program.run(argv)
+        same(argv, (got[0], lines_of_each(got[1]), got[2]), (status, wanted, b""))
         last = [line.split()[:2] for line in got[1].decode().splitlines()[-len(names) :]]
-        same(words, last, [[f"p{process}", "end"] for process in range(len(names))])
+        same(argv, last, [[f"p{process}", "end"] for process in range(len(names))])
     program.expect(["check", "--live", "past"], 1, past_the_end())
     program.expect(["check", "--live", "-"], 0, sound(), given=SOUND)
     program.expect_unwritten(["check", "--live", "past", "frees"])
-    words = ["check", "--live", "--memory", str(1 << 20), put("far", FAR_APART), "past"]
-    status, output, _ = program.run(words)
-    same(words, (status, lines_of_each(output)["p1"]), (3, past_the_end(1)))
+    argv = ["check", "--live", "--memory", str(1 << 20), put("far", FAR_APART), "past"]
+    status, output, _ = program.run(argv)
+    same(argv, (status, lines_of_each(output)["p1"]), (3, past_the_end(1)))
 
 
 @test
@@ -45,18 +45,18 @@ def one_file_on_one_thread(program):
     choices = [[], bound, ["--live"], ["--live", *bound], ["--ring", "1"], ["--workers", "64"]]
     far = put("far", FAR_APART)
     pairs = [
-        (put(f"trace{place}", trace), words)
+        (put(f"trace{place}", trace), argv)
         for place, trace in enumerate([PAST_THE_END, SOUND, CUT, b"", frees, stray])
-        for words in choices
+        for argv in choices
     ]
-    for name, words in [*pairs, (far, bound), (far, ["--live", *bound])]:
-        status, output, faults = program.run(["check", *words, name, name])
+    for name, argv in [*pairs, (far, bound), (far, ["--live", *bound])]:
+        status, output, faults = program.run(["check", *argv, name, name])
         wanted = (status, lines_of_each(output)["p0"].encode(), faults)
-        words = ["check", *words]
-        same(words, program.run([*words, name]), wanted)
-        same(words, program.run([*words, name], before=without_threads), wanted)
+        argv = ["check", *argv]
+        same(argv, program.run([*argv, name]), wanted)
+        same(argv, program.run([*argv, name], before=without_threads), wanted)
         with open(name, "rb") as trace:
-            same(words, program.run([*words, "-"], stdin=trace, before=without_threads), wanted)
+            same(argv, program.run([*argv, "-"], stdin=trace, before=without_threads), wanted)
     two = program.run(["check", far, far], before=without_threads)
     same("no threads", two, (3, b"p0 end not-started\np1 end not-started\n", b""))
 
@@ -82,7 +82,7 @@ def each_thread_that_does_not_start(program):
     came = [i for i, it in enumerate(traces) if it is not None]
     whole = lines_of_each(program.run(["check", *names])[1])
     for workers, option in itertools.product([1, 2, 3, 64], ["--verbose", "--live"]):
-        words = ["check", option, "--workers", str(workers), *names]
+        argv = ["check", option, "--workers", str(workers), *names]
         is_live = option == "--live"
         most = without_starts(came, workers, is_live, lambda number: False)[1]
         for turn in range(1, most + 2):
@@ -90,8 +90,8 @@ def each_thread_that_does_not_start(program):
                 missing, starts = without_starts(came, workers, is_live, refuses)
                 lines = {**whole, **{f"p{i}": f"p{i} end not-started\n" for i in missing}}
                 said = [f"p{i} {name}: {ending_of(lines[f'p{i}'])}" for i, name in enumerate(names)]
-                ran = with_refused(program, words, refused_calls.THREAD_STARTS, refuses)
-                what = (words, turn, refuses)
+                ran = with_refused(program, argv, refused_calls.THREAD_STARTS, refuses)
+                what = (argv, turn, refuses)
                 same(what, (ran.status, ran.calls), (3, starts))
                 same(what, lines_of_each(ran.output), lines)
                 same(what, ran.faults.decode(), "" if is_live else "".join(said))
@@ -105,22 +105,22 @@ def one_pipe_on_one_thread(program):
     report, end = past_the_end().encode().splitlines(keepends=True)
     second, end = report.replace(b"#2", b"#3"), end.replace(b"2 offset 36 reports 1", b"3 offset 46 reports 2")
     for options in [["--memory", str(1 << 20)], ["--live"]]:
-        words = ["check", *options, "pipe"]
+        argv = ["check", *options, "pipe"]
         running = subprocess.Popen(
-            [program.path, *words], preexec_fn=prepared(), stdout=subprocess.PIPE
+            [program.path, *argv], preexec_fn=prepared(), stdout=subprocess.PIPE
         )
         Served.running.append(running)
         with open("pipe", "wb", buffering=0) as pipe:
             for record, line in [(PAST_THE_END[:-1], report), (PAST_THE_END[-11:-1], second)]:
                 pipe.write(record)
-                if "--live" in words:
-                    same(words, running.stdout.readline(), line)
-            same(words, os.listdir(f"/proc/{running.pid}/task"), [str(running.pid)])
+                if "--live" in argv:
+                    same(argv, running.stdout.readline(), line)
+            same(argv, os.listdir(f"/proc/{running.pid}/task"), [str(running.pid)])
             pipe.write(CLOSE)
         output, _ = running.communicate(timeout=PATIENCE)
         Served.running.remove(running)
-        wanted = end if "--live" in words else report + second + end
-        same(words, (running.returncode, output), (1, wanted))
+        wanted = end if "--live" in argv else report + second + end
+        same(argv, (running.returncode, output), (1, wanted))
 
 
 @test
@@ -128,9 +128,9 @@ def live_output_that_waits(program):
     """Nothing is lost where the reader of the output is slow."""
     frees = put("frees", closed(*[free(0x2000)] * 9000))
     for ring in ["1", "64", "1024"]:
-        words = ["check", "--live", "--ring", ring, frees, frees, frees]
+        argv = ["check", "--live", "--ring", ring, frees, frees, frees]
         running = subprocess.Popen(
-            [program.path, *words],
+            [program.path, *argv],
             preexec_fn=prepared(),
             stdin=subprocess.DEVNULL,
             stdout=subprocess.PIPE,
@@ -138,11 +138,11 @@ def live_output_that_waits(program):
         )
         # A pipe holds less than all lines.
         time.sleep(0.5)
-        holds(words, running.poll() is None, "it does not wait for its reader")
+        holds(argv, running.poll() is None, "it does not wait for its reader")
         output, faults = running.communicate(timeout=PATIENCE)
-        same(words, (running.returncode, faults), (1, b""))
-        _, wanted, _ = program.run([word for word in words if word != "--live"])
-        same(words, lines_of_each(output), lines_of_each(wanted))
+        same(argv, (running.returncode, faults), (1, b""))
+        _, wanted, _ = program.run([word for word in argv if word != "--live"])
+        same(argv, lines_of_each(output), lines_of_each(wanted))
 
 
 @test
@@ -153,7 +153,7 @@ def live_peers(program):
         silent, peer = served.connect(), served.connect()
         peer.sendall(PAST_THE_END[:-1])
         report = past_the_end(1).splitlines(keepends=True)[0]
-        same(served.words, served.program.stdout.readline().decode(), report)
+        same(served.argv, served.program.stdout.readline().decode(), report)
         peer.sendall(CLOSE)
         peer.close()
         silent.sendall(SOUND)

@@ -36,7 +36,7 @@ def files_of_all_kinds(program):
     os.mkdir("folder")
     os.symlink("missing", "link")
     os.chmod(put("unreadable", SOUND), 0)
-    words = ["past", "missing", "sound", "folder", "", " past ", "link"]
+    argv = ["past", "missing", "sound", "folder", "", " past ", "link"]
     text = (
         past_the_end(0)
         + "p1 end not-opened\n"
@@ -46,11 +46,11 @@ def files_of_all_kinds(program):
         + sound(5)
         + "p6 end not-opened\n"
     )
-    program.expect(["check", *words], 3, text)
-    program.expect_unwritten(["check", *words])
+    program.expect(["check", *argv], 3, text)
+    program.expect_unwritten(["check", *argv])
     for ring in ["1", "2", "65536"]:
         for workers in ["1", "3", "64"]:
-            program.expect(["check", "--ring", ring, "--workers", workers, *words], 3, text)
+            program.expect(["check", "--ring", ring, "--workers", workers, *argv], 3, text)
     program.expect(["check", "past", "--", "--limit"], 1, past_the_end(0) + sound(1))
     if os.geteuid() != 0:
         program.expect(["check", "unreadable", "sound"], 3, "p0 end not-opened\n" + sound(1))

@@ -58,16 +58,16 @@ def expect_row(program, row, version):
     trace = row.trace(version)
     wanted = golden.printed(row, version, len(trace))
     whole = (wanted.status, wanted.text(0).encode(), b"")
-    words = ["check", *row.options()]
-    same(what, program.run([*words, put("trace", trace)]), whole)
+    argv = ["check", *row.options()]
+    same(what, program.run([*argv, put("trace", trace)]), whole)
     reader = kept_apart(trace)
     try:
-        same(what, program.run([*words, "-"] if row.options() else [], stdin=reader), whole)
+        same(what, program.run([*argv, "-"] if row.options() else [], stdin=reader), whole)
     finally:
         os.close(reader)
     names = [put(f"first {length}", trace[:length]) for length in range(len(trace) + 1)]
     texts = [golden.printed(row, version, length).text(length) for length in range(len(trace) + 1)]
-    status, output, faults = program.run([*words, *names])
+    status, output, faults = program.run([*argv, *names])
     same(what, (status, faults), (3, b""))
     same_lines(what, output, "".join(texts))
 
@@ -168,30 +168,30 @@ def one_long_trace(program):
     long = long_trace.known_trace()
     trace = put("trace", long.trace)
     for files in [[trace], [trace, trace], ["--live", trace, trace]]:
-        words = ["check", "--quarantine", str(long_trace.QUARANTINE), *files]
-        status, output, faults = program.run(words)
-        same(words, (status, faults), (1, b""))
+        argv = ["check", "--quarantine", str(long_trace.QUARANTINE), *files]
+        status, output, faults = program.run(argv)
+        same(argv, (status, faults), (1, b""))
         for process in range(files.count(trace)):
             lines = lines_of_each(output)[f"p{process}"]
-            same_lines([*words, process], lines.encode(), long.text(process))
+            same_lines([*argv, process], lines.encode(), long.text(process))
         if "--live" not in files:
             texts = [long.text(process) for process in range(len(files))]
-            same_lines(words, output, "".join(texts))
+            same_lines(argv, output, "".join(texts))
 
 
 @test
 def terminal(program):
     """A terminal says only once that no more comes, so no read follows one that gave no byte."""
-    for words in [[], ["check", "-"], ["check", "-", "trace"], ["check", "--live", "-", "trace"]]:
+    for argv in [[], ["check", "-"], ["check", "-", "trace"], ["check", "--live", "-", "trace"]]:
         put("trace", SOUND)
         ours, theirs = pty.openpty()
         # A line of five bytes, and that no more comes.
         os.write(ours, b"ASTR\n\x04")
-        ran = program.run(words, stdin=theirs)
+        ran = program.run(argv, stdin=theirs)
         os.close(ours)
         os.close(theirs)
         text = "p0 end truncated events 0 offset 0 reports 0\n"
-        same(words, ran, (3, (text + sound(1) * ("trace" in words)).encode(), b""))
+        same(argv, ran, (3, (text + sound(1) * ("trace" in argv)).encode(), b""))
 
 
 @test
@@ -200,12 +200,12 @@ def closed_streams(program):
     put("sound", SOUND)
     put("past", PAST_THE_END)
     unread = "p{} end read-failed events 0 offset 0 reports 0\n"
-    for words, text in [
+    for argv, text in [
         (["-"], unread.format(0)),
         (["sound", "-"], sound(0) + unread.format(1)),
         (["-", "past", "sound"], unread.format(0) + past_the_end(1) + sound(2)),
     ]:
-        program.expect(["check", *words], 3, text, before=closing(0))
+        program.expect(["check", *argv], 3, text, before=closing(0))
     program.expect(["check", "sound", "past"], 1, sound(0) + past_the_end(1), before=closing(0))
     for streams in [(1,), (0, 1), (0, 1, 2)]:
         ran = program.run(["check", "past", "sound"], before=closing(*streams))

@@ -38,7 +38,7 @@ def greatest_limits(program):
     """The default is 2^24, and less can be set: here one more than 2^20. Neither events of one
     kind nor another runs out of memory."""
     program.leave_out_with_checks("it takes minutes")
-    for words, limit, event in [
+    for argv, limit, event in [
         ([], 1 << 24, free(0)),
         (["--limit", "1048577"], (1 << 20) + 1, unpoison(0x1000, 8)),
     ]:
@@ -46,7 +46,7 @@ def greatest_limits(program):
         put("more", closed(event * (limit + 1)))
         size = len(event) * limit
         program.expect(
-            ["check", *words, "most", "more"],
+            ["check", *argv, "most", "more"],
             3,
             f"p0 end closed events {limit} offset {9 + size} reports 0\n"
             f"p1 end too-many events {limit} offset {8 + size} reports 0\n",
@@ -59,7 +59,7 @@ def greatest_limits(program):
 @test
 def quarantine(program):
     """A block stays in quarantine where its span is no larger than the quarantine."""
-    for bound, words in [
+    for bound, argv in [
         (1 << 28, []),
         (72, ["--quarantine", "72"]),
         (1 << 21, ["--quarantine", "2097152"]),
@@ -71,7 +71,7 @@ def quarantine(program):
                 continue
             put("trace", closed(malloc(0x10000, size), free(0x10000), free(0x10000)))
             program.expect(
-                ["check", *words, "trace"],
+                ["check", *argv, "trace"],
                 1,
                 f"p0 #3 free at 000000010000 {fault}\n"
                 "p0 end closed events 3 offset 44 reports 1\n",
@@ -98,14 +98,14 @@ def ends_of_ranges(program):
     for option, (least, most) in ranges.items():
         for value in [least, most]:
             program.expect(["check", option, str(value), "missing"], 3, "p0 end not-opened\n")
-            words = ["serve", "--count", "1", option, str(value), ""]
-            program.expect(words, 3, "", "cannot serve\n")
+            argv = ["serve", "--count", "1", option, str(value), ""]
+            program.expect(argv, 3, "", "cannot serve\n")
         for value in [least - 1, most + 1]:
             if value >= 0:
                 said = [option, f"{least}..={most}"]
                 program.expect_refused(["check", option, str(value), "missing"], *said)
-                words = ["serve", "--count", "1", option, str(value), "socket"]
-                program.expect_refused(words, *said)
+                argv = ["serve", "--count", "1", option, str(value), "socket"]
+                program.expect_refused(argv, *said)
     for count in ["1", "256"]:
         program.expect(["serve", "--count", count, ""], 3, "", "cannot serve\n")
     for count in ["0", "257", "4294967297"]:
@@ -115,7 +115,7 @@ def ends_of_ranges(program):
 @test
 def refused_words(program):
     put("trace", SOUND)
-    for words in [
+    for argv in [
         ["check"],
         ["check", "--rings", "1", "trace"],
         ["check", "--ring", "one", "trace"],
@@ -142,9 +142,9 @@ def refused_words(program):
         ["--"],
         [""],
     ]:
-        program.expect_refused(words, *(HINTS[word] for word in words if word in HINTS))
+        program.expect_refused(argv, *(HINTS[word] for word in argv if word in HINTS))
         with open("/dev/full", "wb") as full:
-            same(words, program.run(words, stderr=full), (2, b"", None))
+            same(argv, program.run(argv, stderr=full), (2, b"", None))
     holds("socket", not os.path.exists("socket"), "it is there")
 
 
@@ -152,7 +152,7 @@ def refused_words(program):
 def word_that_is_no_text(program):
     put(b"caf\xe9", SOUND)
     said = "error: an argument is not valid UTF-8: '{}'\n"
-    for words, named in [
+    for argv, named in [
         ([b"check", b"caf\xe9"], r"caf\xe9"),
         ([b"\xff"], r"\xff"),
         ([b"check", b"trace", b"\xc3", b"\xc4"], r"\xc3"),
@@ -160,7 +160,7 @@ def word_that_is_no_text(program):
         ([b"check", b"\xff" * 4096], r"\xff" * 4096),
         ([b"check", b"\xff" * 4097], ""),
     ]:
-        program.expect(words, 2, "", said.format(named))
+        program.expect(argv, 2, "", said.format(named))
     with open(b"caf\xe9", "rb") as file:
         program.expect([], 0, sound(), stdin=file)
 
@@ -182,7 +182,7 @@ def name_that_is_no_text(program):
 @test
 def help_texts(program):
     serve = "asancol serve [OPTIONS] --count <SENDERS> <SOCKET>\n"
-    for words, part in [
+    for argv, part in [
         (["--help"], "Usage: asancol < TRACE\n"),
         (["-h"], "       asancol check [OPTIONS] <FILE>...\n       " + serve),
         (["help"], "The status is 0 if there is nothing to report"),
@@ -200,10 +200,10 @@ def help_texts(program):
         (["check", "--help"], "Print each report when it is found, and the end lines last\n"),
         (["serve", "--help"], "Usage: " + serve),
     ]:
-        status, output, faults = program.run(words)
-        same(words, (status, faults), (0, b""))
-        holds(words, part.encode() in output, output.decode())
-        program.expect_unwritten(words)
+        status, output, faults = program.run(argv)
+        same(argv, (status, faults), (0, b""))
+        holds(argv, part.encode() in output, output.decode())
+        program.expect_unwritten(argv)
 
 
 @test
@@ -242,13 +242,13 @@ def numbers_below_zero(program):
 def standard_input_among_files(program):
     put("sound", SOUND)
     put("-", CUT)
-    for words, text in [
+    for argv, text in [
         (["-"], past_the_end(0)),
         (["sound", "-", "sound"], sound(0) + past_the_end(1) + sound(2)),
         (["-", "sound"], past_the_end(0) + sound(1)),
         (["sound", "--", "-"], sound(0) + past_the_end(1)),
     ]:
-        program.expect(["check", *words], 1, text, given=PAST_THE_END)
+        program.expect(["check", *argv], 1, text, given=PAST_THE_END)
     program.expect(["check", "-", "./-"], 3, past_the_end(0) + cut(1), given=PAST_THE_END)
     text = "p0 end too-many events 1 offset 25 reports 0\n"
     program.expect(["check", "--limit", "1", "-"], 3, text, given=PAST_THE_END)
@@ -266,7 +266,7 @@ def what_became_of_each_file(program):
     put("past", PAST_THE_END)
     put("two\nlines", CUT)
     os.mkdir("folder")
-    words = ["check", "--verbose", "sound", "-", "missing", "two\nlines", "folder"]
+    argv = ["check", "--verbose", "sound", "-", "missing", "two\nlines", "folder"]
     text = (
         sound(0)
         + past_the_end(1)
@@ -281,19 +281,19 @@ def what_became_of_each_file(program):
         "p3 two\\nlines: truncated events 1 offset 25 reports 0\n"
         "p4 folder: read-failed events 0 offset 0 reports 0\n"
     )
-    program.expect(words, 3, text, lines, given=PAST_THE_END)
+    program.expect(argv, 3, text, lines, given=PAST_THE_END)
     with open("/dev/full", "wb") as full:
-        ran = program.run(words, given=PAST_THE_END, stdout=full)
-        same(words, ran, (4, None, lines.encode()))
-        ran = program.run(words, given=PAST_THE_END, stderr=full)
-        same(words, ran, (3, text.encode(), None))
+        ran = program.run(argv, given=PAST_THE_END, stdout=full)
+        same(argv, ran, (4, None, lines.encode()))
+        ran = program.run(argv, given=PAST_THE_END, stderr=full)
+        same(argv, ran, (3, text.encode(), None))
     line = "p0 past: closed events 2 offset 36 reports 1\n"
     for more in [[], ["--live"], ["--memory", str(1 << 20)]]:
         program.expect(["check", "past", "--verbose", *more], 1, past_the_end(), line)
         names = ["past", "sound"]
         both = line + "p1 sound: closed events 2 offset 36 reports 0\n"
-        words = ["check", "--verbose", *more, *names]
-        same(words, program.run(words)[2], both.encode())
+        argv = ["check", "--verbose", *more, *names]
+        same(argv, program.run(argv)[2], both.encode())
     name = put("é \"q\" \\ '\t", SOUND)
     line = "p0 é \\\"q\\\" \\\\ \\'\\t: closed events 2 offset 36 reports 0\n"
     program.expect(["check", "--verbose", name], 0, sound(), line)

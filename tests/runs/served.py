@@ -20,8 +20,8 @@ from testing.traces import closed, load, malloc, store
 def peers_on_a_socket(program):
     both = past_the_end(0) + past_the_end(1)
     for ring, workers in [("1", "1"), ("1024", "2"), ("2", "64")]:
-        words = ["--count", "2", "--ring", ring, "--workers", workers]
-        Served(program, *words).send(PAST_THE_END, PAST_THE_END).expect(1, both)
+        argv = ["--count", "2", "--ring", ring, "--workers", workers]
+        Served(program, *argv).send(PAST_THE_END, PAST_THE_END).expect(1, both)
     Served(program, "--count", "1").send(SOUND).expect(0, sound())
     Served(program, "--count", "1").send(CUT).expect(3, cut())
     Served(program, "--count", "3").send(b"GET / HTTP/1.1\r\n\r\n", b"", PAST_THE_END).expect(
@@ -66,9 +66,9 @@ def memory_of_each_process(program):
         traces = [far, *beside[:place], far, *beside[place:]]
         wanted = "".join(text(process) for process, (_, text) in enumerate(traces))
         files = [put(f"trace{process}", data) for process, (data, _) in enumerate(traces)]
-        words = ["check", "--memory", str(bound), *files]
+        argv = ["check", "--memory", str(bound), *files]
         checking = subprocess.Popen(
-            [program.path, *words], preexec_fn=prepared(), stdout=subprocess.PIPE
+            [program.path, *argv], preexec_fn=prepared(), stdout=subprocess.PIPE
         )
         Served.running.append(checking)
         served = Served(program, "--memory", str(bound), "--count", "5")
@@ -76,11 +76,11 @@ def memory_of_each_process(program):
         for process in [checking, served.program]:
             status, output, peak = peak_of(process)
             Served.running.remove(process)
-            same(words, status, 3)
+            same(argv, status, 3)
             found = re.fullmatch(wanted, output.decode())
-            holds(words, found, output.decode())
+            holds(argv, found, output.decode())
             checked.update(found.groups())
-            holds(words, bound < peak < most, f"{peak} bytes were held, and not {most}")
+            holds(argv, bound < peak < most, f"{peak} bytes were held, and not {most}")
         os.remove("socket")
     # Each ends at the same event each time, whatever another holds.
     holds("--memory", len(checked) == 1, checked)
@@ -96,13 +96,13 @@ def memory_of_one_process(program):
     text = re.compile(re.escape(report.encode()) + rb"p0 end no-memory checked (\d+) reports 1\n")
     checked = []
     for bound in (1 << 20, 1 << 21, 1 << 26):
-        words = [program.path, "check", "--memory", str(bound), far]
-        running = subprocess.Popen(words, preexec_fn=prepared(), stdout=subprocess.PIPE)
+        argv = [program.path, "check", "--memory", str(bound), far]
+        running = subprocess.Popen(argv, preexec_fn=prepared(), stdout=subprocess.PIPE)
         Served.running.append(running)
         status, output, peak = peak_of(running)
         found = text.fullmatch(output)
-        holds(words, status == 3 and found, (status, output))
-        holds(words, peak > bound * 3 / 4, f"{peak} bytes were held")
+        holds(argv, status == 3 and found, (status, output))
+        holds(argv, peak > bound * 3 / 4, f"{peak} bytes were held")
         checked.append(int(found[1]))
     holds("--memory", len(near) < checked[0] and 1.5 < checked[1] / checked[0] < 2.5, checked)
 
@@ -115,21 +115,21 @@ def memory_of_the_last_process(program):
     names = [kinds[process % len(kinds)] for process in range(255)] + [put("far", FAR_APART)]
     wanted = lines_of_each(program.run(["check", *names])[1])
     for live in [[], ["--live"]]:
-        words = ["check", *live, "--memory", str(1 << 20), *names]
-        status, output, _ = program.run(words)
+        argv = ["check", *live, "--memory", str(1 << 20), *names]
+        status, output, _ = program.run(argv)
         lines = lines_of_each(output)
         last = lines.pop("p255")
-        holds(words, re.fullmatch(r"p255 end no-memory checked \d+ reports 0\n", last), last)
-        same(words, lines, {process: wanted[process] for process in lines})
-        same(words, (len(lines), status), (255, 3))
+        holds(argv, re.fullmatch(r"p255 end no-memory checked \d+ reports 0\n", last), last)
+        same(argv, lines, {process: wanted[process] for process in lines})
+        same(argv, (len(lines), status), (255, 3))
 
 
 @test
 def memory_that_all_share(program):
     """The bound is that of the checkers: lanes of 128 MiB in all are made beside it."""
     names = [put("sound", SOUND)] * 64
-    words = ["check", "--memory", str(1 << 20), "--ring", "65536", *names]
-    program.expect(words, 0, "".join(map(sound, range(64))))
+    argv = ["check", "--memory", str(1 << 20), "--ring", "65536", *names]
+    program.expect(argv, 0, "".join(map(sound, range(64))))
 
 
 @test
@@ -160,7 +160,7 @@ def threads_of_workers(program):
                 break
             time.sleep(0.01)
         time.sleep(0.2)
-        same(served.words, len(os.listdir(tasks)), workers + 3)
+        same(served.argv, len(os.listdir(tasks)), workers + 3)
         for peer in peers:
             peer.sendall(SOUND)
             peer.close()
@@ -171,17 +171,17 @@ def threads_of_workers(program):
 def accepts_that_fail(program):
     """An accept that fails is not tried again: it uses up one of the count, and the peer in line
     is the next that arrives."""
-    words = ["serve", "--count", "3", "socket"]
+    argv = ["serve", "--count", "3", "socket"]
     for refused in [{1}, {2}, {3}, {1, 2}, {2, 3}, {1, 2, 3}]:
 
         def come():
-            for peer in [connected(words) for _ in range(3 - len(refused))]:
+            for peer in [connected(argv) for _ in range(3 - len(refused))]:
                 peer.sendall(PAST_THE_END)
                 peer.close()
 
         peers = threading.Thread(target=come)
         peers.start()
-        ran = with_refused(program, words, refused_calls.ACCEPTS, refused.__contains__)
+        ran = with_refused(program, argv, refused_calls.ACCEPTS, refused.__contains__)
         peers.join()
         os.remove("socket")
         text = "".join(
@@ -197,15 +197,15 @@ def paths_that_cannot_be_served(program):
     os.mkdir("folder")
     with socket.socket(socket.AF_UNIX) as left:
         left.bind("left")
-    words = ["serve", "--count", "1", "--ready", "ready"]
+    argv = ["serve", "--count", "1", "--ready", "ready"]
     for path in ["there", "folder", "left", "", "missing/socket"]:
-        program.expect([*words, path], 3, "", "cannot serve\n")
-    holds(words, os.path.exists("left"), "the socket of another run is gone")
-    holds(words, not os.path.exists("ready"), "the file of --ready is there")
+        program.expect([*argv, path], 3, "", "cannot serve\n")
+    holds(argv, os.path.exists("left"), "the socket of another run is gone")
+    holds(argv, not os.path.exists("ready"), "the file of --ready is there")
     program.expect(["check", "there"], 0, sound())
     for ready in ["missing/ready", "folder"]:
-        words = ["serve", "--count", "1", "--ready", ready, "socket"]
-        program.expect(words, 3, "", "cannot serve\n")
+        argv = ["serve", "--count", "1", "--ready", ready, "socket"]
+        program.expect(argv, 3, "", "cannot serve\n")
         os.remove("socket")
 
 

@@ -12,7 +12,7 @@ def output_that_ends_early(program):
     """The first bytes go out, as many as there is room for."""
     put("trace", PAST_THE_END)
     text = past_the_end().encode()
-    for words in [[], ["check", "trace"]]:
+    for argv in [[], ["check", "trace"]]:
         for room in range(len(text) + 1):
 
             def bound():
@@ -21,11 +21,11 @@ def output_that_ends_early(program):
 
             how = {"given": PAST_THE_END, "before": bound, "restore_signals": False}
             with open("output", "wb") as output:
-                ran = program.run(words, stdout=output, **how)
+                ran = program.run(argv, stdout=output, **how)
             with open("output", "rb") as output:
                 went_out = output.read()
             wanted = (1 if room == len(text) else 4, None, b"")
-            same((words, room), (ran, went_out), (wanted, text[:room]))
+            same((argv, room), (ran, went_out), (wanted, text[:room]))
 
 
 @test
@@ -33,18 +33,18 @@ def no_memory_to_begin(program):
     """There is a bound on memory under which the program starts, and has none to begin."""
     program.leave_out_with_checks("it ends otherwise")
     put("trace", PAST_THE_END)
-    for words in [[], ["check", "trace"], ["check", *["trace"] * 100], ["--help"]]:
+    for argv in [[], ["check", "trace"], ["check", *["trace"] * 100], ["--help"]]:
         ended = set()
         for kibibytes in range(0, 2048, 4):
 
             def bound():
                 resource.setrlimit(resource.RLIMIT_DATA, (kibibytes << 10, kibibytes << 10))
 
-            ran = program.run(words, given=PAST_THE_END, before=bound)
+            ran = program.run(argv, given=PAST_THE_END, before=bound)
             ended.add(ran)
             if ran == (3, b"", b"no memory\n"):
                 break
             # With less than that it does not even start.
-            holds(words, ran[0] == 127 or ran[0] < 0, ran)
+            holds(argv, ran[0] == 127 or ran[0] < 0, ran)
         else:
-            holds(words, False, ended)
+            holds(argv, False, ended)

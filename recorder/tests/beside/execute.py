@@ -151,10 +151,10 @@ def other_option(options: str) -> str:
     return next((it for it in given if it and it not in HARMLESS and it.split("=")[0] not in HARMLESS), "")
 
 
-def run(words: Sequence[str], folder: str, settings: Dict[str, str], stdout: Any) -> Tuple[int, str]:
+def run(argv: Sequence[str], folder: str, settings: Dict[str, str], stdout: Any) -> Tuple[int, str]:
     """The status of a program, or the negative number of its signal, and the first MOST bytes of its errors. What it
     has left running is ended."""
-    started = subprocess.Popen(words, cwd=folder, env=settings, stdin=subprocess.DEVNULL, stdout=stdout,
+    started = subprocess.Popen(argv, cwd=folder, env=settings, stdin=subprocess.DEVNULL, stdout=stdout,
                                stderr=subprocess.PIPE, start_new_session=True)
     errors: List[bytes] = []
     reader = threading.Thread(target=read_up_to, args=(started.stderr, MOST, errors))
@@ -178,10 +178,10 @@ def read_up_to(stream: Any, most: int, pieces: List[bytes]) -> None:
             kept += len(piece)
 
 
-def execute(way: str, words: Sequence[str], folder: str, notes: str, stdout: Any = subprocess.DEVNULL,
+def execute(way: str, argv: Sequence[str], folder: str, notes: str, stdout: Any = subprocess.DEVNULL,
             **settings: str) -> Execution:
     """Runs a program in a folder. What it prints as errors is in NOTES/errors then."""
-    if not os.path.exists(os.path.join(folder, words[0])) and not shutil.which(words[0]):
+    if not os.path.exists(os.path.join(folder, argv[0])) and not shutil.which(argv[0]):
         return Execution(127, Report(NOT_BUILT, ""))
     result = f"{notes}/result.jsonl"
     all_settings = environment(**{"ASANCOL": os.environ["ASANCOL"], **settings})
@@ -193,10 +193,10 @@ def execute(way: str, words: Sequence[str], folder: str, notes: str, stdout: Any
         all_settings["ASANCOL_MISMATCHES"] = str(int(NO_MISMATCHES not in options))
         front = [RUN, "--exitcode", "0", "--incomplete-exitcode", "0", "--nothing-exitcode", "0", "--json", result]
         front += ["--leaks", "yes" if LEAKS in options else "no", "--log-file", f"{notes}/run.log"]
-        words = [*front, "--", *words]
+        argv = [*front, "--", *argv]
         with contextlib.suppress(FileNotFoundError):
             os.unlink(result)
-    status, errors = run(words, folder, all_settings, stdout)
+    status, errors = run(argv, folder, all_settings, stdout)
     with open(f"{notes}/errors", "w", encoding="utf-8") as file:
         file.write(errors)
     # What a unit test says of its deaths is no report.
@@ -206,8 +206,8 @@ def execute(way: str, words: Sequence[str], folder: str, notes: str, stdout: Any
 
 
 def main() -> int:
-    way, notes, *words = sys.argv[1:]
-    done = execute(way, words, ".", notes, None)
+    way, notes, *argv = sys.argv[1:]
+    done = execute(way, argv, ".", notes, None)
     with open(f"{notes}/executions", "a", encoding="utf-8") as file:
         file.write(f"{json.dumps(done)}\n")
     with open(f"{notes}/errors", "rb") as errors:

@@ -21,13 +21,13 @@ PACKAGES = {
 def unpack(package: str, folder: str, patterns: List[str]) -> None:
     """Unpacks what fits these patterns."""
     archive = max(glob.glob(f"{ARCHIVE.sources}/{package}_*.orig.tar.*"), key=os.path.getmtime)
-    words = ["tar", "--strip-components=1", "-C", folder, "--wildcards"]
+    argv = ["tar", "--strip-components=1", "-C", folder, "--wildcards"]
     inner = subprocess.run(["tar", "-tf", archive], stdout=subprocess.PIPE, text=True, check=True).stdout.splitlines()
     nested = next((it for it in inner if f"/{package.split('-')[0]}-" in it and it.endswith(".tar.xz")), None)
     if nested:
         run_in(folder, "tar", "--strip-components=1", "-C", folder, "-xf", archive, nested)
         archive = f"{folder}/{os.path.basename(nested)}"
-    run_in(folder, *words, "-xf", archive, *patterns)
+    run_in(folder, *argv, "-xf", archive, *patterns)
     if nested:
         os.unlink(archive)
 

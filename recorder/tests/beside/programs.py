@@ -91,17 +91,17 @@ class Program(NamedTuple):
 
     compiler: Compiler
     is_cpp: bool
-    words: List[str]
+    argv: List[str]
 
     def build(self, way: str, folder: str) -> bool:
         """Whether it was built, as FOLDER/WAY."""
         command = str(self.compiler.cxx if self.is_cpp else self.compiler.name)
-        words = [command, "-fsanitize=address", *self.words]
+        argv = [command, "-fsanitize=address", *self.argv]
         settings = {}
         if way == "recorded":
-            words = [CXX if self.is_cpp else CC, *without_address(self.words)]
+            argv = [CXX if self.is_cpp else CC, *without_address(self.argv)]
             settings["ASANCOL_CXX" if self.is_cpp else "ASANCOL_CC"] = command
-        return run([*words, "-o", way], folder, **settings).returncode == 0
+        return run([*argv, "-o", way], folder, **settings).returncode == 0
 
     def execute(self, way: str, folder: str, *arguments: str, **settings: str) -> Execution:
         return execute(way, [f"./{way}", *arguments], folder, folder, **settings)

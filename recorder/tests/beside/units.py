@@ -45,8 +45,8 @@ class Units:
                     numbers = re.findall(r"^DEJAGNU_GTEST_EXPECT_DEATH(\d+) ", file.read(), re.M)
                 deaths = max(map(int, numbers), default=0)
             for number in range(1, deaths + 1):
-                words = [program, f"{name}:{number}"]
-                found.append(execute(way, words, folder, folder, ASAN_OPTIONS="handle_segv=2"))
+                argv = [program, f"{name}:{number}"]
+                found.append(execute(way, argv, folder, folder, ASAN_OPTIONS="handle_segv=2"))
         return found
 
     def check(self, kept: Kept, name: str) -> List[Verdict]:

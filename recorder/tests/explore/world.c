@@ -787,35 +787,35 @@ static bool explore_scenario(struct search search, uint64_t runs)
     return done != 0;
 }
 
-static bool is_asked_for(const char *name, int count, char **words)
+static bool is_asked_for(const char *name, int count, char **argv)
 {
     bool has_names = false;
     for (int i = 1; i < count; i++) {
-        if (words[i][0] == '-') {
+        if (argv[i][0] == '-') {
             i++;
             continue;
         }
         has_names = true;
-        if (strcmp(words[i], name) == 0)
+        if (strcmp(argv[i], name) == 0)
             return true;
     }
     return !has_names;
 }
 
-static uint64_t option(const char *name, int count, char **words)
+static uint64_t option(const char *name, int count, char **argv)
 {
     for (int i = 1; i + 1 < count; i++)
-        if (strcmp(words[i], name) == 0)
-            return strtoull(words[i + 1], NULL, 10);
+        if (strcmp(argv[i], name) == 0)
+            return strtoull(argv[i + 1], NULL, 10);
     return 0;
 }
 
-int main(int count, char **words)
+int main(int count, char **argv)
 {
     int status = 0;
-    struct search search = {.preemptions = (unsigned)option("--preemptions", count, words),
-                            .rareness = (unsigned)option("--rareness", count, words),
-                            .seed = option("--seed", count, words)};
+    struct search search = {.preemptions = (unsigned)option("--preemptions", count, argv),
+                            .rareness = (unsigned)option("--rareness", count, argv),
+                            .seed = option("--seed", count, argv)};
     search.is_random = search.seed != 0;
     if (search.is_random && search.rareness == 0)
         search.rareness = 8;
@@ -827,14 +827,14 @@ int main(int count, char **words)
     explore_begin();
     for (size_t i = 0; i < sizeof scenarios / sizeof *scenarios; i++) {
         scenario = &scenarios[i];
-        if (!is_asked_for(scenario->name, count, words))
+        if (!is_asked_for(scenario->name, count, argv))
             continue;
         printf("%s: ", scenario->name);
         fflush(stdout);
         int ended = 0;
         pid_t child = fork();
         if (child == 0)
-            return explore_scenario(search, option("--runs", count, words)) ? 0 : 1;
+            return explore_scenario(search, option("--runs", count, argv)) ? 0 : 1;
         if (child < 0 || waitpid(child, &ended, 0) != child || ended != 0)
             status = 1;
     }

@@ -238,14 +238,14 @@ static void *take_turns(void *number)
     return NULL;
 }
 
-int main(int count, char **words)
+int main(int count, char **argv)
 {
     pthread_t others[MOST_THREADS];
     if (count != 4)
         return 2;
-    state = strtoull(words[1], NULL, 10) * 0x9e3779b97f4a7c15u + 1;
-    left = strtol(words[2], NULL, 10);
-    threads = strtol(words[3], NULL, 10);
+    state = strtoull(argv[1], NULL, 10) * 0x9e3779b97f4a7c15u + 1;
+    left = strtol(argv[2], NULL, 10);
+    threads = strtol(argv[3], NULL, 10);
     if (threads < 1 || threads > MOST_THREADS)
         return 2;
     for (long i = 1; i < threads; i++)

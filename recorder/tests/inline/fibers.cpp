@@ -285,9 +285,9 @@ static void of_boost()
 }
 #endif
 
-int main(int, char **words)
+int main(int, char **argv)
 {
-    std::string name = words[1];
+    std::string name = argv[1];
     if (name == "throws") throws();
     if (name == "gives") gives();
     if (name == "handler_throws") handler_throws();

@@ -27,10 +27,10 @@ __attribute__((noinline)) static void use_stack(void)
 __attribute__((noinline)) static void exec_from_frames(void)
 {
     volatile char one[64], other[200];
-    char *words[] = {"true", NULL};
+    char *argv[] = {"true", NULL};
     one[0] = other[0] = 1;
     sink = one[0] + other[0];
-    execv("/bin/true", words);
+    execv("/bin/true", argv);
     _exit(1);
 }
 
@@ -71,10 +71,10 @@ __attribute__((noinline)) static void exit_from_frames(void)
 __attribute__((noinline)) static void exec_in_vain(void)
 {
     volatile char text[200];
-    char *words[] = {"none", NULL};
+    char *argv[] = {"none", NULL};
     text[0] = 1;
     sink = text[0];
-    execv("/none", words);
+    execv("/none", argv);
     execl("/none", "none", (char *)NULL);
     exit_from_frames();
 }
@@ -268,7 +268,7 @@ static void forked(void)
     wait(NULL);
 }
 
-int main(int count, char **words)
+int main(int count, char **argv)
 {
     static const struct {
         const char *name;
@@ -281,7 +281,7 @@ int main(int count, char **words)
         {"after_exec_in_handler", after_exec_in_handler},           {"after_exec_in_object", after_exec_in_object},
     };
     for (size_t i = 0; i < sizeof runs / sizeof *runs; i++)
-        if (count > 1 && strcmp(words[1], runs[i].name) == 0)
+        if (count > 1 && strcmp(argv[1], runs[i].name) == 0)
             return runs[i].run(), 0;
     return 99;
 }

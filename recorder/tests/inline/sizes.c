@@ -2,9 +2,9 @@
 #include <stdlib.h>
 #include <string.h>
 
-int main(int count, char **words)
+int main(int count, char **argv)
 {
-    (void)words;
+    (void)argv;
     volatile size_t wrapped = (size_t)0 - 1, huge = (size_t)100 << 20;
     char *block = malloc(huge), *small = malloc(8);
     free(block);

@@ -527,11 +527,11 @@ static void run_with(void run(void), char where)
         munmap(memory, STACK);
 }
 
-int main(int count, char **words)
+int main(int count, char **argv)
 {
     for (size_t i = 0; i < sizeof runs / sizeof *runs; i++)
-        if (count == 3 && strcmp(words[1], runs[i].name) == 0)
-            return run_with(runs[i].run, words[2][0]), 0;
+        if (count == 3 && strcmp(argv[1], runs[i].name) == 0)
+            return run_with(runs[i].run, argv[2][0]), 0;
     for (size_t i = 0; i < sizeof runs / sizeof *runs && count == 1; i++)
         if (write(1, runs[i].name, strlen(runs[i].name)) < 0 || write(1, "\n", 1) < 0)
             return 98;

@@ -1,0 +1,15 @@
+/* A list of strings that grows, such as the arguments of a command that will be run. */
+#ifndef ASANCOL_STRINGS_H
+#define ASANCOL_STRINGS_H
+
+#include <stddef.h>
+
+struct strings {
+    const char **items; /* null, or with a null at the end */
+    size_t count;
+};
+
+void strings_add(struct strings *list, const char *word);
+void strings_add_all(struct strings *list, const char *const *items, size_t count);
+
+#endif
