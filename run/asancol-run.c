@@ -57,11 +57,11 @@ static struct sum sum_up(void)
 {
     struct sum sum = {0};
     for (size_t i = 0; i < process_count(); i++)
-        if (process_is_lead(process_at(i)))
+        if (process_is_first_seen(process_at(i)))
             checker_sum_up(process_at(i));
     kin_look();
     for (size_t i = 0; i < process_count(); i++) {
-        if (!process_is_lead(process_at(i)))
+        if (!process_is_first_seen(process_at(i)))
             continue;
         struct process joined = segments_joined(process_at(i));
         add_to(&sum, &joined);

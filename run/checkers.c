@@ -202,8 +202,8 @@ static bool is_kept(const struct process *joined)
 
 void checker_sum_up(struct process *process)
 {
-    struct process *front = process->lead->front;
-    if (process->lead->is_summed_up)
+    struct process *front = process->first_seen->first_segment;
+    if (process->first_seen->is_summed_up)
         return;
     bool has_changed = false;
     for (struct process *at = front; at != NULL; at = at->next) {
@@ -218,7 +218,7 @@ void checker_sum_up(struct process *process)
     }
     for (struct process *at = front; at != NULL; at = at->next)
         let_side_go(at);
-    process->lead->is_summed_up = true;
+    process->first_seen->is_summed_up = true;
 }
 
 /* It is done: what nobody asks for any more is given back. The trace stays until it is known that no segment follows,

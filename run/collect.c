@@ -382,7 +382,7 @@ static void check_file(const char *name)
 
 void collect_files(const struct options *options, int signals)
 {
-    struct process *lead = NULL;
+    struct process *first_seen = NULL;
     run.options = options;
     run.signals = signals;
     for (char **word = options->command; *word != NULL; word++) {
@@ -394,13 +394,13 @@ void collect_files(const struct options *options, int signals)
         struct process *process = process_add();
         process->trace = path;
         process->segment = number - 1;
-        lead = lead == NULL ? process : lead;
-        segments_join_file(lead, process);
+        first_seen = first_seen == NULL ? process : first_seen;
+        segments_join_file(first_seen, process);
         start_file(process);
     }
     while (process_live_count() > 0)
         turn(LOOK);
-    checker_sum_up(lead);
+    checker_sum_up(first_seen);
 }
 
 /* Traces, marks and results may have been in the folder. */

@@ -60,22 +60,23 @@ static const char *numbered(int number)
 }
 
 /* PROGRAM.NUMBER, with which the names of the traces of a process begin, or PROGRAM.NUMBER.1, and so on. */
-static char *make_stem(const struct process *process, int number)
+static char *make_prefix(const struct process *process, int number)
 {
-    char program[80], *stem;
+    char program[80], *prefix;
     put_program(program, sizeof program, process->name);
-    if (asprintf(&stem, "%s/%s.%d%s", folder, program, (int)process->peer, numbered(number)) < 0)
+    if (asprintf(&prefix, "%s/%s.%d%s", folder, program, (int)process->peer, numbered(number)) < 0)
         must(NULL);
-    return stem;
+    return prefix;
 }
 
-/* Makes the new file STEM.trace; of the second segment STEM.segment-002.trace, and so on. Answers its descriptor. */
-static int open_new(struct process *process, const char *stem, int number)
+/* Makes the new file PREFIX.trace; of the second segment PREFIX.segment-002.trace, and so on. Answers its
+   descriptor. */
+static int open_new(struct process *process, const char *prefix, int number)
 {
     char segment[32] = "";
     if (process->segment > 0)
         snprintf(segment, sizeof segment, ".segment-%03" PRIu64, process->segment + 1);
-    if (asprintf(&process->kept, "%s%s%s.trace", stem, segment, numbered(number)) < 0)
+    if (asprintf(&process->kept, "%s%s%s.trace", prefix, segment, numbered(number)) < 0)
         must(NULL);
     int made = open(process->kept, O_WRONLY | O_CREAT | O_EXCL | O_CLOEXEC, 0666);
     if (made >= 0)
@@ -87,19 +88,19 @@ static int open_new(struct process *process, const char *stem, int number)
     return -1;
 }
 
-/* Makes a file for the trace whose name is free. The segments of a process have the same stem. */
+/* Makes a file for the trace whose name is free. The segments of a process have the same prefix. */
 static int make_file(struct process *process)
 {
-    char **stem = &process->lead->stem;
+    char **prefix = &process->first_seen->kept_prefix;
     for (int number = 0; number < MAX_NAMES; number++) {
-        char *tried = *stem != NULL ? *stem : make_stem(process, number);
-        int made = open_new(process, tried, *stem != NULL ? number : 0);
+        char *tried = *prefix != NULL ? *prefix : make_prefix(process, number);
+        int made = open_new(process, tried, *prefix != NULL ? number : 0);
         if (made >= 0) {
-            *stem = tried;
+            *prefix = tried;
             return made;
         }
         int error = errno;
-        if (*stem == NULL)
+        if (*prefix == NULL)
             free(tried);
         errno = error;
         if (error != EEXIST)

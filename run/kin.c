@@ -36,9 +36,9 @@ static struct key *list_parents(size_t *count, size_t *unknown)
     *count = *unknown = 0;
     for (size_t i = 0; i < process_count(); i++) {
         const struct process *process = process_at(i);
-        if (process_is_lead(process) && is_of_unknown(process))
+        if (process_is_first_seen(process) && is_of_unknown(process))
             ++*unknown;
-        else if (process_is_lead(process) && process->of_parent_started != 0)
+        else if (process_is_first_seen(process) && process->of_parent_started != 0)
             parents[(*count)++] = (struct key){process->of_parent, process->of_parent_started};
     }
     qsort(parents, *count, sizeof *parents, by_key);
@@ -60,29 +60,29 @@ static size_t rank(const struct key *parents, size_t count, const struct key *ke
     return from;
 }
 
-static uint64_t forks_of(const struct process *lead)
+static uint64_t forks_of(const struct process *first_seen)
 {
     uint64_t forks = 0;
-    for (const struct process *at = lead->front; at != NULL; at = at->next)
+    for (const struct process *at = first_seen->first_segment; at != NULL; at = at->next)
         forks += at->forks;
     return forks;
 }
 
-static struct process *last_segment(const struct process *lead)
+static struct process *last_segment(const struct process *first_seen)
 {
-    struct process *last = lead->front;
+    struct process *last = first_seen->first_segment;
     while (last->next != NULL)
         last = last->next;
     return last;
 }
 
-#define BLAME(lead, ...)                                                                                               \
+#define BLAME(first_seen, ...)                                                                                         \
     do {                                                                                                               \
-        struct process *last = last_segment(lead);                                                                     \
+        struct process *last = last_segment(first_seen);                                                               \
         if (last->is_complete || last->is_unchecked)                                                                   \
             snprintf(last->why, sizeof last->why, __VA_ARGS__);                                                        \
         last->is_complete = last->is_unchecked = last->is_abrupt = false;                                              \
-        report_again(lead);                                                                                            \
+        report_again(first_seen);                                                                                      \
     } while (0)
 
 static void look_for_children(void)
@@ -90,18 +90,19 @@ static void look_for_children(void)
     size_t count, unknown;
     struct key *parents = list_parents(&count, &unknown);
     for (size_t i = 0; i < process_count(); i++) {
-        struct process *lead = process_at(i);
-        if (!process_is_lead(lead) || is_of_unknown(lead))
+        struct process *first_seen = process_at(i);
+        if (!process_is_first_seen(first_seen) || is_of_unknown(first_seen))
             continue;
-        struct key key = {lead->own_number, lead->started};
-        uint64_t came = rank(parents, count, &key, true) - rank(parents, count, &key, false), forks = forks_of(lead);
+        struct key key = {first_seen->own_number, first_seen->started};
+        uint64_t came = rank(parents, count, &key, true) - rank(parents, count, &key, false);
+        uint64_t forks = forks_of(first_seen);
         uint64_t missing = forks > came ? forks - came : 0, excused = missing < unknown ? missing : unknown;
         unknown -= excused;
         missing -= excused;
         if (missing == 1)
-            BLAME(lead, "a child that it forked never connected");
+            BLAME(first_seen, "a child that it forked never connected");
         else if (missing > 1)
-            BLAME(lead, "%" PRIu64 " children that it forked never connected", missing);
+            BLAME(first_seen, "%" PRIu64 " children that it forked never connected", missing);
     }
     free(parents);
 }
@@ -123,7 +124,7 @@ static void look_for_programs(void)
     for (size_t i = 0; i < process_count(); i++) {
         struct process *process = process_at(i);
         if (process->becomes && !has_become(process))
-            BLAME(process->lead, "it became a program of asancol-cc that never connected");
+            BLAME(process->first_seen, "it became a program of asancol-cc that never connected");
     }
 }
 

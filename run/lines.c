@@ -27,7 +27,7 @@ void lines_say_complete(void)
 {
     for (size_t i = 0; i < process_count(); i++) {
         struct process process = segments_joined(process_at(i));
-        if (process_is_lead(process_at(i)) && process.is_complete)
+        if (process_is_first_seen(process_at(i)) && process.is_complete)
             say_complete(&process);
     }
 }
@@ -76,7 +76,7 @@ void lines_say(bool is_quiet)
     size_t count = 0;
     for (size_t i = 0; i < process_count(); i++) {
         struct process process = segments_joined(process_at(i));
-        char *text = process_is_lead(process_at(i)) ? line_of(&process, is_quiet) : NULL;
+        char *text = process_is_first_seen(process_at(i)) ? line_of(&process, is_quiet) : NULL;
         size_t at = 0;
         if (text == NULL)
             continue;

@@ -75,7 +75,7 @@ struct strings lowered_lines(const struct options *options, bool has_recorded)
     }
     for (size_t i = 0; i < process_count(); i++) {
         const struct process *process = process_at(i);
-        if (process->lead != process || process->is_mark)
+        if (process->first_seen != process || process->is_mark)
             continue;
         struct process joined = segments_joined(process);
         describe(text, sizeof text, &joined, options);

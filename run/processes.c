@@ -21,7 +21,7 @@ struct process *process_add(void)
     }
     struct process *made = must(calloc(1, sizeof *made));
     made->connection = made->side_memory = made->verdicts = -1;
-    made->lead = made->front = made;
+    made->first_seen = made->first_segment = made;
     made->place = count;
     processes[count++] = made;
     live++;
@@ -38,12 +38,12 @@ size_t process_count(void)
     return count;
 }
 
-size_t process_number(struct process *lead)
+size_t process_number(struct process *first_seen)
 {
     static size_t numbered;
-    if (lead->number == 0)
-        lead->number = ++numbered;
-    return lead->number - 1;
+    if (first_seen->number == 0)
+        first_seen->number = ++numbered;
+    return first_seen->number - 1;
 }
 
 size_t process_live_count(void)

@@ -20,7 +20,7 @@ enum stage {
 enum cut { CUT_NONE, CUT_BY_WAIT, CUT_BY_TIMEOUT };
 
 struct process {
-    size_t number; /* of a lead: process_number has it */
+    size_t number; /* of the first seen: process_number has it */
     size_t place;  /* in the order of connections, from 0 */
     enum stage stage;
     pid_t peer;                         /* as the system numbers it for us; 0: not known */
@@ -40,16 +40,16 @@ struct process {
     char *kept;                         /* the file in which its trace is kept, or null */
     enum cut cut;
     char *name;                         /* the first word of its command line */
-    /* The segments of one process. A connection that is the only one is its own lead and front: */
-    uint64_t segment;            /* how many segments came before this one */
-    uint64_t started;            /* when the process was begun */
-    struct process *lead;        /* the segment that connected first: it stands for the process */
-    struct process *front;       /* of a lead: the first of those that have come, in their order */
-    struct process *next;        /* the one after it, of those that have come; or null */
-    struct process *beside;      /* of a lead: another lead, in segments.c */
-    char *stem;                  /* of a lead: where its traces are kept, without what differs */
-    bool is_summed_up;           /* of a lead: all of its segments have come, and the outcome was said */
-    bool is_among_more;          /* of a lead: it is counted, since lines of it could not be kept */
+    /* The segments of one process. A connection that is the only one is its own first_seen and first_segment: */
+    uint64_t segment;              /* how many segments came before this one */
+    uint64_t started;              /* when the process was begun */
+    struct process *first_seen;    /* the segment that connected first: it stands for the process */
+    struct process *first_segment; /* of the first seen: the first of those that have come, in their order */
+    struct process *next;          /* the one after it, of those that have come; or null */
+    struct process *hash_next;     /* of the first seen: that of another process in its bucket */
+    char *kept_prefix;             /* of the first seen: where its traces are kept, without what differs */
+    bool is_summed_up;             /* of the first seen: all of its segments have come, and the outcome was said */
+    bool is_among_more;            /* of the first seen: it is counted, since lines of it could not be kept */
     /* What is known once it is done: */
     char fate[32];
     uint64_t events, reports, left_out, stated, left_good;
@@ -78,11 +78,11 @@ struct process *process_add(void);
 struct process *process_at(size_t number);
 size_t process_count(void);
 /* The number of a process in the run, from 0, which its first segment to come gets if it has none yet. */
-size_t process_number(struct process *lead);
+size_t process_number(struct process *first_seen);
 /* Whether it stands for its process: each process has one that does. */
-static inline bool process_is_lead(const struct process *process)
+static inline bool process_is_first_seen(const struct process *process)
 {
-    return process->lead == process;
+    return process->first_seen == process;
 }
 
 /* How many are not done. */

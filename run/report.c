@@ -53,7 +53,7 @@ static struct {
     int numbers[RAW_PROCESSES];
     char segments[RAW_PROCESSES][32]; /* which one it is of, in words, if there are several */
     char *names[RAW_PROCESSES];
-    const struct process *leads[RAW_PROCESSES];
+    const struct process *first_seen[RAW_PROCESSES];
     size_t count, more;
 } raw;
 
@@ -180,13 +180,13 @@ static void put_process(FILE *to, struct process *process, const struct process 
 static void count_more(struct process *process)
 {
     for (size_t i = raw.count; i > 0; i--)
-        if (raw.leads[i - 1] == process->lead) {
+        if (raw.first_seen[i - 1] == process->first_seen) {
             raw.left_out[i - 1] += process->reports;
             raw.findings[i - 1] += process->findings;
             return;
         }
-    raw.more += !process->lead->is_among_more;
-    process->lead->is_among_more = true;
+    raw.more += !process->first_seen->is_among_more;
+    process->first_seen->is_among_more = true;
 }
 
 /* Keeps the first lines of what the checker has printed, for the case that asancol-report cannot. */
@@ -208,7 +208,7 @@ static void keep_raw(struct process *process)
     raw.left_out[raw.count] = process->reports - lines;
     raw.findings[raw.count] = process->findings;
     raw.names[raw.count] = process->name;
-    raw.leads[raw.count] = process->lead;
+    raw.first_seen[raw.count] = process->first_seen;
     if (segments_are_several(process))
         snprintf(raw.segments[raw.count], sizeof *raw.segments, ", segment %" PRIu64, process->segment + 1);
     raw.numbers[raw.count++] = process->own_number;

@@ -13,7 +13,7 @@ enum { BUCKETS = 4096 };
 #define MAX_SEGMENTS ((uint64_t)1 << 32)
 
 static struct process *buckets[BUCKETS];
-static size_t joined_count; /* how many have joined a lead */
+static size_t joined_count; /* how many have joined another */
 
 /* What lies in a file has its number as the process sees it, and not as the hub does. */
 static bool is_same_process(const struct process *one, const struct process *other)
@@ -22,19 +22,19 @@ static bool is_same_process(const struct process *one, const struct process *oth
     return one->own_number == other->own_number && one->started == other->started && is_same_peer;
 }
 
-/* Puts it in its place among those of a lead. False: there is one of this number already. */
-static bool put(struct process *lead, struct process *made)
+/* Puts it in its place among those of the first seen. False: there is one of this number already. */
+static bool put(struct process *first_seen, struct process *made)
 {
-    struct process **at = &lead->front;
+    struct process **at = &first_seen->first_segment;
     while (*at != NULL && (*at)->segment < made->segment)
         at = &(*at)->next;
     if (*at != NULL && (*at)->segment == made->segment)
         return false;
-    made->front = NULL;
-    made->lead = lead;
+    made->first_segment = NULL;
+    made->first_seen = first_seen;
     made->next = *at;
     *at = made;
-    lead->is_summed_up = false;
+    first_seen->is_summed_up = false;
     return true;
 }
 
@@ -45,10 +45,10 @@ static void take_segment(struct process *process)
     process->started = process->side->started;
 }
 
-void segments_join_file(struct process *lead, struct process *process)
+void segments_join_file(struct process *first_seen, struct process *process)
 {
     process->is_file = true;
-    if (process != lead && put(lead, process))
+    if (process != first_seen && put(first_seen, process))
         joined_count++;
 }
 
@@ -58,22 +58,22 @@ void segments_join(struct process *process)
     bool is_known = process->side != NULL && process->side->started != 0 && !process->is_file;
     if (is_known)
         take_segment(process);
-    for (struct process *lead = *bucket; is_known && lead != NULL; lead = lead->beside)
-        if (is_same_process(lead, process) && put(lead, process)) {
+    for (struct process *first_seen = *bucket; is_known && first_seen != NULL; first_seen = first_seen->hash_next)
+        if (is_same_process(first_seen, process) && put(first_seen, process)) {
             joined_count++;
             return;
         }
-    process_number(process->lead);
+    process_number(process->first_seen);
     if (is_known) {
-        process->beside = *bucket;
+        process->hash_next = *bucket;
         *bucket = process;
     }
 }
 
 /* Whether the last segment of a process says that another one follows. The process may just have written it. */
-static bool goes_on(const struct process *lead)
+static bool goes_on(const struct process *first_seen)
 {
-    const struct process *last = lead->front;
+    const struct process *last = first_seen->first_segment;
     while (last->next != NULL)
         last = last->next;
     return last->ending == ENDING_SEGMENT || (last->side != NULL && last->side->ending == ENDING_SEGMENT);
@@ -83,9 +83,9 @@ bool segments_take_empty(struct process *process)
 {
     for (size_t i = process->peer != 0 ? process_count() : 0; i > 0; i--) {
         struct process *other = process_at(i - 1);
-        if (other == process || other->lead != other || other->peer != process->peer || !goes_on(other))
+        if (other == process || other->first_seen != other || other->peer != process->peer || !goes_on(other))
             continue;
-        process->lead = other;
+        process->first_seen = other;
         joined_count++;
         return true;
     }
@@ -99,7 +99,7 @@ size_t segments_process_count(void)
 
 bool segments_are_several(const struct process *process)
 {
-    const struct process *front = process->lead->front;
+    const struct process *front = process->first_seen->first_segment;
     return front->next != NULL || front->segment > 0 || front->ending == ENDING_SEGMENT;
 }
 
@@ -113,7 +113,7 @@ static bool has_next(const struct process *segment)
 
 bool segments_are_complete(const struct process *process)
 {
-    const struct process *at = process->lead->front;
+    const struct process *at = process->first_seen->first_segment;
     if (at->segment > 0)
         return false;
     for (; at->next != NULL; at = at->next)
@@ -200,18 +200,18 @@ static const struct process *add_up(struct process *joined, const struct process
 
 struct process segments_joined(const struct process *process)
 {
-    struct process *lead = process->lead;
-    process_number(lead);
-    struct process joined = *lead;
+    struct process *first_seen = process->first_seen;
+    process_number(first_seen);
+    struct process joined = *first_seen;
     joined.segments = 1;
-    joined.events = events_of(lead);
-    if (!segments_are_several(lead))
+    joined.events = events_of(first_seen);
+    if (!segments_are_several(first_seen))
         return joined;
-    const struct process *last = add_up(&joined, lead->front);
+    const struct process *last = add_up(&joined, first_seen->first_segment);
     joined.signal = last->signal;
     joined.is_crash = last->is_crash;
     memcpy(joined.fate, last->fate, sizeof joined.fate);
-    bool is_good = !is_flawed(&joined, lead->front);
+    bool is_good = !is_flawed(&joined, first_seen->first_segment);
     joined.is_complete = is_good && joined.has_checks;
     joined.is_unchecked = is_good && !joined.has_checks;
     joined.is_abrupt = joined.is_complete && last->is_abrupt;

@@ -6,7 +6,7 @@
 #include "processes.h"
 
 /* Joins a file to the first of the same process: which segment it is was said. */
-void segments_join_file(struct process *lead, struct process *process);
+void segments_join_file(struct process *first_seen, struct process *process);
 /* Joins one whose side memory was mapped to those of the same process that have come before. */
 void segments_join(struct process *process);
 /* Whether it has connected to go on in the next segment of a process, and has sent nothing: that one did not come. It

@@ -36,9 +36,9 @@ void library_begin(void)
 {
 }
 
-void library_find(struct meeting *meeting)
+void library_find(struct hook_page *hook_page)
 {
-    (void)meeting;
+    (void)hook_page;
 }
 
 void library_look_again(void)
@@ -222,59 +222,59 @@ void *library_first(const char *name)
 /* Some functions of time are those that the system maps into the process. */
 static int look_at(struct dl_phdr_info *module, size_t size, void *of)
 {
-    struct meeting *meeting = of;
+    struct hook_page *hook_page = of;
     struct code_range range = object_range(module);
     (void)size;
 #ifdef IS_PRELOAD
-    if (meeting->program.size == 0)
-        meeting->program = range;
+    if (hook_page->program.size == 0)
+        hook_page->program = range;
 #endif
     if (range_has(range, (uintptr_t)library.vsnprintf))
-        meeting->library = range;
+        hook_page->library = range;
     if (range_has(range, beginning.system_code))
-        meeting->system = range;
+        hook_page->system = range;
     if (object_is_named(module->dlpi_name, "libm.so"))
-        meeting->mathematics = range;
+        hook_page->mathematics = range;
     return 0;
 }
 
-void library_find(struct meeting *meeting)
+void library_find(struct hook_page *hook_page)
 {
-    library.dl_iterate_phdr(look_at, meeting);
+    library.dl_iterate_phdr(look_at, hook_page);
 }
 
 /* The loader's lock is held: no other thread writes to the page. */
 static int look_for_mathematics(struct dl_phdr_info *module, size_t size, void *of)
 {
-    struct meeting *meeting = of;
+    struct hook_page *hook_page = of;
     struct code_range range = object_range(module);
     (void)size;
-    if (!object_is_named(module->dlpi_name, "libm.so") || range.start == meeting->mathematics.start
-        || system_mprotect(meeting, sizeof *meeting, PROT_READ | PROT_WRITE) != 0)
+    if (!object_is_named(module->dlpi_name, "libm.so") || range.start == hook_page->mathematics.start
+        || system_mprotect(hook_page, sizeof *hook_page, PROT_READ | PROT_WRITE) != 0)
         return 0;
     /* A call that comes between these is not checked. */
-    volatile struct code_range *noted = &meeting->mathematics;
+    volatile struct code_range *noted = &hook_page->mathematics;
     noted->size = 0;
     noted->start = range.start;
     noted->size = range.size;
-    system_mprotect(meeting, sizeof *meeting, PROT_READ);
+    system_mprotect(hook_page, sizeof *hook_page, PROT_READ);
     return 0;
 }
 
 void library_look_again(void)
 {
-    struct meeting *meeting = (struct meeting *)MEETING_START;
-    if (meeting->library.size != 0)
-        library.dl_iterate_phdr(look_for_mathematics, meeting);
+    struct hook_page *hook_page = (struct hook_page *)HOOK_PAGE_START;
+    if (hook_page->library.size != 0)
+        library.dl_iterate_phdr(look_for_mathematics, hook_page);
 }
 
 void library_leave_unchecked(void)
 {
-    struct meeting *meeting = (struct meeting *)MEETING_START;
-    if (system_mprotect(meeting, sizeof *meeting, PROT_READ | PROT_WRITE) != 0)
+    struct hook_page *hook_page = (struct hook_page *)HOOK_PAGE_START;
+    if (system_mprotect(hook_page, sizeof *hook_page, PROT_READ | PROT_WRITE) != 0)
         return;
-    meeting->library.size = meeting->system.size = meeting->mathematics.size = 0;
-    system_mprotect(meeting, sizeof *meeting, PROT_READ);
+    hook_page->library.size = hook_page->system.size = hook_page->mathematics.size = 0;
+    system_mprotect(hook_page, sizeof *hook_page, PROT_READ);
 }
 
 #endif

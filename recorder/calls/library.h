@@ -74,7 +74,7 @@ static inline bool library_is_of_cxx(const char *path)
 /* Finds these functions, once. */
 void library_begin(void);
 /* Says where the code is. Where the library is a part of the program, nothing is wrapped, and it stays unsaid. */
-void library_find(struct meeting *meeting);
+void library_find(struct hook_page *hook_page);
 /* The function of this name in the objects after the one that has the recorder, whose own one hides it; or null. */
 void *library_next(const char *name) OWN_NAME(library_next);
 /* Likewise in all objects, with the program first. Where a program only names it, it is not the program's. */

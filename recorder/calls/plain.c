@@ -106,9 +106,9 @@ struct way {
 
 static bool is_checked(uintptr_t function)
 {
-    const struct meeting *meeting = (const struct meeting *)MEETING_START;
-    return range_has(meeting->library, function) || range_has(meeting->system, function)
-           || range_has(meeting->mathematics, function);
+    const struct hook_page *hook_page = (const struct hook_page *)HOOK_PAGE_START;
+    return range_has(hook_page->library, function) || range_has(hook_page->system, function)
+           || range_has(hook_page->mathematics, function);
 }
 
 /* What becomes of calls by this name. False: they stay as they are. */
@@ -343,8 +343,8 @@ enum { IS_AT_START = true };
 
 void plain_begin(void)
 {
-    const struct meeting *meeting = (const struct meeting *)MEETING_START;
-    if (meeting->library.size == 0 || !recorder_checks_libraries())
+    const struct hook_page *hook_page = (const struct hook_page *)HOOK_PAGE_START;
+    if (hook_page->library.size == 0 || !recorder_checks_libraries())
         return;
     next_dlsym = library.dlsym;
     enter_stubs();

@@ -11,10 +11,10 @@
 #define TEXT_OF(word) #word
 #define TEXT(word) TEXT_OF(word)
 
-_Static_assert(offsetof(struct meeting, library) == 8, "as the stubs have it");
-_Static_assert(offsetof(struct meeting, system) == 24, "as the stubs have it");
-_Static_assert(offsetof(struct meeting, mathematics) == 40, "as the stubs have it");
-_Static_assert(offsetof(struct meeting, program) == 56, "as the stubs have it");
+_Static_assert(offsetof(struct hook_page, library) == 8, "as the stubs have it");
+_Static_assert(offsetof(struct hook_page, system) == 24, "as the stubs have it");
+_Static_assert(offsetof(struct hook_page, mathematics) == 40, "as the stubs have it");
+_Static_assert(offsetof(struct hook_page, program) == 56, "as the stubs have it");
 
 /* A program shows its stubs, since a library that it is linked with may have unversioned calls: a linker that wraps
    takes these for calls of the stub. They are weak there: a program may wrap a function by itself, as tests do. If a
@@ -27,14 +27,14 @@ _Static_assert(offsetof(struct meeting, program) == 56, "as the stubs have it");
 #define BIND(label) ".weak " label "\n"
 #endif
 
-/* Goes to `check` if the code of `tested` is in the range of the meeting page that begins there. */
+/* Goes to `check` if the code of `tested` is in the range of the hook page that begins there. */
 #define GO_IF_IN(start, size, tested, check)                                                                           \
     "\tmovq " tested "@GOTPCREL(%rip), %r11\n"                                                                         \
     "\tsubq " start "(%r10), %r11\n"                                                                                   \
     "\tcmpq " size "(%r10), %r11\n"                                                                                    \
     "\tjb " check "\n"
 
-/* `label` goes to `check` if the code of `tested` is in one of the three ranges of the meeting page, and else to
+/* `label` goes to `check` if the code of `tested` is in one of the three ranges of the hook page, and else to
    `real`. */
 #define GUARD(label, tested, check, real)                                                                              \
     __asm__(".pushsection .text\n"                                                                                     \
@@ -42,7 +42,7 @@ _Static_assert(offsetof(struct meeting, program) == 56, "as the stubs have it");
             HIDE(label) ".type " label ",@function\n" label ":\n.L" label ":\n"                                        \
             "\t.cfi_startproc\n"                                                                                       \
             "\tendbr64\n"                                                                                              \
-            "\tmovabsq $" TEXT(MEETING_START) ", %r10\n"                                                               \
+            "\tmovabsq $" TEXT(HOOK_PAGE_START) ", %r10\n"                                                             \
             GO_IF_IN("8", "16", tested, check)                                                                         \
             GO_IF_IN("24", "32", tested, check)                                                                        \
             GO_IF_IN("40", "48", tested, check)                                                                        \
@@ -90,7 +90,7 @@ _Static_assert(offsetof(struct meeting, program) == 56, "as the stubs have it");
             "\tsubq asancol_own_code(%rip), %r10\n"                                                                    \
             "\tcmpq asancol_own_code+8(%rip), %r10\n"                                                                  \
             "\tjb 1f\n"                                                                                                \
-            "\tmovabsq $" TEXT(MEETING_START) ", %r10\n"                                                               \
+            "\tmovabsq $" TEXT(HOOK_PAGE_START) ", %r10\n"                                                             \
             "\tsubq 56(%r10), %r11\n"                                                                                  \
             "\tcmpq 64(%r10), %r11\n"                                                                                  \
             "\tjae checked_" #name "\n"                                                                                \

@@ -85,7 +85,7 @@ struct recorder_hooks {
 
 #ifdef IN_SHARED_OBJECT
 
-#define asancol_hooks (*((const struct meeting *)MEETING_START)->hooks)
+#define asancol_hooks (*((const struct hook_page *)HOOK_PAGE_START)->hooks)
 #define HAS_HOOKS (&asancol_hooks != NULL)
 /* Whether the table of the program, which may be older, has this one. */
 #define HAS_HOOK(name) (HAS_HOOKS && asancol_hooks.size > offsetof(struct recorder_hooks, name))

@@ -68,13 +68,13 @@ static void guard(uint64_t address)
     system_mprotect((void *)shadow_of(address), SHADOW_BYTES / GRANULE, PROT_NONE);
 }
 
-enum { MEETING_FLAGS = MAP_PRIVATE | MAP_ANONYMOUS | MAP_FIXED_NOREPLACE };
+enum { HOOK_PAGE_FLAGS = MAP_PRIVATE | MAP_ANONYMOUS | MAP_FIXED_NOREPLACE };
 
 /* The program writes into it before the constructors of the objects that are loaded with it. */
-static const char *map_meeting(void)
+static const char *map_hook_page(void)
 {
-    void *at = (void *)MEETING_START;
-    long start = system_mmap(at, PAGE, PROT_READ | PROT_WRITE, MEETING_FLAGS, -1, 0);
+    void *at = (void *)HOOK_PAGE_START;
+    long start = system_mmap(at, PAGE, PROT_READ | PROT_WRITE, HOOK_PAGE_FLAGS, -1, 0);
 #ifdef IN_SHARED_OBJECT
     if (start == -EEXIST)
         return NULL;
@@ -87,10 +87,10 @@ static const char *map_meeting(void)
         return taken;
 #ifndef IN_SHARED_OBJECT
 #ifndef IS_PRELOAD
-    ((struct meeting *)at)->program = own_code;
+    ((struct hook_page *)at)->program = own_code;
 #endif
     library_find(at);
-    ((struct meeting *)at)->hooks = &asancol_hooks;
+    ((struct hook_page *)at)->hooks = &asancol_hooks;
 #endif
     system_mprotect(at, PAGE, PROT_READ);
     return NULL;
@@ -130,7 +130,7 @@ __attribute__((used)) static void (*map_at_relocation(void))(void)
 {
     int flags = MAP_PRIVATE | MAP_ANONYMOUS | MAP_NORESERVE | MAP_FIXED_NOREPLACE;
     system_mmap((void *)SHADOW_START, SHADOW_BYTES, PROT_READ | PROT_WRITE, flags, -1, 0);
-    system_mmap((void *)MEETING_START, PAGE, PROT_READ, MEETING_FLAGS, -1, 0);
+    system_mmap((void *)HOOK_PAGE_START, PAGE, PROT_READ, HOOK_PAGE_FLAGS, -1, 0);
     return do_nothing;
 }
 
@@ -150,7 +150,7 @@ static const char *map_all(void)
     if (why == NULL)
         why = map_at(STATED_START, MADV_WIPEONFORK);
     if (why == NULL)
-        why = map_meeting();
+        why = map_hook_page();
     if (why != NULL)
         return why;
     guard(SHADOW_START);

@@ -10,7 +10,7 @@
 void shadow_map(void) OWN_NAME(shadow_map);
 /* The same for what is preloaded. False: there is no room, and the process goes on without it. */
 bool shadow_try_to_map(void);
-/* The object's own code, as the program's in `meeting`. */
+/* The object's own code, as the program's in `hook_page`. */
 extern struct code_range own_code OWN_NAME(own_code);
 
 #endif

@@ -37,8 +37,8 @@
 
 /* After them comes a page that every object of the process finds: no symbol has to be exported or found for it. In the
    assembly of stubs.h it is a number. */
-#define MEETING_START 0x500000000000
-_Static_assert((uint64_t)MEETING_START == STATED_START + SHADOW_BYTES, "it follows the maps");
+#define HOOK_PAGE_START 0x500000000000
+_Static_assert((uint64_t)HOOK_PAGE_START == STATED_START + SHADOW_BYTES, "it follows the maps");
 
 struct recorder_hooks;
 
@@ -46,7 +46,7 @@ struct code_range {
     uintptr_t start, size;
 };
 
-struct meeting {
+struct hook_page {
     const struct recorder_hooks *hooks; /* of the program (hooks.h), or null if it has no recorder */
     /* The code whose functions are checked when they are called: the C library's, what the system has of it, and that
        of its mathematics (library.c). Zeros if no call is checked. */

@@ -38,7 +38,7 @@ static bool is_busy(unsigned char stated)
 /* Records what gives a granule its new byte. One record is enough from any state; where the state is not known, since
    a thread was interrupted here, three. The class of a bad access to the last bytes of a granule is read from the
    next one, so those get its kind. */
-static void state(uint64_t granule, unsigned char before, unsigned char now)
+static void record_change(uint64_t granule, unsigned char before, unsigned char now)
 {
     unsigned had = addressable_of(before), has = addressable_of(now);
     bool is_unknown = is_busy(before);
@@ -74,7 +74,7 @@ static unsigned char bring_up(uint64_t granule)
             continue;
         now = *shadow_of(granule);
         if (before != now || is_unknown)
-            state(granule, is_unknown ? busy : before, now);
+            record_change(granule, is_unknown ? busy : before, now);
         /* The record may stand in the next segment, of which nothing was stated just now, or not. */
         is_unknown = atomic_load(&STREAM->segment) != segment;
         if (is_unknown)
