@@ -8,6 +8,7 @@ usage: tests/lint_tree.py
 - No line of C, C++ or Python has more than 120 bytes.
 - Each file is as `rt fmt` lays it out. Without `rt` that is left out, and it says so.
 - No file is a link: `rt ci` takes no tree with one in it.
+- No word stands there for which the field has another (`words.py`).
 - Each edit of a mutant can be made: what it takes away stands once in its file.
 - Each lemma right in a folder `proofs` is cited. `Examples` and `Refuted` are lists of
   examples, and are left out.
@@ -38,6 +39,7 @@ import bodies
 import golden
 import names
 import pages
+import words
 from files import TOP, files_of_tree
 
 Finding = Tuple[str, int, str]
@@ -167,6 +169,7 @@ def findings() -> Iterator[Finding]:
     yield from long_lines_of_others(files)
     yield from bad_layouts(files)
     yield from links(files)
+    yield from words.findings(files)
     yield from bad_edits(files)
     yield from other_release()
     yield from other_options()

@@ -35,7 +35,7 @@ def check_own_names(suite, folder, compiler):
     for source in sources:
         names |= set(re.findall(r"^(?:[\w ]+[ *])(\w+)\([^;]*\)$", open(source).read(), re.M))
     ours = ("__wrap_", "main", "asancol_", "__asan_", "__sanitizer_", "__lsan_")
-    names = {name for name in names | {"arena", "stream_page", "keeper"} if not name.startswith(ours)}
+    names = {name for name in names | {"arena", "locked", "shared"} if not name.startswith(ours)}
     names -= {"malloc", "free", "calloc", "realloc", "reallocarray", "memalign", "aligned_alloc", "posix_memalign"}
     names -= {"valloc", "pvalloc", "malloc_usable_size", "__attribute__"}
     expect(len(names) > 100, True, "names")
