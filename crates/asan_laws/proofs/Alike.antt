@@ -24,7 +24,7 @@ use Rattle.asan_check.specs.History.{block_of, live, held, admits, marks, with_m
 use Rattle.asan_check.specs.History.{released_from}
 use Rattle.asan_check.specs.Verdicts.{fault_of, verdicts, verdicts_of}
 use Rattle.asan_laws.specs.Thinning.{faults_of, LeaveTheSame}
-use Rattle.asan_laws.specs.Restating.{StandTheSame, later_by}
+use Rattle.asan_laws.specs.Snapshots.{StandTheSame, later_by}
 use Rattle.asan_check.proofs.Steps.{held_free}
 use Rattle.asan_check.proofs.Members.{in_none}
 use Rattle.asan_laws.specs.Recording.{HaveSameBlocks, FindsTheSame}

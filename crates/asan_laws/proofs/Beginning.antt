@@ -18,10 +18,10 @@ use Rattle.asan_check.specs.declared.report.Report.{Report}
 use Rattle.asan_check.specs.History.{live, held}
 use Rattle.asan_check.specs.Verdicts.{verdicts_of}
 use Rattle.asan_check.proofs.Members.{in_none, in_head, apart_right}
-use Rattle.asan_laws.specs.Restating.{LaysOut, lays_none, lays_live, lays_held, is_shade, Restates}
+use Rattle.asan_laws.specs.Snapshots.{LaysOut, lays_none, lays_live, lays_held, is_shade, IsSnapshot}
 use Rattle.asan_laws.specs.Recording.{HaveBlocksBut, HaveSameBlocks, shadow_bytes, Records, begins, block}
-use Rattle.asan_laws.specs.Recording.{leaves_out_shade, is_of_block, without_shades, RestatesBut, NoMallocMeets}
-use Rattle.asan_laws.proofs.Restated.{Fit, fit_of, Stand, stands}
+use Rattle.asan_laws.specs.Recording.{leaves_out_shade, is_of_block, without_shades, IsSnapshotBut, NoMallocMeets}
+use Rattle.asan_laws.proofs.Snapshots.{Fit, fit_of, Stand, stands}
 use Rattle.asan_laws.proofs.Finding.{found_fault}
 use Rattle.asan_laws.proofs.Reported.{keeps, reported_alike}
 use Rattle.asan_laws.proofs.SameBlocks.{say_the_same}
@@ -104,26 +104,26 @@ module _ (bound : ℕ) where
 
 -- ---- the beginning of a segment
 
-module _ (bound : ℕ) (cut : List Extent) (restated past : List Event) (is : RestatesBut bound cut restated past) where
-  laid : Stand bound (without_shades restated) is.lives is.newest
-  laid = stands bound (without_shades restated) is.lives is.newest is.lays_out
+module _ (bound : ℕ) (cut : List Extent) (snapshot past : List Event) (is : IsSnapshotBut bound cut snapshot past) where
+  laid : Stand bound (without_shades snapshot) is.lives is.newest
+  laid = stands bound (without_shades snapshot) is.lives is.newest is.lays_out
       (fit_but bound is.lives cut is.newest
       (subst (Fit bound is.lives) is.oldest_cut (fit_of bound past is.lives is.same_live)))
 
-  of_blocks : list_all is_of_block (without_shades restated) ≡ true
-  of_blocks = all_of_blocks (without_shades restated) is.lives is.newest is.lays_out
+  of_blocks : list_all is_of_block (without_shades snapshot) ≡ true
+  of_blocks = all_of_blocks (without_shades snapshot) is.lives is.newest is.lays_out
 
-  pub begins_with_blocks : HaveBlocksBut bound cut restated past
+  pub begins_with_blocks : HaveBlocksBut bound cut snapshot past
   begins_with_blocks =
-      let same = shaded_blocks bound restated of_blocks in record {
-        same_live = IsPermutation-trans (live bound restated) is.lives (live bound past)
-            (IsPermutation-sym is.lives (live bound restated)
-            (subst (λ lives. IsPermutation lives (live bound restated)) laid.lives_are same.same_live)) is.same_live;
+      let same = shaded_blocks bound snapshot of_blocks in record {
+        same_live = IsPermutation-trans (live bound snapshot) is.lives (live bound past)
+            (IsPermutation-sym is.lives (live bound snapshot)
+            (subst (λ lives. IsPermutation lives (live bound snapshot)) laid.lives_are same.same_live)) is.same_live;
         oldest_cut = is.oldest_cut ∙ ap (λ helds. cut ++ helds) (sym (same.oldest_cut ∙ laid.helds_are));
       }
 
-  pub begins_quietly : verdicts_of bound restated ≡ []
-  begins_quietly = shaded_quiet bound restated of_blocks laid.quiet
+  pub begins_quietly : verdicts_of bound snapshot ≡ []
+  begins_quietly = shaded_quiet bound snapshot of_blocks laid.quiet
 
 -- ---- poisons and unpoisons that come last
 
@@ -135,7 +135,7 @@ is_kept (event.Store a) is = refl
 is_kept (event.Poison s) is = absurd (false≢true is)
 is_kept (event.Unpoison r) is = absurd (false≢true is)
 
--- a history that restates another, with its poisons and unpoisons last, is such a beginning
+-- a history that is a snapshot of another, with its poisons and unpoisons last, is such a beginning
 no_shades : (laid : List Event) → list_all is_of_block laid ≡ true → without_shades laid ≡ laid
 no_shades [] all = refl
 no_shades (e ∷ laid) all =
@@ -149,9 +149,9 @@ shades_gone (e ∷ shades) laid all =
     let parts = and_parts (is_shade e) (list_all is_shade shades) all in
     rw parts.0 (shades_gone shades laid parts.1)
 
-pub restates_all : (bound : ℕ) (restated past : List Event) → Restates bound restated past
-    → RestatesBut bound [] restated past
-restates_all bound restated past is = record {
+pub snapshot_of_all : (bound : ℕ) (snapshot past : List Event) → IsSnapshot bound snapshot past
+    → IsSnapshotBut bound [] snapshot past
+snapshot_of_all bound snapshot past is = record {
   lives = is.lives;
   newest = held bound past;
   lays_out = subst (λ laid. LaysOut laid is.lives (held bound past)) (sym (

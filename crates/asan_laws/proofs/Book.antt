@@ -15,7 +15,7 @@ use Rattle.asan_check.proofs.Steps.{live_malloc, held_malloc, live_free}
 use Rattle.asan_check.proofs.Members.{none_from}
 use Rattle.asan_check.proofs.Frees as frees
 use Rattle.asan_laws.specs.Recording.{is_of_block}
-use Rattle.asan_laws.proofs.Restated.{may_be}
+use Rattle.asan_laws.proofs.Snapshots.{may_be}
 use Rattle.asan_laws.proofs.SameBlocks.{is_other}
 
 module _ (bound : ℕ) where

@@ -10,8 +10,8 @@ use Rattle.asan_check.specs.declared.report.Class.TheVariants as class
 use Rattle.asan_check.specs.declared.report.Fault.TheVariants as fault
 use Rattle.asan_laws.specs.Laws.{since_malloc, since_free, IsPoisonedSince}
 use Rattle.asan_laws.specs.Thinning.{faults_of, renumbered, thinned, thinned_events}
-use Rattle.asan_laws.specs.Restating.{lays_none, lays_held}
-use Rattle.asan_laws.specs.Recording.{Records, shadow_bytes, numbers_in_both, RestatesBut}
+use Rattle.asan_laws.specs.Snapshots.{lays_none, lays_held}
+use Rattle.asan_laws.specs.Recording.{Records, shadow_bytes, numbers_in_both, IsSnapshotBut}
 use Rattle.asan_laws.specs.Recording as recording
 use Rattle.asan_laws.specs.LeanRecording.{RecordsLeanly, lean_numbers, RecordsInSegments, shadow_after}
 use Rattle.asan_laws.specs.LeanRecording as lean
@@ -128,14 +128,14 @@ fault_without_the_free = refl
 
 -- ---- a segment that leaves out the oldest held block
 
--- two blocks that were freed, which is as many as this bound holds, and what restates the newer one
+-- two blocks that were freed, which is as many as this bound holds, and a snapshot of the newer one
 abbrev two_held : List Event
 two_held = (free 0x2000 refl) ∷ (malloc 0x2000 8 refl) ∷ (free 0x1000 refl) ∷ (malloc 0x1000 8 refl) ∷ []
 
-abbrev newer_restated : List Event
-newer_restated = (poison 0x3000 8 refl) ∷ (free 0x2000 refl) ∷ (malloc 0x2000 8 refl) ∷ []
+abbrev newer_snapshot : List Event
+newer_snapshot = (poison 0x3000 8 refl) ∷ (free 0x2000 refl) ∷ (malloc 0x2000 8 refl) ∷ []
 
-older_is_cut : RestatesBut 144 ((record { at = 0x1000; size = 8 }) ∷ []) newer_restated two_held
+older_is_cut : IsSnapshotBut 144 ((record { at = 0x1000; size = 8 }) ∷ []) newer_snapshot two_held
 older_is_cut = record {
   lives = [];
   newest = (record { at = 0x2000; size = 8 }) ∷ [];
@@ -148,14 +148,14 @@ older_is_cut = record {
 freed_again_in_the_run : faults_of 144 ((free 0x1000 refl) ∷ two_held) ≡ fault.DoubleFree 0x1000 ∷ []
 freed_again_in_the_run = refl
 
-freed_again_in_the_segment : faults_of 144 ((free 0x1000 refl) ∷ newer_restated) ≡ fault.BadFree 0x1000 ∷ []
+freed_again_in_the_segment : faults_of 144 ((free 0x1000 refl) ∷ newer_snapshot) ≡ fault.BadFree 0x1000 ∷ []
 freed_again_in_the_segment = refl
 
 -- and a malloc that meets it is bad in the run alone
 met_in_the_run : faults_of 144 ((malloc 0x1000 8 refl) ∷ two_held) ≡ fault.BadMalloc 0x1000 8 ∷ []
 met_in_the_run = refl
 
-met_in_the_segment : faults_of 144 ((malloc 0x1000 8 refl) ∷ newer_restated) ≡ []
+met_in_the_segment : faults_of 144 ((malloc 0x1000 8 refl) ∷ newer_snapshot) ≡ []
 met_in_the_segment = refl
 
 -- ---- a lean recording

@@ -16,7 +16,7 @@ use Rattle.asan_laws.specs.Thinning.{faults_of, faults_on}
 use Rattle.asan_laws.specs.Recording.{HaveSameBlocks, FindsAsMany, shadow_bytes, addressable_bytes, Records}
 use Rattle.asan_laws.specs.Recording.{numbers_in_both}
 use Rattle.asan_laws.specs.Recording.{without_class, IsSameButForClass, IsSameButForCut, same, freed_again}
-use Rattle.asan_laws.specs.Recording.{IsReportedOfOne, AreReportedAlike, RestatesBut, NoMallocMeets}
+use Rattle.asan_laws.specs.Recording.{IsReportedOfOne, AreReportedAlike, IsSnapshotBut, NoMallocMeets}
 use Rattle.asan_laws.proofs.Beginning.{at_start, none_cut, begins_with_blocks, begins_quietly}
 use Rattle.asan_laws.proofs.Finding.{found_fault, counted_fault}
 use Rattle.asan_laws.proofs.Reported.{reported_alike}
@@ -99,33 +99,33 @@ module _ (bound : ℕ) where
   says_but_for_class recorded run is_store a finds =
       say_by_class _ _ (counted_fault bound recorded run is_store a finds)
 
-  pub segment_alike : (restated past recorded run : List Event) → RestatesBut bound [] restated past
-      → (way : Records bound addressable_bytes restated past recorded run)
-      → AreReportedAlike bound (numbers_in_both way) IsSameButForClass restated past recorded run
-  segment_alike restated past recorded run is =
-      reported_alike bound addressable_bytes restated past [] (begins_with_blocks bound [] restated past is)
+  pub segment_alike : (snapshot past recorded run : List Event) → IsSnapshotBut bound [] snapshot past
+      → (way : Records bound addressable_bytes snapshot past recorded run)
+      → AreReportedAlike bound (numbers_in_both way) IsSameButForClass snapshot past recorded run
+  segment_alike snapshot past recorded run is =
+      reported_alike bound addressable_bytes snapshot past [] (begins_with_blocks bound [] snapshot past is)
       IsSameButForClass (λ f. refl) (λ b has. absurd (in_none b has)) says_but_for_class recorded run
       (none_cut bound past run)
 
-  pub segment_faults : (restated past recorded run : List Event) → RestatesBut bound [] restated past
-      → Records bound addressable_bytes restated past recorded run → (added : List Fault)
+  pub segment_faults : (snapshot past recorded run : List Event) → IsSnapshotBut bound [] snapshot past
+      → Records bound addressable_bytes snapshot past recorded run → (added : List Fault)
       × (map without_class (faults_of bound recorded) ≡ added)
       × (map without_class (faults_of bound run) ≡ map without_class (faults_of bound past) ++ added)
-  segment_faults restated past recorded run is way =
-      let alike = segment_alike restated past recorded run is way in (
+  segment_faults snapshot past recorded run is way =
+      let alike = segment_alike snapshot past recorded run is way in (
         map without_class (map (λ r. r.fault) alike.of_run),
         ap (λ (rs : List Report). map without_class (map (λ r. r.fault) rs)) (alike.recording_adds
-            ∙ ap (λ rs. rs ++ alike.of_recording) (begins_quietly bound [] restated past is))
+            ∙ ap (λ rs. rs ++ alike.of_recording) (begins_quietly bound [] snapshot past is))
             ∙ seen_alike without_class (numbers_in_both way) alike.of_recording alike.of_run alike.one_by_one,
         ap (λ (rs : List Report). map without_class (map (λ r. r.fault) rs)) alike.run_adds
             ∙ ap (map without_class) (map-append (λ r. r.fault) (verdicts_of bound past) alike.of_run)
             ∙ map-append without_class (faults_of bound past) (map (λ r. r.fault) alike.of_run),
       )
 
-  pub cut_alike : (cut : List Extent) (restated past recorded run : List Event) → RestatesBut bound cut restated past
-      → NoMallocMeets bound cut past run → (way : Records bound addressable_bytes restated past recorded run)
-      → AreReportedAlike bound (numbers_in_both way) (IsSameButForCut cut) restated past recorded run
-  cut_alike cut restated past recorded run is none =
-      reported_alike bound addressable_bytes restated past cut (begins_with_blocks bound cut restated past is)
+  pub cut_alike : (cut : List Extent) (snapshot past recorded run : List Event) → IsSnapshotBut bound cut snapshot past
+      → NoMallocMeets bound cut past run → (way : Records bound addressable_bytes snapshot past recorded run)
+      → AreReportedAlike bound (numbers_in_both way) (IsSameButForCut cut) snapshot past recorded run
+  cut_alike cut snapshot past recorded run is none =
+      reported_alike bound addressable_bytes snapshot past cut (begins_with_blocks bound cut snapshot past is)
       (IsSameButForCut cut) (λ f. same f f refl) freed_again (λ thin full is_store a finds.
       say_by_cut cut _ _ (says_but_for_class thin full is_store a finds)) recorded run none

@@ -11,7 +11,7 @@ mod Marks
 mod Thinned
 mod Repeated
 mod Alike
-mod Restated
+mod Snapshots
 mod Ways
 mod Finding
 mod SameBlocks

@@ -33,7 +33,7 @@ use Rattle.asan_check.proofs.Members.{in_none, in_head, cons_cases, passes_any}
 use Rattle.asan_check.proofs.Steps.{live_malloc, none_apart}
 use Rattle.asan_laws.specs.Laws.{access_event}
 use Rattle.asan_laws.specs.Recording.{shadow_bytes}
-use Rattle.asan_laws.specs.Restating.{lays_none, lays_live, lays_held, is_shade}
+use Rattle.asan_laws.specs.Snapshots.{lays_none, lays_live, lays_held, is_shade}
 use Rattle.asan_laws.specs.LeanRecording.{RecordsLeanly, begins, block, access, states_block, states, shadow_after}
 use Rattle.asan_laws.specs.LeanRecording.{HaveSameStart}
 use Rattle.asan_laws.proofs.Blocks.{held_placed}
@@ -41,7 +41,7 @@ use Rattle.asan_laws.proofs.Histories.{live_found, held_found}
 use Rattle.asan_laws.proofs.Known.{IsGiven, given_count, given_redzone, given_poison, given_freed, given}
 use Rattle.asan_laws.proofs.Marks.{are_marks}
 use Rattle.asan_laws.proofs.Members.{any_passes}
-use Rattle.asan_laws.proofs.Restated.{stands, may_be}
+use Rattle.asan_laws.proofs.Snapshots.{stands, may_be}
 use Rattle.asan_laws.proofs.Shown.{shadow_malloc, shadow_free, shadow_shade, poison_whole, poison_part, unpoison_whole}
 use Rattle.asan_laws.proofs.StatedBlocks.{part_of_sum}
 

@@ -22,7 +22,7 @@ use Rattle.asan_check.proofs.Members.{in_head, in_tail, cons_cases, apart_left, 
 use Rattle.asan_check.proofs.Members.{none_passes, filter_none}
 use Rattle.asan_check.proofs.Blocks.{admitted_placed, none_at_zero}
 use Rattle.asan_check.proofs.Frees as frees
-use Rattle.asan_laws.specs.Restating.{is_shade}
+use Rattle.asan_laws.specs.Snapshots.{is_shade}
 use Rattle.asan_laws.specs.Recording.{HaveBlocksBut, is_of_block}
 use Rattle.asan_laws.proofs.Members.{any_passes}
 

@@ -27,14 +27,14 @@ use Rattle.asan_check.proofs.Blocks.{live_placed}
 use Rattle.asan_check.proofs.Frees as frees
 use Rattle.asan_laws.specs.Laws.{since_malloc, since_free, NoneCovers, IsPoisonedSince}
 use Rattle.asan_laws.specs.Recording.{FindsTheSame}
-use Rattle.asan_laws.specs.Restating.{is_shade, NoneShares, LiesInSpan, LiesInBytes}
+use Rattle.asan_laws.specs.Snapshots.{is_shade, NoneShares, LiesInSpan, LiesInBytes}
 use Rattle.asan_laws.specs.LeanRecording.{shadow_after, filled_byte, freed_byte, released_byte, shaded_byte, IsShown}
 use Rattle.asan_laws.specs.LeanRecording.{in_live, in_held, around_held, in_poison, untouched, IsShownForAccess}
 use Rattle.asan_laws.proofs.Blocks.{held_placed}
 use Rattle.asan_laws.proofs.Bytes.{live_span, held_bytes, held_redzone, own_byte}
 use Rattle.asan_laws.proofs.Marks.{are_marks}
 use Rattle.asan_laws.proofs.Poisons.{stays, poisoned}
-use Rattle.asan_laws.proofs.Restated.{lift_same, granule_in_span, out_of_bytes, shaded_granule}
+use Rattle.asan_laws.proofs.Snapshots.{lift_same, granule_in_span, out_of_bytes, shaded_granule}
 
 -- ---- what marks make of it
 

@@ -21,10 +21,10 @@ use Rattle.asan_check.proofs.Frees as frees
 use Rattle.asan_check.proofs.Members.{in_none, in_head, in_tail, cons_cases, passes_any}
 use Rattle.asan_check.proofs.Steps.{live_malloc}
 use Rattle.asan_laws.specs.Laws.{asks_for, since_malloc, since_free}
-use Rattle.asan_laws.specs.Restating.{NoneShares, LiesInSpan, LiesInBytes}
+use Rattle.asan_laws.specs.Snapshots.{NoneShares, LiesInSpan, LiesInBytes}
 use Rattle.asan_laws.proofs.Bytes.{live_span}
-use Rattle.asan_laws.proofs.Restated.{lift_same, granule_in_span, same_in_live, same_in_held, same_around_held}
-use Rattle.asan_laws.proofs.Restated.{out_of_bytes}
+use Rattle.asan_laws.proofs.Snapshots.{lift_same, granule_in_span, same_in_live, same_in_held, same_around_held}
+use Rattle.asan_laws.proofs.Snapshots.{out_of_bytes}
 
 -- ---- a redzone of a live block
 

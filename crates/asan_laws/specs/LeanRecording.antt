@@ -21,7 +21,7 @@ use Rattle.asan_check.specs.Codes.{Freed, code_of_kind}
 use Rattle.asan_check.specs.History.{block_of, live, held, admits, marks}
 use Rattle.asan_check.specs.Verdicts.{fault_of, is_access, marks_none, verdicts_of}
 use Rattle.asan_laws.specs.Laws.{access_event, since_malloc, since_free, NoneCovers, IsPoisonedSince}
-use Rattle.asan_laws.specs.Restating.{is_shade, NoneShares, LiesInSpan, LiesInBytes}
+use Rattle.asan_laws.specs.Snapshots.{is_shade, NoneShares, LiesInSpan, LiesInBytes}
 use Rattle.asan_laws.specs.Recording.{Detail, Finds, is_of_block}
 
 -- ---- what a recorded malloc or free has to find

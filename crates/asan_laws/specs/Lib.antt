@@ -1,5 +1,5 @@
 pub mod Laws
 pub mod Thinning
-pub mod Restating
+pub mod Snapshots
 pub mod Recording
 pub mod LeanRecording

@@ -22,7 +22,7 @@ use Rattle.asan_check.specs.declared.report.Report.{Report}
 use Rattle.asan_check.specs.History.{block_of, live, held, marks}
 use Rattle.asan_check.specs.Verdicts.{fault_of, is_access, marks_none, verdicts_of}
 use Rattle.asan_laws.specs.Laws.{access_event}
-use Rattle.asan_laws.specs.Restating.{LaysOut, is_shade}
+use Rattle.asan_laws.specs.Snapshots.{LaysOut, is_shade}
 
 -- ---- what a recording and a run have in common
 
@@ -173,10 +173,10 @@ without_shades past = filter (λ e. not (is_shade e)) past
 -- a history begins a segment, with what another has left but for some of its held blocks: without
 -- its poisons and unpoisons it lays out the other's live blocks, in whatever order, and its held
 -- blocks, in the order of their frees, but for these, which are the oldest
-pub record RestatesBut (bound : ℕ) (cut : List Extent) (restated past : List Event) : Type 0 where
+pub record IsSnapshotBut (bound : ℕ) (cut : List Extent) (snapshot past : List Event) : Type 0 where
   pub lives : List Extent
   pub newest : List Extent
-  pub lays_out : LaysOut (without_shades restated) lives newest
+  pub lays_out : LaysOut (without_shades snapshot) lives newest
   pub same_live : IsPermutation lives (live bound past)
   pub oldest_cut : held bound past ≡ cut ++ newest
 

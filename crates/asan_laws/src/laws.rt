@@ -22,8 +22,8 @@ ghost use Rattle.asan_laws.specs.Thinning.{LeaveTheSame, LeavesOutGood, IsSublis
 ghost use Rattle.asan_laws.specs.Thinning.{renumbered, thinned, one_later, LeavesOut};
 ghost use Rattle.asan_laws.specs.Thinning.{LeavesOutGoodOnes, EventsLeftOutAreGood, faults_on};
 ghost use Rattle.asan_laws.specs.Thinning.{thinned_events};
-ghost use Rattle.asan_laws.specs.Restating.{StandTheSame, Restates, IsAsLaid, NoneShares};
-ghost use Rattle.asan_laws.specs.Restating.{later_by, is_shade};
+ghost use Rattle.asan_laws.specs.Snapshots.{StandTheSame, IsSnapshot, IsAsLaid, NoneShares};
+ghost use Rattle.asan_laws.specs.Snapshots.{later_by, is_shade};
 ghost use Rattle.asan_check.specs.declared.report.Fault.{Fault};
 ghost use Rattle.asan_laws.specs.Laws.{SharesByte, IsReportedAmong};
 ghost use Rattle.asan_laws.specs.Laws.{since_malloc, since_free, IsLiveSince, IsHeldSince};
@@ -200,26 +200,26 @@ pub fn later_reports_are_the_same()
         ≡ verdicts bound other ++ map (later_by (length other)) added) }
 {}
 
-/// A history that restates another by its live and its held blocks, and then by poisons and
+/// A history that is a snapshot of another by its live and its held blocks, and then by poisons and
 /// unpoisons, has the same blocks, live and held, and nothing is wrong in it. It stands the same if
 /// each granule has the same shadow byte. A granule has that of itself if the other history left
-/// in it what its blocks alone leave, and no poison and no unpoison of the restating touches it.
+/// in it what its blocks alone leave, and no poison and no unpoison of the snapshot touches it.
 /// Where a poison takes in a granule wholly, and none after it touches it, the shadow byte is the
 /// code of the poison's kind.
-pub fn what_is_restated_stands_the_same()
-    ensures live { (bound : ℕ) (restated past : List Event) → Restates bound restated past →
-        IsPermutation (live bound restated) (live bound past) }
-    ensures held { (bound : ℕ) (restated past : List Event) → Restates bound restated past →
-        held bound restated ≡ held bound past }
-    ensures quiet { (bound : ℕ) (restated past : List Event) → Restates bound restated past →
-        verdicts_of bound restated ≡ [] }
-    ensures stands { (bound : ℕ) (restated past : List Event)
-        (is : Restates bound restated past) →
+pub fn what_is_in_a_snapshot_stands_the_same()
+    ensures live { (bound : ℕ) (snapshot past : List Event) → IsSnapshot bound snapshot past →
+        IsPermutation (live bound snapshot) (live bound past) }
+    ensures held { (bound : ℕ) (snapshot past : List Event) → IsSnapshot bound snapshot past →
+        held bound snapshot ≡ held bound past }
+    ensures quiet { (bound : ℕ) (snapshot past : List Event) → IsSnapshot bound snapshot past →
+        verdicts_of bound snapshot ≡ [] }
+    ensures stands { (bound : ℕ) (snapshot past : List Event)
+        (is : IsSnapshot bound snapshot past) →
         ((granule : ℕ) →
         (IsAsLaid bound past granule × NoneShares is.shades granule)
-        ⊎ (lift (state_of (marks bound restated)) granule
+        ⊎ (lift (state_of (marks bound snapshot)) granule
         ≡ lift (state_of (marks bound past)) granule)) →
-        StandTheSame bound restated past }
+        StandTheSame bound snapshot past }
     ensures poisoned { (bound : ℕ) (laid later : List Event) (poison : Shade) (granule : ℕ) →
         IsTrue (list_all is_shade later) → NoneShares later granule →
         poison.at ≤ first_byte granule →

@@ -22,7 +22,7 @@ ghost use Rattle.asan_check.specs.History.{block_of, live, held, admits};
 ghost use Rattle.asan_check.specs.Verdicts.{fault_of, is_access, verdicts};
 ghost use Rattle.asan_laws.specs.Laws.{since_malloc, since_free};
 ghost use Rattle.asan_laws.specs.Thinning.{faults_of, faults_on};
-ghost use Rattle.asan_laws.specs.Restating.{is_shade, NoneShares, LiesInSpan, LiesInBytes};
+ghost use Rattle.asan_laws.specs.Snapshots.{is_shade, NoneShares, LiesInSpan, LiesInBytes};
 ghost use Rattle.asan_laws.specs.Recording.{HaveSameBlocks, IsSameAt, FindsTheSame, Records};
 ghost use Rattle.asan_laws.specs.Recording.{HasNumber, IsBefore, IsReportedOfOne, AreReportedAlike};
 ghost use Rattle.asan_laws.specs.Recording.{IsSameButForClass, without_class, is_of_block};

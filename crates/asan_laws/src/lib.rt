@@ -16,7 +16,7 @@ pub use laws::{
     quiet_inside_live_block, reports_are_verdicts, spans_never_meet, the_same_is_left_again,
     the_same_stands_again, thinned_events_invent_nothing, thinned_events_lose_nothing_bad,
     thinning_invents_nothing, thinning_loses_nothing_bad, use_after_free_is_reported,
-    what_is_restated_stands_the_same,
+    what_is_in_a_snapshot_stands_the_same,
 };
 pub use lean_recording::{
     a_free_looks_at_its_address, a_full_recording_is_a_lean_one,

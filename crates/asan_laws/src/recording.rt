@@ -13,12 +13,12 @@ ghost use Rattle.asan_check.specs.declared.report.Fault.{Fault};
 ghost use Rattle.asan_check.specs.Verdicts.{fault_of, verdicts, verdicts_of};
 ghost use Rattle.asan_laws.specs.Laws.{access_event};
 ghost use Rattle.asan_laws.specs.Thinning.{faults_of, faults_on};
-ghost use Rattle.asan_laws.specs.Restating.{Restates};
+ghost use Rattle.asan_laws.specs.Snapshots.{IsSnapshot};
 ghost use Rattle.asan_laws.specs.Recording.{HaveBlocksBut, HaveSameBlocks, IsSameAt, FindsTheSame};
 ghost use Rattle.asan_laws.specs.Recording.{FindsAsMany, Records, numbers_in_both, IsBefore};
 ghost use Rattle.asan_laws.specs.Recording.{HasNumber, without_class, IsSameButForClass};
 ghost use Rattle.asan_laws.specs.Recording.{IsSameButForCut, IsReportedOfOne, AreReportedAlike};
-ghost use Rattle.asan_laws.specs.Recording.{RestatesBut, NoMallocMeets, Detail};
+ghost use Rattle.asan_laws.specs.Recording.{IsSnapshotBut, NoMallocMeets, Detail};
 ghost use Rattle.asan_laws.specs.Recording.{shadow_bytes, addressable_bytes};
 
 /// What is wrong with a load or a store depends on the shadow bytes of two granules alone: that of
@@ -82,37 +82,37 @@ pub fn a_recording_has_the_faults_of_the_run()
 /// the held ones that it leaves out, and nothing is wrong in its beginning. Poisons and unpoisons
 /// may stand anywhere in that.
 pub fn a_segment_begins_with_the_blocks_of_the_run()
-    ensures blocks { (bound : ℕ) (cut : List Extent) (restated past : List Event) →
-        RestatesBut bound cut restated past → HaveBlocksBut bound cut restated past }
-    ensures quiet { (bound : ℕ) (cut : List Extent) (restated past : List Event) →
-        RestatesBut bound cut restated past → verdicts_of bound restated ≡ [] }
-    ensures restates { (bound : ℕ) (restated past : List Event) →
-        Restates bound restated past → RestatesBut bound [] restated past }
+    ensures blocks { (bound : ℕ) (cut : List Extent) (snapshot past : List Event) →
+        IsSnapshotBut bound cut snapshot past → HaveBlocksBut bound cut snapshot past }
+    ensures quiet { (bound : ℕ) (cut : List Extent) (snapshot past : List Event) →
+        IsSnapshotBut bound cut snapshot past → verdicts_of bound snapshot ≡ [] }
+    ensures snapshot { (bound : ℕ) (snapshot past : List Event) →
+        IsSnapshot bound snapshot past → IsSnapshotBut bound [] snapshot past }
 {}
 
 /// What is wrong in a segment is, but for classes and shadow bytes, what is wrong in the run from
 /// there on, where each access that is recorded finds as many addressable bytes as in the run.
 pub fn a_segment_has_the_faults_of_the_run_but_for_classes()
-    ensures faults { (bound : ℕ) (restated past recorded run : List Event) →
-        RestatesBut bound [] restated past →
-        Records bound addressable_bytes restated past recorded run →
+    ensures faults { (bound : ℕ) (snapshot past recorded run : List Event) →
+        IsSnapshotBut bound [] snapshot past →
+        Records bound addressable_bytes snapshot past recorded run →
         (added : List Fault)
         × (map without_class (faults_of bound recorded) ≡ added)
         × (map without_class (faults_of bound run)
         ≡ map without_class (faults_of bound past) ++ added) }
-    ensures reports { (bound : ℕ) (restated past recorded run : List Event) →
-        RestatesBut bound [] restated past →
-        (way : Records bound addressable_bytes restated past recorded run) →
-        AreReportedAlike bound (numbers_in_both way) IsSameButForClass restated past recorded run }
+    ensures reports { (bound : ℕ) (snapshot past recorded run : List Event) →
+        IsSnapshotBut bound [] snapshot past →
+        (way : Records bound addressable_bytes snapshot past recorded run) →
+        AreReportedAlike bound (numbers_in_both way) IsSameButForClass snapshot past recorded run }
 {}
 
 /// The same of a segment that leaves out the oldest held blocks, where a second free of one of
 /// these may be a bad free in place of a double free. Until it is released, no malloc of the run
 /// may meet such a block: there it would be bad in the run alone.
 pub fn a_segment_may_leave_out_the_oldest_held_blocks()
-    ensures { (bound : ℕ) (cut : List Extent) (restated past recorded run : List Event) →
-        RestatesBut bound cut restated past → NoMallocMeets bound cut past run →
-        (way : Records bound addressable_bytes restated past recorded run) →
+    ensures { (bound : ℕ) (cut : List Extent) (snapshot past recorded run : List Event) →
+        IsSnapshotBut bound cut snapshot past → NoMallocMeets bound cut past run →
+        (way : Records bound addressable_bytes snapshot past recorded run) →
         AreReportedAlike bound (numbers_in_both way) (IsSameButForCut cut)
-        restated past recorded run }
+        snapshot past recorded run }
 {}

@@ -1,5 +1,5 @@
--- A history that restates another: what its blocks are, that nothing is wrong in it, and in which granules it has left
--- the same.
+-- A history that is a snapshot of another: what its blocks are, that nothing is wrong in it, and in which granules
+-- it has left the same.
 use Rattle.std.proofs.Common.{◌≡◌, ℕ, zero, suc, ◌+◌, ◌*◌, ◌%◌, ◌^◌, ◌≤◌, ◌<◌, Bool, true, false, cond, eqb}
 use Rattle.std.proofs.Common.{List, [], ◌∷◌, ◌++◌, Some, None, refl, sym, ap, subst, ◌∙◌, arith, inl, inr, append_assoc}
 use Rattle.std.proofs.Common.{leb, ltb, add-zero}
@@ -33,9 +33,9 @@ use Rattle.asan_check.specs.History.{block_of, live, freed, held, admits, marks,
 use Rattle.asan_check.specs.Verdicts.{fault_of, verdicts_of}
 use Rattle.asan_check.specs.declared.report.Fault.TheVariants as fault
 use Rattle.asan_laws.specs.Laws.{asks_for, since_malloc, since_free}
-use Rattle.asan_laws.specs.Restating.{StandTheSame, LaysOut, lays_none, lays_live, lays_held, is_shade, Restates}
-use Rattle.asan_laws.specs.Restating.{NoneShares, LiesInSpan, LiesInBytes, IsAsLaid, in_live, in_held, around_held}
-use Rattle.asan_laws.specs.Restating.{in_no_span}
+use Rattle.asan_laws.specs.Snapshots.{StandTheSame, LaysOut, lays_none, lays_live, lays_held, is_shade, IsSnapshot}
+use Rattle.asan_laws.specs.Snapshots.{NoneShares, LiesInSpan, LiesInBytes, IsAsLaid, in_live, in_held, around_held}
+use Rattle.asan_laws.specs.Snapshots.{in_no_span}
 use Rattle.asan_check.proofs.Steps.{live_malloc, held_malloc, live_free, spans_apart}
 use Rattle.asan_check.proofs.Members.{in_none, in_head, in_tail, cons_cases, at_element, none_from, passes_any}
 use Rattle.asan_check.proofs.Members.{none_passes, apart_starts, filter_all}
@@ -547,40 +547,40 @@ shaded_by bound laid shades s granule are clear from to =
 
 -- ---- the whole
 
-module _ (bound : ℕ) (restated past : List Event) (is : Restates bound restated past) where
-  pub restated_live : IsPermutation (live bound restated) (live bound past)
-  restated_live = rw (
+module _ (bound : ℕ) (snapshot past : List Event) (is : IsSnapshot bound snapshot past) where
+  pub snapshot_live : IsPermutation (live bound snapshot) (live bound past)
+  snapshot_live = rw (
     is.parts,
     shaded_live bound is.laid is.shades is.are_shades,
     (stand bound is.laid past is.lives is.lays_out is.same_blocks).lives_are,
   ) is.same_blocks
 
-  pub restated_held : held bound restated ≡ held bound past
-  restated_held =
+  pub snapshot_held : held bound snapshot ≡ held bound past
+  snapshot_held =
       ap (held bound) is.parts ∙ shaded_held bound is.laid is.shades is.are_shades
       ∙ (stand bound is.laid past is.lives is.lays_out is.same_blocks).helds_are
 
-  pub restated_quiet : verdicts_of bound restated ≡ []
-  restated_quiet =
+  pub snapshot_quiet : verdicts_of bound snapshot ≡ []
+  snapshot_quiet =
       ap (verdicts_of bound) is.parts
       ∙ shaded_quiet bound is.laid is.shades is.are_shades
       (stand bound is.laid past is.lives is.lays_out is.same_blocks).quiet
 
-  pub restated_granule : (granule : ℕ) → IsAsLaid bound past granule → NoneShares is.shades granule
-      → lift (state_of (marks bound restated)) granule ≡ lift (state_of (marks bound past)) granule
-  restated_granule granule alone clear =
+  pub snapshot_granule : (granule : ℕ) → IsAsLaid bound past granule → NoneShares is.shades granule
+      → lift (state_of (marks bound snapshot)) granule ≡ lift (state_of (marks bound past)) granule
+  snapshot_granule granule alone clear =
       ap (λ es. lift (state_of (marks bound es)) granule) is.parts
       ∙ shaded_granule bound is.laid granule is.shades is.are_shades clear
       ∙ as_laid bound is.laid past is.lives is.lays_out is.same_blocks granule alone
 
-  pub restated_stands : ((granule : ℕ) → (IsAsLaid bound past granule × NoneShares is.shades granule)
-      ⊎ (lift (state_of (marks bound restated)) granule ≡ lift (state_of (marks bound past)) granule))
-      → StandTheSame bound restated past
-  restated_stands each = record {
+  pub snapshot_stands : ((granule : ℕ) → (IsAsLaid bound past granule × NoneShares is.shades granule)
+      ⊎ (lift (state_of (marks bound snapshot)) granule ≡ lift (state_of (marks bound past)) granule))
+      → StandTheSame bound snapshot past
+  snapshot_stands each = record {
     same_shadow = λ granule. elim (each granule) [
-      | inl alone ↦ restated_granule granule alone.0 alone.1
+      | inl alone ↦ snapshot_granule granule alone.0 alone.1
       | inr same ↦ same
     ];
-    same_live = restated_live;
-    same_held = restated_held;
+    same_live = snapshot_live;
+    same_held = snapshot_held;
   }

@@ -1,5 +1,5 @@
 -- Histories that stand the same, though they came about in different ways, and histories that
--- restate in few events what another left.
+-- say in few events what another left.
 use Rattle.std.specs.Prelude.{ℕ, ◌≡◌, ◌+◌, ◌<◌, ◌≤◌, Bool, true, false, IsTrue, List, [], ◌∷◌}
 use Rattle.std.specs.Prelude.{◌++◌, Contains}
 use Rattle.std.specs.List.{list_all}
@@ -27,7 +27,7 @@ pub record StandTheSame (bound : ℕ) (one other : List Event) : Type 0 where
 abbrev pub later_by : ℕ → Report → Report
 later_by count r = record { number = r.number + count; fault = r.fault }
 
--- ---- restating
+-- ---- snapshot
 
 -- a history lays blocks out, and does nothing else: it asks for each of the first ones by a malloc,
 -- and for each of the second ones by a malloc after which a free of it comes at once; each list is
@@ -47,13 +47,13 @@ is_shade (event.Poison s) = true
 is_shade (event.Unpoison r) = true
 is_shade e = false
 
--- one history restates another: it lays out the other's live blocks, in whatever order, and its
--- held blocks, in the order of their frees, and after these come poisons and unpoisons alone
-pub record Restates (bound : ℕ) (restated past : List Event) : Type 0 where
+-- one history is a snapshot of another: it lays out the other's live blocks, in whatever order, and
+-- its held blocks, in the order of their frees, and after these come poisons and unpoisons alone
+pub record IsSnapshot (bound : ℕ) (snapshot past : List Event) : Type 0 where
   pub shades : List Event
   pub laid : List Event
   pub lives : List Extent
-  pub parts : restated ≡ shades ++ laid
+  pub parts : snapshot ≡ shades ++ laid
   pub are_shades : IsTrue (list_all is_shade shades)
   pub lays_out : LaysOut laid lives (held bound past)
   pub same_blocks : IsPermutation lives (live bound past)
