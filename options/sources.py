@@ -28,7 +28,8 @@ def help_of(program: Program) -> List[str]:
     lines += program.keys["Foot"].split("\n")
     wide = [it for it in lines if len(it) > COLUMNS]
     if wide or len(lines) > LINES:
-        raise Wrong(f"{program.name}: its help has {len(lines)} lines of at most {LINES}, and {len(wide)} too wide: {wide[:1]}")
+        lines_are = f"{len(lines)} lines of at most {LINES}, and {len(wide)} too wide"
+        raise Wrong(f"{program.name}: its help has {lines_are}: {wide[:1]}")
     return lines
 
 

@@ -87,7 +87,8 @@ MISTAKES = [
     ("Group of asancol-report: Text\n", "", "--no-machines: no program has it"),
     (", asancol-report: Output files", ": Output files", "--json FILE: asancol-report has no such option"),
     ("Help: where all lines go", "# ", "--log-file FILE: it has no Help or no Page for asancol-run"),
-    ("Help: a line for each process", f"Help: {'x' * 54}", "asancol-run: its help has 41 lines of at most 41, and 1 too wide"),
+    ("Help: a line for each process", f"Help: {'x' * 54}",
+     "asancol-run: its help has 41 lines of at most 41, and 1 too wide"),
 ]
 
 # Each prints what is offered by the file $1 for the words after it, of which the first is the program.
