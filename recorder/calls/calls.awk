@@ -1,9 +1,15 @@
-# Writes each row of calls.def once for each name, without those that the C library does not have. The first file lists
-# the library's names, and with an `m` those of its mathematics. Rows of names that only the latter has go to the file
-# `mathematics`. `wraps` is the file for the names that are left.
+# Writes each row of calls.def once for each name, without those that the C library does not have: to a file in the
+# folder `groups`, which is named by the first word of the comment above the row. The first file lists the library's
+# names, and with an `m` those of its mathematics. Rows of names that only the latter has go to the file `mathematics`.
+# `wraps` is the file for the names that are left.
 
 BEGIN { printf "" > mathematics }
 FNR == NR { has[$1] = has[$1] $2; next }
+/^\/\* [A-Z][a-z]+.*\*\/$/ {
+    put()
+    file = groups "/" tolower(substr($2, 1, match($2 " ", /[^A-Za-z]/) - 1)) ".def"
+    printf "" > file
+}
 /^[A-Z_]+\(/ { put(); row = $0; next }
 /^ / && row != "" { row = row "\n" $0; next }
 { put() }
@@ -23,10 +29,7 @@ function put(    word, rest, count, names, other, i)
     }
     for (i = 1; i <= count; i++)
         if (names[i] in has && (other == "" || other in has)) {
-            if (has[names[i]] == "m")
-                print word names[i] rest > mathematics
-            else
-                print word names[i] rest
+            print word names[i] rest > (has[names[i]] == "m" ? mathematics : file)
             print "WRAP(" names[i] ")" > wraps
             if (other != "")
                 print "WRAP(" other ")" > wraps

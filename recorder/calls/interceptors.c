@@ -31,6 +31,13 @@
     "\t.pushsection .rodata\n3:\t.asciz \"" #name "\"\n\t.popsection\n"
 #endif
 
+/* What is weak brings no stub in. */
+#if defined IN_SHARED_OBJECT || defined IS_STATIC
+#define ASKS_FOR_STUBS
+#else
+#define ASKS_FOR_STUBS "\t.long asancol_every_call - .\n"
+#endif
+
 /* The text is longer than each compiler of the language has to take. */
 #pragma GCC diagnostic ignored "-Woverlength-strings"
 
@@ -44,6 +51,7 @@ __asm__(".pushsection .data\n\t.balign 8\nnext_functions:\n\t.popsection\n"
 #include "out/calls.list"
 #endif
         "\t.cfi_endproc\n"
+        ASKS_FOR_STUBS
         ".popsection\n"
         ".pushsection .data\nnext_functions_end:\n\t.popsection\n");
 

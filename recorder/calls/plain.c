@@ -32,12 +32,9 @@ struct stub {
     int32_t code, function, name;
 };
 
-/* Of the first file that has stubs, and behind those of the last (Makefile). What is preloaded has some in other files,
-   and no linker leaves them out. */
-#ifdef IS_PRELOAD
+/* The linker's names for the list, which has some from each file with stubs. */
 #define plain_stubs __start_asancol_stubs
 #define plain_stubs_end __stop_asancol_stubs
-#endif
 extern const struct stub plain_stubs[] __attribute__((visibility("hidden")));
 extern const struct stub plain_stubs_end[] __attribute__((visibility("hidden")));
 

@@ -1,4 +1,4 @@
-/* The words of the rows of calls.def, and what a row becomes: a stub and a check. Formats have theirs in calls.c. */
+/* The words of the rows of calls.def, and what a row becomes: a stub and a check. Formats have theirs in words.h. */
 #ifndef ASANCOL_ROWS_H
 #define ASANCOL_ROWS_H
 

@@ -8,6 +8,10 @@
 #include "calls/stubs.h"
 #include "interface/hooks.h"
 
+#ifndef IN_SHARED_OBJECT /* what the program always has of the list */
+KEEPS_LIST("asancol_calls_of_all")
+#endif
+
 REAL(int, munmap, (void *, size_t));
 REAL(void *, mmap, (void *, size_t, int, int, int, off_t));
 REAL(void *, mmap64, (void *, size_t, int, int, int, off_t));
@@ -141,7 +145,3 @@ __attribute__((used)) static void before_jump(uintptr_t target, const void *unus
 OF_BOOST(make_fcontext, before_make)
 OF_BOOST(jump_fcontext, before_jump)
 OF_BOOST(ontop_fcontext, before_jump)
-
-#ifndef IN_SHARED_OBJECT /* the last file that has stubs */
-__asm__(".pushsection asancol_stubs,\"a\",@progbits\n.globl plain_stubs_end\nplain_stubs_end:\n.popsection\n");
-#endif

@@ -56,8 +56,9 @@ _Static_assert(offsetof(struct hook_page, program) == 56, "as the stubs have it"
 
 /* The program's stubs of the C library are in a list (plain.c): how far from there the stub is, the pointer to its
    function, and the name. A program may wrap the function by itself, so the stub is not meant by its name. */
+#define IN_LIST ".pushsection asancol_stubs,\"a\",@progbits\n\t.balign 4\n"
 #define LISTED(name)                                                                                                   \
-    __asm__(".pushsection asancol_stubs,\"a\",@progbits\n"                                                            \
+    __asm__(IN_LIST                                                                                                    \
             "\t.long .L__wrap_" #name " - .\n"                                                                         \
             "\t.long __real_" #name "@GOTPCREL\n"                                                                      \
             "\t.long .Lname_of_" #name " - .\n"                                                                        \
@@ -65,6 +66,11 @@ _Static_assert(offsetof(struct hook_page, program) == 56, "as the stubs have it"
             ".pushsection .rodata.str1.1,\"aMS\",@progbits,1\n"                                                       \
             ".Lname_of_" #name ": .asciz \"" #name "\"\n"                                                             \
             ".popsection\n")
+/* A linker that leaves out what nobody asks for keeps what a file has in the list if it keeps the file's code. */
+#define KEEPS_LIST(label)                                                                                              \
+    __asm__(IN_LIST ".Llisted:\n.popsection\n"                                                                         \
+            ".pushsection .text\n\t.balign 4\n.globl " label "\n" label ":\n\t.long .Llisted - .\n.popsection\n");
+
 #if defined LISTS_STUBS || defined IS_PRELOAD
 #define LIST(name) LISTED(name);
 #else

@@ -146,37 +146,3 @@ CALLBACK void __asan_before_dynamic_init(const char *module)
 CALLBACK void __asan_after_dynamic_init(void)
 {
 }
-
-/* The same objects call these in the place of three functions of the C library. They go to the stubs of these by a
-   jump, so that the caller is the program; in a static program, which has no stubs, to the functions. */
-
-#if defined IN_SHARED_OBJECT
-#define BINDING ".globl", ".hidden"
-#elif defined IN_CHECKS
-#define BINDING ".globl", ".globl"
-#else
-#define BINDING ".weak", ".weak"
-#endif
-#define MEMORY_CALL_BOUND(binding, visibility, name)                                                                   \
-    __asm__(".pushsection .text\n"                                                                                     \
-            ".p2align 4\n"                                                                                             \
-            binding " __asan_" #name "\n"                                                                              \
-            visibility " __asan_" #name "\n"                                                                           \
-            ".weak __wrap_" #name "\n"                                                                                 \
-            ".type __asan_" #name ",@function\n"                                                                       \
-            "__asan_" #name ":\n"                                                                                      \
-            "\t.cfi_startproc\n"                                                                                       \
-            "\tendbr64\n"                                                                                              \
-            "\tmovq __wrap_" #name "@GOTPCREL(%rip), %r11\n"                                                           \
-            "\ttestq %r11, %r11\n"                                                                                     \
-            "\tcmoveq " #name "@GOTPCREL(%rip), %r11\n"                                                                \
-            "\tjmp *%r11\n"                                                                                            \
-            "\t.cfi_endproc\n"                                                                                         \
-            ".size __asan_" #name ", .-__asan_" #name "\n"                                                             \
-            ".popsection\n");
-#define MEMORY_CALL_WITH(binding, name) MEMORY_CALL_BOUND(binding, name)
-#define MEMORY_CALL(name) MEMORY_CALL_WITH(BINDING, name)
-
-MEMORY_CALL(memcpy)
-MEMORY_CALL(memmove)
-MEMORY_CALL(memset)

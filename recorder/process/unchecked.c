@@ -20,6 +20,9 @@
 
 extern const struct link_note asancol_link_note;
 
+/* There if the program has all stubs of the C library (calls/every.c). */
+extern const char asancol_every_call[] __attribute__((visibility("default"), weak));
+
 /* Before the module in which that is. */
 #define MALLOC_OF "malloc of "
 
@@ -181,9 +184,13 @@ static bool is_of_language(struct name name)
 static void add_plain(struct list *list, const struct map_line *first, struct name name)
 {
 #ifndef IS_STATIC
-    static const char calls[] = "calls of libraries (ASANCOL_LIBRARIES=0)";
+    static const char off[] = "calls of libraries (ASANCOL_LIBRARIES=0)";
+    static const char unknown[] = "calls of libraries (the link knew of none)";
+    bool may_call = !is_of_language(name) && !begins_with(name.text, "libmvec.so");
     if (!recorder_checks_libraries() && !plain_is_of_library(name.text))
-        add(list, "", calls, sizeof calls - 1);
+        add(list, "", off, sizeof off - 1);
+    else if (asancol_every_call == NULL && may_call)
+        add(list, "", unknown, sizeof unknown - 1);
 #endif
     if (!is_of_language(name))
         add(list, is_of_system(first) ? "/" : "", name.text, name.length);

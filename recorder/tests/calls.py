@@ -729,8 +729,8 @@ def source_of(names: Sequence[str]) -> Tuple[str, Dict[str, str]]:
 
 def names_there() -> List[str]:
     """The names that the C library has, by what the recorder was made with."""
-    tables = ("out/calls.def", "out/mathematics.def")
-    return [name for of in tables for row in table(of) for name in row.names]
+    tables = [*sorted(glob.glob(f"{RECORDER}/out/groups/*.def")), f"{RECORDER}/out/mathematics.def"]
+    return [name for of in tables for row in table(os.path.relpath(of, RECORDER)) for name in row.names]
 
 
 def found_by(suite: Suite, folder: str, less: int, alone: Sequence[int]) -> Tuple[Set[str], Set[int]]:

@@ -89,7 +89,7 @@ MEANINGS = {
     "WRITES_GROUP": "writes {1}, and {0} and its strings if something was found",
     "WRITES_HOST": "writes {1}, and {0}, its names and addresses if something was found",
     "WRITES_USER": "writes {1}, and {0} and its strings if something was found",
-    "READS_REQUEST": "reads what the request takes, of the requests that are in calls.c",
+    "READS_REQUEST": "reads what the request takes, of the requests that are in words.h",
     "WRITES_REQUEST": "writes what the request gives, of these",
 }
 SILENT = """

@@ -15,7 +15,8 @@ ROOTS = ("-iquote", RECORDER, "-iquote", os.path.dirname(RECORDER))
 
 # What is no function, or the program's.
 CONSTANT = set("_GLOBAL_OFFSET_TABLE_ _DYNAMIC __ehdr_start _end main asancol_checks asancol_register_early "
-               "__lsan_is_turned_off".split())
+               "__lsan_is_turned_off asancol_every_call asancol_every_memcpy asancol_every_memmove "
+               "asancol_every_memset".split())
 
 # Of the C library, which is called by address: variables, what only looks something up, and a call of the system's.
 SAFE = {"__libc_single_threaded", "__libc_stack_end", "environment", "_dl_find_object", "clock_gettime", "sigaction"}

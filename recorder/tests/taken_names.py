@@ -22,7 +22,8 @@ __libc_single_threaded __libc_stack_end __register_atfork __sigaction _dl_find_o
 SHARED = ["aligned_alloc", "dladdr"]
 
 # Before the program is relocated nothing can be looked up yet.
-ARCHIVES: Dict[str, List[str]] = {"record": ["__libc_stack_end"], "static": STATIC, "shared": SHARED}
+RECORD = ["__libc_stack_end", "__start_asancol_stubs", "__stop_asancol_stubs"]
+ARCHIVES: Dict[str, List[str]] = {"record": RECORD, "static": STATIC, "shared": SHARED}
 
 # The allocator, which has to be whole; and what begins and ends a program.
 NOT_OWN = """

@@ -254,7 +254,8 @@ def check_mallocs(suite, folder, compiler):
     make(folder, compiler, *both, "./libother.so", "-o", "program")
     expect(unchecked(folder, "./program"), ["libother.so"], "linked: it is not used")
     make(folder, compiler, *both, "-o", "program")
-    expect(unchecked(folder, "./program", LD_PRELOAD="./libother.so"), ["libother.so"], "preloaded: it is not used")
+    wanted = ["calls of libraries (the link knew of none)", "libother.so"]
+    expect(unchecked(folder, "./program", LD_PRELOAD="./libother.so"), wanted, "preloaded: it is not used")
 
 
 def check_apart(suite, folder, compiler):

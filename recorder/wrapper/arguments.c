@@ -100,6 +100,16 @@ static void take_linker_words(struct arguments *arguments, const char *words)
     free(copy);
 }
 
+/* Whether a library is a part of the C library, which calls nothing that is wrapped. */
+static bool is_of_c(const char *name)
+{
+    static const char *const names[] = {"c", "m", "pthread", "dl", "rt", "util"};
+    for (size_t i = 0; i < COUNT(names); i++)
+        if (strcmp(name, names[i]) == 0)
+            return true;
+    return begins_with(name, ":libm.so");
+}
+
 /* A library: what GCC made with -flto is compiled when it is linked. */
 static void take_library(struct arguments *arguments, const char *name)
 {
@@ -109,6 +119,7 @@ static void take_library(struct arguments *arguments, const char *name)
     request->inputs.has_any = request->inputs.has_linked = true;
     request->link.has_libc |= strcmp(name, "c") == 0;
     request->link.has_libm |= strcmp(name, "m") == 0 || begins_with(name, ":libm.so");
+    request->link.needs_every_call |= !is_of_c(name);
     for (size_t i = 0; i < arguments->folder_count; i++) {
         const char *folder = arguments->folders[i];
         if (is_file)
@@ -161,6 +172,7 @@ static void take_sanitizers(struct arguments *arguments, const char *list)
     static const char *const others[] = {"address", "thread", "memory", "leak", "safe-stack", "scudo", "dataflow"};
     if (lists(list, others, COUNT(others)))
         arguments->request->foreign = joined(SANITIZE, list);
+    arguments->request->link.needs_every_call = true;
 }
 
 static void take_refused_sanitizers(struct arguments *arguments, const char *list)
@@ -194,6 +206,14 @@ static void take_parameter(struct arguments *arguments, const char *parameter)
 static void take_llvm(struct arguments *arguments, const char *word)
 {
     left_out_take(&arguments->request->left_out, CHECK_LLVM, word);
+}
+
+/* What calls functions that no object asks for: a library that the compiler puts behind ours, or what it compiles when
+   it links. */
+static void take_late_calls(struct arguments *arguments, const char *rest)
+{
+    (void)rest;
+    arguments->request->link.needs_every_call = true;
 }
 
 static void take_machine(struct arguments *arguments, const char *word)
@@ -250,6 +270,9 @@ static const struct option {
     TAKES("-fsanitize-address-field-padding=", JOINED, take_padding),
     TAKES("--param", APART, take_parameter), TAKES("--param=", JOINED, take_parameter),
     TAKES("-mllvm", APART, take_llvm), TAKES("-mllvm=", JOINED, take_llvm), TAKES("-Xclang", APART, take_llvm),
+    TAKES("-fprofile", JOINED, take_late_calls), TAKES("--coverage", ALONE, take_late_calls),
+    TAKES("-coverage", ALONE, take_late_calls), TAKES("-fopenmp", JOINED, take_late_calls),
+    TAKES("-flto", JOINED, take_late_calls), TAKES("-fuse-ld=gold", ALONE, take_late_calls),
     TAKES("-m32", ALONE, take_machine), TAKES("-mx32", ALONE, take_machine), TAKES("-m16", ALONE, take_machine),
 #undef TAKES
     {USE_AFTER_RETURN_OF_CLANG, JOINED, NULL, offsetof(struct request, says_use_after_return)},

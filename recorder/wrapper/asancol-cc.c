@@ -62,7 +62,9 @@ int main(int count, char **argv)
     read_arguments(&job);
     job.takes_part = request->inputs.has_any && request->foreign == NULL;
     job.links = request->inputs.has_linked && !request->stops_early && !request->link.is_partial;
-    bool compiles = job.takes_part && (request->inputs.has_source || request->inputs.linked.has_marked);
+    const struct linked *linked = &request->inputs.linked;
+    bool is_compiled_late = linked->has_marked && (linked->has_lto || linked->has_bitcode);
+    bool compiles = job.takes_part && (request->inputs.has_source || is_compiled_late);
     if (compiles || (request->foreign == NULL && request->says_use_after_return))
         job.compiler = compiler_of(job.command.items, job.command.count);
     if (job.compiler != NULL)

@@ -58,6 +58,7 @@ void inputs_add(struct request *request, struct language language, const char *p
     inputs->has_linked |= input != INPUT_HEADER;
     inputs->has_standard |= strcmp(path, "-") == 0 || strcmp(path, "/dev/stdin") == 0;
     request->link.has_libm |= begins_with(base_name(path), "libm.so");
+    request->link.needs_every_call |= ends_with(path, ".so") || strstr(path, ".so.") != NULL;
     if (input >= INPUT_PREPROCESSED) {
         names_add(&inputs->sources, base_name(path));
         return;

@@ -100,14 +100,24 @@ static bool is_bitcode(struct view view)
     return view_begins(view, BITCODE) || view_begins(view, WRAPPED_BITCODE);
 }
 
-/* An object that is to be linked, and neither a program nor a shared object. */
-static bool is_object(struct view view)
+static bool is_of_type(struct view view, Elf64_Half type)
 {
     Elf64_Ehdr header;
     if (!view_begins(view, OBJECT) || view.size < sizeof header)
-        return is_bitcode(view);
+        return false;
     memcpy(&header, view.bytes, sizeof header);
-    return header.e_type == ET_REL;
+    return header.e_type == type;
+}
+
+/* An object that is to be linked, and neither a program nor a shared object. */
+static bool is_object(struct view view)
+{
+    return is_of_type(view, ET_REL) || is_bitcode(view);
+}
+
+bool linked_is_library(struct view view)
+{
+    return is_of_type(view, ET_DYN);
 }
 
 bool linked_takes(const char *path)
@@ -236,6 +246,8 @@ void linked_look_at(struct linked *linked, const char *path)
     bool is_lto = view_has_text(view, GCC_LTO);
     linked->has_marked |= is_marked && (!is_library || is_lto);
     linked->has_lto |= is_lto;
+    linked->has_bitcode |= is_bitcode(view);
+    linked->may_open |= view_has_text(view, "dlopen");
     if (!is_library && !is_marked && is_lto && linked->unmarked_lto == NULL)
         linked->unmarked_lto = strdup(path);
     view_unmap(view);

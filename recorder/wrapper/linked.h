@@ -13,6 +13,8 @@
 struct linked {
     bool has_marked; /* an object that was compiled so, or what GCC compiles so at the link */
     bool has_lto;    /* one that is compiled when it is linked */
+    bool has_bitcode;   /* likewise, of Clang */
+    bool may_open;      /* one that may open libraries */
     char *unmarked_lto; /* the first of these that was not compiled so, or null */
 };
 
@@ -30,5 +32,7 @@ void linked_look_at(struct linked *linked, const char *path);
 /* Whether a compiler has made this assembly, or bitcode, with calls before accesses. */
 bool linked_is_marked_text(const char *path);
 enum origin linked_origin(struct view view);
+/* Whether it is a shared object. */
+bool linked_is_library(struct view view);
 
 #endif

@@ -30,15 +30,12 @@ enum {
 /* Which of them are left alone. */
 static bool is_own[COUNT(wraps)];
 
-/* The recorder comes in by the first of these, and shared objects find the others. */
-static const char *const program_flags[] = {
-    "-Wl,--undefined=asancol_start",
-    "-Wl,--export-dynamic-symbol=__asan_*",
-    "-Wl,--export-dynamic-symbol=pthread_create",
-    "-Wl,--export-dynamic-symbol=thrd_create",
-    "-Wl,--export-dynamic-symbol=*longjmp*",
-    "-Wl,--export-dynamic-symbol=_Unwind_RaiseException",
-    "-Wl,--export-dynamic-symbol=_Unwind_Resume_or_Rethrow",
+/* What shared objects find in a program. A pattern of names would take the linker longer than all that is ours. */
+#define SHOWN(name) "-Wl,--export-dynamic-symbol=" #name,
+static const char *const shown[] = {
+    SHOWN(pthread_create) SHOWN(thrd_create) SHOWN(longjmp) SHOWN(_longjmp) SHOWN(siglongjmp) SHOWN(__longjmp_chk)
+    SHOWN(_Unwind_RaiseException) SHOWN(_Unwind_Resume_or_Rethrow)
+#include "out/shown.def"
 };
 
 /* What stands before and behind the recorder. */
@@ -47,16 +44,6 @@ static const char *const program_flags[] = {
 static size_t wrap_count(const struct front *front)
 {
     return front->has_new ? COUNT(wraps) : COUNT(wraps) - OPERATORS;
-}
-
-bool linking_find_own(const struct job *job, const char *output)
-{
-    char *unasked = NULL;
-    bool has_own = own_data_find(output, wraps, wrap_count(job->front), &job->request.link.wraps, is_own, &unasked);
-    if (unasked == NULL)
-        return has_own;
-    unlink(output);
-    fail(unasked, "it would be called: the program has this function, and does not ask for it by --wrap");
 }
 
 bool linking_is_static(const struct link_request *link)
@@ -68,6 +55,34 @@ bool linking_is_static(const struct link_request *link)
 static bool has_start(const struct link_request *link)
 {
     return !link->is_shared && (!link->is_bare || link->has_libc);
+}
+
+/* Whether it gets all calls that are checked: where something calls them that is not known by now. */
+static bool has_every_call(const struct job *job)
+{
+    const struct linked *linked = &job->request.inputs.linked;
+    return job->request.link.needs_every_call || linked->has_lto || linked->may_open || job->front->has_new
+           || job->front->links_libm;
+}
+
+bool linking_has_some_calls(const struct job *job)
+{
+    const struct link_request *link = &job->request.link;
+    return has_start(link) && !linking_is_static(link) && !has_every_call(job);
+}
+
+bool linking_needs_another(struct job *job, const char *output)
+{
+    struct link_request *link = &job->request.link;
+    struct own_data found = {.is_own = is_own};
+    own_data_find(output, wraps, wrap_count(job->front), &link->wraps, &found);
+    if (found.unasked != NULL) {
+        unlink(output);
+        fail(found.unasked, "it would be called: the program has this function, and does not ask for it by --wrap");
+    }
+    bool needs_every = (found.lacks_a_call || found.has_every_call) && linking_has_some_calls(job);
+    link->needs_every_call |= needs_every;
+    return found.has_own || needs_every;
 }
 
 static void add_file(struct strings *line, const char *name)
@@ -115,7 +130,8 @@ static bool has_checks(const struct request *request)
 static void add_static(struct strings *line)
 {
     strings_add(line, "-Wl,--eh-frame-hdr"); /* by which stacks lead through the C library */
-    strings_add_all(line, program_flags, COUNT(program_flags));
+    strings_add(line, "-Wl,--undefined=asancol_start");
+    strings_add_all(line, shown, COUNT(shown));
     add_file(line, "libasancol_static.a");
     add_file(line, "no-second-allocator.ld");
 }
@@ -140,7 +156,11 @@ static void add_to_program(struct strings *line, const struct job *job)
     const struct link_request *link = &job->request.link;
     ask_for_operators(line, job);
     if (has_start(link))
-        strings_add_all(line, program_flags, COUNT(program_flags));
+        strings_add(line, "-Wl,--undefined=asancol_start");
+    if (has_start(link) && has_every_call(job)) {
+        strings_add(line, "-Wl,--undefined=" EVERY_CALL);
+        strings_add_all(line, shown, COUNT(shown));
+    }
     add_file(line, "libasancol_record.a");
     if (link->has_libc)
         strings_add(line, "-lc"); /* for what the recorder calls */

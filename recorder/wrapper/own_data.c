@@ -11,9 +11,7 @@ struct search {
     const char *const *names;
     size_t count;
     const struct names *asked_for;
-    bool *is_own;
-    char **unasked;
-    bool has_found;
+    struct own_data *found;
 };
 
 static bool is_variable(const Elf64_Sym *symbol)
@@ -34,20 +32,22 @@ static void look_for(struct search *search, const char *name)
 {
     for (size_t i = 0; i < search->count; i++)
         if (strcmp(name, search->names[i]) == 0)
-            search->is_own[i] = search->has_found = true;
+            search->found->is_own[i] = search->found->has_own = true;
 }
 
 /* The recorder's own are weak, but for those of the operators. mold makes all of them local, and so keeps no sign. */
 static void look_at_wrap(struct search *search, const Elf64_Sym *symbol, const char *name)
 {
     static const char front[] = "__wrap_", operator_front[] = "__wrap__Z";
-    bool is_strong = symbol->st_shndx != SHN_UNDEF && ELF64_ST_BIND(symbol->st_info) == STB_GLOBAL;
-    if (*search->unasked != NULL || !is_strong || !begins_with(name, front) || begins_with(name, operator_front)
+    struct own_data *found = search->found;
+    bool is_there = symbol->st_shndx != SHN_UNDEF, is_strong = ELF64_ST_BIND(symbol->st_info) == STB_GLOBAL;
+    if (!begins_with(name, front) || begins_with(name, operator_front)
         || names_have(search->asked_for, name + strlen(front)))
         return;
-    for (size_t i = 0; i < search->count && *search->unasked == NULL; i++)
+    found->lacks_a_call |= !is_there && !is_strong;
+    for (size_t i = 0; is_there && is_strong && i < search->count && found->unasked == NULL; i++)
         if (strcmp(name + strlen(front), search->names[i]) == 0)
-            *search->unasked = strdup(name);
+            found->unasked = strdup(name);
 }
 
 static void look_at_table(struct search *search, const Elf64_Shdr *section)
@@ -65,13 +65,14 @@ static void look_at_table(struct search *search, const Elf64_Shdr *section)
             look_for(search, name);
         else
             look_at_wrap(search, &it, name);
+        search->found->has_every_call |= it.st_shndx != SHN_UNDEF && strcmp(name, EVERY_CALL) == 0;
     }
 }
 
-bool own_data_find(const char *path, const char *const *names, size_t count, const struct names *asked_for,
-                   bool *is_own, char **unasked)
+void own_data_find(const char *path, const char *const *names, size_t count, const struct names *asked_for,
+                   struct own_data *found)
 {
-    struct search search = {view_map(path), names, count, asked_for, is_own, unasked, false};
+    struct search search = {view_map(path), names, count, asked_for, found};
     size_t sections = view_section_count(search.view);
     for (size_t i = 0; i < sections; i++) {
         Elf64_Shdr section = view_section(search.view, i);
@@ -79,5 +80,4 @@ bool own_data_find(const char *path, const char *const *names, size_t count, con
             look_at_table(&search, &section);
     }
     view_unmap(search.view);
-    return search.has_found;
 }

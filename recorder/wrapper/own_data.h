@@ -7,9 +7,20 @@
 
 #include "wrapper/names.h"
 
-/* Marks each name that something other than a function has in what was linked, and returns whether there is one. A
-   function __wrap_NAME of the program's, for a name that it does not ask for, is `unasked`: it would be called. */
-bool own_data_find(const char *path, const char *const *names, size_t count, const struct names *asked_for,
-                   bool *is_own, char **unasked);
+/* This brings all stubs into a program (calls/every.c). */
+#define EVERY_CALL "asancol_every_call"
+
+/* What is in a program that was linked. */
+struct own_data {
+    bool *is_own;        /* of each name: something other than a function has it */
+    bool has_own;        /* one of them */
+    bool lacks_a_call;   /* a function is asked for weakly, and its stub has not come in */
+    bool has_every_call; /* something has asked for all stubs */
+    char *unasked;       /* __wrap_NAME, a function of the program's for a name that it does not ask for; or null */
+};
+
+/* Fills in what is found of these names. */
+void own_data_find(const char *path, const char *const *names, size_t count, const struct names *asked_for,
+                   struct own_data *found);
 
 #endif

@@ -34,6 +34,7 @@ struct link_request {
     bool has_cxx_inside; /* the library of C++ is linked as an archive */
     bool is_stripped;   /* what is linked has no table of symbols */
     bool is_traced;     /* the caller wants to see what the linker takes in */
+    bool needs_every_call; /* what the program is linked with may call any function that is wrapped */
     const char *output; /* null if it is not named */
     struct names wraps; /* the functions that the caller has wrapped */
 };

@@ -4,6 +4,7 @@
 #include <errno.h>
 #include <fcntl.h>
 #include <signal.h>
+#include <spawn.h>
 #include <stdbool.h>
 #include <stdio.h>
 #include <stdlib.h>
@@ -113,17 +114,20 @@ static off_t keep_standard_input(void)
     return 0;
 }
 
-/* In the child. */
-static _Noreturn void run(const struct strings *line, int ends[2], bool is_silent)
+/* Starts the compiler, whose output goes there. */
+static pid_t start(const struct strings *line, int output, bool is_silent)
 {
-    dup2(ends[1], STDOUT_FILENO);
-    close(ends[0]);
-    if (ends[1] != STDOUT_FILENO)
-        close(ends[1]);
+    posix_spawn_file_actions_t actions;
+    pid_t child;
+    posix_spawn_file_actions_init(&actions);
+    posix_spawn_file_actions_adddup2(&actions, output, STDOUT_FILENO);
     if (is_silent)
-        dup2(open("/dev/null", O_WRONLY), STDERR_FILENO);
-    execv(line->items[0], (char *const *)line->items);
-    fail(line->items[0], strerror(errno));
+        posix_spawn_file_actions_addopen(&actions, STDERR_FILENO, "/dev/null", O_WRONLY, 0);
+    int error = posix_spawn(&child, line->items[0], &actions, NULL, (char *const *)line->items, environ);
+    if (error != 0)
+        fail(line->items[0], strerror(error));
+    posix_spawn_file_actions_destroy(&actions);
+    return child;
 }
 
 /* Links, and returns the status, or ends as the compiler has ended. */
@@ -133,14 +137,12 @@ static int link_once(const struct job *job, bool is_try, struct link *link, bool
     struct strings line = make_line(job, is_try);
     if (job->request.inputs.has_standard)
         lseek(STDIN_FILENO, link->start, SEEK_SET);
-    if (pipe(ends) != 0)
+    if (pipe2(ends, O_CLOEXEC) != 0)
         fail(line.items[0], strerror(errno));
-    pid_t child = fork();
-    if (child == 0)
-        run(&line, ends, is_silent);
+    pid_t child = start(&line, ends[1], is_silent);
     close(ends[1]);
     char *text = read_all(ends[0]);
-    if (child < 0 || waitpid(child, &status, 0) != child)
+    if (waitpid(child, &status, 0) != child)
         fail(line.items[0], strerror(errno));
     take_lines(link, job->request.link.is_traced, text);
     free(text);
@@ -168,18 +170,41 @@ static int end_link(const struct job *job, struct link *link, int status, const 
     return fflush(stdout) == 0 || status != 0 ? status : 1;
 }
 
+/* The first link. If it fails, what came in behind the recorder may have asked for calls that are not there: so it is
+   done again with all of them, and is as it was if that fails too. */
+static int link_first(struct job *job, struct link *link, bool is_try, bool is_silent)
+{
+    struct link again = *link;
+    int status = link_once(job, is_try, link, is_silent);
+    if (status == 0 || !link->taken.has_begun || !linking_has_some_calls(job))
+        return status;
+    job->request.link.needs_every_call = true;
+    if (link_once(job, is_try, &again, true) != 0)
+        return status;
+    *link = again;
+    return 0;
+}
+
+/* Whether it is to be linked again, by what it has taken in and what is in it. */
+static bool needs_another(struct job *job, const struct link *link, const char *output)
+{
+    bool lacks_calls = link->taken.has_library && linking_has_some_calls(job);
+    job->request.link.needs_every_call |= lacks_calls;
+    return linking_needs_another(job, output) || lacks_calls;
+}
+
 /* Few programs have names of their own. Warnings come once: with the first link, or with the second if there is one in
    any case. */
-int running_link(const struct job *job)
+int running_link(struct job *job)
 {
     const struct link_request *request = &job->request.link;
     const char *output = request->output != NULL ? request->output : "a.out";
     bool is_static = linking_is_static(request), is_twice = request->is_stripped && !is_static;
     off_t start = job->request.inputs.has_standard ? keep_standard_input() : 0;
     struct link first = {.start = start}, second = first, third = first;
-    int status = link_once(job, !is_static, &first, is_twice);
-    bool has_own = status == 0 && !is_static && linking_find_own(job, output);
-    if (!is_twice && !has_own)
+    int status = link_first(job, &first, !is_static, is_twice);
+    bool is_again = status == 0 && !is_static && needs_another(job, &first, output);
+    if (!is_twice && !is_again)
         return end_link(job, &first, status, output);
     status = link_once(job, false, &second, !is_twice);
     if (status == 0 || is_twice)

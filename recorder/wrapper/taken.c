@@ -59,6 +59,17 @@ static bool is_of_each_link(const char *path)
     return is_one && is_of_system(path);
 }
 
+/* Whether a shared object is a part of the C library, or of the compiler. */
+static bool is_of_c(const char *path)
+{
+    static const char *const fronts[] = {"libc.so",  "libm.so",    "ld-linux",   "libpthread.so", "libdl.so",
+                                         "librt.so", "libutil.so", "libmvec.so", "libgcc_s.so"};
+    for (size_t i = 0; i < COUNT(fronts); i++)
+        if (begins_with(base_name(path), fronts[i]))
+            return true;
+    return false;
+}
+
 static bool is_file(const char *path)
 {
     struct stat seen;
@@ -67,9 +78,11 @@ static bool is_file(const char *path)
 
 static void take_file(struct taken *taken, const char *path)
 {
+    taken->has_begun = true;
     if (is_of_each_link(path))
         return;
     struct view view = view_map(path);
+    taken->has_library |= linked_is_library(view) && !is_of_c(path);
     if (linked_origin(view) == ORIGIN_OTHERS)
         names_add(is_of_system(path) ? &taken->system : &taken->own, base_name(path));
     view_unmap(view);

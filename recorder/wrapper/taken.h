@@ -15,6 +15,8 @@ struct taken_archive;
 struct taken {
     struct names own;    /* what asancol-cc did not compile */
     struct names system; /* archives of the system: it could not have compiled them */
+    bool has_begun;      /* anything was taken in */
+    bool has_library;    /* a shared object that is no part of the C library */
     struct taken_archive *archives;
 };
 

@@ -41,15 +41,16 @@ int LLVMFuzzerTestOneInput(const uint8_t *data, size_t size)
     static const char *const names[] = {"read", "write", "environ"};
     bool is_own[3] = {false};
     struct linked linked = {0};
-    char *unasked = NULL;
+    struct own_data found = {.is_own = is_own};
     bytes = data;
     count = size;
     linked_takes("a.o");
     linked_look_at(&linked, "a.o");
-    own_data_find("a.out", names, 3, &(struct names){0}, is_own, &unasked);
-    free(unasked);
+    own_data_find("a.out", names, 3, &(struct names){0}, &found);
+    free(found.unasked);
     linked_is_marked_text("a.s");
     linked_origin((struct view){(const char *)data, size});
+    linked_is_library((struct view){(const char *)data, size});
     free(linked.unmarked_lto);
     return 0;
 }

@@ -1,6 +1,9 @@
-/* Calls of the C library, as the accesses that they make. The functions are the rows of calls.def, which says what the
-   words here mean. A call that is clean leaves no record, and errno is as the function leaves it. */
-#define _GNU_SOURCE
+/* The words of calls.def that are more than those of rows.h, and the rows of formats. Each group of rows is compiled by
+   itself (group.c) and uses some of them. A call that is clean leaves no record, and errno is as the function leaves
+   it. */
+#ifndef ASANCOL_WORDS_OF_ROWS_H
+#define ASANCOL_WORDS_OF_ROWS_H
+
 #include <arpa/inet.h>
 #include <dirent.h>
 #include <errno.h>
@@ -47,44 +50,26 @@
 #include <utmpx.h>
 #include <wordexp.h>
 
-#ifndef IN_SHARED_OBJECT
-#define LISTS_STUBS
-#endif
 #include "calls/library.h"
 #include "calls/calls.h"
 #include "calls/rows.h"
-#include "heap/arena.h"
 #include "interface/hooks.h"
 
-__attribute__((noinline, cold)) void call_is_bad(enum code code, uintptr_t start, size_t size, size_t good,
-                                                 struct call call)
-{
-    int before = errno;
-    note_bad_call(code, start, size, good, call.caller, call.name);
-    errno = before;
-}
-
-__attribute__((noinline, cold)) void call_overlaps(const void *to, const void *from, size_t size, struct call call)
-{
-    int before = errno;
-    note_wrong_call(&(struct wrong_call){FINDING_OVERLAP, call.caller, call.name, (uintptr_t)to, size,
-                                         (uintptr_t)from});
-    errno = before;
-}
+#define HELPER __attribute__((unused))
 
 /* A string that is put after another one. */
 
 /* A text of `before` bytes and the `after` bytes that are put after it must have none of the bytes that are copied. Of
    the text, what lies before the copied bytes is not noted: a finding has one size, that of the copied ones. */
-static void appended_apart(const char *to, size_t before, size_t after, const void *from, size_t size,
-                           struct call call)
+HELPER static void appended_apart(const char *to, size_t before, size_t after, const void *from, size_t size,
+                                  struct call call)
 {
     uintptr_t start = (uintptr_t)to, copied = (uintptr_t)from;
     size_t skipped = copied <= start ? 0 : copied - start < before ? copied - start : before;
     APART(to + skipped, before - skipped + after, from, size);
 }
 
-static void appends(const char *to, const char *from, size_t most, struct call call)
+HELPER static void appends(const char *to, const char *from, size_t most, struct call call)
 {
     size_t length = strlen(to), read = most == SIZE_MAX ? strlen(from) + 1 : length_within(from, most);
     READS(to, length + 1);
@@ -95,7 +80,7 @@ static void appends(const char *to, const char *from, size_t most, struct call c
         appended_apart(to, length, written, from, read, call);
 }
 
-static void wide_appends(const wchar_t *to, const wchar_t *from, size_t most, struct call call)
+HELPER static void wide_appends(const wchar_t *to, const wchar_t *from, size_t most, struct call call)
 {
     size_t length = wcslen(to), read = most == SIZE_MAX ? wcslen(from) + 1 : wide_length_within(from, most);
     READS_ARRAY(to, length + 1, sizeof *to);
@@ -111,24 +96,24 @@ static void wide_appends(const wchar_t *to, const wchar_t *from, size_t most, st
 
 /* Both strings are read up to the first difference or the end. */
 
-static int as_it_is(int byte)
+HELPER static int as_it_is(int byte)
 {
     return byte;
 }
 
-static int lowered(int byte)
+HELPER static int lowered(int byte)
 {
     return byte >= 'A' && byte <= 'Z' ? byte + ('a' - 'A') : byte;
 }
 
 /* Whether eight bytes lie in one page, so that they can be read also past the end of a string. */
-static bool is_in_page(const char *at)
+HELPER static bool is_in_page(const char *at)
 {
     return ((uintptr_t)at & (PAGE - 1)) <= PAGE - sizeof(uint64_t);
 }
 
 /* How many of the first bytes, in steps of eight, are the same in both and not zero. It ends also where a page does. */
-__attribute__((no_sanitize("address"))) static size_t same_front(const char *one, const char *other, size_t most)
+HELPER __attribute__((no_sanitize("address"))) static size_t same_front(const char *one, const char *other, size_t most)
 {
     const uint64_t low = UINT64_C(0x0101010101010101), high = low << 7;
     size_t same = 0;
@@ -159,7 +144,7 @@ static inline void compares(const char *one, const char *other, size_t most, int
     READS(other, read);
 }
 
-static void wide_compares(const wchar_t *one, const wchar_t *other, size_t most, struct call call)
+HELPER static void wide_compares(const wchar_t *one, const wchar_t *other, size_t most, struct call call)
 {
     size_t read = 0;
     while (read < most) {
@@ -178,13 +163,13 @@ static void wide_compares(const wchar_t *one, const wchar_t *other, size_t most,
 
 /* Numbers. Where there is none, blanks and a sign are read all the same. */
 
-static bool is_blank(wchar_t letter)
+HELPER static bool is_blank(wchar_t letter)
 {
     return letter == ' ' || (letter >= '\t' && letter <= '\r');
 }
 
 #define DEFINE_NUMBER_READ(name, type)                                                                                 \
-    static size_t name(const type *text, const type *end)                                                              \
+    HELPER static size_t name(const type *text, const type *end)                                                       \
     {                                                                                                                  \
         if (end == NULL || end == text) {                                                                              \
             for (end = text; is_blank(*end);)                                                                          \
@@ -197,7 +182,7 @@ static bool is_blank(wchar_t letter)
 DEFINE_NUMBER_READ(number_read, char)
 DEFINE_NUMBER_READ(wide_number_read, wchar_t)
 
-static void reads_digits(const char *text, struct call call)
+HELPER static void reads_digits(const char *text, struct call call)
 {
     size_t read = number_read(text, text) - 1;
     while (text[read] >= '0' && text[read] <= '9')
@@ -205,7 +190,7 @@ static void reads_digits(const char *text, struct call call)
     READS(text, read + 1);
 }
 
-static void reads_real(const char *text, struct call call)
+HELPER static void reads_real(const char *text, struct call call)
 {
     char *end;
     int before = errno;
@@ -234,7 +219,7 @@ static void reads_real(const char *text, struct call call)
     socklen_t room = length != NULL ? *length : 0
 #define WRITES_ADDRESS(address, length) WRITES(address, LEAST(*length, room))
 
-static void reads_message(const struct msghdr *message, struct call call)
+HELPER static void reads_message(const struct msghdr *message, struct call call)
 {
     READS(message, sizeof *message);
     READS_HEADS(message->msg_iov, message->msg_iovlen);
@@ -242,7 +227,7 @@ static void reads_message(const struct msghdr *message, struct call call)
     READS(message->msg_control, message->msg_controllen);
 }
 
-static void writes_message(const struct msghdr *message, size_t room, size_t size, struct call call)
+HELPER static void writes_message(const struct msghdr *message, size_t room, size_t size, struct call call)
 {
     WRITES_PIECES(message->msg_iov, message->msg_iovlen, size);
     WRITES(message->msg_name, LEAST(message->msg_namelen, room));
@@ -250,7 +235,7 @@ static void writes_message(const struct msghdr *message, size_t room, size_t siz
 }
 
 /* The first message with a bad byte, or `count`. */
-static unsigned first_bad_message(const struct mmsghdr *messages, unsigned count, size_t *good)
+HELPER static unsigned first_bad_message(const struct mmsghdr *messages, unsigned count, size_t *good)
 {
     for (unsigned i = 0; i < count; i++) {
         const struct msghdr *message = &messages[i].msg_hdr;
@@ -271,7 +256,7 @@ static unsigned first_bad_message(const struct mmsghdr *messages, unsigned count
 #define WRITES_MESSAGE(message, room, size) writes_message(message, room, (size_t)(size), call)
 
 /* The system reads whole words of a set. A count may be greater than what the set has room for. */
-static void reads_set(const void *set, int count, struct call call)
+HELPER static void reads_set(const void *set, int count, struct call call)
 {
     enum { WORD = NFDBITS };
     if (count > 0)
@@ -281,7 +266,7 @@ static void reads_set(const void *set, int count, struct call call)
 #define READS_SET(set, count) reads_set(set, count, call)
 
 /* What is waited for, and what was found. */
-static void checks_files(enum code code, struct pollfd *files, nfds_t count, struct call call)
+HELPER static void checks_files(enum code code, struct pollfd *files, nfds_t count, struct call call)
 {
     for (nfds_t i = 0; i < count && files != NULL; i++) {
         if (code == CODE_LOAD)
@@ -310,7 +295,7 @@ static void checks_files(enum code code, struct pollfd *files, nfds_t count, str
     READS(first, to != NULL && *(from) != NULL ? (size_t)((const char *)*(from) - (const char *)(first)) : (whole))
 
 /* Strings up to a null. Entries of databases begin with their name, and then have such a list. */
-static void checks_list(enum code code, char *const *list, struct call call)
+HELPER static void checks_list(enum code code, char *const *list, struct call call)
 {
     for (; list != NULL; list++) {
         call_checks(code, list, sizeof *list, call);
@@ -322,21 +307,21 @@ static void checks_list(enum code code, char *const *list, struct call call)
 
 #define READS_LIST(list) checks_list(CODE_LOAD, list, call)
 
-static void writes_name(const void *entry, struct call call)
+HELPER static void writes_name(const void *entry, struct call call)
 {
     const struct protoent *it = entry;
     WRITES_STRING(it->p_name);
     checks_list(CODE_STORE, it->p_aliases, call);
 }
 
-static void writes_texts_of_group(const struct group *it, struct call call)
+HELPER static void writes_texts_of_group(const struct group *it, struct call call)
 {
     WRITES_STRING(it->gr_name);
     WRITES_STRING(it->gr_passwd);
     checks_list(CODE_STORE, it->gr_mem, call);
 }
 
-static void writes_texts_of_host(const struct hostent *it, struct call call)
+HELPER static void writes_texts_of_host(const struct hostent *it, struct call call)
 {
     writes_name(it, call);
     for (char **address = it->h_addr_list; address != NULL; address++) {
@@ -347,7 +332,7 @@ static void writes_texts_of_host(const struct hostent *it, struct call call)
     }
 }
 
-static void writes_mount(const struct mntent *it, struct call call)
+HELPER static void writes_mount(const struct mntent *it, struct call call)
 {
     const char *const texts[] = {it->mnt_fsname, it->mnt_dir, it->mnt_type, it->mnt_opts};
     WRITES(it, sizeof *it);
@@ -357,7 +342,7 @@ static void writes_mount(const struct mntent *it, struct call call)
 
 #define WRITES_MOUNT(to) writes_mount(to, call)
 
-static void writes_texts_of_user(const struct passwd *user, struct call call)
+HELPER static void writes_texts_of_user(const struct passwd *user, struct call call)
 {
     const char *const texts[] = {user->pw_name, user->pw_passwd, user->pw_gecos, user->pw_dir, user->pw_shell};
     for (size_t i = 0; i < sizeof texts / sizeof *texts; i++)
@@ -413,7 +398,7 @@ static const struct request {
     {SIOCGIFMTU, sizeof(struct ifreq), sizeof(struct ifreq)},
 };
 
-static struct request request_of(unsigned long number)
+HELPER static struct request request_of(unsigned long number)
 {
     for (size_t i = 0; i < sizeof requests / sizeof *requests; i++)
         if (requests[i].number == number)
@@ -425,12 +410,12 @@ static struct request request_of(unsigned long number)
 #define WRITES_REQUEST(request, with) WRITES(with, request_of(request).written)
 
 /* How many sets of capabilities a version of the call has. */
-static size_t sets_of_version(uint32_t version)
+HELPER static size_t sets_of_version(uint32_t version)
 {
     return version == _LINUX_CAPABILITY_VERSION_1 ? _LINUX_CAPABILITY_U32S_1 : _LINUX_CAPABILITY_U32S_3;
 }
 
-static size_t pages_of(size_t size)
+HELPER static size_t pages_of(size_t size)
 {
     return size / PAGE + (size % PAGE != 0);
 }
@@ -446,19 +431,19 @@ REAL(int, __vsnprintf_chk, (char *, size_t, int, size_t, const char *, va_list))
 /* Stands at the end of the room while a line is read: it is gone if the line has filled that. */
 enum { NOT_FILLED = 1 };
 
-static int byte_of(FILE *stream)
+HELPER static int byte_of(FILE *stream)
 {
     return LIBRARY->getc(stream);
 }
 
-static int letter_of(FILE *stream)
+HELPER static int letter_of(FILE *stream)
 {
     wint_t letter = LIBRARY->getwc(stream);
     return letter == WEOF ? -1 : (int)letter;
 }
 
 #define DEFINE_LINE(name, type, get)                                                                                   \
-    static bool is_within_##name(type *to, size_t room, int size, FILE *stream, struct call call)                      \
+    HELPER static bool is_within_##name(type *to, size_t room, int size, FILE *stream, struct call call)               \
     {                                                                                                                  \
         if (size <= 0 || (size_t)size <= room || room == 0 || LIBRARY->ferror(stream))                                 \
             return false;                                                                                              \
@@ -470,7 +455,7 @@ static int letter_of(FILE *stream)
         }                                                                                                              \
         return false;                                                                                                  \
     }                                                                                                                  \
-    static type *end_##name(type *to, size_t room, type *result, type last, FILE *stream, struct call call)            \
+    HELPER static type *end_##name(type *to, size_t room, type *result, type last, FILE *stream, struct call call)     \
     {                                                                                                                  \
         if (to[room - 1] == NOT_FILLED) {                                                                              \
             to[room - 1] = last;                                                                                       \
@@ -498,7 +483,7 @@ DEFINE_LINE(wide_line, wchar_t, letter_of)
         result = end_##name(to, room, result, last, stream, call)
 
 /* As sprintf: also what it leaves in the buffer if it fails. */
-static int print_within(char *to, size_t room, int flag, const char *format, va_list values, struct call call)
+HELPER static int print_within(char *to, size_t room, int flag, const char *format, va_list values, struct call call)
 {
     IS_OWN_FRAME;
     int result = real___vsnprintf_chk(to, room, flag, room, format, values);
@@ -611,7 +596,4 @@ static int print_within(char *to, size_t room, int flag, const char *format, va_
         real_##name(UNPACKED arguments, "%s", text);                                                                   \
     }
 
-#ifdef LISTS_STUBS
-__asm__(".pushsection asancol_stubs,\"a\",@progbits\n.balign 4\n.globl plain_stubs\nplain_stubs:\n.popsection\n");
 #endif
-#include "out/calls.def"

@@ -1,0 +1,49 @@
+/* Objects that Clang has compiled call these in the place of three functions of the C library. They go to the stubs of
+   these by a jump, so that the caller is the program; in a static program, which has no stubs, to the functions.
+
+   For programs they are compiled twice, as callbacks.h says of the others. Those of the program's own objects bring the
+   stubs in; the weak ones, which are always there, go to stubs if these are in the program for its libraries. */
+
+#if defined IN_SHARED_OBJECT
+#define BINDING ".globl", ".hidden"
+#define STUB_OF(name) "__wrap_" #name
+#elif defined IN_CHECKS
+#define BINDING ".globl", ".globl"
+#define STUB_OF(name) "__wrap_" #name
+#else
+#define BINDING ".weak", ".weak"
+#define STUB_OF(name) "asancol_every_" #name
+#endif
+
+#ifdef IS_STATIC
+#define GO_ON(name) "\tjmp *" #name "@GOTPCREL(%rip)\n"
+#elif defined IN_CHECKS
+#define GO_ON(name) "\tjmp *" STUB_OF(name) "@GOTPCREL(%rip)\n"
+#else
+#define GO_ON(name)                                                                                                    \
+    ".weak " STUB_OF(name) "\n"                                                                                        \
+    "\tmovq " STUB_OF(name) "@GOTPCREL(%rip), %r11\n"                                                                  \
+    "\ttestq %r11, %r11\n"                                                                                             \
+    "\tcmoveq " #name "@GOTPCREL(%rip), %r11\n"                                                                        \
+    "\tjmp *%r11\n"
+#endif
+
+#define MEMORY_CALL_BOUND(binding, visibility, name)                                                                   \
+    __asm__(".pushsection .text\n"                                                                                     \
+            ".p2align 4\n"                                                                                             \
+            binding " __asan_" #name "\n"                                                                              \
+            visibility " __asan_" #name "\n"                                                                           \
+            ".type __asan_" #name ",@function\n"                                                                       \
+            "__asan_" #name ":\n"                                                                                      \
+            "\t.cfi_startproc\n"                                                                                       \
+            "\tendbr64\n"                                                                                              \
+            GO_ON(name)                                                                                                \
+            "\t.cfi_endproc\n"                                                                                         \
+            ".size __asan_" #name ", .-__asan_" #name "\n"                                                             \
+            ".popsection\n");
+#define MEMORY_CALL_WITH(binding, name) MEMORY_CALL_BOUND(binding, name)
+#define MEMORY_CALL(name) MEMORY_CALL_WITH(BINDING, name)
+
+MEMORY_CALL(memcpy)
+MEMORY_CALL(memmove)
+MEMORY_CALL(memset)
