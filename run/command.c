@@ -14,7 +14,7 @@
 #include "say.h"
 #include "signals.h"
 
-/* In the child: nothing else of its environment changes. */
+/* Nothing else of the command's environment changes. */
 static void set_environment(const struct options *options, const char *hub)
 {
     setenv("ASANCOL_HUB", hub, 1);
@@ -41,34 +41,43 @@ static void mark_slack(const char *hub)
         prctl(PR_SET_TIMERSLACK, slack_for(hub, length, (unsigned long)slack), 0, 0, 0);
 }
 
-static _Noreturn void become(const struct options *options, const char *hub, int failure)
+/* That of the command, made of a copy of ours. */
+static char **environment_for(const struct options *options, const char *hub)
 {
+    char **before = environ;
+    size_t count = 0;
+    while (before[count] != NULL)
+        count++;
+    environ = must(calloc(count + 1, sizeof *environ));
+    memcpy(environ, before, count * sizeof *environ);
     set_environment(options, hub);
+    char **made = environ;
+    environ = before;
+    return made;
+}
+
+/* In the child, which has our memory until it is another program. */
+static _Noreturn void become(const struct options *options, const char *hub, char **environment, volatile int *error)
+{
     mark_slack(hub);
     signals_restore();
-    execvp(options->command[0], options->command);
-    int error = errno;
-    _exit(write(failure, &error, sizeof error) == (ssize_t)sizeof error ? 0 : OWN_FAILURE);
+    execvpe(options->command[0], options->command, environment);
+    *error = errno;
+    _exit(OWN_FAILURE);
 }
 
 pid_t command_start(const struct options *options, const char *hub, int *status)
 {
-    int failure[2], error = 0;
-    ssize_t count;
-    if (pipe2(failure, O_CLOEXEC) != 0)
-        fail(OWN_FAILURE, "no pipe", strerror(errno));
-    pid_t command = fork();
+    char **environment = environment_for(options, hub);
+    volatile int error = 0;
+    pid_t command = vfork(); /* we wait for the exec in any case */
     if (command < 0) {
         *status = OWN_FAILURE;
         return 0;
     }
     if (command == 0)
-        become(options, hub, failure[1]);
-    close(failure[1]);
-    while ((count = read(failure[0], &error, sizeof error)) < 0 && errno == EINTR)
-        continue;
-    close(failure[0]);
-    if (count != (ssize_t)sizeof error)
+        become(options, hub, environment, &error);
+    if (error == 0)
         return command;
     while (waitpid(command, NULL, 0) < 0 && errno == EINTR)
         continue;

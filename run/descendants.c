@@ -134,10 +134,20 @@ static const struct kin *child_above(struct kin *all, size_t count, const struct
     return NULL;
 }
 
+/* Whether we have a child of any kind, which may have ended. */
+static bool has_child(void)
+{
+    siginfo_t ended;
+    return waitid(P_ALL, 0, &ended, WEXITED | WNOHANG | WNOWAIT | __WALL) == 0 || errno != ECHILD;
+}
+
+/* Mostly there are none, and to look at all processes takes as long as a small run. */
 void descendants_note_inherited(void)
 {
     size_t count;
     find_self();
+    if (!has_child())
+        return;
     struct kin *all = read_all(&count);
     inherited = must(calloc(count + 1, sizeof *inherited));
     for (size_t i = 0; i < count; i++)
@@ -311,9 +321,8 @@ static bool is_left(const char *number)
 bool descendants_left(void)
 {
     char path[64], number[16];
-    siginfo_t ended;
     bool is_found = false;
-    if (waitid(P_ALL, 0, &ended, WEXITED | WNOHANG | WNOWAIT) != 0 && errno == ECHILD)
+    if (!has_child())
         return false;
     snprintf(path, sizeof path, "/proc/self/task/%d/children", self);
     FILE *children = fopen(path, "re");
