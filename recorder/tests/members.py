@@ -6,7 +6,7 @@ import re
 import subprocess
 from typing import List, Set
 
-from support import RECORDER, Compiler, Suite, build, expect, reports, run, side_of, write
+from support import CC, RECORDER, Compiler, Suite, build, expect, reports, run, side_of, write
 
 # So many bytes may the smallest program have more than a plain one.
 MOST_MORE = 300_000
@@ -122,6 +122,19 @@ def check_late(suite: Suite, folder: str, compiler: Compiler) -> None:
     expect(run(["./main", "a b"], folder).returncode, 0, "status")
 
 
+def check_links(suite: Suite, folder: str, compiler: Compiler) -> None:
+    """What is linked of objects runs the compiler once, and asks it nothing before."""
+    write(folder, calls_c=CALLS, opens_c=OPENS, weak_c=WEAK)
+    write(folder, counts_sh=f'#!/bin/sh\necho "$*" >> {folder}/runs\nexec {compiler.name} "$@"\n')
+    os.chmod(f"{folder}/counts.sh", 0o755)
+    for name, wanted in (("calls", 1), ("opens", 1), ("weak", 2)):
+        compiler.c(folder, ["-c", f"{name}.c"], f"{name}.o", "-fno-builtin")
+        build([CC, f"{name}.o", "-o", name], folder, ASANCOL_CC=f"{folder}/counts.sh")
+        with open(f"{folder}/runs", encoding="utf-8") as file:
+            expect(len(file.readlines()), wanted, name)
+        os.unlink(f"{folder}/runs")
+
+
 def check_preloaded(suite: Suite, folder: str, compiler: Compiler) -> None:
     """The calls of a library of which the link knew nothing are checked if the program has all of them, or it is
     said."""
@@ -144,4 +157,5 @@ def tests(suite: Suite, compiler: Compiler) -> None:
     suite.test(f"{compiler} members: weak", check_weak, compiler)
     if compiler.name == "gcc":  # it reads specs
         suite.test(f"{compiler} members: late", check_late, compiler)
+    suite.test(f"{compiler} members: links", check_links, compiler)
     suite.test(f"{compiler} members: preloaded", check_preloaded, compiler)
