@@ -1,5 +1,5 @@
 -- Where the blocks of a history lie.
-use Rattle.std.proofs.Common.{◌≡◌, ℕ, ◌%◌, ◌^◌, ◌≤◌, true, false, eqb, List, [], ◌∷◌, ◌++◌, refl, subst, arith}
+use Rattle.std.proofs.Common.{◌≡◌, ℕ, ◌≤◌, true, false, eqb, List, [], ◌∷◌, ◌++◌, refl, subst, arith}
 use Rattle.std.proofs.Common.{inl, inr}
 use Rattle.std.specs.Prelude.{not, Contains}
 use Rattle.std.specs.List.{list_any}
@@ -10,15 +10,10 @@ use Rattle.std.proofs.lemmas.List.Elements.{Contains-push_cases}
 use Rattle.std.proofs.lemmas.List.Sorted.{list_any-IsPermutation, IsPermutation-append_left}
 use Rattle.trace_record.specs.declared.event.Event.{Event}
 use Rattle.trace_record.specs.declared.event.Event.TheVariants as event
-use Rattle.heap_book.specs.Spans.{Extent, span_to, meets, may_be_admitted, starts_at}
-use Rattle.asan_units.specs.Units.{redzone}
+use Rattle.heap_book.specs.Spans.{Extent, IsPlaced, meets, may_be_admitted, starts_at}
 use Rattle.asan_check.specs.History.{block_of, live, held, admits}
 use Rattle.asan_check.proofs.Steps.{live_free, live_malloc}
 use Rattle.asan_check.proofs.Members.{in_none, from_filtered, none_from}
-
--- a block starts at a granule, and has room for its redzones below 2^47
-abbrev pub IsPlaced : Extent → Type 0
-IsPlaced b = (b.at % 8 ≡ 0) × (redzone ≤ b.at) × (span_to b ≤ 2 ^ 47)
 
 -- an admitted block is placed
 pub admitted_placed : (taken : List Extent) (b : Extent) → may_be_admitted taken b ≡ true → IsPlaced b

@@ -9,7 +9,7 @@ use Rattle.trace_record.specs.declared.event.Access.{Access}
 use Rattle.shadow_map.specs.States.{State, Addressable, HeapRedzone, is_addressable, code_of, lies_in, state_of}
 use Rattle.shadow_map.specs.States.{addressable_front, shadow_byte, lift, least_unaddressable, bad_byte_of}
 use Rattle.shadow_map.specs.Causes.{has_none_addressable}
-use Rattle.heap_book.specs.Spans.{Extent, span_from, span_to}
+use Rattle.heap_book.specs.Spans.{Extent, IsPlaced, span_from, span_to}
 use Rattle.asan_units.specs.Units.{round_up}
 use Rattle.asan_check.specs.declared.report.Class.{Class}
 use Rattle.asan_check.specs.declared.report.Class.TheVariants as class
@@ -20,7 +20,8 @@ use Rattle.asan_check.specs.History.{live, held, marks}
 use Rattle.asan_check.specs.Verdicts.{class_of, access_fault, verdict}
 use Rattle.asan_laws.specs.Laws.{since_malloc, since_free, NoPoisonShares, NoUnpoisonShares, access_event, LiesInside}
 use Rattle.asan_laws.specs.Laws.{StartsAround, StartsWithin, first_byte_report, shadow_around}
-use Rattle.asan_check.proofs.Blocks.{IsPlaced, live_placed}
+use Rattle.shadow_map.proofs.Fronts.{redzone_or}
+use Rattle.asan_check.proofs.Blocks.{live_placed}
 use Rattle.asan_laws.proofs.Blocks.{held_placed}
 use Rattle.asan_laws.proofs.Frames.{IsInSpan}
 use Rattle.asan_laws.proofs.Bytes.{live_inside, live_span, held_bytes}
@@ -171,10 +172,6 @@ tail_granule at size place aligned past within = (omega arith, omega arith)
 tail_test : (at size base k i : ℕ) → at ≤ base → base + k ≡ at + size → i < 8
     → lies_in at (at + size) (base + i) ≡ ltb i k
 tail_test at size base k i le is lt = grind (arith, nat_tests)
-
-redzone_or : (t : Bool) → is_addressable (cond t Addressable HeapRedzone) ≡ t
-redzone_or true = refl
-redzone_or false = refl
 
 module _ (states : ℕ → State) (b : Extent) (placed : IsPlaced b) (each : (byte : ℕ) → IsInSpan b byte
     → states byte ≡ cond (lies_in b.at (b.at + b.size) byte) Addressable HeapRedzone) where

@@ -7,11 +7,11 @@ use Rattle.std.proofs.lemmas.Bool.{and_parts, not-true}
 use Rattle.std.proofs.lemmas.List.Elements.{Contains-append_cases}
 use Rattle.trace_record.specs.declared.event.Event.{Event}
 use Rattle.trace_record.specs.declared.event.Event.TheVariants as event
-use Rattle.heap_book.specs.Spans.{Extent, span_bytes, meets, may_be_admitted, held_of, starts_at}
+use Rattle.heap_book.specs.Spans.{Extent, IsPlaced, span_bytes, meets, may_be_admitted, held_of, starts_at}
 use Rattle.asan_check.specs.History.{live, freed, held}
 use Rattle.asan_check.proofs.Steps.{freed_free, freed_malloc}
 use Rattle.asan_check.proofs.Members.{in_none, cons_cases, from_filtered, in_tail, in_head}
-use Rattle.asan_check.proofs.Blocks.{IsPlaced, live_placed}
+use Rattle.asan_check.proofs.Blocks.{live_placed}
 
 -- the span of an admitted block meets none of those beside which it was admitted
 pub admitted_apart : (taken : List Extent) (b : Extent) → may_be_admitted taken b ≡ true

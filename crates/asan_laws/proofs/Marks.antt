@@ -9,12 +9,12 @@ use Rattle.trace_record.specs.declared.shade.Kind.{Kind}
 use Rattle.trace_record.specs.declared.shade.Kind.TheVariants as kind
 use Rattle.trace_record.specs.Shades.{shade_kind}
 use Rattle.shadow_map.specs.States.{Mark, IsCode, IsMark, AreMarks}
-use Rattle.heap_book.specs.Spans.{Extent, starts_at}
+use Rattle.heap_book.specs.Spans.{Extent, IsPlaced, starts_at}
 use Rattle.asan_check.specs.Codes.{code_of_kind}
 use Rattle.asan_check.specs.History.{block_of, live, held, admits, marks, with_marks, freed_mark, released_mark}
 use Rattle.asan_check.specs.History.{released_from}
 use Rattle.asan_check.proofs.Members.{in_head, in_tail, from_filtered}
-use Rattle.asan_check.proofs.Blocks.{IsPlaced, admitted_placed, live_placed}
+use Rattle.asan_check.proofs.Blocks.{admitted_placed, live_placed}
 use Rattle.asan_laws.proofs.Blocks.{held_placed}
 
 -- ---- single marks

@@ -22,12 +22,12 @@ use Rattle.shadow_map.specs.Causes.{deciding_granule}
 use Rattle.shadow_map.specs.Granules.{block_byte, poisoned_byte}
 use Rattle.shadow_map.proofs.Ends.{lift_past_the_end}
 use Rattle.shadow_map.proofs.Queries.{deciding_shown}
-use Rattle.heap_book.specs.Spans.{Extent, span_bytes, meets, starts_at}
+use Rattle.heap_book.specs.Spans.{Extent, IsPlaced, span_bytes, meets, starts_at}
 use Rattle.heap_book.proofs.Held.{held-within, held-total}
 use Rattle.asan_units.specs.Units.{is_width}
 use Rattle.asan_check.specs.Codes.{Freed, code_of_kind}
 use Rattle.asan_check.specs.History.{block_of, live, freed, held, admits, marks}
-use Rattle.asan_check.proofs.Blocks.{IsPlaced, live_placed}
+use Rattle.asan_check.proofs.Blocks.{live_placed}
 use Rattle.asan_check.proofs.Frees as frees
 use Rattle.asan_check.proofs.Members.{in_none, in_head, cons_cases, passes_any}
 use Rattle.asan_check.proofs.Steps.{live_malloc, none_apart}

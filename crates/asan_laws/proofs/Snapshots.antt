@@ -24,7 +24,8 @@ use Rattle.trace_record.specs.declared.shade.Shade.{Shade}
 use Rattle.shadow_map.specs.States.{State, Addressable, Coded, Mark, Block, state_of, lift}
 use Rattle.shadow_map.specs.States.{addressable_front, shadow_byte, lies_in}
 use Rattle.trace_record.specs.Shades.{shade_size, shade_kind}
-use Rattle.heap_book.specs.Spans.{Extent, span_from, span_to, span_bytes, meets, may_be_admitted, held_of, starts_at}
+use Rattle.heap_book.specs.Spans.{Extent, IsPlaced, span_from, span_to}
+use Rattle.heap_book.specs.Spans.{span_bytes, meets, may_be_admitted, held_of, starts_at}
 use Rattle.heap_book.proofs.Held.{held-within, held-total}
 use Rattle.heap_book.proofs.NeverMeet.{meets-flip}
 use Rattle.asan_units.specs.Units.{redzone, round_up}
@@ -39,7 +40,7 @@ use Rattle.asan_laws.specs.Snapshots.{in_no_span}
 use Rattle.asan_check.proofs.Steps.{live_malloc, held_malloc, live_free, spans_apart}
 use Rattle.asan_check.proofs.Members.{in_none, in_head, in_tail, cons_cases, at_element, none_from, passes_any}
 use Rattle.asan_check.proofs.Members.{none_passes, apart_starts, filter_all}
-use Rattle.asan_check.proofs.Blocks.{IsPlaced, live_placed}
+use Rattle.asan_check.proofs.Blocks.{live_placed}
 use Rattle.asan_laws.proofs.Blocks.{held_placed}
 use Rattle.asan_laws.proofs.Frames.{IsInSpan, poison_leaves, unpoison_leaves}
 use Rattle.asan_laws.proofs.Histories.{held_found}

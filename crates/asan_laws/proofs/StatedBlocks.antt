@@ -12,11 +12,11 @@ use Rattle.trace_record.specs.declared.event.Event.TheVariants as event
 use Rattle.trace_record.specs.declared.event.Place.{Place}
 use Rattle.trace_record.specs.declared.event.Region.{Region}
 use Rattle.shadow_map.specs.States.{HeapRedzone, code_of, lies_in, state_of, lift}
-use Rattle.heap_book.specs.Spans.{Extent, span_bytes, held_of, starts_at}
+use Rattle.heap_book.specs.Spans.{Extent, IsPlaced, span_bytes, held_of, starts_at}
 use Rattle.heap_book.proofs.Held.{held-total}
 use Rattle.asan_units.specs.Units.{round_up}
 use Rattle.asan_check.specs.History.{block_of, live, freed, held, admits, marks}
-use Rattle.asan_check.proofs.Blocks.{IsPlaced, live_placed, admitted_placed}
+use Rattle.asan_check.proofs.Blocks.{live_placed, admitted_placed}
 use Rattle.asan_check.proofs.Frees as frees
 use Rattle.asan_check.proofs.Members.{in_none, in_head, in_tail, cons_cases, passes_any}
 use Rattle.asan_check.proofs.Steps.{live_malloc}

@@ -78,7 +78,7 @@ addressable_two true part new old = refl
 addressable_two false true new old = refl
 addressable_two false false new old = refl
 
-redzone_or : (inside : Bool) → is_addressable (cond inside Addressable HeapRedzone) ≡ inside
+pub redzone_or : (inside : Bool) → is_addressable (cond inside Addressable HeapRedzone) ≡ inside
 redzone_or true = refl
 redzone_or false = refl
 

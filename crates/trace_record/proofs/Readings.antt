@@ -82,7 +82,7 @@ settled : {A : Type 0} (code count limit wanted have : ℕ) (v w x y z : A) → 
     (if wanted == 0 then x else (if nat_lt have wanted then y else z)))) ≡ (if nat_lt have wanted then y else z)
 settled code count limit wanted have v w x y z other room known = grind (arith, nat_tests)
 
-within_of : (v : Version) (limit count : ℕ) (tail : List ℕ) → MayFollow v limit count tail → count ≤ limit
+pub within_of : (v : Version) (limit count : ℕ) (tail : List ℕ) → MayFollow v limit count tail → count ≤ limit
 within_of v limit count [] may = may
 within_of v limit count (code ∷ more) may = let room : count < limit = may.0 in omega arith
 
