@@ -42,6 +42,7 @@ const struct above above = {.halt_at = halt_at};
 enum state stream_state(void) { return STATE_RECORDING; }
 union stream_page stream_page;
 bool stream_wake(void) { return true; }
+void side_note_left_good(void) {}
 void book_forget(void) {}
 void book_release(const struct block *block) { (void)block; }
 void stream_stop(const char *why) { fprintf(stderr, "%s\n", why), exit(1); }
