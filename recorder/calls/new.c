@@ -100,11 +100,9 @@ static inline enum family family_or_any(enum family family)
     WRAPPED void *__wrap_##name parameters                                                                             \
     {                                                                                                                  \
         IS_OWN_FRAME;                                                                                                  \
-        note_called_from(CALLER());                                                                                    \
-        note_called_by(family_or_any(family), 0, 0);                                                                   \
+        note_operator(CALLER(), family_or_any(family), 0, 0);                                                          \
         void *made = real_##name arguments;                                                                            \
-        note_called_by(FAMILY_MALLOC, 0, 0);                                                                           \
-        note_called_from(0);                                                                                           \
+        note_operator_end();                                                                                           \
         return made;                                                                                                   \
     }
 
@@ -113,11 +111,9 @@ static inline enum family family_or_any(enum family family)
     WRAPPED void __wrap_##name parameters                                                                              \
     {                                                                                                                  \
         IS_OWN_FRAME;                                                                                                  \
-        note_called_from(CALLER());                                                                                    \
-        note_called_by(family_or_any(family), alignment, size_and_one);                                                \
+        note_operator(CALLER(), family_or_any(family), alignment, size_and_one);                                       \
         real_##name arguments;                                                                                         \
-        note_called_by(FAMILY_MALLOC, 0, 0);                                                                           \
-        note_called_from(0);                                                                                           \
+        note_operator_end();                                                                                           \
     }
 
 /* The library rounds the size up to the alignment, so that what lies between would belong to the block. Null: it has to
@@ -132,13 +128,11 @@ static void *aligned_new(size_t size, size_t alignment)
     WRAPPED void *__wrap_##name parameters                                                                             \
     {                                                                                                                  \
         IS_OWN_FRAME;                                                                                                  \
-        note_called_from(CALLER());                                                                                    \
-        note_called_by(family_or_any(family), alignment, 0);                                                           \
+        note_operator(CALLER(), family_or_any(family), alignment, 0);                                                  \
         void *made = aligned_new(size, alignment);                                                                     \
         if (made == NULL)                                                                                              \
             made = real_##name arguments;                                                                              \
-        note_called_by(FAMILY_MALLOC, 0, 0);                                                                           \
-        note_called_from(0);                                                                                           \
+        note_operator_end();                                                                                           \
         return made;                                                                                                   \
     }
 

@@ -190,9 +190,11 @@ static uint32_t give_back_stale(uint32_t first, uint32_t count, uint8_t period)
 
 static void give_back_since(uint8_t period)
 {
-    for (uint32_t unit = 1; unit < arena.top && arena.waiting != 0; unit += arena.units[unit].count)
+    for (uint32_t unit = 1, count; unit < arena.top && arena.waiting != 0; unit += count) {
+        count = arena.units[unit].kind == UNIT_SLAB ? 1 : arena.units[unit].count;
         if (arena.units[unit].kind == UNIT_FREE)
-            arena.waiting -= give_back_stale(unit, arena.units[unit].count, period);
+            arena.waiting -= give_back_stale(unit, count, period);
+    }
 }
 
 bool arena_give_back(void)

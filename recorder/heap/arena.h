@@ -66,7 +66,8 @@ struct unit {
     uint8_t kind;
     uint8_t stale;  /* the period since which it has bytes of what was there; 0: it got new memory, of zeros */
     uint16_t lead;  /* of a slab: how many bytes come before its first slot */
-    uint32_t count; /* of a run or a free run: its units; in its body or at its end: how far back it begins */
+    uint32_t count; /* of a run or a free run: its units; in its body or at its end: how far back it begins; of a slab:
+                       what counts its slots (slots_in) */
     union {
         struct {
             uint32_t previous, next; /* free runs of a bin; 0 is none, and unit 0 is never used */
@@ -99,6 +100,20 @@ extern struct arena {
 static inline unsigned char *unit_start(uint32_t unit)
 {
     return arena.bytes + (size_t)unit * UNIT;
+}
+
+/* What a distance is multiplied with to be divided by the size of a slot: a division takes as long as the rest of a
+   free. */
+static inline uint32_t slot_factor(uint32_t slot_size)
+{
+    return UINT32_MAX / slot_size + 1;
+}
+
+/* How many whole slots there are in so many bytes of a slab, by its factor. It is exact, since these bytes times the
+   size of a slot are fewer than 2^32. */
+static inline uint32_t slots_in(uint32_t bytes, uint32_t factor)
+{
+    return (uint32_t)((uint64_t)bytes * factor >> 32);
 }
 
 /* Where the notes on a slot stand. Those on the first slot of all units come before the others, and a run has no other:

@@ -65,21 +65,23 @@ static inline size_t alignment_of(const struct block *block)
     return block->state == BLOCK_UNRECORDED ? block->large_alignment : block->alignment;
 }
 
-/* The block whose slot or run has this address, or null. */
-static inline struct block *block_around(uintptr_t address)
+/* The block whose slot or run has this address, and where that begins; or null. */
+static inline struct block *block_around(uintptr_t address, uintptr_t *start)
 {
     uintptr_t distance = address - (uintptr_t)arena.bytes;
     if (arena.bytes == NULL || distance >= (size_t)arena.top * UNIT)
         return NULL;
-    uint32_t unit = (uint32_t)(distance / UNIT);
+    uint32_t unit = (uint32_t)(distance / UNIT), into = (uint32_t)(distance % UNIT);
     const struct unit *at = &arena.units[unit];
-    if (at->kind == UNIT_SLAB && distance % UNIT >= at->lead) {
-        uint32_t slot = ((uint32_t)(distance % UNIT) - at->lead) / at->slot_size;
+    if (LIKELY(at->kind == UNIT_SLAB)) {
+        uint32_t slot = into < at->lead ? at->used : slots_in(into - at->lead, at->count);
+        *start = (uintptr_t)unit_start(unit) + at->lead + (size_t)slot * at->slot_size;
         return slot < at->used ? block_at(unit, slot) : NULL;
     }
     if (at->kind == UNIT_RUN_BODY)
-        return block_at(unit - at->count, 0);
-    return at->kind == UNIT_RUN ? block_at(unit, 0) : NULL;
+        unit -= at->count;
+    *start = (uintptr_t)unit_start(unit);
+    return at->kind == UNIT_RUN || at->kind == UNIT_RUN_BODY ? block_at(unit, 0) : NULL;
 }
 
 /* Whether the process has it. */
@@ -91,18 +93,20 @@ static inline bool is_in_use(const struct block *block)
 /* The block that the process has, and of whose bytes this is one, or null. One of no bytes counts as one of a byte. */
 static inline struct block *block_in_use(uintptr_t address)
 {
-    struct block *block = block_around(address);
+    uintptr_t start;
+    struct block *block = block_around(address, &start);
     if (block == NULL || !is_in_use(block))
         return NULL;
-    uintptr_t distance = address - (uintptr_t)block_start(block);
+    uintptr_t distance = address - block_address(block, start);
     return distance == 0 || distance < size_of(block) ? block : NULL;
 }
 
 /* The block that starts here, live or held, or null. */
 static inline struct block *block_from(const void *pointer)
 {
-    struct block *block = block_around((uintptr_t)pointer);
-    return block != NULL && block->state != BLOCK_FREE && block_start(block) == pointer ? block : NULL;
+    uintptr_t address = (uintptr_t)pointer, start;
+    struct block *block = block_around(address, &start);
+    return block != NULL && block->state != BLOCK_FREE && block_address(block, start) == address ? block : NULL;
 }
 
 /* Every slot and every run that is in use, or was. */

@@ -63,6 +63,19 @@ void heap_called_by(enum family family, size_t alignment, size_t size_and_one)
     use_next = (struct use){family, alignment, size_and_one};
 }
 
+void heap_operator_begins(uintptr_t caller, enum family family, size_t alignment, size_t size_and_one)
+{
+    borrowed.caller = caller;
+    borrowed.frame = *(const uintptr_t *)__builtin_frame_address(0);
+    use_next = (struct use){family, alignment, size_and_one};
+}
+
+void heap_operator_ends(void)
+{
+    borrowed.caller = borrowed.frame = 0;
+    use_next = (struct use){FAMILY_MALLOC, 0, 0};
+}
+
 bool heap_is_called_by_operator(void)
 {
     return use_next.family == FAMILY_NEW || use_next.family == FAMILY_NEW_ARRAY;
@@ -117,19 +130,20 @@ static size_t lead_for(size_t size)
 
 /* Slots. Up to FINE_END bytes there is a class for each 16 bytes, and then four for each doubling. */
 
+enum { QUARTER_SHIFT = 8 };
+_Static_assert(FINE_END == 4 << QUARTER_SHIFT, "by so much a quarter of it is shifted");
+
 static unsigned class_of(size_t bytes, uint32_t *slot_size)
 {
     if (bytes <= FINE_END) {
         *slot_size = (uint32_t)(bytes + FINE_STEP - 1) / FINE_STEP * FINE_STEP;
         return (*slot_size - MIN_SLOT_SIZE) / FINE_STEP;
     }
-    unsigned index = (FINE_END - MIN_SLOT_SIZE) / FINE_STEP + 1;
-    for (uint32_t size = FINE_END;; size *= 2)
-        for (uint32_t quarter = 1; quarter <= 4; quarter++, index++)
-            if (bytes <= size + size / 4 * quarter) {
-                *slot_size = size + size / 4 * quarter;
-                return index;
-            }
+    unsigned doublings = (unsigned)__builtin_clz(FINE_END) - (unsigned)__builtin_clz((unsigned)bytes - 1);
+    uint32_t size = (uint32_t)FINE_END << doublings, shift = QUARTER_SHIFT + doublings;
+    uint32_t quarter = ((uint32_t)bytes - size - 1) >> shift;
+    *slot_size = size + ((quarter + 1) << shift);
+    return (FINE_END - MIN_SLOT_SIZE) / FINE_STEP + 1 + 4 * doublings + quarter;
 }
 
 static struct block *take_slot(size_t bytes)
@@ -146,7 +160,8 @@ static struct block *take_slot(size_t bytes)
         if (unit == 0)
             return NULL;
         uint16_t lead = (uint16_t)lead_for(slot_size - (size_t)2 * REDZONE);
-        unit_write(unit, (struct unit){.kind = UNIT_SLAB, .lead = lead, .count = 1, .slot_size = slot_size});
+        unit_write(unit, (struct unit){.kind = UNIT_SLAB, .lead = lead, .count = slot_factor(slot_size),
+                                        .slot_size = slot_size});
         class->slab = unit;
     }
     struct unit *unit = &arena.units[class->slab];
@@ -185,6 +200,7 @@ void heap_release_oldest(void)
     heap.oldest = block->next;
     if (heap.oldest == NULL)
         heap.newest = NULL;
+    __builtin_prefetch(heap.oldest, 1); /* it was not looked at for long, and comes next */
     heap.held_bytes -= span_bytes(block->size);
     heap.held_count--;
     if (!heap.is_unpainted)
@@ -286,13 +302,32 @@ static bool enter(void)
     return true;
 }
 
+/* Who calls: the address after the call, and its place if that is known already; or 0. With one thread it is looked for
+   at once, while the notes on a block come. Where threads take turns it is looked for with the lock held: to take turns
+   more often, and each time to fetch what the other has written, would take longer than they wait now. */
+struct origin {
+    uintptr_t caller;
+    call_site place;
+};
+
+static struct origin origin_of(uintptr_t caller)
+{
+    bool is_sought = library_is_alone() && __atomic_load_n(&arena.call_sites, __ATOMIC_RELAXED) != NULL;
+    return (struct origin){caller, is_sought ? call_site_from(borrowed.frame, caller) : 0};
+}
+
+static call_site place_of_origin(struct origin from)
+{
+    return from.place != 0 ? from.place : call_site_from(borrowed.frame, from.caller);
+}
+
 /* Returns whether it was one that can be freed. */
-static bool free_block(void *pointer, uintptr_t caller, const char *call, struct use use)
+static bool free_block(void *pointer, struct origin from, const char *call, struct use use)
 {
     struct block *block = block_from(pointer);
     if (block != NULL && is_in_use(block)
         && UNLIKELY(block->family != use.family || use.size_and_one != 0 || alignment_of(block) != use.alignment))
-        families_look_at(block, &(struct release){(uintptr_t)pointer, caller, borrowed.frame, call, use.family,
+        families_look_at(block, &(struct release){(uintptr_t)pointer, from.caller, borrowed.frame, call, use.family,
                                                   use.alignment, use.size_and_one});
     if (block != NULL && block->state == BLOCK_UNRECORDED) {
         poison((uintptr_t)pointer, (uintptr_t)pointer + block->large_size);
@@ -304,11 +339,11 @@ static bool free_block(void *pointer, uintptr_t caller, const char *call, struct
         paint_held((uintptr_t)pointer, block->size);
     /* A bad free is recorded, and goes no further. */
     if (!is_live) {
-        record_bad_free((uintptr_t)pointer, caller, call);
+        record_bad_free((uintptr_t)pointer, from.caller, call);
         return false;
     }
-    if (UNLIKELY(arena.call_sites != NULL))
-        SET_NOTE(arena.call_sites[block - arena.blocks].freed, call_site_from(borrowed.frame, caller));
+    if (arena.call_sites != NULL)
+        SET_NOTE(arena.call_sites[block - arena.blocks].freed, place_of_origin(from));
     if (is_recorded())
         record_free((uintptr_t)pointer);
     hold(block);
@@ -324,7 +359,7 @@ static void free_deferred(void)
         const char *call = deferred.calls[count - 1];
         /* Unless a handler has just added one. */
         if (atomic_compare_exchange_strong(&deferred.count, &count, count - 1))
-            free_block(pointer, caller, call, (struct use){FAMILY_ANY, 0, 0});
+            free_block(pointer, origin_of(caller), call, (struct use){FAMILY_ANY, 0, 0});
     }
 }
 
@@ -420,7 +455,7 @@ static struct block *take_block(size_t bytes, size_t size)
 
 static uintptr_t rounded_up(uintptr_t address, size_t alignment)
 {
-    return (address + alignment - 1) / alignment * alignment;
+    return (address + alignment - 1) & ~(alignment - 1);
 }
 
 /* Where a block begins in its slot or run. A large one begins with a page if its run has room for that: so it has
@@ -467,7 +502,7 @@ void heap_ignore(const void *pointer)
         leave();
 }
 
-static void *place_block(size_t size, size_t alignment, uintptr_t caller, const struct use *use)
+static void *place_block(size_t size, size_t alignment, struct origin from, const struct use *use)
 {
     size_t bytes = room_for(size, alignment);
     struct block *block = take_block(bytes, size);
@@ -484,8 +519,8 @@ static void *place_block(size_t size, size_t alignment, uintptr_t caller, const 
                         .is_ignored = ignoring != 0};
     now.offset = (address - start) / ALIGNMENT & ((1 << OFFSET_BITS) - 1);
     block_write(block, now);
-    if (UNLIKELY(arena.call_sites != NULL))
-        note_call_sites(&arena.call_sites[block - arena.blocks], call_site_from(borrowed.frame, caller));
+    if (arena.call_sites != NULL)
+        note_call_sites(&arena.call_sites[block - arena.blocks], place_of_origin(from));
     poison_new(block, address, size);
     if (size <= MAX_BLOCK_SIZE) {
         SET_NOTE(block->size, (uint32_t)size);
@@ -549,11 +584,10 @@ static bool has_hooks(void)
     return UNLIKELY(atomic_load_explicit(&hook_count, memory_order_relaxed) != 0);
 }
 
-void *heap_allocate(size_t size, size_t alignment, bool zeroed, uintptr_t caller)
+static void *allocate(size_t size, size_t alignment, bool zeroed, struct origin from)
 {
     void *address = NULL;
     struct use use = take_use();
-    caller = caller_or(caller);
     bool fits = size <= PTRDIFF_MAX - UNIT && alignment <= MAX_ALIGNMENT;
     if (!fits || !enter()) {
         address = fits ? take_spare(size, alignment) : NULL;
@@ -561,7 +595,7 @@ void *heap_allocate(size_t size, size_t alignment, bool zeroed, uintptr_t caller
     } else {
         arena_count_call();
         if (arena.bytes != NULL || arena_find())
-            address = place_block(size, alignment, caller, &use);
+            address = place_block(size, alignment, from, &use);
         if (address == NULL && is_recorded())
             record_region(CODE_MALLOC, 0, size); /* refused */
         leave();
@@ -569,7 +603,7 @@ void *heap_allocate(size_t size, size_t alignment, bool zeroed, uintptr_t caller
             record_regions(CODE_UNPOISON, (uintptr_t)address, size);
     }
     if (UNLIKELY(address == NULL && size > MAX_REQUEST) && use.family == FAMILY_MALLOC)
-        families_note_too_big(size, caller);
+        families_note_too_big(size, from.caller);
     if (address == NULL)
         errno = ENOMEM;
     else if (zeroed && room_for(size, alignment) <= MAX_SLOT_SIZE)
@@ -581,13 +615,14 @@ void *heap_allocate(size_t size, size_t alignment, bool zeroed, uintptr_t caller
     return address;
 }
 
-/* By this function. */
-static void give_back(void *pointer, uintptr_t caller, const char *call)
+void *heap_allocate(size_t size, size_t alignment, bool zeroed, uintptr_t caller)
 {
-    struct use use = take_use();
-    caller = caller_or(caller);
-    if (pointer == NULL)
-        return;
+    return allocate(size, alignment, zeroed, origin_of(caller_or(caller)));
+}
+
+/* By this function. */
+static void give_back(void *pointer, struct origin from, struct use use, const char *call)
+{
     if (has_hooks() && !call_before_free(pointer))
         return;
     int before = errno;
@@ -595,26 +630,51 @@ static void give_back(void *pointer, uintptr_t caller, const char *call)
     if (is_spare(pointer)) {
         drop_spare(pointer);
     } else if (enter()) {
-        is_bad = !free_block(pointer, caller, call, use);
+        is_bad = !free_block(pointer, from, call, use);
         arena_count_call();
         leave();
     } else {
-        defer(pointer, caller, call);
+        defer(pointer, from.caller, call);
     }
     /* Nothing is recorded yet, and in the lock it could not begin. */
     if (UNLIKELY(is_bad) && stream_state() == STATE_UNSTARTED)
-        record_bad_free((uintptr_t)pointer, caller, call);
+        record_bad_free((uintptr_t)pointer, from.caller, call);
     /* Out of the lock: what is called before the end may allocate. */
     if (UNLIKELY(is_bad) && atomic_load(&halt_is_on)) {
-        struct access access = access_of(CODE_FREE, (uintptr_t)pointer, 0, caller, call);
-        above.halt_at(CODE_FREE, 0, (uintptr_t)pointer, caller, &access);
+        struct access access = access_of(CODE_FREE, (uintptr_t)pointer, 0, from.caller, call);
+        above.halt_at(CODE_FREE, 0, (uintptr_t)pointer, from.caller, &access);
     }
     errno = before;
 }
 
+/* The notes on a block that is about to be freed come while something else is done. At any time: a hint. */
+static void prefetch_notes(uintptr_t address)
+{
+    if (!arena_is_found())
+        return;
+    uintptr_t distance = address - (uintptr_t)arena.bytes;
+    if (distance >= (size_t)NOTE_NOW(arena.top) * UNIT)
+        return;
+    uint32_t number = (uint32_t)(distance / UNIT), slot = 0;
+    const struct unit *unit = &arena.units[number];
+    const struct call_sites *call_sites = __atomic_load_n(&arena.call_sites, __ATOMIC_ACQUIRE);
+    if (NOTE_NOW(unit->kind) == UNIT_SLAB)
+        slot = slots_in((uint32_t)(distance % UNIT) - NOTE_NOW(unit->lead), NOTE_NOW(unit->count)) % SLOTS;
+    __builtin_prefetch(block_at(number, slot), 1);
+    __builtin_prefetch(block_shadow(address), 1);
+    if (call_sites != NULL)
+        __builtin_prefetch(&call_sites[block_number(number, slot)], 1);
+}
+
 void heap_give_back(void *pointer, uintptr_t caller)
 {
-    give_back(pointer, caller, "free");
+    struct use use = take_use();
+    caller = caller_or(caller);
+    if (pointer == NULL)
+        return;
+    if (library_is_alone())
+        prefetch_notes((uintptr_t)pointer);
+    give_back(pointer, origin_of(caller), use, "free");
 }
 
 size_t heap_live_size(void *pointer)
@@ -634,20 +694,22 @@ size_t heap_live_size(void *pointer)
 void *heap_move(void *old, size_t size, uintptr_t caller, const char *call)
 {
     caller = caller_or(caller);
+    borrowed.frame = 0;
+    struct origin from = origin_of(caller);
     if (old == NULL)
-        return heap_allocate(size, ALIGNMENT, false, caller);
+        return allocate(size, ALIGNMENT, false, from);
     size_t before = heap_live_size(old);
     if (size == 0 || before == SIZE_MAX) {
-        give_back(old, caller, call);
+        give_back(old, from, take_use(), call);
         if (size != 0)
             errno = EINVAL;
         return NULL;
     }
-    void *moved = heap_allocate(size, ALIGNMENT, false, caller);
+    void *moved = allocate(size, ALIGNMENT, false, from);
     if (moved == NULL)
         return NULL;
     memcpy(moved, old, before < size ? before : size);
-    give_back(old, caller, call);
+    give_back(old, from, take_use(), call);
     return moved;
 }
 

@@ -175,10 +175,18 @@ static inline void note_called_from(uintptr_t caller)
         asancol_hooks.called_from(caller);
 }
 
-static inline void note_called_by(enum family family, size_t alignment, size_t size_and_one)
+/* Always: the frame of who calls this is that of the operator. */
+static inline __attribute__((always_inline)) void note_operator(uintptr_t caller, enum family family, size_t alignment,
+                                                                size_t size_and_one)
 {
+    note_called_from(caller);
     if (HAS_HOOK(called_by))
         asancol_hooks.called_by(family, alignment, size_and_one);
+}
+
+static inline void note_operator_end(void)
+{
+    note_operator(0, FAMILY_MALLOC, 0, 0);
 }
 
 static inline void note_wrong_call(const struct wrong_call *wrong)
@@ -311,9 +319,15 @@ static inline void note_called_from(uintptr_t caller)
     asancol_hooks.called_from(caller);
 }
 
-static inline void note_called_by(enum family family, size_t alignment, size_t size_and_one)
+static inline __attribute__((always_inline)) void note_operator(uintptr_t caller, enum family family, size_t alignment,
+                                                                size_t size_and_one)
 {
-    asancol_hooks.called_by(family, alignment, size_and_one);
+    heap_operator_begins(caller, family, alignment, size_and_one);
+}
+
+static inline void note_operator_end(void)
+{
+    heap_operator_ends();
 }
 
 static inline void note_wrong_call(const struct wrong_call *wrong)
