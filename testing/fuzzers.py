@@ -78,6 +78,12 @@ TARGETS = [
            ["-Dexit=fuzz_exit", "-include", f"{THEIRS}/ends.h", '-DRELEASE="1"']),
 ]
 
+# Programs that draw their own inputs.
+DRAWN = [
+    Target("walks over stacks",
+           [f"{OURS}/unwinding.c", *(f"{RECORDER}/stacks/{it}.c" for it in ("unwinding", "trail"))], []),
+]
+
 # What threads share.
 SHARED = [
     Target("heap",
@@ -157,6 +163,11 @@ def check_races(suite: Suite, folder: str, compiler: str, target: Target) -> Non
     run([build(compiler, target, "thread", ["-pthread"], folder)], folder)
 
 
+def check_drawn(suite: Suite, folder: str, compiler: str, target: Target) -> None:
+    """What a program draws by itself."""
+    run([build(compiler, target, SANITIZERS, [], folder)], folder)
+
+
 def need_libfuzzer() -> None:
     with tempfile.TemporaryDirectory(prefix="asancol-fuzzers-") as folder:
         try:
@@ -177,5 +188,7 @@ def add_tests(suite: Suite, seconds: float, programs: Sequence[str], front: str 
     if "recorder" in programs:
         for compiler in compilers_there():
             suite.test(f"{front}recorder: threads: {compiler}", check_threads, compiler)
+            for target in DRAWN:
+                suite.test(f"{front}recorder: {target.name}: {compiler}", check_drawn, compiler, target)
             for target in SHARED:
                 suite.test(f"{front}recorder: {target.name}: {compiler}", check_races, compiler, target)

@@ -165,10 +165,10 @@ static void mark_stack(const struct own_stack *own, uintptr_t stack, uintptr_t c
 /* Of another thread: it has that at the same distance from its control block as this one. */
 static struct own_stack stack_of(uintptr_t control)
 {
-    struct own_stack own = {0, 0, false};
+    struct own_stack own = {.top = 0};
     uintptr_t distance = (uintptr_t)&own_stack - world_own_control();
     if (control != 0 && !memory_read(control + distance, &own, sizeof own))
-        own = (struct own_stack){0, 0, false};
+        own = (struct own_stack){.top = 0};
     return own;
 }
 

@@ -343,6 +343,14 @@ static void end_thread(void *unused)
     clear_own_stack();
 }
 
+/* What the C library keeps of a thread lies at the upper end of its stack. */
+static uintptr_t thread_block(void)
+{
+    uintptr_t block;
+    __asm__("movq %%fs:0x10, %0" : "=r"(block));
+    return block;
+}
+
 /* In a thread that begins in this frame. Answers what it is to do. */
 static struct start begin_thread(struct start *start, void *frame)
 {
@@ -353,6 +361,7 @@ static struct start begin_thread(struct start *start, void *frame)
     own_stack.low = own_stack.top - size + STACK_MARGIN;
     if (is_in_arena(own_stack.low) && heap_end_around(own_stack.low) < own_stack.top)
         own_stack.top = heap_end_around(own_stack.low) / GRANULE * GRANULE;
+    own_stack.readable = thread_block() > own_stack.top ? thread_block() : own_stack.top;
     atomic_store(&start->is_taken, false);
     shadow_clear(own_stack.low, own_stack.top - own_stack.low);
     library.pthread_setspecific(at_end, start);

@@ -9,7 +9,6 @@
 
 /* The first thread's stack reaches so far down. */
 enum { DEFAULT_STACK_SIZE = 8 << 20 };
-#define MAX_STACK_SIZE ((uint64_t)1 << 30)
 _Thread_local struct own_stack own_stack;
 
 uintptr_t page_above(uintptr_t address)
@@ -25,17 +24,6 @@ void stack_start(void)
         size = limit.rlim_cur < MAX_STACK_SIZE ? limit.rlim_cur : MAX_STACK_SIZE;
     own_stack.top = page_above((uintptr_t)beginning.argv);
     own_stack.low = own_stack.top - size;
+    own_stack.readable = own_stack.top;
     own_stack.may_grow = true;
-}
-
-bool is_on_own_stack(uintptr_t frame)
-{
-    if (frame >= own_stack.top)
-        return false;
-    return frame >= own_stack.low || (own_stack.may_grow && own_stack.top - frame < MAX_STACK_SIZE);
-}
-
-uintptr_t stack_top(uintptr_t frame)
-{
-    return is_on_own_stack(frame) ? own_stack.top : 0;
 }

@@ -5,16 +5,35 @@
 #include <stdbool.h>
 #include <stdint.h>
 
+#define MAX_STACK_SIZE ((uint64_t)1 << 30)
+
 extern _Thread_local struct own_stack {
     uintptr_t low, top; /* 0 if it is not known */
+    uintptr_t readable; /* up to here: the frames of who has begun the thread may lie above */
     bool may_grow;      /* below `low`: the first thread's, once its limit was raised */
 } own_stack;
 
 /* In the first thread, at the start. */
 void stack_start(void);
-bool is_on_own_stack(uintptr_t frame);
+static inline bool is_on_own_stack(uintptr_t frame)
+{
+    if (frame >= own_stack.top)
+        return false;
+    return frame >= own_stack.low || (own_stack.may_grow && own_stack.top - frame < MAX_STACK_SIZE);
+}
+
+/* Up to where it can be read from this address on; or 0. */
+static inline uintptr_t stack_readable(uintptr_t frame)
+{
+    return is_on_own_stack(frame) ? own_stack.readable : 0;
+}
+
 /* The end of the thread's own stack, if this address is on it; or 0. */
-uintptr_t stack_top(uintptr_t frame);
+static inline uintptr_t stack_top(uintptr_t frame)
+{
+    return is_on_own_stack(frame) ? own_stack.top : 0;
+}
+
 uintptr_t page_above(uintptr_t address);
 
 #endif

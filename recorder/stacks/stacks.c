@@ -43,14 +43,11 @@ void stacks_begin(void)
     system_madvise(words, sizeof words, MADV_DONTDUMP); /* no debugger wants 32 MB of ours in a core */
 }
 
-static uint64_t hash_of(const uint64_t *frames, unsigned count)
+/* What differs in any bit of the hash comes into the upper ones, and from there into the lower ones. */
+static uint64_t mixed(uint64_t hash)
 {
-    uint64_t hash = count;
-    for (unsigned i = 0; i < count; i++) {
-        hash = (hash ^ frames[i]) * UINT64_C(0x9e3779b97f4a7c15);
-        hash ^= hash >> 29;
-    }
-    return hash;
+    hash = (hash ^ hash >> 32) * STACK_FACTOR;
+    return hash ^ hash >> 29;
 }
 
 static bool is_stack_at(uint64_t first, const uint64_t *frames, unsigned count)
@@ -79,9 +76,11 @@ static uint32_t keep(const uint64_t *frames, unsigned count)
 }
 
 /* The first word of the stack that has these frames; 0: there is no room for it. */
-static uint32_t find_or_keep(const uint64_t *frames, unsigned count)
+static uint32_t find_or_keep(const struct stack *stack)
 {
-    uint64_t hash = hash_of(frames, count), tag = hash & ~WORD_MASK;
+    const uint64_t *frames = stack->frames;
+    unsigned count = stack->count;
+    uint64_t hash = mixed(stack->hash), tag = hash & ~WORD_MASK;
     uint32_t kept = 0;
     for (uint64_t at = hash >> 24;; at++) {
         _Atomic uint64_t *entry = &known[at % STACKS];
@@ -102,28 +101,36 @@ call_site call_site_of(uintptr_t caller)
     return call_site_from(0, caller);
 }
 
-/* The call site of a stack; or only its innermost address, if there is no more of it, or no room. One that is none of
-   the program's, to which it has jumped, is a stack too. */
-static call_site call_site_of_frames(const uint64_t *frames, unsigned count)
+/* The place of a stack, of any thread; or only its innermost address, if there is no more of it, or no room. One that
+   is none of the program's, to which it has jumped, is a stack too. */
+static call_site place_of_stack(struct stack *stack, uintptr_t innermost)
 {
-    uint32_t first = count > 1 || frames[0] > ADDRESS_MASK ? find_or_keep(frames, count) : 0;
-    call_site thread = (call_site)thread_number() << THREAD_SHIFT;
-    return thread | (first != 0 ? IS_STACK | first : frames[0] & ADDRESS_MASK);
+    if (stack->count == 0)
+        stack->frames[0] = innermost, stack->count = 1, stack->hash = stack_hash(0, innermost);
+    uint32_t first = stack->count > 1 || innermost > ADDRESS_MASK ? find_or_keep(stack) : 0;
+    return first != 0 ? IS_STACK | first : innermost & ADDRESS_MASK;
+}
+
+static call_site in_this_thread(call_site of)
+{
+    return of | (call_site)thread_number() << THREAD_SHIFT;
 }
 
 call_site call_site_from(uintptr_t frame, uintptr_t caller)
 {
-    uint64_t frames[MAX_FRAMES];
-    uintptr_t first = frame != 0 ? frame : (uintptr_t)__builtin_frame_address(0);
-    frames[0] = caller;
-    return call_site_of_frames(frames, unwind_from_call(first, caller, frames, MAX_FRAMES));
+    struct stack stack;
+    uintptr_t own = (uintptr_t)__builtin_frame_address(0);
+    unwind_from_call(own, frame != 0 ? frame : own, caller, &stack);
+    call_site place = stack.place != 0 ? stack.place : place_of_stack(&stack, caller);
+    unwind_end(&stack, place);
+    return in_this_thread(place);
 }
 
 call_site call_site_at(const struct registers *registers)
 {
-    uint64_t frames[MAX_FRAMES];
-    frames[0] = registers->instruction + 1;
-    return call_site_of_frames(frames, unwind_from_registers(registers, frames, MAX_FRAMES));
+    struct stack stack;
+    unwind_from_registers(registers, &stack);
+    return in_this_thread(place_of_stack(&stack, registers->instruction + 1));
 }
 
 uintptr_t call_site_address(call_site of)

@@ -7,9 +7,6 @@
 
 #include "stacks/unwinding.h"
 
-/* The most frames of a stack. */
-enum { MAX_FRAMES = 32 };
-
 /* A call site is the address after a call, as it is if nothing else is known; or it stands for a stack. Over these it
    has the number of the thread that made the call (thread_notes.h). 0: not known. */
 typedef uint64_t call_site;

@@ -8,6 +8,7 @@
 #include "base/platform.h"
 #include "stacks/cfi.h"
 #include "stacks/own_stack.h"
+#include "stacks/trail.h"
 
 /* Rules that are known. An instruction has its own place, and three more in the same line of the cache. */
 enum { PLACES = 1 << 16, WAYS = 4, PLACE_SHIFT = 2, FAR_SHIFT = 16, GENERATION_SHIFT = 48 };
@@ -108,15 +109,23 @@ static inline struct cfi_rule rule_of(uintptr_t instruction, bool is_after_call,
     return find_rule(instruction, is_after_call, key);
 }
 
-/* A part of the stack that can be read, or none, and of other memory the page that was asked for last. */
+/* A part of the stack that can be read, or none, and of other memory the page that was asked for last; and how many
+   frames were passed over. */
 struct reach {
     uintptr_t low, size;
     struct known_page page;
+    unsigned unseen;
 };
 
 static inline bool is_within(const struct reach *reach, uintptr_t address)
 {
     return address - reach->low < reach->size;
+}
+
+/* Whether two words can be read there. */
+static inline bool has_pair(const struct reach *reach, uintptr_t address)
+{
+    return address % sizeof address == 0 && is_within(reach, address) && is_within(reach, address + sizeof address);
 }
 
 static inline bool read_word(struct reach *reach, uintptr_t address, uintptr_t *word)
@@ -127,6 +136,12 @@ static inline bool read_word(struct reach *reach, uintptr_t address, uintptr_t *
         return false;
     *word = *(const uintptr_t *)address;
     return true;
+}
+
+static __attribute__((noinline)) bool is_pair_there(struct reach *reach, uintptr_t address)
+{
+    uintptr_t unused;
+    return read_word(reach, address, &unused) && read_word(reach, address + sizeof unused, &unused);
 }
 
 /* What the system has stored for the end of a handler lies at the stack pointer. */
@@ -184,81 +199,188 @@ static bool go_on(struct registers *now, struct cfi_rule rule, struct reach *rea
     return read_word(reach, end - sizeof end, &now->instruction);
 }
 
-/* Whether a frame pointer can be followed at once: most code of the program has them. */
-static inline bool is_pointer(uintptr_t frame, uintptr_t stack, struct cfi_rule rule, const struct reach *reach)
+/* Whether a rule is to follow the frame pointer, to where it can be read at once: most code of the program has
+   these. */
+static inline bool make_link(const struct registers *at, struct cfi_rule rule, const struct reach *reach,
+                             struct link *link)
 {
-    return rule.kind == CFI_POINTER && rule.flags == CFI_CALLED && frame >= stack && frame % sizeof frame == 0
-           && is_within(reach, frame) && is_within(reach, frame + sizeof frame);
+    uintptr_t end = at->frame + 2 * sizeof end, saved = 0;
+    if ((rule.flags & ~CFI_MAIN) != CFI_CALLED || at->frame < at->stack || !has_pair(reach, at->frame))
+        return false;
+    if (UNLIKELY(rule.kind != CFI_POINTER)) {
+        saved = at->frame + (uintptr_t)(intptr_t)rule.offset;
+        if (rule.kind != CFI_SAVED || rule.frame != CFI_FRAME_LINKED || !has_pair(reach, saved))
+            return false;
+        end = *(const uintptr_t *)saved;
+        if (end <= at->stack || !has_pair(reach, end - 2 * sizeof end))
+            return false;
+    }
+    *link = (struct link){at->frame, at->instruction, end, saved};
+    return true;
 }
 
-/* The caller of `main` is the last that is of use to anybody. It is inline, and has its registers apart, so that they
-   are in registers. */
-static inline __attribute__((always_inline)) unsigned unwind(const struct registers *from, bool is_after_call,
-                                                             struct reach *reach, uint64_t *frames, unsigned most)
+/* Always, so that what it gets by its address is in registers all the same. */
+#define INLINED static inline __attribute__((always_inline))
+
+INLINED void add(struct stack *found, uintptr_t address)
 {
-    uintptr_t instruction = from->instruction, stack = from->stack, frame = from->frame;
-    uint64_t now = atomic_load_explicit(&generation, memory_order_relaxed);
-    unsigned count = 0, unseen = 0;
-    while (count < most && unseen <= most) {
-        struct cfi_rule rule = rule_of(instruction, is_after_call, now);
-        if (is_after_call && LIKELY(is_pointer(frame, stack, rule, reach))) {
-            const uintptr_t *at = (const uintptr_t *)frame;
-            frames[count++] = instruction;
-            instruction = at[1];
-            stack = frame + 2 * sizeof frame;
-            frame = at[0];
+    found->frames[found->count++] = address;
+    found->hash = stack_hash(found->hash, address);
+}
+
+/* A walk by frame pointers: where it is, and what it has found. */
+struct walk {
+    struct registers at;
+    uint64_t hash;
+    unsigned count;
+    bool is_over; /* it has come to the caller of `main` */
+};
+
+INLINED void step(struct walk *walk, const struct link *from, uint64_t *frames)
+{
+    frames[walk->count++] = from->instruction;
+    walk->hash = stack_hash(walk->hash, from->instruction);
+    walk->at = (struct registers){link_call(from), from->end, link_frame(from)};
+}
+
+/* Whether this one was come to before, by the same call. */
+static inline bool is_met(const struct registers *at, const struct link *link)
+{
+    return is_link(link, at->frame, at->instruction) && at->frame >= at->stack && link->end > at->stack;
+}
+
+/* From the last of so many links of the trail on. False: one does not lead to where it led any more. */
+INLINED bool follow_trail(struct walk *walk, unsigned left, uint64_t *frames)
+{
+    for (const struct link *link = &trail.links[left - 1];; link--) {
+        if (link->saved != 0 && *(const uintptr_t *)link->saved != link->end)
+            return false;
+        step(walk, link, frames);
+        walk->is_over = link == trail.links && trail.is_whole;
+        if (walk->is_over)
+            return walk->at.instruction == trail.last;
+        if (link == trail.links || walk->count == MAX_FRAMES)
+            return true;
+        if (!is_link(link - 1, walk->at.frame, walk->at.instruction))
+            return false;
+    }
+}
+
+/* Goes on as long as frame pointers lead on, at most up to the caller of `main`, which is the last that is of use to
+   anybody. */
+INLINED bool follow_pointers(struct registers *at, uint64_t now, const struct reach *reach, struct stack *found,
+                             bool by_trail)
+{
+    struct walk walk = {*at, found->hash, found->count, false};
+    struct link links[MAX_FRAMES], here;
+    unsigned left = by_trail ? trail.count : 0, stay = 0, fresh = 0;
+    bool is_new = by_trail;
+    while (walk.count < MAX_FRAMES && !walk.is_over) {
+        left = trail_left(left, walk.at.frame);
+        if (left != 0 && is_met(&walk.at, &trail.links[left - 1])) {
+            bool is_same = follow_trail(&walk, left, found->frames);
+            stay = is_same ? left : 0, fresh = is_same ? fresh : 0;
+            left = 0, is_new = false;
             continue;
         }
-        if (count != 0 && !(rule.flags & CFI_CALLED))
+        struct cfi_rule rule = rule_of(walk.at.instruction, true, now);
+        if (!make_link(&walk.at, rule, reach, &here))
             break;
-        if (count != 0 && (rule.kind == CFI_SIGNAL || (rule.flags & CFI_OWN)))
-            unseen++;
-        else
-            frames[count++] = instruction + !is_after_call;
-        struct registers at = {instruction, stack, frame};
-        if (!go_on(&at, rule, reach))
-            break;
-        instruction = at.instruction, stack = at.stack, frame = at.frame;
-        is_after_call = rule.kind != CFI_SIGNAL;
-        if (rule.flags & CFI_MAIN) {
-            if (count < most)
-                frames[count++] = instruction;
-            break;
-        }
+        walk.is_over = rule.flags & CFI_MAIN;
+        step(&walk, &here, found->frames);
+        if (is_new)
+            links[fresh++] = here;
     }
-    return count;
+    if (by_trail) {
+        if (stay == 0)
+            trail.is_whole = walk.is_over, trail.last = walk.at.instruction;
+        trail_put(stay, links, fresh);
+    }
+    at->instruction = walk.at.instruction, at->stack = walk.at.stack, at->frame = walk.at.frame;
+    found->count = walk.count, found->hash = walk.hash;
+    if (walk.is_over && found->count < MAX_FRAMES)
+        add(found, at->instruction);
+    return walk.is_over;
+}
+
+/* Goes on by any rule. False: that was the last frame. */
+static bool take(struct registers *at, bool is_after_call, struct cfi_rule rule, struct reach *reach,
+                 struct stack *found)
+{
+    if (found->count != 0 && !(rule.flags & CFI_CALLED))
+        return false;
+    if (found->count != 0 && (rule.kind == CFI_SIGNAL || (rule.flags & CFI_OWN)))
+        reach->unseen++;
+    else
+        add(found, at->instruction + !is_after_call);
+    bool goes_on = go_on(at, rule, reach), is_main = goes_on && (rule.flags & CFI_MAIN);
+    if (is_main && found->count < MAX_FRAMES)
+        add(found, at->instruction);
+    return goes_on && !is_main;
+}
+
+static void unwind(struct registers *at, bool is_after_call, uint64_t now, struct reach *reach, struct stack *found)
+{
+    while (found->count < MAX_FRAMES && reach->unseen <= MAX_FRAMES) {
+        struct cfi_rule rule = rule_of(at->instruction, is_after_call, now);
+        if (!take(at, is_after_call, rule, reach, found))
+            break;
+        is_after_call = rule.kind != CFI_SIGNAL;
+        if (is_after_call && follow_pointers(at, now, reach, found, false))
+            break;
+    }
 }
 
 /* Between here and the call that is looked for lies code of the recorder, which has frame pointers. Each points to the
    one before it, with the address after the call beside it. */
-static bool find_call(uintptr_t frame, uintptr_t caller, struct reach *reach, struct registers *found)
+static inline bool find_call(uintptr_t frame, uintptr_t caller, struct reach *reach, struct registers *found)
 {
     enum { OWN_FRAMES = 24 };
     for (unsigned steps = 0; steps < OWN_FRAMES; steps++) {
-        uintptr_t next, after;
-        if (!read_word(reach, frame, &next) || !read_word(reach, frame + sizeof next, &after))
+        const uintptr_t *pointer = (const uintptr_t *)frame;
+        if (!has_pair(reach, frame) && !is_pair_there(reach, frame))
             return false;
-        if (after == caller) {
-            *found = (struct registers){caller, frame + 2 * sizeof next, next};
+        if (pointer[1] == caller) {
+            *found = (struct registers){caller, frame + 2 * sizeof *pointer, pointer[0]};
             return true;
         }
-        if (next <= frame)
+        if (pointer[0] <= frame)
             return false;
-        frame = next;
+        frame = pointer[0];
     }
     return false;
 }
 
-unsigned unwind_from_call(uintptr_t frame, uintptr_t caller, uint64_t *frames, unsigned most)
+void unwind_from_call(uintptr_t own, uintptr_t frame, uintptr_t caller, struct stack *found)
 {
     struct registers at;
-    uintptr_t top = stack_top(frame);
+    uintptr_t top = stack_readable(frame);
     struct reach reach = {.low = frame, .size = top > frame ? top - frame : 0};
-    return find_call(frame, caller, &reach, &at) ? unwind(&at, true, &reach, frames, most) : 0;
+    uint64_t now = atomic_load_explicit(&generation, memory_order_relaxed);
+    found->count = 0, found->hash = 0, found->place = 0, found->is_on_trail = false;
+    if (!find_call(frame, caller, &reach, &at))
+        return;
+    found->frame = at.frame;
+    found->is_on_trail = trail_begin(own, top, now);
+    if (found->is_on_trail)
+        found->place = trail_place(at.frame, caller, at.stack);
+    if (found->place == 0 && (!found->is_on_trail || !follow_pointers(&at, now, &reach, found, true)))
+        unwind(&at, true, now, &reach, found);
 }
 
-unsigned unwind_from_registers(const struct registers *registers, uint64_t *frames, unsigned most)
+void unwind_end(const struct stack *found, uint64_t place)
 {
-    struct reach reach = {0, 0, {0}};
-    return unwind(registers, false, &reach, frames, most);
+    if (!found->is_on_trail)
+        return;
+    if (found->place == 0)
+        trail_know(found->frame, found->frames[0], place);
+    trail_end();
+}
+
+void unwind_from_registers(const struct registers *registers, struct stack *found)
+{
+    struct registers at = *registers;
+    struct reach reach = {0};
+    found->count = 0, found->hash = 0;
+    unwind(&at, false, atomic_load_explicit(&generation, memory_order_relaxed), &reach, found);
 }

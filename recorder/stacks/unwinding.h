@@ -3,11 +3,33 @@
 #ifndef ASANCOL_UNWINDING_H
 #define ASANCOL_UNWINDING_H
 
+#include <stdbool.h>
 #include <stdint.h>
 
-/* The addresses after the calls, the innermost first, and how many there are. From a frame of the recorder on, one of
-   the functions through which it was called from `caller`; 0: that call is not found. */
-unsigned unwind_from_call(uintptr_t frame, uintptr_t caller, uint64_t *frames, unsigned most);
+#include "stacks/depth.h"
+
+/* The addresses after the calls, the innermost first, and how many there are. The hash depends on all of them. */
+struct stack {
+    unsigned count;
+    bool is_on_trail; /* the thread's, which is kept from others until the end (trail.h) */
+    uint64_t hash;
+    uint64_t place;  /* what stood for this stack the last time: then nothing else is said of it; or 0 */
+    uintptr_t frame; /* of the innermost call */
+    uint64_t frames[MAX_FRAMES];
+};
+
+#define STACK_FACTOR UINT64_C(0x9e3779b97f4a7c15)
+
+/* The hash with one address more. It is 0 of none. */
+static inline uint64_t stack_hash(uint64_t hash, uint64_t address)
+{
+    return (hash + address) * STACK_FACTOR;
+}
+
+/* From a frame of the recorder on, one of the functions through which it was called from `caller`. Of no frames: that
+   call is not found. The own frame is that of the function that also calls the end, with what stands for the stack. */
+void unwind_from_call(uintptr_t own, uintptr_t frame, uintptr_t caller, struct stack *found);
+void unwind_end(const struct stack *found, uint64_t place);
 
 /* Where a signal has met a thread. */
 struct registers {
@@ -15,7 +37,7 @@ struct registers {
 };
 
 /* Likewise, from any instruction on, whose address comes first, with 1 added, as if it were a call. */
-unsigned unwind_from_registers(const struct registers *registers, uint64_t *frames, unsigned most);
+void unwind_from_registers(const struct registers *registers, struct stack *found);
 
 /* What is known of the code of modules may be true no more. */
 void unwinding_modules_changed(void);

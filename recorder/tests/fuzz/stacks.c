@@ -28,7 +28,6 @@ static void expect(bool holds, const char *what)
 /* What the other parts of the recorder would do. */
 
 _Thread_local struct own_stack own_stack;
-bool is_on_own_stack(uintptr_t frame) { return frame >= own_stack.low && frame < own_stack.top; }
 uintptr_t heap_end_around(uintptr_t address) { return address; }
 void fake_frames_left(uintptr_t low, uintptr_t top) { (void)low, (void)top; }
 void fake_context_begins(uintptr_t low, uintptr_t top) { (void)low, (void)top; }

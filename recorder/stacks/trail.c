@@ -1,0 +1,3 @@
+#include "stacks/trail.h"
+
+_Thread_local struct trail trail;

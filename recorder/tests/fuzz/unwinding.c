@@ -1,0 +1,174 @@
+/* A stack on which functions are called and return, drawn. Each walk over it finds the calls that are on it, whatever
+   it knows of those before; also if a handler comes in the middle that walks too, or leaves by a jump. */
+#include <setjmp.h>
+#include <stdbool.h>
+#include <stdint.h>
+#include <stdio.h>
+#include <stdlib.h>
+#include <string.h>
+
+#include "base/memory.h"
+#include "stacks/cfi.h"
+#include "stacks/own_stack.h"
+#include "stacks/unwinding.h"
+
+enum { MOST_DEPTH = 120, FRAME_WORDS = 6, WORDS = (MOST_DEPTH + 2) * FRAME_WORDS };
+enum { CALLS = 64, CALL_BYTES = 8, CALL_RELATIVE = 0xe8, DRAWS = 200000 };
+
+static void expect(bool holds, const char *what)
+{
+    if (holds)
+        return;
+    fprintf(stderr, "not as it should be: %s\n", what);
+    exit(1);
+}
+
+static uint64_t state = 88172645463325252u;
+
+static uint64_t draw(void)
+{
+    state ^= state << 13;
+    state ^= state >> 7;
+    return state ^= state << 17;
+}
+
+/* The addresses after calls. At one of these there is no frame pointer. */
+static unsigned char code[(CALLS + 2) * CALL_BYTES];
+
+static uintptr_t after_call(uint64_t number)
+{
+    return (uintptr_t)code + (number % CALLS + 2) * CALL_BYTES;
+}
+
+/* The frames grow down. At its upper end each has the frame pointer of its caller, and the address after the call; and
+   before them where it ends. */
+static uintptr_t words[WORDS];
+static uintptr_t *frames[MOST_DEPTH];
+static unsigned depth;
+static unsigned known; /* stacks that were known before */
+
+static bool has_pointer(uintptr_t instruction)
+{
+    return (instruction - (uintptr_t)code) / CALL_BYTES != 21;
+}
+
+static bool has_saved_end(uintptr_t instruction)
+{
+    return (instruction - (uintptr_t)code) / CALL_BYTES % 8 == 4;
+}
+
+static bool is_in_main(uintptr_t instruction)
+{
+    return (instruction - (uintptr_t)code) / CALL_BYTES / 2 == 2;
+}
+
+/* What the other parts of the recorder would do. */
+
+_Thread_local struct own_stack own_stack;
+bool memory_is_there(struct known_page *known, uintptr_t address, size_t size)
+{
+    uintptr_t end = (uintptr_t)(code + sizeof code);
+    (void)known;
+    return address >= (uintptr_t)code && address < end && size <= end - address;
+}
+
+static jmp_buf *handler_leaves;
+static void walk(void);
+
+/* A signal may come wherever a rule is looked for. */
+struct cfi_rule cfi_find(uintptr_t instruction)
+{
+    static bool is_in_handler;
+    uintptr_t address = instruction + 1;
+    if (handler_leaves != NULL && !is_in_handler && draw() % 8 == 0) {
+        is_in_handler = true;
+        walk();
+        is_in_handler = false;
+        if (draw() % 2 == 0)
+            longjmp(*handler_leaves, 1);
+    }
+    if (address - (uintptr_t)code >= sizeof code)
+        return (struct cfi_rule){.kind = CFI_LAST};
+    if (has_pointer(address) && !has_saved_end(address))
+        return (struct cfi_rule){
+            .kind = CFI_POINTER, .frame = 2, .offset = 16, .flags = is_in_main(address) ? CFI_MAIN : 0};
+    if (has_saved_end(address))
+        return (struct cfi_rule){.kind = CFI_SAVED,
+                                 .frame = CFI_FRAME_LINKED,
+                                 .offset = -(int)sizeof(uintptr_t),
+                                 .flags = is_in_main(address) ? CFI_MAIN : 0};
+    return (struct cfi_rule){.kind = CFI_BY_STACK, .frame = CFI_FRAME_KEPT, .offset = FRAME_WORDS * sizeof(uintptr_t)};
+}
+
+/* A function that is called from here, at one of two places. */
+static void push(void)
+{
+    uintptr_t caller = after_call(2 * depth + draw() % 2), *of_caller = frames[depth - 1];
+    uintptr_t *frame = frames[depth++] = of_caller - FRAME_WORDS;
+    frame[0] = has_pointer(caller) ? (uintptr_t)of_caller : of_caller[0];
+    frame[1] = caller;
+    frame[-1] = (uintptr_t)(frame + 2);
+}
+
+static void add(struct stack *to, uintptr_t address)
+{
+    if (to->count == MAX_FRAMES)
+        return;
+    to->frames[to->count++] = address;
+    to->hash = stack_hash(to->hash, address);
+}
+
+/* The calls that are there. */
+static struct stack calls_there(void)
+{
+    struct stack calls = {0};
+    for (unsigned i = depth - 1; i > 0; i--) {
+        add(&calls, frames[i][1]);
+        if (!is_in_main(frames[i][1]))
+            continue;
+        add(&calls, frames[i - 1][1]);
+        break;
+    }
+    return calls;
+}
+
+/* From the innermost frame. What stands for a stack is its hash, and for none. */
+static void walk(void)
+{
+    struct stack found, calls = calls_there();
+    uintptr_t from = (uintptr_t)frames[depth - 1];
+    unwind_from_call((uintptr_t)__builtin_frame_address(0), from, frames[depth - 1][1], &found);
+    if (found.call_site != 0) {
+        known++;
+        expect(found.call_site == (calls.hash | 1), "what stands for the stack");
+    } else {
+        expect(found.count == calls.count && found.hash == calls.hash, "how many frames there are, and the hash");
+        expect(memcmp(found.frames, calls.frames, calls.count * sizeof *calls.frames) == 0, "frames");
+    }
+    unwind_end(&found, calls.hash | 1);
+}
+
+int main(void)
+{
+    static jmp_buf leaves;
+    memset(code, CALL_RELATIVE, sizeof code);
+    uintptr_t end = (uintptr_t)(words + WORDS);
+    own_stack = (struct own_stack){.low = (uintptr_t)words, .top = end, .readable = end};
+    frames[depth++] = words + WORDS - FRAME_WORDS;
+    frames[0][-1] = (uintptr_t)(frames[0] + 2);
+    push();
+    for (volatile unsigned i = 0; i < DRAWS; i++) {
+        unsigned fewer = (unsigned)(draw() % 8 == 0 ? draw() % depth : draw() % 3 % depth);
+        depth = depth - fewer > 1 ? depth - fewer : 2;
+        for (uint64_t more = draw() % 4; more > 0 && depth < MOST_DEPTH; more--)
+            push();
+        if (draw() % 64 == 0)
+            unwinding_modules_changed();
+        handler_leaves = &leaves;
+        for (volatile uint64_t walks = draw() % 4; walks > 0 && setjmp(leaves) == 0; walks--)
+            walk();
+        handler_leaves = NULL;
+    }
+    expect(known > DRAWS / 10, "stacks that are known");
+    return 0;
+}
