@@ -29,9 +29,11 @@
 
 /* For how many units notes are asked for: they then fill whole pages. */
 enum { NOTE_STEP = 256 };
-/* By how many units memory grows: by as many as there are, within these. It is poison until it is handed out
-   (heap.c), which takes an eighth of it in the shadow. */
-enum { LEAST_STEP = 4, MOST_STEP = 16 };
+/* By how many units memory grows: by as many as there are, within these, up to a huge page. It is poison until it is
+   handed out (heap.c), which takes an eighth of it in the shadow. */
+enum { LEAST_STEP = 4, MOST_STEP = 32 };
+/* So many units at most may be in huge pages, since between these and others the system has a limit of changes. */
+enum { MOST_HUGE = 1 << 18 };
 /* Where the range begins: shadow.h says why there. */
 #define RANGE ((uint64_t)ARENA_NUMBER << ARENA_SHIFT)
 
@@ -76,7 +78,8 @@ static bool note(uint32_t units)
     return true;
 }
 
-static bool commit(uint32_t units)
+/* `is_slab`: it is small blocks that want more. */
+static bool commit(uint32_t units, bool is_slab)
 {
     if (units <= arena.committed)
         return true;
@@ -91,6 +94,10 @@ static bool commit(uint32_t units)
         return false;
     if (!arena_give_memory(unit_start(arena.committed), (size_t)count * UNIT))
         return false;
+    /* Small blocks lie far apart for their redzones, so there are many pages; and large ones leave a part of theirs.
+       The first few stay small. */
+    if (is_slab && arena.committed < MOST_HUGE)
+        system_madvise(unit_start(arena.committed), (size_t)count * UNIT, MADV_HUGEPAGE);
     arena.committed += count;
     return true;
 }
@@ -107,7 +114,7 @@ bool arena_find(void)
     SET_NOTE(arena.top, 1);
     arena.period = 1;
     __atomic_store_n(&arena.bytes, bytes, __ATOMIC_RELEASE);
-    if (commit(1))
+    if (commit(1, false))
         return true;
     SET_NOTE(arena.bytes, NULL);
     return false;
@@ -251,21 +258,21 @@ static uint32_t find_run(uint32_t count)
     return 0;
 }
 
-static uint32_t take_new(uint32_t count)
+static uint32_t take_new(uint32_t count, bool is_slab)
 {
     if (count > UNITS - arena.top)
         return 0;
-    if (!commit(arena.top + count) && !(arena_give_back() && commit(arena.top + count)))
+    if (!commit(arena.top + count, is_slab) && !(arena_give_back() && commit(arena.top + count, is_slab)))
         return 0;
     SET_NOTE(arena.top, arena.top + count);
     return arena.top - count;
 }
 
-uint32_t arena_take_run(uint32_t count)
+uint32_t arena_take_run(uint32_t count, bool is_slab)
 {
     uint32_t first = find_run(count);
     if (first == 0)
-        first = take_new(count);
+        first = take_new(count, is_slab);
     if (first == 0)
         return 0;
     for (uint32_t i = 0; i < count; i++) {

@@ -169,8 +169,8 @@ bool arena_find(void);
 void arena_keep_call_sites(void);
 /* Makes whole pages of the range usable, which are zeros. */
 bool arena_give_memory(void *start, size_t bytes);
-/* Units in a row, of any bytes; 0 if there is no memory. */
-uint32_t arena_take_run(uint32_t count);
+/* Units in a row, of any bytes, for a slab or for a large block; 0 if there is no memory. */
+uint32_t arena_take_run(uint32_t count, bool is_slab);
 /* Their memory waits to be given back to the system. */
 void arena_give_run(uint32_t first, uint32_t count);
 /* Makes zeros of a block's bytes, which lie in a run. Whoever has the block needs no lock. */

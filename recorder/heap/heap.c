@@ -156,12 +156,12 @@ static struct block *take_slot(size_t bytes)
         return block;
     }
     if (class->slab == 0) {
-        uint32_t unit = arena_take_run(1);
+        uint32_t unit = arena_take_run(1, true);
         if (unit == 0)
             return NULL;
         uint16_t lead = (uint16_t)lead_for(slot_size - (size_t)2 * REDZONE);
-        unit_write(unit, (struct unit){.kind = UNIT_SLAB, .lead = lead, .count = slot_factor(slot_size),
-                                        .slot_size = slot_size});
+        uint32_t factor = slot_factor(slot_size);
+        unit_write(unit, (struct unit){.kind = UNIT_SLAB, .lead = lead, .count = factor, .slot_size = slot_size});
         class->slab = unit;
     }
     struct unit *unit = &arena.units[class->slab];
@@ -175,7 +175,7 @@ static struct block *take_slot(size_t bytes)
 static struct block *take_large(size_t bytes)
 {
     size_t count = (bytes + UNIT - 1) / UNIT;
-    uint32_t first = count > UNITS ? 0 : arena_take_run((uint32_t)count);
+    uint32_t first = count > UNITS ? 0 : arena_take_run((uint32_t)count, false);
     return first == 0 ? NULL : block_at(first, 0);
 }
 
