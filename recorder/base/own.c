@@ -30,6 +30,30 @@ int *__errno_location(void)
 /* From so many bytes on the processor's own instruction is the quickest. */
 enum { MANY = 512, BLOCK = sizeof(__m128i) };
 
+/* Fewer than BLOCK bytes, as two pieces that may have bytes in common: both are read before one is written. */
+static void copy_few(unsigned char *to, const unsigned char *from, size_t size)
+{
+    if (size >= sizeof(uint64_t)) {
+        uint64_t first, last;
+        __builtin_memcpy(&first, from, sizeof first);
+        __builtin_memcpy(&last, from + size - sizeof last, sizeof last);
+        __builtin_memcpy(to, &first, sizeof first);
+        __builtin_memcpy(to + size - sizeof last, &last, sizeof last);
+    } else if (size >= sizeof(uint32_t)) {
+        uint32_t first, last;
+        __builtin_memcpy(&first, from, sizeof first);
+        __builtin_memcpy(&last, from + size - sizeof last, sizeof last);
+        __builtin_memcpy(to, &first, sizeof first);
+        __builtin_memcpy(to + size - sizeof last, &last, sizeof last);
+    } else if (size > 0) {
+        unsigned char first = from[0], middle = from[size / 2], last = from[size - 1];
+        to[0] = first;
+        to[size / 2] = middle;
+        to[size - 1] = last;
+    }
+}
+
+/* Forwards, as memmove needs it: the last block is read before those before it are written, which may lie there. */
 void *memcpy(void *restrict to, const void *restrict from, size_t size)
 {
     unsigned char *at = to;
@@ -38,14 +62,17 @@ void *memcpy(void *restrict to, const void *restrict from, size_t size)
         __asm__ volatile("rep movsb" : "+D"(at), "+S"(source), "+c"(size) : : "memory");
         return to;
     }
-    for (; size >= BLOCK; size -= BLOCK, at += BLOCK, source += BLOCK) {
+    if (size < BLOCK) {
+        copy_few(at, source, size);
+        return to;
+    }
+    unsigned char *end = at + size - BLOCK;
+    __m128i last = _mm_loadu_si128((const __m128i *)(source + size - BLOCK));
+    for (; at < end; at += BLOCK, source += BLOCK) {
+        STEP_BY_STEP;
         _mm_storeu_si128((__m128i *)at, _mm_loadu_si128((const __m128i *)source));
-        STEP_BY_STEP;
     }
-    for (; size > 0; size--) {
-        *at++ = *source++;
-        STEP_BY_STEP;
-    }
+    _mm_storeu_si128((__m128i *)end, last);
     return to;
 }
 
@@ -71,14 +98,18 @@ void *memset(void *to, int byte, size_t size)
         __asm__ volatile("rep stosb" : "+D"(at), "+c"(size) : "a"(byte) : "memory");
         return to;
     }
-    for (; size >= BLOCK; size -= BLOCK, at += BLOCK) {
+    if (size < BLOCK) {
+        unsigned char few[BLOCK];
+        _mm_storeu_si128((__m128i *)few, bytes);
+        copy_few(at, few, size);
+        return to;
+    }
+    unsigned char *end = at + size - BLOCK;
+    for (; at < end; at += BLOCK) {
         _mm_storeu_si128((__m128i *)at, bytes);
         STEP_BY_STEP;
     }
-    for (; size > 0; size--) {
-        *at++ = (unsigned char)byte;
-        STEP_BY_STEP;
-    }
+    _mm_storeu_si128((__m128i *)end, bytes);
     return to;
 }
 

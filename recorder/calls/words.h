@@ -6,6 +6,7 @@
 
 #include <arpa/inet.h>
 #include <dirent.h>
+#include <emmintrin.h>
 #include <errno.h>
 #include <fcntl.h>
 #include <glob.h>
@@ -106,23 +107,26 @@ HELPER static int lowered(int byte)
     return byte >= 'A' && byte <= 'Z' ? byte + ('a' - 'A') : byte;
 }
 
-/* Whether eight bytes lie in one page, so that they can be read also past the end of a string. */
+/* Whether a block lies in one page, so that it can be read also past the end of a string. */
 HELPER static bool is_in_page(const char *at)
 {
-    return ((uintptr_t)at & (PAGE - 1)) <= PAGE - sizeof(uint64_t);
+    return ((uintptr_t)at & (PAGE - 1)) <= PAGE - sizeof(__m128i);
 }
 
-/* How many of the first bytes, in steps of eight, are the same in both and not zero. It ends also where a page does. */
+/* How many of the first bytes are the same in both and not zero. It ends also where a page does. */
 HELPER __attribute__((no_sanitize("address"))) static size_t same_front(const char *one, const char *other, size_t most)
 {
-    const uint64_t low = UINT64_C(0x0101010101010101), high = low << 7;
+    enum { BLOCK = sizeof(__m128i), ALL = (1 << BLOCK) - 1 };
     size_t same = 0;
-    for (; most - same >= sizeof low && is_in_page(one + same) && is_in_page(other + same); same += sizeof low) {
-        uint64_t first, second;
-        __builtin_memcpy(&first, one + same, sizeof first);
-        __builtin_memcpy(&second, other + same, sizeof second);
-        if (first != second || ((first - low) & ~first & high) != 0)
-            break;
+    for (; most - same >= BLOCK && is_in_page(one + same) && is_in_page(other + same); same += BLOCK) {
+        __m128i first = _mm_loadu_si128((const __m128i *)(one + same));
+        __m128i second = _mm_loadu_si128((const __m128i *)(other + same));
+        __m128i is_end = _mm_cmpeq_epi8(first, _mm_setzero_si128());
+        /* A byte that is the same and no end. */
+        __m128i goes_on = _mm_andnot_si128(is_end, _mm_cmpeq_epi8(first, second));
+        unsigned stops = (unsigned)_mm_movemask_epi8(goes_on) ^ ALL;
+        if (stops != 0)
+            return same + (unsigned)__builtin_ctz(stops);
     }
     return same;
 }
@@ -131,7 +135,7 @@ static inline void compares(const char *one, const char *other, size_t most, int
 {
     size_t read = 0;
     while (read < most) {
-        if (read % sizeof(uint64_t) == 0)
+        if (read % sizeof(__m128i) == 0)
             read += same_front(one + read, other + read, most - read);
         if (read == most)
             break;
