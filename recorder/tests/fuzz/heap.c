@@ -17,6 +17,7 @@
 #include "shadow/mapping.h"
 #include "stream/losing.h"
 #include "stream/record.h"
+#include "stream/side.h"
 
 enum { THREADS = 4, BLOCKS = 64, SHARED = 32, STEPS = 20000, LARGEST = 3 * UNIT, HELD_BYTES = 1 << 20 };
 
@@ -42,7 +43,6 @@ const struct above above = {.halt_at = halt_at};
 enum state stream_state(void) { return STATE_RECORDING; }
 union stream_page stream_page;
 bool stream_wake(void) { return true; }
-void side_note_left_good(void) {}
 void book_forget(void) {}
 void book_release(const struct block *block) { (void)block; }
 void stream_stop(const char *why) { fprintf(stderr, "%s\n", why), exit(1); }
@@ -59,6 +59,9 @@ void record_bad_free(uint64_t address, uintptr_t caller, const char *call)
 {
     fprintf(stderr, "a bad %s of %llx from %llx\n", call, (unsigned long long)address, (unsigned long long)caller);
     exit(1);
+}
+void side_note_left_good(void)
+{
 }
 call_site call_site_from(uintptr_t frame, uintptr_t caller) { return frame == 0 ? caller : frame; }
 
