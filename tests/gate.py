@@ -6,12 +6,12 @@ usage: tests/gate.py                      the gate
 
 The gate first runs `lint_tree.py`, in seconds, and ends there if that finds something. Then comes
 `rt ci`: it proves each crate from nothing and runs the tests. It builds the program with two
-compilers and leaves both. `runs.py` runs both programs with words, and `fuzz.py` compares them with an
-oracle. Beside all of them, at a lower priority, `planted.py` and `mutants.py`
-try the mutants, and what they print comes at the end. A table shows the processor seconds of
-each crate (`costs.py` says how they are counted), and lines below it those of each part, and if all
-took longer than they should. The last line is 'N passed, M failed', of all of them together. The
-status is 0 where nothing failed.
+compilers and leaves both. `runs.py` runs both programs with words, and `fuzz.py` compares them with
+an oracle. Beside all of them, at a lower priority, `planted.py` and `mutants.py` try the mutants,
+and what they print comes at the end. A table shows the processor seconds of each crate (`costs.py`
+says how they are counted), and lines below it those of each part, and if all took longer than they
+should. The last line is 'N passed, M failed', of all of them together. The status is 0 where
+nothing failed.
 
 With `--changed` only the crates with a file that differs from BASE are checked, and those that
 stand on them, over what earlier checks kept. BASE is the commit where the branch left `main`, if
@@ -46,8 +46,9 @@ STEPS = [
     ("fuzz", [sys.executable, *FUZZ, *PROGRAMS]),
 ]
 
-# What runs beside them, where a processor has nothing to do for them.
-LOW = ["nice", "-n", "19"]
+# What runs beside them. `rt ci` comes first where both want a processor, but does not starve it: the
+# crates are proved one after another there, too, and the last ones take longest.
+LOW = ["nice", "-n", "5"]
 BESIDE = [
     (costs.MUTANTS, [*LOW, sys.executable, "tests/planted.py"]),
     (costs.MUTANTS, [*LOW, sys.executable, "tests/mutants.py"]),

@@ -7,8 +7,8 @@ For each program and compiler: the least processor time of N runs (5), user and 
 program, AddressSanitizer's (without the search for leaks), the recorded one, the one that also notes the
 stack of each malloc and free, as under asancol-run --full, the one that notes these alone, as under
 asancol-run, and the one that could record and does not; then the last four as parts of
-AddressSanitizer's, and the greatest memory of both in MB, and for one that frees much what all but the
-native one have at their end. Runs are interleaved. Every build has its branches aligned alike: without
+AddressSanitizer's, and the greatest memory of that one, of the recorded one and of the one that notes
+alone, in MB, and for one that frees much what all but the native one have at their end. Runs are interleaved. Every build has its branches aligned alike: without
 that, the time of a short loop is luck on some processors.
 
 Small programs, each of which does one thing, and two real ones: bzip2 compresses and decompresses 2 MB
@@ -170,7 +170,7 @@ def row(compiler: Compiler, program: Program, rounds: int, folder: str) -> str:
     base = best["sanitizer"]
     seconds = "".join(f"{best[way].seconds:11.3f}" for way in WAYS)
     parts = "".join(f"{best[way].seconds / base.seconds:10.2f}" for way in RECORDED)
-    memory = f"{base.megabytes:11.0f}{best['recorded'].megabytes:10.0f}"
+    memory = f"{base.megabytes:11.0f}{best['recorded'].megabytes:10.0f}{best['lean'].megabytes:10.0f}"
     rest = "  then" + "".join(f"{best[way].rest_megabytes:5.0f}" for way in WAYS[1:]) if program.says_rest else ""
     return f"{program.name:<12}{compiler!s:<7}{seconds}{parts}{memory}{rest}"
 
@@ -206,7 +206,7 @@ def main(argv: Optional[List[str]] = None) -> int:
     options = parser.parse_args(argv)
     programs, found = chosen(options.names), compilers()
     heads = "".join(f"{way:>11}" for way in WAYS) + "".join(f"{way + '/':>10}" for way in RECORDED)
-    heads += f"{'MB sanit.':>11}{'recorded':>10}"
+    heads += f"{'MB sanit.':>11}{'recorded':>10}{'lean':>10}"
     print(f"{'program':<12}{'by':<7}{heads}", flush=True)
     with tempfile.TemporaryDirectory(prefix="asancol-bench-") as folder:
         write_words(folder)
