@@ -41,7 +41,7 @@ endif
 
 SHOW = if $(MAKE) -q asancol > /dev/null 2>&1; then program=./asancol; else program=-; fi; tests/demo.py $$program
 
-# Tests of all parts, in some ten minutes on four processors from a fresh clone. It proves nothing, and says at the end
+# Tests of all parts, in seven minutes on four processors from a fresh clone. It proves nothing, and says at the end
 # what it left out. With CHECKED=1, after `make check`, it leaves out what that has run.
 test:
 	tests/quick.py $(if $(CHECKED),--checked)

@@ -8,8 +8,9 @@ program, AddressSanitizer's (without the search for leaks), the recorded one, th
 stack of each malloc and free, as under asancol-run --full, the one that notes these alone, as under
 asancol-run, and the one that could record and does not; then the last four as parts of
 AddressSanitizer's, and the greatest memory of that one, of the recorded one and of the one that notes
-alone, in MB, and for one that frees much what all but the native one have at their end. Runs are interleaved. Every build has its branches aligned alike: without
-that, the time of a short loop is luck on some processors.
+alone, in MB, and for one that frees much what all but the native one have at their end. Runs are
+interleaved. Every build has its branches aligned alike: without that, the time of a short loop is luck
+on some processors.
 
 Small programs, each of which does one thing, and two real ones: bzip2 compresses and decompresses 2 MB
 of words, and Lua's interpreter runs a script. Their sources come from Debian as those of real.py do,
