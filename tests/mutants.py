@@ -39,10 +39,6 @@ from rounds import Round
 from verdicts import BAD, REFUSED, UNTRIED, Answer, Verdicts, whole_crate
 
 
-# Rounds give way to the proofs of the crates, for which those above wait.
-LATER = ["nice", "-n", "10"]
-
-
 class Crate:
     """A crate with edits: a copy of it, and the key of each edit's answer."""
 
@@ -119,7 +115,7 @@ class Run:
 
     def check(self, crate: Crate, tried: Round, is_whole: bool) -> Ran:
         """Checks a crate with the texts of a round, or of it what is changed in place."""
-        argv = [*LATER, "rt", "check", "--jobs", "1"]
+        argv = ["rt", "check", "--jobs", "1"]
         for name in [] if is_whole else sorted({it for e in tried.edits for it in e.changes}):
             kind, _, function = name.rpartition("::")
             is_method = crate.source.functions[name][1].block
