@@ -124,7 +124,7 @@ void heap_give_back(void *pointer, uintptr_t caller);
 /* A malloc of the new, and then a free of the old, by this function. */
 void *heap_move(void *old, size_t size, uintptr_t caller, const char *call);
 
-/* The recorder's functions, whatever stands in their call_sites. */
+/* The recorder's functions, whatever stands in their places. */
 void heap_own_free(void *pointer);
 void *heap_own_realloc(void *old, size_t size);
 /* Where a call of one of these names leads, if it comes here. */

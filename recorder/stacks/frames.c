@@ -75,7 +75,7 @@ static char peek(struct text *text)
 }
 
 /* Where the next letter stands. */
-static uint64_t call_site_of(const struct text *text)
+static uint64_t place_of_text(const struct text *text)
 {
     return text->next - (text->count - text->at);
 }
@@ -105,7 +105,7 @@ static struct frame_variable take_variable(struct text *text, uint64_t frame)
     variable.start = frame + take_number(text);
     variable.size = take_number(text);
     variable.name_length = take_number(text);
-    variable.name = call_site_of(text);
+    variable.name = place_of_text(text);
     skip(text, variable.name_length);
     skip(text, 1); /* a space */
     return variable;

@@ -103,7 +103,7 @@ call_site call_site_of(uintptr_t caller)
 
 /* The place of a stack, of any thread; or only its innermost address, if there is no more of it, or no room. One that
    is none of the program's, to which it has jumped, is a stack too. */
-static call_site place_of_stack(struct stack *stack, uintptr_t innermost)
+static call_site call_site_of_stack(struct stack *stack, uintptr_t innermost)
 {
     if (stack->count == 0)
         stack->frames[0] = innermost, stack->count = 1, stack->hash = stack_hash(0, innermost);
@@ -121,7 +121,7 @@ call_site call_site_from(uintptr_t frame, uintptr_t caller)
     struct stack stack;
     uintptr_t own = (uintptr_t)__builtin_frame_address(0);
     unwind_from_call(own, frame != 0 ? frame : own, caller, &stack);
-    call_site place = stack.place != 0 ? stack.place : place_of_stack(&stack, caller);
+    call_site place = stack.place != 0 ? stack.place : call_site_of_stack(&stack, caller);
     unwind_end(&stack, place);
     return in_this_thread(place);
 }
@@ -130,7 +130,7 @@ call_site call_site_at(const struct registers *registers)
 {
     struct stack stack;
     unwind_from_registers(registers, &stack);
-    return in_this_thread(place_of_stack(&stack, registers->instruction + 1));
+    return in_this_thread(call_site_of_stack(&stack, registers->instruction + 1));
 }
 
 uintptr_t call_site_address(call_site of)

@@ -138,9 +138,9 @@ static void walk(void)
     struct stack found, calls = calls_there();
     uintptr_t from = (uintptr_t)frames[depth - 1];
     unwind_from_call((uintptr_t)__builtin_frame_address(0), from, frames[depth - 1][1], &found);
-    if (found.call_site != 0) {
+    if (found.place != 0) {
         known++;
-        expect(found.call_site == (calls.hash | 1), "what stands for the stack");
+        expect(found.place == (calls.hash | 1), "what stands for the stack");
     } else {
         expect(found.count == calls.count && found.hash == calls.hash, "how many frames there are, and the hash");
         expect(memcmp(found.frames, calls.frames, calls.count * sizeof *calls.frames) == 0, "frames");
