@@ -98,9 +98,14 @@ class Steps:
         self.now: "Optional[subprocess.Popen[str]]" = None
 
     def run(self) -> None:
-        for part, argv in self.steps:
-            if self.failed == 0 and not self.is_over:
-                self.step(part, argv)
+        """Takes the steps. One that can't be taken, as if a command is not there, counts as failed."""
+        try:
+            for part, argv in self.steps:
+                if self.failed == 0 and not self.is_over:
+                    self.step(part, argv)
+        except BaseException:
+            self.failed += 1
+            raise
 
     def step(self, part: str, argv: List[str]) -> None:
         """Runs a command. One that says nothing passed, or ends with another status than its counts
