@@ -7,8 +7,8 @@ usage: tests/gate.py                      the gate
 The gate first runs `lint_tree.py`, in seconds, and ends there if that finds something. Then comes
 `rt ci`: it proves each crate from nothing and runs the tests. It builds the program with two
 compilers and leaves both. `runs.py` runs both programs with words, and `fuzz.py` compares them with
-an oracle. Beside all of them, at a lower priority, `planted.py` and `mutants.py` try the mutants,
-and what they print comes at the end. A table shows the processor seconds of each crate (`costs.py`
+an oracle. Beside all of them `planted.py` and `mutants.py` try the mutants, and what they print
+comes at the end. A table shows the processor seconds of each crate (`costs.py`
 says how they are counted), and lines below it those of each part, and if all took longer than they
 should. The last line is 'N passed, M failed', of all of them together. The status is 0 where
 nothing failed.
@@ -39,19 +39,25 @@ PROGRAMS = ["crates/asancol/out/asancol", "crates/asancol/out/asancol.by-rattle"
 # Some thousand traces, the same each time.
 FUZZ = ["tests/fuzz.py", "--draws", "4000", "--seed", "1"]
 
+# The proofs share the processors like this, each in one process, since several for one proof take
+# half as much again: `rt ci` has half of them, and the bases of the mutants a quarter. The rounds, at
+# a lower priority, have what is left. So neither chain of proofs, from the lowest crate to the
+# highest, waits for anything else.
+PROCESSORS = len(os.sched_getaffinity(0))
+RT_CI = ["env", f"RT_JOBS={max(1, PROCESSORS // 2)}", "rt", "ci"]
+MUTANTS = ["tests/mutants.py", "--provers", str(max(1, PROCESSORS // 4))]
+
 # What comes after the lint, one after another, each with the part that it counts as.
 STEPS = [
-    ("rt ci", ["rt", "ci"]),
+    ("rt ci", RT_CI),
     ("runs", [sys.executable, "tests/runs.py", *PROGRAMS]),
     ("fuzz", [sys.executable, *FUZZ, *PROGRAMS]),
 ]
 
-# What runs beside them. `rt ci` comes first where both want a processor, but does not starve it: the
-# crates are proved one after another there, too, and the last ones take longest.
-LOW = ["nice", "-n", "5"]
+# What runs beside them.
 BESIDE = [
-    (costs.MUTANTS, [*LOW, sys.executable, "tests/planted.py"]),
-    (costs.MUTANTS, [*LOW, sys.executable, "tests/mutants.py"]),
+    (costs.MUTANTS, [sys.executable, "tests/planted.py"]),
+    (costs.MUTANTS, [sys.executable, *MUTANTS]),
 ]
 
 COUNTS = re.compile(r"(\d+) passed, (\d+) failed")

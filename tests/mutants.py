@@ -1,11 +1,11 @@
 #!/usr/bin/env python3
 """Tries the mutants of crates, several in one check.
 
-usage: tests/mutants.py [--lanes N] [--anew] [CRATE..]
+usage: tests/mutants.py [--lanes N] [--provers N] [--anew] [CRATE..]
 
 A mutant is made by an edit, `crates/CRATE/mutants/NAME.edit` (`edits.py`). A crate and those
-below it are proved first, by `rt lib` over what checks kept, in a copy of the repository
-(`rooms.py`). Then come rounds: each is one check of several mutants, most of them beside the
+below it are proved first, by `rt lib` over what checks kept, each in its base (`rooms.py`). Then
+come rounds, at a lower priority: each is one check of several mutants, most of them beside the
 right ones (`rounds.py`), in a copy of the crate. Each has to be refused by its own function's line,
 in a check of which all else is proved (`verdicts.py`).
 
@@ -16,7 +16,8 @@ or the prover can't read what it makes.
 
 What was refused earlier, by the same toolchain, of the same files of the crate and of those below
 it, is not tried again (`kept.py`): its line has `(kept)`, and another line says how many were tried
-in this run. `--anew` tries all. N checks run side by side, one for each processor if it is not said.
+in this run. `--anew` tries all. So many rounds run side by side as there are processors, if
+`--lanes` says no other number, and beside them as many proofs of crates, or those of `--provers`.
 With no CRATE the edits of all crates are tried. The last line is `N passed, M failed`, and the
 status is 0 only if nothing failed.
 """
@@ -26,7 +27,8 @@ import os
 import sys
 import threading
 import time
-from concurrent.futures import ThreadPoolExecutor
+from collections import Counter
+from concurrent.futures import FIRST_COMPLETED, Future, ThreadPoolExecutor, wait
 from typing import Callable, Dict, List, Tuple
 
 import gate
@@ -34,17 +36,20 @@ import kept
 import rounds
 from edits import Edit, Source, edit_files
 from gate import TOP
-from rooms import Base, Ran, copy_of_all, ran
+from rooms import Base, Ran, bases, ran
 from rounds import Round
 from verdicts import BAD, REFUSED, UNTRIED, Answer, Verdicts, whole_crate
 
+# How a round is checked: what proves the crates above comes first.
+CHECK = ["nice", "-n", "10", "rt", "check", "--jobs", "1"]
+
 
 class Crate:
-    """A crate with edits: a copy of it, and the key of each edit's answer."""
+    """A crate with edits: its base, and the key of each edit's answer."""
 
-    def __init__(self, all_crates: str, name: str) -> None:
+    def __init__(self, all_bases: str, name: str) -> None:
         self.name = name
-        self.base = Base(all_crates, name)
+        self.base = Base(all_bases, name)
         self.source = Source(name, self.base.folder)
         self.edits = [self.source.edit(it) for it in edit_files(f"{TOP}/crates/{name}")]
         rests_on = kept.sum_of(self.base.top, self.base.files())
@@ -62,8 +67,8 @@ class Run:
         self.lock = threading.Lock()
         self.answers: List[Answer] = []
         self.failed: List[str] = []
-        # Of each crate: checks, edits tried in them, and processor seconds.
-        self.costs: Dict[str, Tuple[int, int, float]] = {}
+        # Of each crate: the processor seconds of each check, and how many edits were in it.
+        self.costs: Dict[str, List[Tuple[float, int]]] = {}
 
     def say(self, crate: Crate, edit: Edit, answer: Answer) -> None:
         """Notes and prints what became of an edit."""
@@ -91,7 +96,6 @@ class Run:
 
     def start(self, crate: Crate, edits: List[Edit]) -> None:
         """Starts what tries these edits of a crate that is proved."""
-        crate.base.take_work()
         fit = [it for it in edits if it.changes]
         found = rounds.shared_out(crate.source, fit)
         tasks: List[Tuple[Callable[..., None], object]] = [(self.round, it) for it in found]
@@ -111,28 +115,26 @@ class Run:
             if crate.open == 0:
                 if not crate.base.is_unchanged():
                     self.failed.append(f"{crate.name} (the checks changed each other's files)")
-                crate.base.remove()
 
     def check(self, crate: Crate, tried: Round, is_whole: bool) -> Ran:
-        """Checks a crate with the texts of a round, or of it what is changed in place."""
-        argv = ["rt", "check", "--jobs", "1"]
-        for name in [] if is_whole else sorted({it for e in tried.edits for it in e.changes}):
-            kind, _, function = name.rpartition("::")
-            is_method = crate.source.functions[name][1].block
-            path = f"{kind.rpartition('::')[2]}::{function}" if is_method else name
-            argv += ["--only", path if is_method else name.partition("::")[2]]
+        """Checks a crate with the texts of a round: what the round is of, or all."""
+        argv = [*CHECK]
+        for path in [] if is_whole else tried.paths():
+            argv += ["--only", path]
         with crate.base.room(tried.texts, tried.all_copies()) as folder:
             made = ran(argv, folder)
-        with self.lock:
-            checks, edits, seconds = self.costs.get(crate.name, (0, 0, 0.0))
-            costs = (checks + 1, edits + len(tried.edits), seconds + made.seconds)
-            self.costs[crate.name] = costs
+        self.count(crate.name, made.seconds, len(tried.edits))
         return made
+
+    def count(self, name: str, seconds: float, edits: int) -> None:
+        """Counts a check of a crate, of so many edits or of none."""
+        with self.lock:
+            self.costs.setdefault(name, []).append((seconds, edits))
 
     def round(self, crate: Crate, tried: Round) -> None:
         """Tries a round, and then alone what it says nothing clear of. If it does not come to proofs
         for bodies that can't be read, the others are tried again without them."""
-        said = Verdicts(crate.name, tried, self.check(crate, tried, bool(tried.copies)))
+        said = Verdicts(crate.name, tried, self.check(crate, tried, False))
         unread = said.unread()
         for what in said.troubles():
             print(f"{crate.name}: {what}", flush=True)
@@ -161,40 +163,58 @@ class Run:
         self.say(crate, edit, whole_crate(edit, self.check(crate, alone, True)))
 
 
-def prove(all_crates: str, name: str) -> bool:
-    """Proves a crate, over what checks kept, and leaves its library for those above."""
-    made = ran(["rt", "lib"], f"{all_crates}/crates/{name}")
+def prove(run: Run, base: Base, is_possible: bool) -> bool:
+    """Proves a crate, if those below it are proved, and returns whether it is."""
+    if not is_possible:
+        return False
+    made = base.prove()
+    run.count(base.crate, made.seconds, 0)
     if made.status:
-        print("\n".join([*made.lines[-12:], f"{name}: it is not proved as it stands"]), flush=True)
+        print("\n".join([*made.lines[-12:], f"{base.crate}: it is not proved as it stands"]), flush=True)
     return made.status == 0
 
 
-def try_all(run: Run, all_crates: str, names: List[str]) -> None:
-    """Tries the edits of these crates, lowest first. A crate is proved only if something is to be
-    tried in it or above it."""
-    found = [Crate(all_crates, it) for it in names]
-    left = {it.name: run.take_kept(it) for it in found}
-    needed = {it for crate in found if left[crate.name] for it in [crate.name, *crate.base.below]}
+def try_crate(run: Run, crate: Crate, edits: List[Edit], is_proved: bool) -> None:
+    """Starts what tries these edits of a crate, once it was to be proved."""
+    if is_proved:
+        run.start(crate, edits)
+    else:
+        for edit in edits:
+            run.say(crate, edit, Answer(UNTRIED, "the crate is not proved as it stands"))
+
+
+def try_all(run: Run, provers: int, all_bases: str, names: List[str]) -> None:
+    """Tries the edits of these crates. A crate is proved only if something is to be tried in it or
+    above it. First come those with the most crates above them, which wait for it."""
+    found = {it: Crate(all_bases, it) for it in names}
+    left = {it.name: run.take_kept(it) for it in found.values()}
+    tried = [it for it in names if left[it]]
+    above = Counter(it for name in tried for it in [name, *found[name].base.below])
+    bases_of = {it: found[it].base if it in found else Base(all_bases, it) for it in above}
+    waiting = sorted(above, key=lambda it: (-above[it], len(bases_of[it].below)))
     proved: Dict[str, bool] = {}
-    by_name = {it.name: it for it in found}
-    for name in gate.lowest_first(gate.crates_listed()):
-        if name in needed:
-            below = gate.crates_listed()[name]
-            proved[name] = all(proved.get(it, True) for it in below) and prove(all_crates, name)
-        crate = by_name.get(name)
-        if crate and left[name] and proved[name]:
-            run.start(crate, left[name])
-        elif crate:
-            for edit in left[name]:
-                run.say(crate, edit, Answer(UNTRIED, "the crate is not proved as it stands"))
-            crate.base.remove()
+    going: "Dict[Future[bool], str]" = {}
+    with ThreadPoolExecutor(provers) as pool:
+        while waiting or going:
+            for name in [it for it in waiting if proved.keys() >= set(bases_of[it].below)]:
+                if len(going) < provers:
+                    waiting.remove(name)
+                    is_possible = all(proved[it] for it in bases_of[name].below)
+                    going[pool.submit(prove, run, bases_of[name], is_possible)] = name
+            for ended in wait(going, return_when=FIRST_COMPLETED).done:
+                name = going.pop(ended)
+                proved[name] = ended.result()
+                if left.get(name):
+                    try_crate(run, found[name], left[name], proved[name])
     run.pool.shutdown()
 
 
 def report(run: Run, seconds: float) -> int:
     """Prints what the run came to, and returns the status."""
-    for name, (checks, edits, used) in sorted(run.costs.items()):
-        print(f"{name}: {edits} in {checks} checks, {used:.0f} processor seconds")
+    for name, checks in sorted(run.costs.items()):
+        proof = sum(seconds for seconds, edits in checks if not edits)
+        each = [f"{edits} in {seconds:.0f}" for seconds, edits in checks if edits]
+        print(f"{name}: processor seconds: its proof {proof:.0f}; mutants {', '.join(each) or 'none'}")
     tried = sum(not it.is_kept for it in run.answers)
     print(f"tried in this run: {tried} of {len(run.answers)}; {seconds:.0f} s")
     if run.failed:
@@ -212,7 +232,8 @@ def main() -> int:
         formatter_class=argparse.RawDescriptionHelpFormatter,
     )
     lanes = len(os.sched_getaffinity(0))
-    words.add_argument("--lanes", type=int, default=lanes, help="how many checks run side by side")
+    words.add_argument("--lanes", type=int, default=lanes, help="how many rounds run side by side")
+    words.add_argument("--provers", type=int, help="how many crates are proved side by side")
     words.add_argument("--anew", action="store_true", help="try also what was refused before")
     words.add_argument("crates", nargs="*", metavar="CRATE")
     given = words.parse_args()
@@ -223,8 +244,8 @@ def main() -> int:
     began = time.monotonic()
     names = [it for it in given.crates or listed if edit_files(f"{TOP}/crates/{it}")]
     run = Run(given.lanes, kept.Kept(given.anew))
-    with copy_of_all() as all_crates:
-        try_all(run, all_crates, names)
+    with bases() as all_bases:
+        try_all(run, given.provers or given.lanes, all_bases, names)
     return report(run, time.monotonic() - began)
 
 

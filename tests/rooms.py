@@ -1,11 +1,11 @@
-"""Copies of crates: one of all, where they are proved as they stand, and others in temporary folders,
-where one is checked with other texts.
+"""Copies of crates: of each a base, where it is proved as it stands, and others in temporary folders,
+where it is checked with other texts.
 
-The copy of all stands in the folder of git, where `rt ci` leaves it alone: it sets aside what checks
-kept in the repository, and may run meanwhile. The toolchain begins there with what checks kept in
-the repository, and the other way round. A temporary copy has a crate and those below it, with what
-was kept of their proofs: of the crate its checked modules, of those below their libraries. Each copy
-is a repository: `rt` works there.
+A base has the crate and those below it, of these with their libraries, so that no two checks wait
+for one another. All bases stand in the folder of git, where `rt ci` leaves them alone: it sets aside
+what checks kept in the repository, and may run meanwhile. The toolchain begins there with what
+checks kept in the repository, and the other way round. A temporary copy has what was proved in the
+base. Each copy is a repository: `rt` works there.
 """
 
 import contextlib
@@ -15,7 +15,7 @@ import re
 import shutil
 import subprocess
 import tempfile
-from typing import Dict, Iterator, List, NamedTuple, Optional, Tuple
+from typing import Callable, Dict, Iterator, List, NamedTuple, Optional, Tuple
 
 import bodies
 import gate
@@ -46,70 +46,62 @@ def git_folder() -> Optional[str]:
 
 
 @contextlib.contextmanager
-def copy_of_all() -> Iterator[str]:
-    """Gives the folder with the copy of all crates, as they stand now. One command has it at a time,
-    and others wait. What is proved there stays, but for a tree that is no repository."""
+def bases() -> Iterator[str]:
+    """Gives the folder where all bases stand. One command has it at a time, and others wait. What is
+    proved there stays, but for a tree that is no repository."""
     git = git_folder()
     with contextlib.ExitStack() as stack:
         if git:
             top = f"{git}/asancol-proved"
         else:
             top = stack.enter_context(tempfile.TemporaryDirectory(prefix="asancol-proved-"))
-        os.makedirs(f"{top}/crates", exist_ok=True)
+        os.makedirs(top, exist_ok=True)
         lock = stack.enter_context(open(f"{top}/lock", "w", encoding="utf-8"))
         fcntl.flock(lock, fcntl.LOCK_EX)
-        copy_crates(top)
+        for name in set(os.listdir(top)) - {*gate.crates_listed(), "lock"}:
+            shutil.rmtree(f"{top}/{name}")
         yield top
 
 
-def copy_crates(top: str) -> None:
-    """Gives a folder the crates' texts as they stand now, and leaves what was proved there."""
-    listed = gate.crates_listed()
-    for name in set(os.listdir(f"{top}/crates")) - set(listed):
-        shutil.rmtree(f"{top}/crates/{name}")
-    for name in listed:
-        for part in PARTS:
-            shutil.rmtree(f"{top}/crates/{name}/{part}", ignore_errors=True)
-            if os.path.isdir(f"{TOP}/crates/{name}/{part}"):
-                shutil.copytree(f"{TOP}/crates/{name}/{part}", f"{top}/crates/{name}/{part}")
-    for name in ("crates.txt", "HANDLES"):
-        shutil.copy(f"{TOP}/{name}", top)
-
-
 class Base:
-    """A copy of a crate and of those below it, of the copy of all."""
+    """A copy of a crate and of those below it, with the crates' texts as they stand now."""
 
-    def __init__(self, all_crates: str, crate: str) -> None:
-        self.all_crates = all_crates
+    def __init__(self, all_bases: str, crate: str) -> None:
+        self.all_bases = all_bases
         self.crate = crate
         self.below = crates_below(crate)
-        self.made = tempfile.TemporaryDirectory(prefix="asancol-base-")
-        self.top = self.made.name
+        self.top = f"{all_bases}/{crate}"
         self.folder = f"{self.top}/crates/{crate}"
         self.modules: Dict[str, Tuple[int, int, int]] = {}
-        with open(f"{self.top}/crates.txt", "w", encoding="utf-8") as file:
-            for line in bodies.read(f"{all_crates}/crates.txt").splitlines(True):
-                if re.split(r"[\s:]", line)[0] in [crate, *self.below]:
-                    file.write(line)
-        shutil.copy(f"{all_crates}/HANDLES", self.top)
+        os.makedirs(f"{self.top}/crates", exist_ok=True)
+        for name in set(os.listdir(f"{self.top}/crates")) - {crate, *self.below}:
+            shutil.rmtree(f"{self.top}/crates/{name}")
         for name in [crate, *self.below]:
             for part in PARTS:
-                here = f"crates/{name}/{part}"
-                if os.path.isdir(f"{all_crates}/{here}"):
-                    shutil.copytree(f"{all_crates}/{here}", f"{self.top}/{here}")
+                copy_folder(f"{TOP}/crates/{name}/{part}", f"{self.top}/crates/{name}/{part}")
+        shutil.copy(f"{TOP}/HANDLES", self.top)
+        with open(f"{self.top}/crates.txt", "w", encoding="utf-8") as file:
+            for line in bodies.read(f"{TOP}/crates.txt").splitlines(True):
+                if re.split(r"[\s:]", line)[0] in [crate, *self.below]:
+                    file.write(line)
 
     def files(self) -> List[str]:
-        """Returns all files of the copy, in order."""
-        return sorted(f"{at}/{it}" for at, _, names in os.walk(self.top) for it in names)
+        """Returns all files that a check of the crate reads, in order."""
+        tops = [f"{self.top}/crates/{it}/{part}" for it in [self.crate, *self.below] for part in PARTS]
+        walked = [(at, names) for top in tops for at, _, names in os.walk(top)]
+        found = [f"{at}/{it}" for at, names in walked for it in names]
+        return sorted([*found, f"{self.top}/crates.txt", f"{self.top}/HANDLES"])
 
-    def take_work(self) -> None:
-        """Takes what was proved in the copy of all."""
-        for name in [self.crate, *self.below]:
-            kept = f"crates/{name}/out/{'incremental' if name == self.crate else 'rlib'}"
-            if os.path.isdir(f"{self.all_crates}/{kept}"):
-                here = f"{self.all_crates}/{kept}"
-                shutil.copytree(here, f"{self.top}/{kept}", copy_function=link)
+    def prove(self) -> "Ran":
+        """Proves the crate, over what checks kept, and leaves its library for those above. Those
+        below it are proved."""
+        for name in self.below:
+            shutil.rmtree(f"{self.top}/crates/{name}/out", ignore_errors=True)
+            rlib = f"crates/{name}/out/rlib"
+            copy_folder(f"{self.all_bases}/{name}/{rlib}", f"{self.top}/{rlib}", link)
+        made = ran(["rt", "lib", "--jobs", "1"], self.folder)
         self.modules = listing(self.folder)
+        return made
 
     def is_unchanged(self) -> bool:
         """Returns whether each checked module is as it was: the copies share their files."""
@@ -119,7 +111,9 @@ class Base:
     def room(self, texts: Dict[str, str], copies: List[Copy]) -> Iterator[str]:
         """Makes a copy with other texts in it, and gives the crate's folder there."""
         with tempfile.TemporaryDirectory(prefix="asancol-mutants-") as room:
-            shutil.copytree(self.top, room, copy_function=link, dirs_exist_ok=True)
+            own = f"{self.folder}/out"
+            leave = lambda at, names: set(names) - {"incremental"} if at == own else ()
+            shutil.copytree(self.top, room, ignore=leave, copy_function=link, dirs_exist_ok=True)
             folder = f"{room}/crates/{self.crate}"
             for path, text in texts.items():
                 write(f"{folder}/{path}", text)
@@ -128,8 +122,12 @@ class Base:
                     copy_proofs(f"{folder}/proofs", old, new)
             yield folder
 
-    def remove(self) -> None:
-        self.made.cleanup()
+
+def copy_folder(one: str, other: str, copy: Callable[[str, str], object] = shutil.copy2) -> None:
+    """Copies a folder in another's place, if it is there."""
+    shutil.rmtree(other, ignore_errors=True)
+    if os.path.isdir(one):
+        shutil.copytree(one, other, copy_function=copy)
 
 
 def link(one: str, other: str) -> None:

@@ -3,12 +3,14 @@
 A mutant may stand in two ways.
 
 - Beside: as one more function after the right one, under the same clauses and with a copy of its
-  proof files. Nothing calls it, so any number of them fit into one check of the whole crate. If
-  there are proof files, a copy of the right body with such files stands there too, as a control:
-  it has to be proved, else the edits of its function show nothing there.
-- In place, if the function can't have another beside it, as a method of a trait. Then a round is a
-  check of some functions, none of which calls another of them, so that all that each rests on is
-  as it was.
+  proof files. Nothing calls it, so any number of them fit into one check. If there are proof files,
+  a copy of the right body with such files stands there too, as a control: it has to be proved, else
+  the edits of its function show nothing there.
+- In place, where no other body of the check calls its function, by any way, so that all that each
+  rests on is as it was. So stand methods of traits, which can't have another beside them, and
+  functions with proof files and one edit, which then need no control.
+
+A check is of the bodies that an edit changes, of the copies and of the controls, and of nothing else.
 """
 
 import re
@@ -40,8 +42,8 @@ class Copy(NamedTuple):
 
 
 class Round(NamedTuple):
-    """One check: its edits, the texts of the files with all of them, the copy that each has, by its
-    name, and the controls, by the function whose copies they are. In place there are no copies."""
+    """One check: its edits, the texts of the files with all of them, the copy of each that stands
+    beside the right body, by its name, and the controls, by the function whose copies they are."""
 
     edits: List[Edit]
     texts: Dict[str, str]
@@ -51,9 +53,23 @@ class Round(NamedTuple):
     def all_copies(self) -> List[Copy]:
         return [*self.controls.values(), *self.copies.values()]
 
+    def paths(self) -> List[str]:
+        """Returns the functions that the check is of, as `--only` takes them."""
+        of = [(it.name, it.original) for it in self.all_copies()]
+        placed = [it for it in self.edits if it.name not in self.copies]
+        of += [(name, it.was) for edit in placed for name, it in edit.changes.items()]
+        return sorted({path_of(*it) for it in of})
+
     def changed(self, edit: Edit) -> List[str]:
         """Returns the functions that are wrong by an edit, by their names by file."""
-        return [self.copies[edit.name].name] if self.copies else list(edit.changes)
+        copy = self.copies.get(edit.name)
+        return [copy.name] if copy else list(edit.changes)
+
+
+def path_of(name: str, function: Function) -> str:
+    """Returns a function's path in its crate: of a method, that from its type on."""
+    kind, _, last = name.rpartition("::")
+    return f"{kind.rpartition('::')[2]}::{last}" if function.block else name.partition("::")[2]
 
 
 def shared_out(source: Source, edits: List[Edit]) -> List[Round]:
@@ -63,12 +79,14 @@ def shared_out(source: Source, edits: List[Edit]) -> List[Round]:
     apart.sort(key=lambda it: list(it.changes))
     count = -(-len(apart) // MOST)
     ends = [len(apart) * number // count for number in range(count + 1)] if count else []
-    found = [beside(source, apart[one:other]) for one, other in zip(ends, ends[1:])]
-    left = [it for it in edits if it not in apart]
-    while left:
-        found.append(in_place(source, independent(source, left)))
-        left = [it for it in left if it not in found[-1].edits]
-    return found
+    shares = [(apart[one:other], in_place_of_control(source, apart[one:other])) for one, other in zip(ends, ends[1:])]
+    for edit in edits:
+        if edit not in apart:
+            fit = [it for it in shares if may_join(source, edit, *it)]
+            if not fit:
+                shares.append(([], []))
+            (fit or shares[-1:])[0][1].append(edit)
+    return [made(source, [it for it in beside if it not in placed], placed) for beside, placed in shares]
 
 
 def may_stand_beside(source: Source, edit: Edit) -> bool:
@@ -77,40 +95,23 @@ def may_stand_beside(source: Source, edit: Edit) -> bool:
     return len(names) == 1 and is_free and source.proofs_of(names[0]) is not None
 
 
-def beside(source: Source, edits: List[Edit]) -> Round:
-    """Has each edit stand beside the right body."""
-    made = Round(edits, {}, {}, {})
-    for number, edit in enumerate(edits, 1):
-        name, change = next(iter(edit.changes.items()))
-        proofs = source.proofs_of(name) or []
-        if proofs and name not in made.controls:
-            right = change._replace(now=change.was)
-            made.controls[name] = copy_of(f"{name}_right_{number}", right, proofs)
-        made.copies[edit.name] = copy_of(f"{name}_mutant_{number}", change, proofs)
-    for path in {it.path for it in made.all_copies()}:
-        here = [it for it in made.all_copies() if it.path == path]
-        made.texts[path] = with_copies(bodies.read(f"{source.folder}/{path}"), here)
-    return made
+def in_place_of_control(source: Source, edits: List[Edit]) -> List[Edit]:
+    """Returns those that stand in place since each then needs no control: the one edit of a function
+    with proof files that no other of these functions calls."""
+    of = [next(iter(it.changes)) for it in edits]
+    return [
+        edit
+        for edit, name in zip(edits, of)
+        if of.count(name) == 1
+        and source.proofs_of(name)
+        and not any(name in source.reached(it) for it in of)
+    ]
 
 
-def copy_of(name: str, change: Change, proofs: List[str]) -> Copy:
-    text = change.now.named(name.rpartition("::")[2])
-    return Copy(name, change.path, change.was, text, proofs)
-
-
-def with_copies(text: str, copies: List[Copy]) -> str:
-    for copy in sorted(copies, key=lambda it: -it.original.end):
-        text = f"{text[: copy.original.end]}\n{copy.text}{text[copy.original.end :]}"
-    return text
-
-
-def independent(source: Source, edits: List[Edit]) -> List[Edit]:
-    """Takes edits of which none has a function that calls another's, by any way."""
-    taken: List[Edit] = []
-    for edit in edits:
-        if not any(meet(source, edit, it) for it in taken):
-            taken.append(edit)
-    return taken
+def may_join(source: Source, edit: Edit, beside: List[Edit], placed: List[Edit]) -> bool:
+    """Returns whether an edit may stand in place in a check with these."""
+    called = {it for other in beside for name in other.changes for it in [name, *source.reached(name)]}
+    return not called & set(edit.changes) and not any(meet(source, edit, it) for it in placed)
 
 
 def meet(source: Source, one: Edit, other: Edit) -> bool:
@@ -121,12 +122,33 @@ def meet(source: Source, one: Edit, other: Edit) -> bool:
     )
 
 
-def in_place(source: Source, edits: List[Edit]) -> Round:
-    """Has each edit stand in its place."""
-    made = Round(edits, {}, {}, {})
-    changes = [it for edit in edits for it in edit.changes.values()]
-    for change in sorted(changes, key=lambda it: -it.was.start):
-        text = made.texts.get(change.path) or bodies.read(f"{source.folder}/{change.path}")
-        now = change.now.named(change.now.name)
-        made.texts[change.path] = text[: change.was.start] + now + text[change.was.end :]
-    return made
+def made(source: Source, beside: List[Edit], placed: List[Edit]) -> Round:
+    """Makes a round of edits that stand beside the right bodies and others that stand in place."""
+    found = Round([*beside, *placed], {}, {}, {})
+    for number, edit in enumerate(beside, 1):
+        name, change = next(iter(edit.changes.items()))
+        proofs = source.proofs_of(name) or []
+        if proofs and name not in found.controls:
+            right = change._replace(now=change.was)
+            found.controls[name] = copy_of(f"{name}_right_{number}", right, proofs)
+        found.copies[edit.name] = copy_of(f"{name}_mutant_{number}", change, proofs)
+    changes = [it for edit in placed for it in edit.changes.values()]
+    for path in {it.path for it in [*found.all_copies(), *changes]}:
+        text = bodies.read(f"{source.folder}/{path}")
+        found.texts[path] = with_all(text, found.all_copies(), changes, path)
+    return found
+
+
+def copy_of(name: str, change: Change, proofs: List[str]) -> Copy:
+    text = change.now.named(name.rpartition("::")[2])
+    return Copy(name, change.path, change.was, text, proofs)
+
+
+def with_all(text: str, copies: List[Copy], changes: List[Change], path: str) -> str:
+    """Returns the text of a file with its copies, each after the function that it is a copy of, and
+    its changes, each in its place."""
+    parts = [(it.original.end, it.original.end, f"\n{it.text}") for it in copies if it.path == path]
+    parts += [(it.was.start, it.was.end, it.now.named(it.now.name)) for it in changes if it.path == path]
+    for start, end, new in sorted(parts, key=lambda it: -it[0]):
+        text = text[:start] + new + text[end:]
+    return text

@@ -66,8 +66,6 @@ class Verdicts:
         self.messages = messages_in(ran.lines)
         found = [VERDICT.match(it) for it in ran.lines]
         self.printed = {it[2]: it[3] + it[4] for it in found if it and it[1] == "fn"}
-        # Types, traits and impls. An impl's line says of its methods too.
-        self.others = {f"{it[1]} {it[2]}": it[3] for it in found if it and it[1] != "fn"}
         # Where each function of the changed files stands.
         self.places: Dict[str, Tuple[str, range]] = {}
         for path, text in tried.texts.items():
@@ -114,13 +112,10 @@ class Verdicts:
             for it, said in self.printed.items()
             if it not in printed and not any(part in it for part in inside)
         }
-        left.update(self.others if self.tried.copies else {})
         found = [it for it, said in left.items() if not said.startswith("proved")]
-        if self.tried.copies:
-            of_names = [it for name in names for it in self.messages_on(name)]
-            errors = [it for it in self.messages if it.says.startswith("error")]
-            found += [f"{it.path}:{it.line}" for it in errors if it not in of_names]
-        return found
+        of_names = [it for name in names for it in self.messages_on(name)]
+        errors = [it for it in self.messages if it.says.startswith("error")]
+        return found + [f"{it.path}:{it.line}" for it in errors if it not in of_names]
 
     def troubles(self) -> List[str]:
         """Returns what keeps the round from saying something clear."""
