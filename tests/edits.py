@@ -7,7 +7,7 @@ lines `file:`, `old:` and `new:`, and each `old:` stands once in its file.
 import glob
 import os
 import re
-from typing import Dict, List, NamedTuple, Optional, Set, Tuple
+from typing import Callable, Dict, List, NamedTuple, Optional, Set, Tuple
 
 import bodies
 from bodies import Function
@@ -58,6 +58,17 @@ def path_name(crate: str, path: str, function: Function) -> str:
     return "::".join([*parts, function.name])
 
 
+def closure(name: str, step: Callable[[str], Set[str]]) -> Set[str]:
+    """Returns all names that steps lead to from this one."""
+    found: Set[str] = set()
+    left = [name]
+    while left:
+        new = step(left.pop()) - found
+        found |= new
+        left += new
+    return found
+
+
 class Source:
     """The text of a crate: its functions, each by its name by file."""
 
@@ -71,6 +82,7 @@ class Source:
                 for it in bodies.functions_in(bodies.read(f"{at}/{file}")):
                     self.functions[path_name(crate, path, it)] = (path, it)
         self.reach: Dict[str, Set[str]] = {}
+        self.rests: Dict[str, Set[str]] = {}
 
     def edit(self, file: str) -> Edit:
         """Reads an edit."""
@@ -113,14 +125,22 @@ class Source:
         It goes by names, so there can be too many. If one is missed, the check says of its caller
         that it calls what is not proved, which counts for nothing."""
         if name not in self.reach:
-            found: Set[str] = set()
-            left = [name]
-            while left:
-                new = self.called(left.pop()) - found
-                found |= new
-                left += new
-            self.reach[name] = found
+            self.reach[name] = closure(name, self.called)
         return self.reach[name]
+
+    def rests_on(self, name: str) -> Set[str]:
+        """Returns the functions that have to be proved for this one to be: those reached, and the
+        others of each impl of a trait that one of them stands in."""
+        if name not in self.rests:
+            self.rests[name] = closure(name, lambda it: self.called(it) | self.of_impl(it))
+        return self.rests[name]
+
+    def of_impl(self, name: str) -> Set[str]:
+        """Returns the functions of the impl of a trait that this one stands in."""
+        if " for " not in self.functions[name][1].block:
+            return set()
+        kind = name.rpartition("::")[0]
+        return {it for it in self.functions if it.rpartition("::")[0] == kind}
 
     def called(self, name: str) -> Set[str]:
         """Returns the functions that may be called by the text of this one."""

@@ -6,8 +6,8 @@ A mutant may stand in two ways.
   proof files. Nothing calls it, so any number of them fit into one check. If there are proof files,
   a copy of the right body with such files stands there too, as a control: it has to be proved, else
   the edits of its function show nothing there.
-- In place, where no other body of the check calls its function, by any way, so that all that each
-  rests on is as it was. So stand methods of traits, which can't have another beside them, and
+- In place, where no other body of the check rests on its function, so that all that each rests on is
+  as it was. So stand methods of traits, which can't have another beside them, and
   functions with proof files and one edit, which then need no control.
 
 A check is of the bodies that an edit changes, of the copies and of the controls, and of nothing else.
@@ -104,14 +104,14 @@ def in_place_of_control(source: Source, edits: List[Edit]) -> List[Edit]:
         for edit, name in zip(edits, of)
         if of.count(name) == 1
         and source.proofs_of(name)
-        and not any(name in source.reached(it) for it in of)
+        and not any(name in source.rests_on(it) for it in of)
     ]
 
 
 def may_join(source: Source, edit: Edit, beside: List[Edit], placed: List[Edit]) -> bool:
     """Returns whether an edit may stand in place in a check with these."""
-    called = {it for other in beside for name in other.changes for it in [name, *source.reached(name)]}
-    return not called & set(edit.changes) and not any(meet(source, edit, it) for it in placed)
+    needed = {it for other in beside for name in other.changes for it in [name, *source.rests_on(name)]}
+    return not needed & set(edit.changes) and not any(meet(source, edit, it) for it in placed)
 
 
 def meet(source: Source, one: Edit, other: Edit) -> bool:
