@@ -139,7 +139,8 @@ pub(crate) fn check_each<A: Allocator + Copy>(checker: &mut Checker<A>, events: 
 }
 
 /// Has the checker fetch the next events, if it has not fetched the first of them. Returns how many
-/// of them it has fetched.
+/// of them are not to be fetched again. Between loads and stores, one or two mallocs or frees are
+/// not fetched at all: too few wait for memory at the same time.
 #[inline]
 fn fetch_ahead<A: Allocator + Copy>(
     checker: &mut Checker<A>,
@@ -153,9 +154,25 @@ fn fetch_ahead<A: Allocator + Copy>(
     if fetched > 0 {
         return fetched;
     }
+    if !begin_with_changes(events) {
+        return 1;
+    }
     let count = events.len().min(MAX_FETCHED);
     checker.fetch(&events[..count]);
     count
+}
+
+/// Whether each of the next three events is another one than a load or store. No clause speaks of
+/// it.
+#[inline]
+fn begin_with_changes(events: &[Event]) -> bool {
+    events.len() > 2 && is_change(&events[1]) && is_change(&events[2])
+}
+
+/// Whether an event is another one than a load or store.
+#[inline]
+fn is_change(event: &Event) -> bool {
+    !matches!(event, Event::Load(_) | Event::Store(_))
 }
 
 /// What became of a feed whose checker was handed this number of events.
