@@ -13,7 +13,7 @@ EXAMPLE := examples/one_byte_past_the_end.trace
 REDZONES := examples/stack_and_global_poison.trace
 
 .PHONY: all demo check check-mutants check-mutants-alone stress fuzz fuzz-parsers failures bench soak install \
-        uninstall clean recorder docs check-recorder check-real check-suites bench-record stress-record \
+        uninstall clean recorder docs check-recorder check-real check-suites bench-record bench-suites stress-record \
         stress-segments install-recorder run check-run check-farm bench-run bench-scale install-run install-units \
         options dist deb check-packages lint release test
 
@@ -118,6 +118,11 @@ bench: asancol
 # the real programs come as for check-real, or these are left out.
 bench-record: recorder
 	recorder/tests/bench.py
+
+# What the suites of check-real cost under asancol-run, beside AddressSanitizer: half an hour, on a machine with nothing
+# else to do.
+bench-suites: asancol recorder run
+	recorder/tests/bench_suites.py ./asancol
 
 # The command that runs and checks others: plain C. It needs asancol when it runs.
 run:
