@@ -26,10 +26,6 @@ admitted_placed taken b ok =
 -- every live block is placed
 pub live_placed : (bound : ℕ) (past : List Event) (b : Extent) → Contains (live bound past) b → IsPlaced b
 live_placed bound [] b has = absurd (in_none b has)
-live_placed bound (event.Load a ∷ past) b has = live_placed bound past b has
-live_placed bound (event.Store a ∷ past) b has = live_placed bound past b has
-live_placed bound (event.Poison r ∷ past) b has = live_placed bound past b has
-live_placed bound (event.Unpoison r ∷ past) b has = live_placed bound past b has
 live_placed bound (event.Free p ∷ past) b has =
     live_placed bound past b (from_filtered (λ x. not (starts_at p.at x)) (live bound past) b
     (rw (live_free bound p past) at has)).0
@@ -41,6 +37,7 @@ live_placed bound (event.Malloc r ∷ past) b has =
       ]
       | inr refused ↦ live_placed bound past b (rw refused at has)
     ]
+live_placed bound (e ∷ past) b has = live_placed bound past b has
 
 -- no live block starts at address 0: a free there is of none
 pub none_at_zero : (bound : ℕ) (past : List Event) (at : ℕ) → at ≡ 0 → list_any (starts_at at) (live bound past) ≡ false

@@ -50,11 +50,6 @@ numbers_push n (c ∷ blocks) b h le = (h.0, numbers_push n blocks b h.1 le)
 -- a block's number is that of an event of the history
 numbers : (bound : ℕ) (past : List Event) → NumbersUpTo (length past) (admitted_blocks bound past)
 numbers bound [] = tt
-numbers bound (event.Load a ∷ past) = rw (← add-one) (numbers_more _ _ (numbers bound past))
-numbers bound (event.Store a ∷ past) = rw (← add-one) (numbers_more _ _ (numbers bound past))
-numbers bound (event.Free a ∷ past) = rw (← add-one) (numbers_more _ _ (numbers bound past))
-numbers bound (event.Poison a ∷ past) = rw (← add-one) (numbers_more _ _ (numbers bound past))
-numbers bound (event.Unpoison a ∷ past) = rw (← add-one) (numbers_more _ _ (numbers bound past))
 numbers bound (event.Malloc r ∷ past) = go (admits bound past (block_of r)) (numbers_more _ _ (numbers bound past))
   where
     go : (b : Bool) → NumbersUpTo (length past + 1) (admitted_blocks bound past) →
@@ -62,15 +57,11 @@ numbers bound (event.Malloc r ∷ past) = go (admits bound past (block_of r)) (n
         ++ record { number = length past + 1; block = block_of r } ∷ []) (admitted_blocks bound past))
     go true more = rw (← add-one) (numbers_push _ _ _ more (omega arith))
     go false more = rw (← add-one) more
+numbers bound (e ∷ past) = rw (← add-one) (numbers_more _ _ (numbers bound past))
 
 -- no free stands after an event that has not come
 unfreed_new : (past : List Event) (at n : ℕ) → length past < n → is_freed_since past at n ≡ false
 unfreed_new [] at n lt = refl
-unfreed_new (event.Load a ∷ past) at n lt = unfreed_new past at n (omega arith)
-unfreed_new (event.Store a ∷ past) at n lt = unfreed_new past at n (omega arith)
-unfreed_new (event.Malloc a ∷ past) at n lt = unfreed_new past at n (omega arith)
-unfreed_new (event.Poison a ∷ past) at n lt = unfreed_new past at n (omega arith)
-unfreed_new (event.Unpoison a ∷ past) at n lt = unfreed_new past at n (omega arith)
 unfreed_new (event.Free p ∷ past) at n lt =
     let no : leb n (length past) ≡ false = grind (arith, nat_tests) in
     rw (no, unfreed_new past at n (omega arith)) (and_false (eqb p.at at))
@@ -78,6 +69,7 @@ unfreed_new (event.Free p ∷ past) at n lt =
     and_false : (b : Bool) → ((b && false) || false) ≡ false
     and_false true = refl
     and_false false = refl
+unfreed_new (e ∷ past) at n lt = unfreed_new past at n (omega arith)
 
 -- ---- the live blocks
 
@@ -142,11 +134,6 @@ freed_free bound p past = ap (λ xs. freed bound past ++ xs) (taken (admitted_bl
 freed_new : (past : List Event) (blocks : List Admitted) (b : Admitted) → length past < b.number
     → freed_among past (blocks ++ b ∷ []) ≡ freed_among past blocks
 freed_new [] blocks b lt = refl
-freed_new (event.Load a ∷ past) blocks b lt = freed_new past blocks b (omega arith)
-freed_new (event.Store a ∷ past) blocks b lt = freed_new past blocks b (omega arith)
-freed_new (event.Malloc a ∷ past) blocks b lt = freed_new past blocks b (omega arith)
-freed_new (event.Poison a ∷ past) blocks b lt = freed_new past blocks b (omega arith)
-freed_new (event.Unpoison a ∷ past) blocks b lt = freed_new past blocks b (omega arith)
 freed_new (event.Free p ∷ past) blocks b lt =
     let later : leb b.number (length past) ≡ false = grind (arith, nat_tests) in
     let none : (eqb b.block.at p.at && leb b.number (length past) && is_unfreed past b) ≡ false =
@@ -156,6 +143,7 @@ freed_new (event.Free p ∷ past) blocks b lt =
     neither : (x y : Bool) → (x && false && y) ≡ false
     neither true y = refl
     neither false y = refl
+freed_new (e ∷ past) blocks b lt = freed_new past blocks b (omega arith)
 
 -- a malloc, admitted or not, leaves them
 pub freed_malloc : (bound : ℕ) (r : Region) (past : List Event) → freed bound (event.Malloc r ∷ past) ≡ freed bound past
@@ -189,10 +177,6 @@ none_apart = tt
 -- the spans of live and held blocks never meet
 pub spans_apart : (bound : ℕ) (past : List Event) → IsDistinct meets (live bound past ++ held bound past)
 spans_apart bound [] = none_apart
-spans_apart bound (event.Load a ∷ past) = spans_apart bound past
-spans_apart bound (event.Store a ∷ past) = spans_apart bound past
-spans_apart bound (event.Poison a ∷ past) = spans_apart bound past
-spans_apart bound (event.Unpoison a ∷ past) = spans_apart bound past
 spans_apart bound (event.Free p ∷ past) =
     rw (live_free bound p past, freed_free bound p past)
     (apart-freed (starts_at p.at) bound (live bound past) (freed bound past) (spans_apart bound past))
@@ -203,3 +187,4 @@ spans_apart bound (event.Malloc r ∷ past) = go (admits bound past (block_of r)
     go true ok before = rw (live_malloc bound r past ok, freed_malloc bound r past)
         (apart_pushed (live bound past) (held bound past) (block_of r) before ok)
     go false is before = rw is before
+spans_apart bound (e ∷ past) = spans_apart bound past

@@ -100,10 +100,16 @@ abbrev pub with_marks : (Extent → Mark) → List Extent → List Mark → List
 with_marks mark [] marks = marks
 with_marks mark (b ∷ blocks) marks = with_marks mark blocks (mark b ∷ marks)
 
+-- the marks that an event is itself, whatever came before it: a poison and an unpoison are one each
+abbrev pub own_marks : Event → List Mark
+own_marks (event.Poison s) = Poison s.at (shade_size s) (code_of_kind (shade_kind s)) ∷ []
+own_marks (event.Unpoison r) = Unpoison r.at r.size ∷ []
+own_marks e = []
+
 -- the marks of a history, the newest first. An admitted malloc lays its block. A free of a live
 -- block marks its bytes as freed, and then releases each block that was held before, or that it
--- freed, and that is not held after it, oldest free first. Poison and unpoison are marks
--- themselves.
+-- freed, and that is not held after it, oldest free first. Any other event adds the marks that it
+-- is itself.
 abbrev pub marks : ℕ → List Event → List Mark
 marks bound [] = []
 marks bound (event.Malloc r ∷ past) =
@@ -114,8 +120,4 @@ marks bound (event.Free p ∷ past) =
     in with_marks released_mark
     (released_from (held bound past ++ freed_now) (held bound (event.Free p ∷ past)))
     (with_marks freed_mark freed_now (marks bound past))
-marks bound (event.Poison s ∷ past) =
-    Poison s.at (shade_size s) (code_of_kind (shade_kind s)) ∷ marks bound past
-marks bound (event.Unpoison r ∷ past) = Unpoison r.at r.size ∷ marks bound past
-marks bound (event.Load a ∷ past) = marks bound past
-marks bound (event.Store a ∷ past) = marks bound past
+marks bound (e ∷ past) = own_marks e ++ marks bound past
