@@ -11,7 +11,6 @@ use Rattle.trace_record.specs.declared.event.Event.TheVariants as event
 use Rattle.trace_record.specs.declared.event.Access.{Access}
 use Rattle.trace_record.specs.declared.event.Place.{Place}
 use Rattle.trace_record.specs.declared.event.Region.{Region}
-use Rattle.trace_record.specs.Shades.{shade_size, shade_kind}
 use Rattle.shadow_map.specs.States.{Mark, Fill, Block, Poison, Unpoison, IsMark, AreMarks, state_of}
 use Rattle.shadow_map.specs.States.{lift}
 use Rattle.shadow_map.specs.Causes.{deciding_granule}
@@ -19,9 +18,8 @@ use Rattle.shadow_map.proofs.Bytes.{MakesOfBytes, fill_makes, block_makes, poiso
 use Rattle.heap_book.specs.Spans.{Extent, meets, starts_at}
 use Rattle.asan_check.specs.declared.report.Fault.{Fault}
 use Rattle.asan_check.specs.declared.report.Report.{Report}
-use Rattle.asan_check.specs.Codes.{code_of_kind}
 use Rattle.asan_check.specs.History.{block_of, live, held, admits, marks, with_marks, freed_mark, released_mark}
-use Rattle.asan_check.specs.History.{released_from}
+use Rattle.asan_check.specs.History.{released_from, own_marks}
 use Rattle.asan_check.specs.Verdicts.{fault_of, verdicts, verdicts_of}
 use Rattle.asan_laws.specs.Thinning.{faults_of, LeaveTheSame}
 use Rattle.asan_laws.specs.Snapshots.{StandTheSame, later_by}
@@ -93,8 +91,7 @@ module _ (bound : ℕ) (one other : List Event) (same : StandTheSame bound one o
   alike_fault (event.Store a) = found_fault bound one other true a (finds a)
   alike_fault (event.Malloc r) = malloc_same bound [] one other blocks r (none_cut r)
   alike_fault (event.Free p) = rw (same_any bound [] one other blocks p, same.same_held) refl
-  alike_fault (event.Poison s) = refl
-  alike_fault (event.Unpoison r) = refl
+  alike_fault e = refl
 
   same_held_after_free : (p : Place) → held bound (event.Free p ∷ one) ≡ held bound (event.Free p ∷ other)
   same_held_after_free p = held_free bound p one
@@ -117,9 +114,12 @@ module _ (bound : ℕ) (one other : List Event) (same : StandTheSame bound one o
       (are_before released_mark gone (with_marks freed_mark now (marks bound one)) ok)
       (are_before released_mark gone (with_marks freed_mark now (marks bound other)) also) same.same_shadow))
 
-  same_shadow_after : (mark : Mark) → IsMark mark → SameShadow (mark ∷ marks bound one) (mark ∷ marks bound other)
-  same_shadow_after mark is = one_mark mark is (marks bound one) (marks bound other) (are_marks bound one)
-      (are_marks bound other) same.same_shadow
+  same_shadow_after : (laid : List Mark) → AreMarks (laid ++ marks bound one) → AreMarks (laid ++ marks bound other)
+      → SameShadow (laid ++ marks bound one) (laid ++ marks bound other)
+  same_shadow_after [] ok also = same.same_shadow
+  same_shadow_after (mark ∷ laid) ok also =
+      one_mark mark ok.0 (laid ++ marks bound one) (laid ++ marks bound other) ok.1 also.1
+      (same_shadow_after laid ok.1 also.1)
 
   same_shadow_after_malloc : (r : Region)
       → SameShadow (marks bound (event.Malloc r ∷ one)) (marks bound (event.Malloc r ∷ other))
@@ -127,33 +127,13 @@ module _ (bound : ℕ) (one other : List Event) (same : StandTheSame bound one o
       let admits_same = same_admits bound [] one other blocks r (none_cut r) in
       elim (cases_Bool (admits bound other (block_of r))) [
         | inl ok ↦ let ok' = admits_same ∙ ok in
-            rw (ok', ok) (same_shadow_after (Block r.at r.size) (rw ok at (are_marks bound (event.Malloc r ∷ other))).0)
+            rw (ok', ok) (same_shadow_after (Block r.at r.size ∷ [])
+            (rw ok' at (are_marks bound (event.Malloc r ∷ one))) (rw ok at (are_marks bound (event.Malloc r ∷ other))))
         | inr refused ↦ let refused' = admits_same ∙ refused in rw (refused', refused) same.same_shadow
       ]
 
   -- and one more event keeps them so
   pub alike_step : (e : Event) → StandTheSame bound (e ∷ one) (e ∷ other)
-  alike_step (event.Load a) = record {
-    same_shadow = same.same_shadow;
-    same_live = same.same_live;
-    same_held = same.same_held;
-  }
-  alike_step (event.Store a) = record {
-    same_shadow = same.same_shadow;
-    same_live = same.same_live;
-    same_held = same.same_held;
-  }
-  alike_step (event.Poison s) = record {
-    same_shadow = same_shadow_after (Poison s.at (shade_size s) (code_of_kind (shade_kind s)))
-        (are_marks bound (event.Poison s ∷ one)).0;
-    same_live = same.same_live;
-    same_held = same.same_held;
-  }
-  alike_step (event.Unpoison r) = record {
-    same_shadow = same_shadow_after (Unpoison r.at r.size) (are_marks bound (event.Unpoison r ∷ one)).0;
-    same_live = same.same_live;
-    same_held = same.same_held;
-  }
   alike_step (event.Malloc r) =
       let after = malloc_step bound [] one other blocks r (none_cut r) in record {
         same_shadow = same_shadow_after_malloc r;
@@ -164,6 +144,11 @@ module _ (bound : ℕ) (one other : List Event) (same : StandTheSame bound one o
     same_shadow = same_shadow_after_free p;
     same_live = (free_step bound [] one other blocks p).blocks.same_live;
     same_held = same_held_after_free p;
+  }
+  alike_step e = record {
+    same_shadow = same_shadow_after (own_marks e) (are_marks bound (e ∷ one)) (are_marks bound (e ∷ other));
+    same_live = same.same_live;
+    same_held = same.same_held;
   }
 
 -- any later events keep them so

@@ -130,10 +130,7 @@ module _ (bound : ℕ) (cut : List Extent) (snapshot past : List Event) (is : Is
 is_kept : (e : Event) → is_of_block e ≡ true → is_shade e ≡ false
 is_kept (event.Malloc r) is = refl
 is_kept (event.Free p) is = refl
-is_kept (event.Load a) is = refl
-is_kept (event.Store a) is = refl
-is_kept (event.Poison s) is = absurd (false≢true is)
-is_kept (event.Unpoison r) is = absurd (false≢true is)
+is_kept e is = absurd (false≢true is)
 
 -- a history that is a snapshot of another, with its poisons and unpoisons last, is such a beginning
 no_shades : (laid : List Event) → list_all is_of_block laid ≡ true → without_shades laid ≡ laid

@@ -34,10 +34,6 @@ held_was_freed bound (y ∷ ys) x has = go (nat_le (sum_by span_bytes (y ∷ ys)
 
 freed_placed : (bound : ℕ) (past : List Event) (b : Extent) → Contains (freed bound past) b → IsPlaced b
 freed_placed bound [] b has = absurd (in_none b has)
-freed_placed bound (event.Load a ∷ past) b has = freed_placed bound past b has
-freed_placed bound (event.Store a ∷ past) b has = freed_placed bound past b has
-freed_placed bound (event.Poison r ∷ past) b has = freed_placed bound past b has
-freed_placed bound (event.Unpoison r ∷ past) b has = freed_placed bound past b has
 freed_placed bound (event.Malloc r ∷ past) b has = freed_placed bound past b (rw (freed_malloc bound r past) at has)
 freed_placed bound (event.Free p ∷ past) b has =
     elim (Contains-append_cases (freed bound past) (filter (starts_at p.at) (live bound past)) b
@@ -45,6 +41,7 @@ freed_placed bound (event.Free p ∷ past) b has =
       | inl old ↦ freed_placed bound past b old
       | inr now ↦ live_placed bound past b (from_filtered (starts_at p.at) (live bound past) b now).0
     ]
+freed_placed bound (e ∷ past) b has = freed_placed bound past b has
 
 -- every held block is placed
 pub held_placed : (bound : ℕ) (past : List Event) (b : Extent) → Contains (held bound past) b → IsPlaced b

@@ -17,7 +17,7 @@ use Rattle.asan_units.specs.Units.{round_up}
 use Rattle.heap_book.proofs.NeverMeet.{meets-flip}
 use Rattle.asan_check.specs.Codes.{Freed}
 use Rattle.asan_check.specs.History.{block_of, live, held, admits, marks, with_marks, freed_mark, released_mark}
-use Rattle.asan_check.specs.History.{released_from}
+use Rattle.asan_check.specs.History.{released_from, own_marks}
 use Rattle.asan_laws.specs.Laws.{asks_for, since_malloc, since_free, NoPoisonShares, NoUnpoisonShares}
 use Rattle.asan_check.proofs.Steps.{eqb_flips, spans_apart, held_malloc}
 use Rattle.asan_check.proofs.Members.{in_none, in_head, in_tail, from_filtered, passes_any, none_passes, apart_across}
@@ -112,6 +112,16 @@ beside_held bound past b p byte has stays in_span =
 
 -- ---- inside a live block, which no poison came near
 
+-- the marks that an event is itself leave a byte that no poison and no unpoison comes near
+pub own_marks_leave : (e : Event) (since : List Event) (byte from to : ℕ) (ms : List Mark) → from ≤ byte → byte < to
+    → NoPoisonShares (e ∷ since) from to → NoUnpoisonShares (e ∷ since) from to →
+    state_of (own_marks e ++ ms) byte ≡ state_of ms byte
+own_marks_leave (event.Poison s) since byte from to ms above below clear clear' =
+    poison_leaves s.at (shade_size s) from to byte (clear s (in_head _ _)) above below _ ms
+own_marks_leave (event.Unpoison r) since byte from to ms above below clear clear' =
+    unpoison_leaves r.at r.size from to byte (clear' r (in_head _ _)) above below ms
+own_marks_leave e since byte from to ms above below clear clear' = refl
+
 NoPoisonShares-tail : (e : Event) (since : List Event) (from to : ℕ) → NoPoisonShares (e ∷ since) from to
     → NoPoisonShares since from to
 NoPoisonShares-tail e since from to clear r has = clear r (in_tail _ e since has)
@@ -144,10 +154,6 @@ pub live_inside : (bound : ℕ) (past : List Event) (b : Extent) (byte : ℕ) �
     → byte < b.at + b.size →
     NoPoisonShares (since_malloc bound past b) b.at (b.at + b.size) → state_of (marks bound past) byte ≡ Addressable
 live_inside bound [] b byte has above below clear = absurd (in_none b has)
-live_inside bound (event.Load a ∷ past) b byte has above below clear =
-    live_inside bound past b byte has above below (NoPoisonShares-tail _ _ _ _ clear)
-live_inside bound (event.Store a ∷ past) b byte has above below clear =
-    live_inside bound past b byte has above below (NoPoisonShares-tail _ _ _ _ clear)
 live_inside bound (event.Poison s ∷ past) b byte has above below clear =
     poison_leaves s.at (shade_size s) b.at (b.at + b.size) byte (clear s (in_head _ _)) above below _ (marks bound past)
     ∙ live_inside bound past b byte has above below (NoPoisonShares-tail _ _ _ _ clear)
@@ -172,6 +178,8 @@ live_inside bound (event.Malloc r ∷ past) b byte has above below clear =
           ∙ live_inside bound past b byte old above below
           (NoPoisonShares-tail (event.Malloc r) _ _ _ (rw more at clear))
     ]
+live_inside bound (e ∷ past) b byte has above below clear =
+    live_inside bound past b byte has above below (NoPoisonShares-tail _ _ _ _ clear)
 
 -- ---- a byte of a live block's span, where no poison and no unpoison came near a range around it
 
@@ -180,20 +188,6 @@ pub live_span : (bound : ℕ) (past : List Event) (b : Extent) (byte from to : �
     → NoUnpoisonShares (since_malloc bound past b) from to →
     state_of (marks bound past) byte ≡ cond (lies_in b.at (b.at + b.size) byte) Addressable HeapRedzone
 live_span bound [] b byte from to has in_span above below clear clear' = absurd (in_none b has)
-live_span bound (event.Load a ∷ past) b byte from to has in_span above below clear clear' =
-    live_span bound past b byte from to has in_span above below (NoPoisonShares-tail _ _ _ _ clear)
-    (NoUnpoisonShares-tail _ _ _ _ clear')
-live_span bound (event.Store a ∷ past) b byte from to has in_span above below clear clear' =
-    live_span bound past b byte from to has in_span above below (NoPoisonShares-tail _ _ _ _ clear)
-    (NoUnpoisonShares-tail _ _ _ _ clear')
-live_span bound (event.Poison s ∷ past) b byte from to has in_span above below clear clear' =
-    poison_leaves s.at (shade_size s) from to byte (clear s (in_head _ _)) above below _ (marks bound past)
-    ∙ live_span bound past b byte from to has in_span above below (NoPoisonShares-tail _ _ _ _ clear)
-    (NoUnpoisonShares-tail _ _ _ _ clear')
-live_span bound (event.Unpoison r ∷ past) b byte from to has in_span above below clear clear' =
-    unpoison_leaves r.at r.size from to byte (clear' r (in_head _ _)) above below (marks bound past)
-    ∙ live_span bound past b byte from to has in_span above below (NoPoisonShares-tail _ _ _ _ clear)
-    (NoUnpoisonShares-tail _ _ _ _ clear')
 live_span bound (event.Free p ∷ past) b byte from to has in_span above below clear clear' =
     let parts = live_free_cases bound past b p has in
     beside_live bound past b p byte parts.0 parts.1 in_span
@@ -209,6 +203,10 @@ live_span bound (event.Malloc r ∷ past) b byte from to has in_span above below
           (NoPoisonShares-tail (event.Malloc r) _ _ _ (rw more at clear))
           (NoUnpoisonShares-tail (event.Malloc r) _ _ _ (rw more at clear'))
     ]
+live_span bound (e ∷ past) b byte from to has in_span above below clear clear' =
+    own_marks_leave e _ byte from to (marks bound past) above below clear clear'
+    ∙ live_span bound past b byte from to has in_span above below (NoPoisonShares-tail _ _ _ _ clear)
+    (NoUnpoisonShares-tail _ _ _ _ clear')
 
 -- ---- a byte of a held block, where no poison and no unpoison came near a range around it
 
@@ -240,20 +238,6 @@ pub held_bytes : (bound : ℕ) (past : List Event) (b : Extent) (byte from to : 
     → NoPoisonShares (since_free bound past b) from to → NoUnpoisonShares (since_free bound past b) from to →
     state_of (marks bound past) byte ≡ Freed
 held_bytes bound [] b byte from to has first last above below clear clear' = absurd (in_none b has)
-held_bytes bound (event.Load a ∷ past) b byte from to has first last above below clear clear' =
-    held_bytes bound past b byte from to has first last above below (NoPoisonShares-tail _ _ _ _ clear)
-    (NoUnpoisonShares-tail _ _ _ _ clear')
-held_bytes bound (event.Store a ∷ past) b byte from to has first last above below clear clear' =
-    held_bytes bound past b byte from to has first last above below (NoPoisonShares-tail _ _ _ _ clear)
-    (NoUnpoisonShares-tail _ _ _ _ clear')
-held_bytes bound (event.Poison s ∷ past) b byte from to has first last above below clear clear' =
-    poison_leaves s.at (shade_size s) from to byte (clear s (in_head _ _)) above below _ (marks bound past)
-    ∙ held_bytes bound past b byte from to has first last above below (NoPoisonShares-tail _ _ _ _ clear)
-    (NoUnpoisonShares-tail _ _ _ _ clear')
-held_bytes bound (event.Unpoison r ∷ past) b byte from to has first last above below clear clear' =
-    unpoison_leaves r.at r.size from to byte (clear' r (in_head _ _)) above below (marks bound past)
-    ∙ held_bytes bound past b byte from to has first last above below (NoPoisonShares-tail _ _ _ _ clear)
-    (NoUnpoisonShares-tail _ _ _ _ clear')
 held_bytes bound (event.Malloc r ∷ past) b byte from to has first last above below clear clear' =
     let old = rw (held_malloc bound r past) at has in
     beside_malloc bound past b r byte (Contains-append_right (live bound past) (held bound past) b old)
@@ -269,6 +253,10 @@ held_bytes bound (event.Free p ∷ past) b byte from to has first last above bel
           (NoPoisonShares-tail (event.Free p) _ _ _ (rw more at clear))
           (NoUnpoisonShares-tail (event.Free p) _ _ _ (rw more at clear'))
     ]
+held_bytes bound (e ∷ past) b byte from to has first last above below clear clear' =
+    own_marks_leave e _ byte from to (marks bound past) above below clear clear'
+    ∙ held_bytes bound past b byte from to has first last above below (NoPoisonShares-tail _ _ _ _ clear)
+    (NoUnpoisonShares-tail _ _ _ _ clear')
 
 -- ---- a byte of a held block's redzones, where none came near a range around it since its malloc
 
@@ -310,20 +298,6 @@ pub held_redzone : (bound : ℕ) (past : List Event) (b : Extent) (byte from to 
     → NoPoisonShares (since_malloc bound past b) from to → NoUnpoisonShares (since_malloc bound past b) from to →
     state_of (marks bound past) byte ≡ HeapRedzone
 held_redzone bound [] b byte from to has in_span outside above below clear clear' = absurd (in_none b has)
-held_redzone bound (event.Load a ∷ past) b byte from to has in_span outside above below clear clear' =
-    held_redzone bound past b byte from to has in_span outside above below (NoPoisonShares-tail _ _ _ _ clear)
-    (NoUnpoisonShares-tail _ _ _ _ clear')
-held_redzone bound (event.Store a ∷ past) b byte from to has in_span outside above below clear clear' =
-    held_redzone bound past b byte from to has in_span outside above below (NoPoisonShares-tail _ _ _ _ clear)
-    (NoUnpoisonShares-tail _ _ _ _ clear')
-held_redzone bound (event.Poison s ∷ past) b byte from to has in_span outside above below clear clear' =
-    poison_leaves s.at (shade_size s) from to byte (clear s (in_head _ _)) above below _ (marks bound past)
-    ∙ held_redzone bound past b byte from to has in_span outside above below (NoPoisonShares-tail _ _ _ _ clear)
-    (NoUnpoisonShares-tail _ _ _ _ clear')
-held_redzone bound (event.Unpoison r ∷ past) b byte from to has in_span outside above below clear clear' =
-    unpoison_leaves r.at r.size from to byte (clear' r (in_head _ _)) above below (marks bound past)
-    ∙ held_redzone bound past b byte from to has in_span outside above below (NoPoisonShares-tail _ _ _ _ clear)
-    (NoUnpoisonShares-tail _ _ _ _ clear')
 held_redzone bound (event.Malloc r ∷ past) b byte from to has in_span outside above below clear clear' =
     let old = rw (held_malloc bound r past) at has in
     let more : since_malloc bound (event.Malloc r ∷ past) b ≡ event.Malloc r ∷ since_malloc bound past b =
@@ -345,3 +319,7 @@ held_redzone bound (event.Free p ∷ past) b byte from to has in_span outside ab
           ∙ held_redzone bound past b byte from to old in_span outside above below
           (NoPoisonShares-tail _ _ _ _ clear) (NoUnpoisonShares-tail _ _ _ _ clear')
     ]
+held_redzone bound (e ∷ past) b byte from to has in_span outside above below clear clear' =
+    own_marks_leave e _ byte from to (marks bound past) above below clear clear'
+    ∙ held_redzone bound past b byte from to has in_span outside above below (NoPoisonShares-tail _ _ _ _ clear)
+    (NoUnpoisonShares-tail _ _ _ _ clear')

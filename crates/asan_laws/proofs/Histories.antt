@@ -106,10 +106,6 @@ longer bound past b since e s other = record {
 pub live_found : (bound : ℕ) (past : List Event) (b : Extent) → Contains (live bound past) b
     → IsLiveSince bound past b (since_malloc bound past b)
 live_found bound [] b has = absurd (in_none b has)
-live_found bound (event.Load a ∷ past) b has = longer _ _ _ _ _ (live_found bound past b has) (λ p same. absurd cc)
-live_found bound (event.Store a ∷ past) b has = longer _ _ _ _ _ (live_found bound past b has) (λ p same. absurd cc)
-live_found bound (event.Poison r ∷ past) b has = longer _ _ _ _ _ (live_found bound past b has) (λ p same. absurd cc)
-live_found bound (event.Unpoison r ∷ past) b has = longer _ _ _ _ _ (live_found bound past b has) (λ p same. absurd cc)
 live_found bound (event.Free q ∷ past) b has =
     let parts = live_free_cases bound past b q has in
     longer _ _ _ _ _ (live_found bound past b parts.0)
@@ -131,6 +127,7 @@ live_found bound (event.Malloc r ∷ past) b has =
       }
       | inr (old, more) ↦ rw more (longer _ _ _ _ _ (live_found bound past b old) (λ p same. absurd cc))
     ]
+live_found bound (e ∷ past) b has = longer _ _ _ _ _ (live_found bound past b has) (λ p same. absurd cc)
 
 pub live_only : (bound : ℕ) (before since : List Event) (malloc : Region) (b : Extent) → block_of malloc ≡ b
     → admits bound before b ≡ true →
@@ -143,18 +140,6 @@ live_only bound before [] malloc b asked ok unfreed = (
       (Contains-push (live bound before) (block_of malloc))),
   sym (its_malloc bound before b malloc asked ok),
 )
-live_only bound before (event.Load a ∷ since) malloc b asked ok unfreed =
-    let rest = live_only bound before since malloc b asked ok (λ p has. unfreed p (in_tail _ _ since has)) in
-    (rest.0, ap (λ es. event.Load a ∷ es) rest.1)
-live_only bound before (event.Store a ∷ since) malloc b asked ok unfreed =
-    let rest = live_only bound before since malloc b asked ok (λ p has. unfreed p (in_tail _ _ since has)) in
-    (rest.0, ap (λ es. event.Store a ∷ es) rest.1)
-live_only bound before (event.Poison r ∷ since) malloc b asked ok unfreed =
-    let rest = live_only bound before since malloc b asked ok (λ p has. unfreed p (in_tail _ _ since has)) in
-    (rest.0, ap (λ es. event.Poison r ∷ es) rest.1)
-live_only bound before (event.Unpoison r ∷ since) malloc b asked ok unfreed =
-    let rest = live_only bound before since malloc b asked ok (λ p has. unfreed p (in_tail _ _ since has)) in
-    (rest.0, ap (λ es. event.Unpoison r ∷ es) rest.1)
 live_only bound before (event.Free q ∷ since) malloc b asked ok unfreed =
     let rest = live_only bound before since malloc b asked ok (λ p has. unfreed p (in_tail _ _ since has)) in (
       live_through_free bound (since ++ event.Malloc malloc ∷ before) b q rest.0 (unfreed q (in_head _ since)),
@@ -167,6 +152,9 @@ live_only bound before (event.Malloc r ∷ since) malloc b asked ok unfreed =
       ap (λ es. event.Malloc r ∷ es) rest.1
           ∙ sym (not_its_malloc bound past b r rest.0),
     )
+live_only bound before (e ∷ since) malloc b asked ok unfreed =
+    let rest = live_only bound before since malloc b asked ok (λ p has. unfreed p (in_tail _ _ since has)) in
+    (rest.0, ap (λ es. e ∷ es) rest.1)
 
 -- ---- a held block and one more event
 
@@ -241,10 +229,6 @@ still bound past b since e has s = record {
 pub held_found : (bound : ℕ) (past : List Event) (b : Extent) → Contains (held bound past) b
     → IsHeldSince bound past b (since_free bound past b)
 held_found bound [] b has = absurd (in_none b has)
-held_found bound (event.Load a ∷ past) b has = still _ _ _ _ (event.Load a) has (held_found bound past b has)
-held_found bound (event.Store a ∷ past) b has = still _ _ _ _ (event.Store a) has (held_found bound past b has)
-held_found bound (event.Poison r ∷ past) b has = still _ _ _ _ (event.Poison r) has (held_found bound past b has)
-held_found bound (event.Unpoison r ∷ past) b has = still _ _ _ _ (event.Unpoison r) has (held_found bound past b has)
 held_found bound (event.Malloc r ∷ past) b has =
     still _ _ _ _ (event.Malloc r) has (held_found bound past b (rw (held_malloc bound r past) at has))
 held_found bound (event.Free p ∷ past) b has =
@@ -264,6 +248,7 @@ held_found bound (event.Free p ∷ past) b has =
     back_none : (newer older : List Event) → [] ≡ newer ++ older → [] ≡ older
     back_none [] older parts = parts
     back_none (x ∷ newer) older parts = absurd cc
+held_found bound (e ∷ past) b has = still _ _ _ _ e has (held_found bound past b has)
 
 -- all the while that it is held, its free stays the same
 pub held_only : (bound : ℕ) (before since : List Event) (free : Place) (b : Extent) → free.at ≡ b.at
@@ -281,12 +266,8 @@ held_only bound before (e ∷ since) free b same was_live through =
   where
     step : (f : Event) (past : List Event) → Contains (held bound past) b
         → since_free bound (f ∷ past) b ≡ f ∷ since_free bound past b
-    step (event.Load a) past has = refl
-    step (event.Store a) past has = refl
-    step (event.Malloc r) past has = refl
-    step (event.Poison r) past has = refl
-    step (event.Unpoison r) past has = refl
     step (event.Free p) past has = not_its_free bound past b p has
+    step f past has = refl
 
 -- ---- the same, of the records
 

@@ -155,8 +155,6 @@ in_or_around bound byte false = known_redzone
 
 known : (bound : ℕ) (past : List Event) (byte : ℕ) → IsKnown bound byte (state_of (marks bound past) byte)
 known bound [] byte = known_addressable
-known bound (event.Load a ∷ past) byte = known bound past byte
-known bound (event.Store a ∷ past) byte = known bound past byte
 known bound (event.Poison s ∷ past) byte =
     given_or_cut bound byte (granule_lies_in s.at (s.at + shade_size s) byte) _ _ (state_of (marks bound past) byte)
     (known_poison (shade_kind s)) (known bound past byte)
@@ -170,6 +168,7 @@ known bound (event.Malloc r ∷ past) byte = go (admits bound past (block_of r))
     go false before = before
     go true before = given_or bound byte (lies_in (r.at - redzone) (r.at + round_up r.size + redzone) byte) _
         (state_of (marks bound past) byte) (in_or_around bound byte (lies_in r.at (r.at + r.size) byte)) before
+known bound (e ∷ past) byte = known bound past byte
 
 -- ---- shadow bytes
 

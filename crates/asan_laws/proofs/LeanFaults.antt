@@ -158,10 +158,7 @@ module _ (bound : ℕ) (detail : Detail) (first past : List Event) (start : Have
     live_there = same_any bound [] recorded run same p;
     held_there = λ none. ap (list_any (starts_at p.at)) (sym same.oldest_cut);
   }
-  finds_block recorded run same (event.Load a) is = absurd (false≢true is)
-  finds_block recorded run same (event.Store a) is = absurd (false≢true is)
-  finds_block recorded run same (event.Poison s) is = absurd (false≢true is)
-  finds_block recorded run same (event.Unpoison r) is = absurd (false≢true is)
+  finds_block recorded run same e is = absurd (false≢true is)
 
   pub full_is_lean : (recorded run : List Event) → Records bound detail first past recorded run
       → RecordsLeanly bound detail first past recorded run

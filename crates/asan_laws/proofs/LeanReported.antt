@@ -50,20 +50,14 @@ module _ (bound : ℕ) (recorded run : List Event) where
   pub block_same : (e : Event) → FindsItsBlock bound recorded run e → fault_of bound recorded e ≡ fault_of bound run e
   block_same (event.Malloc r) finds = rw finds refl
   block_same (event.Free p) finds = free_same p finds
-  block_same (event.Load a) finds = absurd finds
-  block_same (event.Store a) finds = absurd finds
-  block_same (event.Poison s) finds = absurd finds
-  block_same (event.Unpoison r) finds = absurd finds
+  block_same e finds = absurd finds
 
 -- one that may be stated is good
 stated_good : (bound : ℕ) (recorded : List Event) (e : Event) → MayBeStated bound recorded e
     → fault_of bound recorded e ≡ None
 stated_good bound recorded (event.Malloc r) may = rw may (none_in_any_case (eqb r.at 0) _)
 stated_good bound recorded (event.Free p) may = rw may (none_in_any_case (eqb p.at 0) _)
-stated_good bound recorded (event.Load a) may = absurd may
-stated_good bound recorded (event.Store a) may = absurd may
-stated_good bound recorded (event.Poison s) may = absurd may
-stated_good bound recorded (event.Unpoison r) may = absurd may
+stated_good bound recorded e may = absurd may
 
 -- ---- the whole
 

@@ -50,8 +50,6 @@ each_is_mark mark (b ∷ blocks) before is placed are =
 
 pub are_marks : (bound : ℕ) (past : List Event) → AreMarks (marks bound past)
 are_marks bound [] = tt
-are_marks bound (event.Load a ∷ past) = are_marks bound past
-are_marks bound (event.Store a ∷ past) = are_marks bound past
 are_marks bound (event.Poison s ∷ past) = ((kind_is_code (shade_kind s), s.in_range), are_marks bound past)
 are_marks bound (event.Unpoison r ∷ past) = (r.in_range, are_marks bound past)
 are_marks bound (event.Malloc r ∷ past) =
@@ -77,3 +75,4 @@ are_marks bound (event.Free p ∷ past) =
           | inl old ↦ held_placed bound past b old
           | inr now ↦ freed_placed b now
         ]
+are_marks bound (e ∷ past) = are_marks bound past

@@ -508,8 +508,7 @@ any_event bound run (event.Load a) is = any_access bound run false a
 any_event bound run (event.Store a) is = any_access bound run true a
 any_event bound run (event.Malloc r) is = any_malloc bound run r
 any_event bound run (event.Free p) is = any_free bound run p
-any_event bound run (event.Poison s) is = absurd (false≢true (sym is))
-any_event bound run (event.Unpoison r) is = absurd (false≢true (sym is))
+any_event bound run e is = absurd (false≢true (sym is))
 
 pub can_be_recorded : (bound : ℕ) (run : List Event) (e : Event) → is_shade e ≡ false →
     (stated : List Event) × RecordsLeanly bound shadow_bytes [] run (e ∷ stated) (e ∷ run)

@@ -13,7 +13,7 @@ use Rattle.shadow_map.specs.States.{state_of}
 use Rattle.heap_book.specs.Spans.{Extent, starts_at}
 use Rattle.asan_check.specs.Codes.{class_of_code, code_of_kind}
 use Rattle.asan_check.specs.History.{block_of, live, held, admits, marks, with_marks, freed_mark, released_mark}
-use Rattle.asan_check.specs.History.{released_from}
+use Rattle.asan_check.specs.History.{released_from, own_marks}
 use Rattle.asan_check.specs.Verdicts.{verdict}
 use Rattle.asan_laws.specs.Laws.{access_event, first_byte_report, NoneCovers, IsPoisonedSince}
 use Rattle.asan_laws.proofs.Accesses.{class_of_its_code, verdict_from, first_fault, own_class, own_shadow, some_report}
@@ -76,10 +76,6 @@ with_marks_adds mark (b ∷ blocks) before =
 
 one_adds : (bound : ℕ) (e : Event) (past : List Event)
     → (laid : List Mark) × (marks bound (e ∷ past) ≡ laid ++ marks bound past)
-one_adds bound (event.Load a) past = ([], refl)
-one_adds bound (event.Store a) past = ([], refl)
-one_adds bound (event.Poison s) past = (_ ∷ [], refl)
-one_adds bound (event.Unpoison r) past = (_ ∷ [], refl)
 one_adds bound (event.Malloc r) past = go (admits bound past (block_of r))
   where
     go : (t : Bool) → (laid : List Mark) × (cond t (Block r.at r.size ∷ marks bound past) (marks bound past)
@@ -96,6 +92,7 @@ one_adds bound (event.Free p) past =
       second.1 ∙ ap (λ ms. second.0 ++ ms) first.1
           ∙ sym (append_assoc second.0 first.0 (marks bound past)),
     )
+one_adds bound e past = (own_marks e, refl)
 
 pub only_added : (bound : ℕ) (past since : List Event)
     → (laid : List Mark) × (marks bound (since ++ past) ≡ laid ++ marks bound past)

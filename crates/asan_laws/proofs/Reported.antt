@@ -163,10 +163,7 @@ module _ (bound : ℕ) (detail : Detail) (first past : List Event) (cut : List E
         blocks = after.blocks;
         part = λ b has. still.part b (after.part b has);
       }
-  block_keeps recorded run way still (event.Load a) is none = absurd (false≢true is)
-  block_keeps recorded run way still (event.Store a) is none = absurd (false≢true is)
-  block_keeps recorded run way still (event.Poison s) is none = absurd (false≢true is)
-  block_keeps recorded run way still (event.Unpoison r) is none = absurd (false≢true is)
+  block_keeps recorded run way still e is none = absurd (false≢true is)
 
   left_keeps : (recorded run : List Event) → HaveBlocksStill bound cut recorded run → (e : Event)
       → (live bound (e ∷ recorded) ≡ live bound recorded) × (held bound (e ∷ recorded) ≡ held bound recorded)
@@ -223,10 +220,7 @@ module _ (bound : ℕ) (detail : Detail) (first past : List Event) (cut : List E
         (malloc_same bound still.left recorded run still.blocks r (apart recorded run way still r none))
     block_says recorded run way still (event.Free p) is none =
         free_says bound still.left recorded run still.blocks p Same self (λ b has. twice b (still.part b has))
-    block_says recorded run way still (event.Load a) is none = absurd (false≢true is)
-    block_says recorded run way still (event.Store a) is none = absurd (false≢true is)
-    block_says recorded run way still (event.Poison s) is none = absurd (false≢true is)
-    block_says recorded run way still (event.Unpoison r) is none = absurd (false≢true is)
+    block_says recorded run way still e is none = absurd (false≢true is)
 
     pub reported_alike : (recorded run : List Event) → NoMallocMeets bound cut past run
         → (way : Records bound detail first past recorded run)

@@ -207,12 +207,9 @@ module _ (bound : ℕ) (cut : List Extent) (one other : List Event) (same : Have
 
 pub is_other : (e : Event) → is_of_block e ≡ false → (bound : ℕ) (past : List Event) →
     (live bound (e ∷ past) ≡ live bound past) × (held bound (e ∷ past) ≡ held bound past)
-is_other (event.Load a) is bound past = (refl, refl)
-is_other (event.Store a) is bound past = (refl, refl)
-is_other (event.Poison s) is bound past = (refl, refl)
-is_other (event.Unpoison r) is bound past = (refl, refl)
 is_other (event.Malloc r) is bound past = absurd (false≢true (sym is))
 is_other (event.Free p) is bound past = absurd (false≢true (sym is))
+is_other e is bound past = (refl, refl)
 
 -- what lays no mark whatever came before it changes no blocks either: no block is at address 0
 refused_at_zero : (bound : ℕ) (past : List Event) (r : Region) → r.at ≡ 0 → admits bound past (block_of r) ≡ false
@@ -222,15 +219,12 @@ refused_at_zero bound past r zero_is = false_from_ne_true _ (λ ok.
 
 pub nothing_done : (e : Event) → marks_none e ≡ true → (bound : ℕ) (past : List Event) →
     (live bound (e ∷ past) ≡ live bound past) × (held bound (e ∷ past) ≡ held bound past)
-nothing_done (event.Load a) is bound past = (refl, refl)
-nothing_done (event.Store a) is bound past = (refl, refl)
-nothing_done (event.Poison s) is bound past = (refl, refl)
-nothing_done (event.Unpoison r) is bound past = (refl, refl)
 nothing_done (event.Malloc r) is bound past =
     (rw (refused_at_zero bound past r (eqb-true r.at 0 is)) refl, held_malloc bound r past)
 nothing_done (event.Free p) is bound past =
     let none = none_at_zero bound past p.at (eqb-true p.at 0 is) in
     (frees.live_stays bound past p none, frees.held_stays bound past p none)
+nothing_done e is bound past = (refl, refl)
 
 module _ (bound : ℕ) (cut : List Extent) (one other : List Event) (same : HaveBlocksBut bound cut one other) where
   pub on_left : (e : Event) → (live bound (e ∷ one) ≡ live bound one) × (held bound (e ∷ one) ≡ held bound one)
@@ -248,25 +242,16 @@ module _ (bound : ℕ) (cut : List Extent) (one other : List Event) (same : Have
   }
 
 pub access_is_none : (e : Event) → is_access e ≡ true → is_of_block e ≡ false
-access_is_none (event.Load a) is = refl
-access_is_none (event.Store a) is = refl
 access_is_none (event.Malloc r) is = absurd (false≢true is)
 access_is_none (event.Free p) is = absurd (false≢true is)
-access_is_none (event.Poison s) is = absurd (false≢true is)
-access_is_none (event.Unpoison r) is = absurd (false≢true is)
+access_is_none e is = refl
 
 pub shade_is_none : (e : Event) → is_shade e ≡ true → is_of_block e ≡ false
-shade_is_none (event.Poison s) is = refl
-shade_is_none (event.Unpoison r) is = refl
 shade_is_none (event.Malloc r) is = absurd (false≢true is)
 shade_is_none (event.Free p) is = absurd (false≢true is)
-shade_is_none (event.Load a) is = absurd (false≢true is)
-shade_is_none (event.Store a) is = absurd (false≢true is)
+shade_is_none e is = refl
 
 pub shade_is_good : (bound : ℕ) (past : List Event) (e : Event) → is_shade e ≡ true → fault_of bound past e ≡ None
 shade_is_good bound past (event.Poison s) is = refl
 shade_is_good bound past (event.Unpoison r) is = refl
-shade_is_good bound past (event.Malloc r) is = absurd (false≢true is)
-shade_is_good bound past (event.Free p) is = absurd (false≢true is)
-shade_is_good bound past (event.Load a) is = absurd (false≢true is)
-shade_is_good bound past (event.Store a) is = absurd (false≢true is)
+shade_is_good bound past e is = absurd (false≢true is)

@@ -96,19 +96,13 @@ module _ (bound : ℕ) (past : List Event) where
   shadow_shade (event.Unpoison r) granule is =
       let are = are_marks bound (event.Unpoison r ∷ past) in
       sym (unpoison_makes r.at r.size are.0 (marks bound past) are.1 granule (shadow_after bound past granule) refl)
-  shadow_shade (event.Load a) granule is = absurd (false≢true is)
-  shadow_shade (event.Store a) granule is = absurd (false≢true is)
-  shadow_shade (event.Malloc r) granule is = absurd (false≢true is)
-  shadow_shade (event.Free p) granule is = absurd (false≢true is)
+  shadow_shade e granule is = absurd (false≢true is)
 
   pub shadow_access : (e : Event) (granule : ℕ) → is_access e ≡ true
       → shadow_after bound (e ∷ past) granule ≡ shadow_after bound past granule
   shadow_access (event.Load a) granule is = refl
   shadow_access (event.Store a) granule is = refl
-  shadow_access (event.Poison s) granule is = absurd (false≢true is)
-  shadow_access (event.Unpoison r) granule is = absurd (false≢true is)
-  shadow_access (event.Malloc r) granule is = absurd (false≢true is)
-  shadow_access (event.Free p) granule is = absurd (false≢true is)
+  shadow_access e granule is = absurd (false≢true is)
 
   pub shadow_refused : (r : Region) (granule : ℕ) → admits bound past (block_of r) ≡ false
       → shadow_after bound (event.Malloc r ∷ past) granule ≡ shadow_after bound past granule

@@ -42,9 +42,10 @@ use Rattle.asan_check.proofs.Members.{in_none, in_head, in_tail, cons_cases, at_
 use Rattle.asan_check.proofs.Members.{none_passes, apart_starts, filter_all}
 use Rattle.asan_check.proofs.Blocks.{live_placed}
 use Rattle.asan_laws.proofs.Blocks.{held_placed}
-use Rattle.asan_laws.proofs.Frames.{IsInSpan, poison_leaves, unpoison_leaves}
+use Rattle.asan_laws.proofs.Frames.{IsInSpan}
 use Rattle.asan_laws.proofs.Histories.{held_found}
-use Rattle.asan_laws.proofs.Bytes.{live_span, held_bytes, held_redzone}
+use Rattle.asan_laws.proofs.Bytes.{own_marks_leave, live_span, held_bytes, held_redzone}
+use Rattle.asan_laws.proofs.SameBlocks.{is_other, shade_is_none, shade_is_good}
 use Rattle.asan_laws.proofs.Poisons.{poisoned}
 use Rattle.asan_check.proofs.Frees as frees
 
@@ -315,16 +316,6 @@ longer e f since past rest has =
 since_malloc_part : (bound : ℕ) (past : List Event) (b : Extent) (e : Event) → Contains (since_malloc bound past b) e
     → Contains past e
 since_malloc_part bound [] b e has = has
-since_malloc_part bound (event.Load a ∷ past) b e has =
-    longer e (event.Load a) (since_malloc bound past b) past (since_malloc_part bound past b e) has
-since_malloc_part bound (event.Store a ∷ past) b e has =
-    longer e (event.Store a) (since_malloc bound past b) past (since_malloc_part bound past b e) has
-since_malloc_part bound (event.Free a ∷ past) b e has =
-    longer e (event.Free a) (since_malloc bound past b) past (since_malloc_part bound past b e) has
-since_malloc_part bound (event.Poison a ∷ past) b e has =
-    longer e (event.Poison a) (since_malloc bound past b) past (since_malloc_part bound past b e) has
-since_malloc_part bound (event.Unpoison a ∷ past) b e has =
-    longer e (event.Unpoison a) (since_malloc bound past b) past (since_malloc_part bound past b e) has
 since_malloc_part bound (event.Malloc r ∷ past) b e has =
     go (asks_for b r && admits bound past b) has (since_malloc_part bound past b e)
   where
@@ -332,6 +323,8 @@ since_malloc_part bound (event.Malloc r ∷ past) b e has =
         → (Contains (since_malloc bound past b) e → Contains past e) → Contains (event.Malloc r ∷ past) e
     go true has rest = absurd (in_none e has)
     go false has rest = longer e (event.Malloc r) (since_malloc bound past b) past rest has
+since_malloc_part bound (f ∷ past) b e has =
+    longer e f (since_malloc bound past b) past (since_malloc_part bound past b e) has
 
 since_free_part : (bound : ℕ) (past : List Event) (b : Extent) (e : Event) → Contains (held bound past) b
     → Contains (since_free bound past b) e → Contains past e
@@ -478,57 +471,35 @@ module _ (bound : ℕ) (laid past : List Event) (lives : List Extent) (way : Lay
 -- ---- poisons and unpoisons after it
 
 module _ (bound : ℕ) (laid : List Event) where
-  pub shaded_live : (shades : List Event) → list_all is_shade shades ≡ true
-      → live bound (shades ++ laid) ≡ live bound laid
-  shaded_live [] are = refl
-  shaded_live (event.Poison s ∷ shades) are = shaded_live shades are
-  shaded_live (event.Unpoison r ∷ shades) are = shaded_live shades are
-  shaded_live (event.Load a ∷ shades) are = absurd (false≢true are)
-  shaded_live (event.Store a ∷ shades) are = absurd (false≢true are)
-  shaded_live (event.Malloc r ∷ shades) are = absurd (false≢true are)
-  shaded_live (event.Free p ∷ shades) are = absurd (false≢true are)
+  shaded_blocks : (shades : List Event) → list_all is_shade shades ≡ true
+      → (live bound (shades ++ laid) ≡ live bound laid) × (held bound (shades ++ laid) ≡ held bound laid)
+  shaded_blocks [] are = (refl, refl)
+  shaded_blocks (e ∷ shades) are =
+      let parts = and_parts (is_shade e) (list_all is_shade shades) are in
+      let one = is_other e (shade_is_none e parts.0) bound (shades ++ laid) in
+      let rest = shaded_blocks shades parts.1 in
+      (one.0 ∙ rest.0, one.1 ∙ rest.1)
 
-  pub shaded_held : (shades : List Event) → list_all is_shade shades ≡ true
-      → held bound (shades ++ laid) ≡ held bound laid
-  shaded_held [] are = refl
-  shaded_held (event.Poison s ∷ shades) are = shaded_held shades are
-  shaded_held (event.Unpoison r ∷ shades) are = shaded_held shades are
-  shaded_held (event.Load a ∷ shades) are = absurd (false≢true are)
-  shaded_held (event.Store a ∷ shades) are = absurd (false≢true are)
-  shaded_held (event.Malloc r ∷ shades) are = absurd (false≢true are)
-  shaded_held (event.Free p ∷ shades) are = absurd (false≢true are)
-
-  pub shaded_quiet : (shades : List Event) → list_all is_shade shades ≡ true → verdicts_of bound laid ≡ []
+  shaded_quiet : (shades : List Event) → list_all is_shade shades ≡ true → verdicts_of bound laid ≡ []
       → verdicts_of bound (shades ++ laid) ≡ []
   shaded_quiet [] are quiet = quiet
-  shaded_quiet (event.Poison s ∷ shades) are quiet =
-      still_quiet bound (shades ++ laid) (event.Poison s) (shaded_quiet shades are quiet) refl
-  shaded_quiet (event.Unpoison r ∷ shades) are quiet =
-      still_quiet bound (shades ++ laid) (event.Unpoison r) (shaded_quiet shades are quiet) refl
-  shaded_quiet (event.Load a ∷ shades) are quiet = absurd (false≢true are)
-  shaded_quiet (event.Store a ∷ shades) are quiet = absurd (false≢true are)
-  shaded_quiet (event.Malloc r ∷ shades) are quiet = absurd (false≢true are)
-  shaded_quiet (event.Free p ∷ shades) are quiet = absurd (false≢true are)
+  shaded_quiet (e ∷ shades) are quiet =
+      let parts = and_parts (is_shade e) (list_all is_shade shades) are in
+      still_quiet bound (shades ++ laid) e (shaded_quiet shades parts.1 quiet)
+      (shade_is_good bound (shades ++ laid) e parts.0)
 
   module _ (granule : ℕ) where
     unshaded : (shades : List Event) → list_all is_shade shades ≡ true → NoneShares shades granule → (byte : ℕ)
         → 8 * granule ≤ byte → byte < 8 * granule + 8 →
         state_of (marks bound (shades ++ laid)) byte ≡ state_of (marks bound laid) byte
     unshaded [] are clear byte above below = refl
-    unshaded (event.Poison s ∷ shades) are clear byte above below =
-        poison_leaves s.at (shade_size s) (8 * granule) (8 * granule + 8) byte (clear.0 s (in_head _ _)) above below _
-        (marks bound (shades ++ laid))
-        ∙ unshaded shades are (λ t has. clear.0 t (in_tail _ _ shades has), λ u has. clear.1 u (in_tail _ _ shades has))
-        byte above below
-    unshaded (event.Unpoison r ∷ shades) are clear byte above below =
-        unpoison_leaves r.at r.size (8 * granule) (8 * granule + 8) byte (clear.1 r (in_head _ _)) above below
-        (marks bound (shades ++ laid))
-        ∙ unshaded shades are (λ t has. clear.0 t (in_tail _ _ shades has), λ u has. clear.1 u (in_tail _ _ shades has))
-        byte above below
-    unshaded (event.Load a ∷ shades) are clear byte above below = absurd (false≢true are)
-    unshaded (event.Store a ∷ shades) are clear byte above below = absurd (false≢true are)
     unshaded (event.Malloc r ∷ shades) are clear byte above below = absurd (false≢true are)
     unshaded (event.Free p ∷ shades) are clear byte above below = absurd (false≢true are)
+    unshaded (e ∷ shades) are clear byte above below =
+        own_marks_leave e shades byte (8 * granule) (8 * granule + 8) (marks bound (shades ++ laid)) above below clear.0
+        clear.1
+        ∙ unshaded shades (and_parts (is_shade e) (list_all is_shade shades) are).1
+        (λ t has. clear.0 t (in_tail _ _ shades has), λ u has. clear.1 u (in_tail _ _ shades has)) byte above below
 
     pub shaded_granule : (shades : List Event) → list_all is_shade shades ≡ true → NoneShares shades granule
         → lift (state_of (marks bound (shades ++ laid))) granule ≡ lift (state_of (marks bound laid)) granule
@@ -552,13 +523,13 @@ module _ (bound : ℕ) (snapshot past : List Event) (is : IsSnapshot bound snaps
   pub snapshot_live : IsPermutation (live bound snapshot) (live bound past)
   snapshot_live = rw (
     is.parts,
-    shaded_live bound is.laid is.shades is.are_shades,
+    (shaded_blocks bound is.laid is.shades is.are_shades).0,
     (stand bound is.laid past is.lives is.lays_out is.same_blocks).lives_are,
   ) is.same_blocks
 
   pub snapshot_held : held bound snapshot ≡ held bound past
   snapshot_held =
-      ap (held bound) is.parts ∙ shaded_held bound is.laid is.shades is.are_shades
+      ap (held bound) is.parts ∙ (shaded_blocks bound is.laid is.shades is.are_shades).1
       ∙ (stand bound is.laid past is.lives is.lays_out is.same_blocks).helds_are
 
   pub snapshot_quiet : verdicts_of bound snapshot ≡ []

@@ -13,7 +13,7 @@ use Rattle.trace_record.specs.declared.event.Place.{Place}
 use Rattle.heap_book.specs.Spans.{Extent, starts_at, may_be_admitted}
 use Rattle.asan_check.specs.declared.report.Fault.{Fault}
 use Rattle.asan_check.specs.declared.report.Report.{Report}
-use Rattle.asan_check.specs.History.{block_of, live, held, admits}
+use Rattle.asan_check.specs.History.{block_of, live, held, admits, own_marks}
 use Rattle.asan_check.specs.Verdicts.{fault_of, is_access, verdict, verdicts_of}
 use Rattle.asan_laws.specs.Thinning.{faults_of, LeaveTheSame, is_left_out, thinned, left_out_of, renumbered}
 use Rattle.asan_laws.specs.Thinning.{LeavesOutGood, IsSublist}
@@ -32,34 +32,13 @@ module _ (bound : ℕ) (one other : List Event) (same : LeaveTheSame bound one o
   same_fault (event.Store a) = rw same.same_marks refl
   same_fault (event.Malloc r) = rw (same_admits (block_of r)) refl
   same_fault (event.Free p) = rw (same.same_live, same.same_held) refl
-  same_fault (event.Poison s) = refl
-  same_fault (event.Unpoison r) = refl
+  same_fault e = refl
 
   same_held_after_free : (p : Place) → held bound (event.Free p ∷ one) ≡ held bound (event.Free p ∷ other)
   same_held_after_free p = held_free bound p one ∙ rw (same.same_live, same.same_held) (sym (held_free bound p other))
 
   -- and one more event keeps them so
   pub same_step : (e : Event) → LeaveTheSame bound (e ∷ one) (e ∷ other)
-  same_step (event.Load a) = record {
-    same_marks = same.same_marks;
-    same_live = same.same_live;
-    same_held = same.same_held;
-  }
-  same_step (event.Store a) = record {
-    same_marks = same.same_marks;
-    same_live = same.same_live;
-    same_held = same.same_held;
-  }
-  same_step (event.Poison s) = record {
-    same_marks = rw same.same_marks refl;
-    same_live = same.same_live;
-    same_held = same.same_held;
-  }
-  same_step (event.Unpoison r) = record {
-    same_marks = rw same.same_marks refl;
-    same_live = same.same_live;
-    same_held = same.same_held;
-  }
   same_step (event.Malloc r) =
       let helds : held bound (event.Malloc r ∷ one) ≡ held bound (event.Malloc r ∷ other) = held_malloc bound r one
       ∙ same.same_held ∙ sym (held_malloc bound r other) in
@@ -82,6 +61,11 @@ module _ (bound : ℕ) (one other : List Event) (same : LeaveTheSame bound one o
         ∙ sym (live_free bound p other);
     same_held = same_held_after_free p;
   }
+  same_step e = record {
+    same_marks = ap (λ ms. own_marks e ++ ms) same.same_marks;
+    same_live = same.same_live;
+    same_held = same.same_held;
+  }
 
 -- any later events keep them so
 pub same_later : (bound : ℕ) (one other later : List Event) → LeaveTheSame bound one other
@@ -97,10 +81,7 @@ one_access bound one other (event.Load a) is same =
     record { same_marks = same.same_marks; same_live = same.same_live; same_held = same.same_held }
 one_access bound one other (event.Store a) is same =
     record { same_marks = same.same_marks; same_live = same.same_live; same_held = same.same_held }
-one_access bound one other (event.Malloc r) is same = absurd (false≢true is)
-one_access bound one other (event.Free p) is same = absurd (false≢true is)
-one_access bound one other (event.Poison s) is same = absurd (false≢true is)
-one_access bound one other (event.Unpoison r) is same = absurd (false≢true is)
+one_access bound one other e is same = absurd (false≢true is)
 
 -- whichever are left out
 pub no_trace : (bound : ℕ) (numbers : ℕ → Bool) (past : List Event) → LeaveTheSame bound (thinned numbers past) past
