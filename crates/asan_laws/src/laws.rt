@@ -200,12 +200,12 @@ pub fn later_reports_are_the_same()
         ≡ verdicts bound other ++ map (later_by (length other)) added) }
 {}
 
-/// A history that is a snapshot of another by its live and its held blocks, and then by poisons and
-/// unpoisons, has the same blocks, live and held, and nothing is wrong in it. It stands the same if
-/// each granule has the same shadow byte. A granule has that of itself if the other history left
-/// in it what its blocks alone leave, and no poison and no unpoison of the snapshot touches it.
-/// Where a poison takes in a granule wholly, and none after it touches it, the shadow byte is the
-/// code of the poison's kind.
+/// A snapshot of a history lays out its live and its held blocks, and then come poisons and
+/// unpoisons alone. It has the same blocks, live and held, and nothing is wrong in it. It stands
+/// the same if each granule has the same shadow byte. A granule has that of itself if the history
+/// left in it what its blocks alone leave, and no poison and no unpoison of the snapshot touches
+/// it. Where a poison takes in a granule wholly, and none after it touches it, the shadow byte is
+/// the code of the poison's kind.
 pub fn what_is_in_a_snapshot_stands_the_same()
     ensures live { (bound : ℕ) (snapshot past : List Event) → IsSnapshot bound snapshot past →
         IsPermutation (live bound snapshot) (live bound past) }
