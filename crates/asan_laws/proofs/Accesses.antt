@@ -257,7 +257,7 @@ overflow bound past b is_store a has start clear clear' =
     let each : (byte : ℕ) → IsInSpan b byte → states byte
     ≡ cond (lies_in b.at (b.at + b.size) byte) Addressable HeapRedzone =
     λ byte in_span.
-    live_span bound past b byte (span_from b) (span_to b) has in_span in_span.from in_span.to clear clear' in
+    live_span bound past b byte (span_from b) (span_to b) has in_span in_span.from in_span.to (clear, clear') in
     let here : IsInSpan b a.at = record { from = start.0; to = start.1 } in
     let bad = ap is_addressable (outside states b placed each a.at here start.2) in
     let reported = around states b placed each a.at here start.2 in
@@ -279,7 +279,7 @@ late bound past b is_store a has start clear clear' =
     let each : (byte : ℕ) → b.at ≤ byte → byte < b.at + round_up b.size
     → states byte ≡ Freed =
     λ byte above below.
-    held_bytes bound past b byte b.at (b.at + round_up b.size) has above below above below clear clear' in
+    held_bytes bound past b byte b.at (b.at + round_up b.size) has above below above below (clear, clear') in
     let bad = ap is_addressable (each a.at from to) in
     let base = each (8 * (a.at / 8)) (omega arith) (omega arith) in
     let closed = ap is_addressable base in

@@ -110,25 +110,31 @@ beside_held bound past b p byte has stays in_span =
     freed c has_c = meets-flip b c ∙ apart_across (live bound past) (held bound past) c b all
         (from_filtered (starts_at p.at) (live bound past) c has_c).0 has
 
--- ---- inside a live block, which no poison came near
+-- ---- poisons and unpoisons that come near no byte of a range
+
+-- no poison and no unpoison among these events shares a granule with the bytes from an address up to another
+abbrev pub NeitherShares : List Event → ℕ → ℕ → Type 0
+NeitherShares events from to = NoPoisonShares events from to × NoUnpoisonShares events from to
 
 -- the marks that an event is itself leave a byte that no poison and no unpoison comes near
 pub own_marks_leave : (e : Event) (since : List Event) (byte from to : ℕ) (ms : List Mark) → from ≤ byte → byte < to
-    → NoPoisonShares (e ∷ since) from to → NoUnpoisonShares (e ∷ since) from to →
-    state_of (own_marks e ++ ms) byte ≡ state_of ms byte
-own_marks_leave (event.Poison s) since byte from to ms above below clear clear' =
-    poison_leaves s.at (shade_size s) from to byte (clear s (in_head _ _)) above below _ ms
-own_marks_leave (event.Unpoison r) since byte from to ms above below clear clear' =
-    unpoison_leaves r.at r.size from to byte (clear' r (in_head _ _)) above below ms
-own_marks_leave e since byte from to ms above below clear clear' = refl
+    → NeitherShares (e ∷ since) from to → state_of (own_marks e ++ ms) byte ≡ state_of ms byte
+own_marks_leave (event.Poison s) since byte from to ms above below clear =
+    poison_leaves s.at (shade_size s) from to byte (clear.0 s (in_head _ _)) above below _ ms
+own_marks_leave (event.Unpoison r) since byte from to ms above below clear =
+    unpoison_leaves r.at r.size from to byte (clear.1 r (in_head _ _)) above below ms
+own_marks_leave e since byte from to ms above below clear = refl
 
 NoPoisonShares-tail : (e : Event) (since : List Event) (from to : ℕ) → NoPoisonShares (e ∷ since) from to
     → NoPoisonShares since from to
 NoPoisonShares-tail e since from to clear r has = clear r (in_tail _ e since has)
 
-NoUnpoisonShares-tail : (e : Event) (since : List Event) (from to : ℕ) → NoUnpoisonShares (e ∷ since) from to
-    → NoUnpoisonShares since from to
-NoUnpoisonShares-tail e since from to clear r has = clear r (in_tail _ e since has)
+NeitherShares-tail : (e : Event) (since : List Event) (from to : ℕ) → NeitherShares (e ∷ since) from to
+    → NeitherShares since from to
+NeitherShares-tail e since from to clear =
+    (NoPoisonShares-tail e since from to clear.0, λ r has. clear.1 r (in_tail _ e since has))
+
+-- ---- inside a live block, which no poison came near
 
 bytes_in_span : (b : Extent) (byte : ℕ) → b.at ≤ byte → byte < b.at + round_up b.size → IsInSpan b byte
 bytes_in_span b byte above below = record { from = omega arith; to = omega arith }
@@ -184,29 +190,25 @@ live_inside bound (e ∷ past) b byte has above below clear =
 -- ---- a byte of a live block's span, where no poison and no unpoison came near a range around it
 
 pub live_span : (bound : ℕ) (past : List Event) (b : Extent) (byte from to : ℕ) → Contains (live bound past) b
-    → IsInSpan b byte → from ≤ byte → byte < to → NoPoisonShares (since_malloc bound past b) from to
-    → NoUnpoisonShares (since_malloc bound past b) from to →
+    → IsInSpan b byte → from ≤ byte → byte < to → NeitherShares (since_malloc bound past b) from to →
     state_of (marks bound past) byte ≡ cond (lies_in b.at (b.at + b.size) byte) Addressable HeapRedzone
-live_span bound [] b byte from to has in_span above below clear clear' = absurd (in_none b has)
-live_span bound (event.Free p ∷ past) b byte from to has in_span above below clear clear' =
+live_span bound [] b byte from to has in_span above below clear = absurd (in_none b has)
+live_span bound (event.Free p ∷ past) b byte from to has in_span above below clear =
     let parts = live_free_cases bound past b p has in
     beside_live bound past b p byte parts.0 parts.1 in_span
-    ∙ live_span bound past b byte from to parts.0 in_span above below (NoPoisonShares-tail _ _ _ _ clear)
-    (NoUnpoisonShares-tail _ _ _ _ clear')
-live_span bound (event.Malloc r ∷ past) b byte from to has in_span above below clear clear' =
+    ∙ live_span bound past b byte from to parts.0 in_span above below (NeitherShares-tail _ _ _ _ clear)
+live_span bound (event.Malloc r ∷ past) b byte from to has in_span above below clear =
     elim (live_malloc_cases bound past b r has) [
       | inl (asked, ok, none) ↦ ap (λ ms. state_of ms byte) (laid bound past r b asked ok)
           ∙ own_byte b (marks bound past) byte in_span
       | inr (old, more) ↦
           beside_malloc bound past b r byte (Contains-append_left (live bound past) (held bound past) b old) in_span
           ∙ live_span bound past b byte from to old in_span above below
-          (NoPoisonShares-tail (event.Malloc r) _ _ _ (rw more at clear))
-          (NoUnpoisonShares-tail (event.Malloc r) _ _ _ (rw more at clear'))
+          (NeitherShares-tail (event.Malloc r) _ _ _ (rw more at clear))
     ]
-live_span bound (e ∷ past) b byte from to has in_span above below clear clear' =
-    own_marks_leave e _ byte from to (marks bound past) above below clear clear'
-    ∙ live_span bound past b byte from to has in_span above below (NoPoisonShares-tail _ _ _ _ clear)
-    (NoUnpoisonShares-tail _ _ _ _ clear')
+live_span bound (e ∷ past) b byte from to has in_span above below clear =
+    own_marks_leave e _ byte from to (marks bound past) above below clear
+    ∙ live_span bound past b byte from to has in_span above below (NeitherShares-tail _ _ _ _ clear)
 
 -- ---- a byte of a held block, where no poison and no unpoison came near a range around it
 
@@ -235,28 +237,25 @@ freed_byte bound past b p byte has here stays above below =
 
 pub held_bytes : (bound : ℕ) (past : List Event) (b : Extent) (byte from to : ℕ) → Contains (held bound past) b
     → b.at ≤ byte → byte < b.at + round_up b.size → from ≤ byte → byte < to
-    → NoPoisonShares (since_free bound past b) from to → NoUnpoisonShares (since_free bound past b) from to →
+    → NeitherShares (since_free bound past b) from to →
     state_of (marks bound past) byte ≡ Freed
-held_bytes bound [] b byte from to has first last above below clear clear' = absurd (in_none b has)
-held_bytes bound (event.Malloc r ∷ past) b byte from to has first last above below clear clear' =
+held_bytes bound [] b byte from to has first last above below clear = absurd (in_none b has)
+held_bytes bound (event.Malloc r ∷ past) b byte from to has first last above below clear =
     let old = rw (held_malloc bound r past) at has in
     beside_malloc bound past b r byte (Contains-append_right (live bound past) (held bound past) b old)
     (bytes_in_span b byte first last)
-    ∙ held_bytes bound past b byte from to old first last above below (NoPoisonShares-tail _ _ _ _ clear)
-    (NoUnpoisonShares-tail _ _ _ _ clear')
-held_bytes bound (event.Free p ∷ past) b byte from to has first last above below clear clear' =
+    ∙ held_bytes bound past b byte from to old first last above below (NeitherShares-tail _ _ _ _ clear)
+held_bytes bound (event.Free p ∷ past) b byte from to has first last above below clear =
     elim (held_free_cases bound past b p has) [
       | inl (was_live, here, none) ↦ freed_byte bound past b p byte was_live here has first last
       | inr (old, more) ↦
           beside_held bound past b p byte old has (bytes_in_span b byte first last)
           ∙ held_bytes bound past b byte from to old first last above below
-          (NoPoisonShares-tail (event.Free p) _ _ _ (rw more at clear))
-          (NoUnpoisonShares-tail (event.Free p) _ _ _ (rw more at clear'))
+          (NeitherShares-tail (event.Free p) _ _ _ (rw more at clear))
     ]
-held_bytes bound (e ∷ past) b byte from to has first last above below clear clear' =
-    own_marks_leave e _ byte from to (marks bound past) above below clear clear'
-    ∙ held_bytes bound past b byte from to has first last above below (NoPoisonShares-tail _ _ _ _ clear)
-    (NoUnpoisonShares-tail _ _ _ _ clear')
+held_bytes bound (e ∷ past) b byte from to has first last above below clear =
+    own_marks_leave e _ byte from to (marks bound past) above below clear
+    ∙ held_bytes bound past b byte from to has first last above below (NeitherShares-tail _ _ _ _ clear)
 
 -- ---- a byte of a held block's redzones, where none came near a range around it since its malloc
 
@@ -295,31 +294,29 @@ own_redzone bound past b p byte has here stays in_span outside =
 
 pub held_redzone : (bound : ℕ) (past : List Event) (b : Extent) (byte from to : ℕ) → Contains (held bound past) b
     → IsInSpan b byte → lies_in b.at (b.at + round_up b.size) byte ≡ false → from ≤ byte → byte < to
-    → NoPoisonShares (since_malloc bound past b) from to → NoUnpoisonShares (since_malloc bound past b) from to →
+    → NeitherShares (since_malloc bound past b) from to →
     state_of (marks bound past) byte ≡ HeapRedzone
-held_redzone bound [] b byte from to has in_span outside above below clear clear' = absurd (in_none b has)
-held_redzone bound (event.Malloc r ∷ past) b byte from to has in_span outside above below clear clear' =
+held_redzone bound [] b byte from to has in_span outside above below clear = absurd (in_none b has)
+held_redzone bound (event.Malloc r ∷ past) b byte from to has in_span outside above below clear =
     let old = rw (held_malloc bound r past) at has in
     let more : since_malloc bound (event.Malloc r ∷ past) b ≡ event.Malloc r ∷ since_malloc bound past b =
     rw (and_right (asks_for b r) (admits bound past b) (held_not_admitted bound past b old)) refl in
     beside_malloc bound past b r byte (Contains-append_right (live bound past) (held bound past) b old) in_span
     ∙ held_redzone bound past b byte from to old in_span outside above below
-    (NoPoisonShares-tail (event.Malloc r) _ _ _ (rw more at clear))
-    (NoUnpoisonShares-tail (event.Malloc r) _ _ _ (rw more at clear'))
-held_redzone bound (event.Free p ∷ past) b byte from to has in_span outside above below clear clear' =
+    (NeitherShares-tail (event.Malloc r) _ _ _ (rw more at clear))
+held_redzone bound (event.Free p ∷ past) b byte from to has in_span outside above below clear =
     elim (held_free_cases bound past b p has) [
       | inl (was_live, here, none) ↦
           let round = rounds_up b in
           let out : lies_in b.at (b.at + b.size) byte ≡ false = grind (arith, nat_tests) in
           own_redzone bound past b p byte was_live here has in_span outside
-          ∙ live_span bound past b byte from to was_live in_span above below (NoPoisonShares-tail _ _ _ _ clear)
-          (NoUnpoisonShares-tail _ _ _ _ clear') ∙ rw out refl
+          ∙ live_span bound past b byte from to was_live in_span above below (NeitherShares-tail _ _ _ _ clear)
+          ∙ rw out refl
       | inr (old, more) ↦
           beside_held bound past b p byte old has in_span
           ∙ held_redzone bound past b byte from to old in_span outside above below
-          (NoPoisonShares-tail _ _ _ _ clear) (NoUnpoisonShares-tail _ _ _ _ clear')
+          (NeitherShares-tail _ _ _ _ clear)
     ]
-held_redzone bound (e ∷ past) b byte from to has in_span outside above below clear clear' =
-    own_marks_leave e _ byte from to (marks bound past) above below clear clear'
-    ∙ held_redzone bound past b byte from to has in_span outside above below (NoPoisonShares-tail _ _ _ _ clear)
-    (NoUnpoisonShares-tail _ _ _ _ clear')
+held_redzone bound (e ∷ past) b byte from to has in_span outside above below clear =
+    own_marks_leave e _ byte from to (marks bound past) above below clear
+    ∙ held_redzone bound past b byte from to has in_span outside above below (NeitherShares-tail _ _ _ _ clear)

@@ -176,7 +176,7 @@ module _ (bound : ℕ) (past : List Event) (granule : ℕ) where
       let placed = live_placed bound past b has in
       lift_same (state_of (marks bound past)) (state_of (Block b.at b.size ∷ [])) granule (λ byte above below.
       let in_span = granule_in_span b granule byte placed inside above below in
-      live_span bound past b byte (8 * granule) (8 * granule + 8) has in_span above below clear.0 clear.1
+      live_span bound past b byte (8 * granule) (8 * granule + 8) has in_span above below clear
       ∙ sym (own_byte b [] byte in_span))
       ∙ sym (block_makes b.at b.size placed [] tt granule 0 refl)
 
@@ -188,8 +188,7 @@ module _ (bound : ℕ) (past : List Event) (granule : ℕ) where
       let from = inside.0 in
       let to = inside.1 in
       lift_same (state_of (marks bound past)) (λ byte. Freed) granule (λ byte above below.
-      held_bytes bound past b byte (8 * granule) (8 * granule + 8) has (omega arith) (omega arith) above below clear.0
-      clear.1)
+      held_bytes bound past b byte (8 * granule) (8 * granule + 8) has (omega arith) (omega arith) above below clear)
 
   around_shown : (b : Extent) → Contains (held bound past) b → LiesInSpan b granule → ¬ LiesInBytes b granule
       → NoneShares (since_malloc bound past b) granule → shadow_after bound past granule ≡ code_of HeapRedzone
@@ -198,7 +197,7 @@ module _ (bound : ℕ) (past : List Event) (granule : ℕ) where
       lift_same (state_of (marks bound past)) (λ byte. HeapRedzone) granule (λ byte above below.
       let in_span = granule_in_span b granule byte placed inside above below in
       let out = out_of_bytes bound past past granule b placed outside byte above below in
-      held_redzone bound past b byte (8 * granule) (8 * granule + 8) has in_span out above below clear.0 clear.1)
+      held_redzone bound past b byte (8 * granule) (8 * granule + 8) has in_span out above below clear)
 
   poison_shown : (s : Shade) → IsPoisonedSince bound past s granule
       → shadow_after bound past granule ≡ code_of_kind (shade_kind s)

@@ -381,8 +381,8 @@ module _ (bound : ℕ) (one other : List Event) (granule : ℕ) (b : Extent) (pl
   same_in_live has also inside clear clear' =
       lift_same (state_of (marks bound one)) (state_of (marks bound other)) granule (λ byte above below.
       let in_span = granule_in_span b granule byte placed inside above below in
-      live_span bound one b byte (8 * granule) (8 * granule + 8) has in_span above below clear.0 clear.1
-      ∙ sym (live_span bound other b byte (8 * granule) (8 * granule + 8) also in_span above below clear'.0 clear'.1))
+      live_span bound one b byte (8 * granule) (8 * granule + 8) has in_span above below clear
+      ∙ sym (live_span bound other b byte (8 * granule) (8 * granule + 8) also in_span above below clear'))
 
   pub same_in_held : Contains (held bound one) b → Contains (held bound other) b → LiesInBytes b granule
       → NoneShares (since_free bound one b) granule → NoneShares (since_free bound other b) granule →
@@ -392,10 +392,9 @@ module _ (bound : ℕ) (one other : List Event) (granule : ℕ) (b : Extent) (pl
       let from = inside.0 in
       let to = inside.1 in
       lift_same (state_of (marks bound one)) (state_of (marks bound other)) granule (λ byte above below.
-      held_bytes bound one b byte (8 * granule) (8 * granule + 8) has (omega arith) (omega arith) above below clear.0
-      clear.1
+      held_bytes bound one b byte (8 * granule) (8 * granule + 8) has (omega arith) (omega arith) above below clear
       ∙ sym (held_bytes bound other b byte (8 * granule) (8 * granule + 8) also (omega arith) (omega arith) above below
-      clear'.0 clear'.1))
+      clear'))
 
   pub out_of_bytes : ¬ LiesInBytes b granule → (byte : ℕ) → 8 * granule ≤ byte → byte < 8 * granule + 8
       → lies_in b.at (b.at + round_up b.size) byte ≡ false
@@ -414,9 +413,8 @@ module _ (bound : ℕ) (one other : List Event) (granule : ℕ) (b : Extent) (pl
       lift_same (state_of (marks bound one)) (state_of (marks bound other)) granule (λ byte above below.
       let in_span = granule_in_span b granule byte placed inside above below in
       let out = out_of_bytes outside byte above below in
-      held_redzone bound one b byte (8 * granule) (8 * granule + 8) has in_span out above below clear.0 clear.1
-      ∙ sym (held_redzone bound other b byte (8 * granule) (8 * granule + 8) also in_span out above below clear'.0
-      clear'.1))
+      held_redzone bound one b byte (8 * granule) (8 * granule + 8) has in_span out above below clear
+      ∙ sym (held_redzone bound other b byte (8 * granule) (8 * granule + 8) also in_span out above below clear'))
 
 -- ---- what is laid out, in granules
 
@@ -496,8 +494,7 @@ module _ (bound : ℕ) (laid : List Event) where
     unshaded (event.Malloc r ∷ shades) are clear byte above below = absurd (false≢true are)
     unshaded (event.Free p ∷ shades) are clear byte above below = absurd (false≢true are)
     unshaded (e ∷ shades) are clear byte above below =
-        own_marks_leave e shades byte (8 * granule) (8 * granule + 8) (marks bound (shades ++ laid)) above below clear.0
-        clear.1
+        own_marks_leave e shades byte (8 * granule) (8 * granule + 8) (marks bound (shades ++ laid)) above below clear
         ∙ unshaded shades (and_parts (is_shade e) (list_all is_shade shades) are).1
         (λ t has. clear.0 t (in_tail _ _ shades has), λ u has. clear.1 u (in_tail _ _ shades has)) byte above below
 

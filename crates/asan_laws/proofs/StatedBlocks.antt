@@ -40,7 +40,7 @@ redzone_granule bound recorded granule b has inside outside clear =
     lift_same (state_of (marks bound recorded)) (λ byte. HeapRedzone) granule (λ byte above below.
     let in_span = granule_in_span b granule byte placed inside above below in
     let off = redzone_byte b byte (out_of_bytes bound recorded recorded granule b placed outside byte above below) in
-    live_span bound recorded b byte (8 * granule) (8 * granule + 8) has in_span above below clear.0 clear.1
+    live_span bound recorded b byte (8 * granule) (8 * granule + 8) has in_span above below clear
     ∙ rw off refl)
 
 -- ---- a block that was stated just now
