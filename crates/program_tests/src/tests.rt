@@ -1,7 +1,10 @@
-//! What no run of the built program can show: an output of which only the flush fails.
+//! What no run of the built program can show: an output of which only the flush fails, and how much
+//! a read asks for.
 
 use asan_program::run;
-use std::alloc::Global;
+use std::alloc::{AllocError, Global};
+use std::io;
+use std::io::{Error, ErrorKind, Read};
 use std::test::Fail;
 use test_writers::{ShortWriter, WhenFull};
 
@@ -15,10 +18,7 @@ fn output_that_is_not_flushed(rt: HostRuntime) -> Result<(), Fail> {
         "check --live -",
         "check --live - missing",
     ] {
-        let mut words = Vec::new(rt.alloc());
-        for word in line.split_whitespace() {
-            words.push(String::from_str(rt.alloc(), word)?)?;
-        }
+        let words = words_of(rt.alloc(), line)?;
         let mut output = writer(rt.alloc());
         output.flushes = false;
         let mut faults = writer(rt.alloc());
@@ -28,6 +28,63 @@ fn output_that_is_not_flushed(rt: HostRuntime) -> Result<(), Fail> {
         assert!(rt; faults.held.is_empty());
     }
     Ok(())
+}
+
+/// A reader that gives its bytes to a read that asks for 4,096, and fails any other.
+#[derive(Drop)]
+struct GivesTo4096<'a> {
+    bytes: &'a [u8],
+}
+
+impl Read for GivesTo4096<'_> {
+    fn read(&mut self, buf: &mut [u8]) -> io::Result<usize> {
+        if buf.len() != 4096 {
+            return Err(Error::from(ErrorKind::InvalidInput));
+        }
+        self.bytes.read(buf)
+    }
+}
+
+/// How the trace below ends.
+const END_OF_FREES: &[u8] = b"p0 end closed events 1000 offset 9009 reports 0\n";
+
+/// The header, 1,000 frees at 0 and the close.
+fn thousand_frees(alloc: Global) -> Result<Vec<u8>, AllocError> {
+    let mut bytes = [0x41, 0x53, 0x54, 0x52, 1, 0, 0, 0].to_vec(alloc)?;
+    for _ in 0..1000 {
+        bytes.extend_from_slice(&[4, 0, 0, 0, 0, 0, 0, 0, 0])?;
+    }
+    bytes.push(7)?;
+    Ok(bytes)
+}
+
+#[test]
+fn each_read_of_the_input_asks_for_4096_bytes(rt: HostRuntime) -> Result<(), Fail> {
+    let bytes = thousand_frees(rt.alloc())?;
+    for (line, status) in [
+        ("", 0),
+        ("check -", 0),
+        ("check - missing", 3),
+        ("check --live -", 0),
+        ("check --live - missing", 3),
+    ] {
+        let words = words_of(rt.alloc(), line)?;
+        let input = GivesTo4096 { bytes: &bytes };
+        let mut output = writer(rt.alloc());
+        let mut faults = writer(rt.alloc());
+        assert_eq!(rt; run(&rt, &words, input, &mut output, &mut faults), status);
+        assert!(rt; output.held.starts_with(END_OF_FREES));
+    }
+    Ok(())
+}
+
+/// The words of a line.
+fn words_of(alloc: Global, line: &str) -> Result<Vec<String>, AllocError> {
+    let mut words = Vec::new(alloc);
+    for word in line.split_whitespace() {
+        words.push(String::from_str(alloc, word)?)?;
+    }
+    Ok(words)
 }
 
 /// A writer with room enough.

@@ -91,6 +91,32 @@ where
     Ok(collector.collect_openly(door)?.0)
 }
 
+/// Does what [`outcomes_openly`] does, where the lines are printed as they come.
+fn printed_openly<'a, D: Door, R: Threads + Wait + Clock + Sync>(
+    rt: &R,
+    shared: &'a RefusingAllocator<Global>,
+    own: &[&'a RefusingAllocator<Global>],
+    door: &mut D,
+    text: &mut Vec<u8>,
+) -> Result<
+    Vec<Outcome<D::Feed, &'a RefusingAllocator<Global>>, &'a RefusingAllocator<Global>>,
+    Fail,
+>
+where
+    D::Feed: Send + Drop,
+    requires { (D.seen door.old).refusals ≤ 2 ^ 32 }
+{
+    let collector = Collector {
+        rt,
+        gate: &OpenGate,
+        heaps: Heaps { shared, own },
+        options: Options::usual(),
+    };
+    let (live, _) = collector.collect_live_openly(door, text)?;
+    live.wrote?;
+    Ok(live.outcomes)
+}
+
 /// Asserts that a sender ran out of memory if it was short of it, and was settled else.
 fn expect_short<A: Allocator + Copy>(
     rt: &impl Abort,
@@ -178,6 +204,23 @@ fn a_sender_alone_has_the_first_memory(rt: HostRuntime) -> Result<(), Fail> {
     for outcome in &outcomes {
         expect_short(&rt, outcome, true);
     }
+    Ok(())
+}
+
+/// The checker of the only sender has no memory at all, and its end line goes out.
+#[test]
+fn a_sender_alone_is_printed_with_the_shared_memory(rt: HostRuntime) -> Result<(), Fail> {
+    let ample = RefusingAllocator::counting(rt.alloc());
+    let none = RefusingAllocator::with_bound(rt.alloc(), 0);
+    let mut door = Listed::new(rt.alloc(), &THREE_OF_A_KIND[..1]);
+    let mut text = Vec::new(rt.alloc());
+    let outcomes = printed_openly(&rt, &ample, &[&none], &mut door, &mut text)?;
+    expect_eq(&rt, outcomes.len(), 1);
+    for outcome in &outcomes {
+        expect_short(&rt, outcome, true);
+    }
+    let text = String::from_utf8(text)?;
+    expect_eq(&rt, text.as_str(), "p0 end no-memory checked 0 reports 0\n");
     Ok(())
 }
 

@@ -82,6 +82,15 @@ fn a_reader_gives_its_bytes_and_then_none(rt: HostRuntime) {
     expect_reads(&rt, &mut feed, &readings);
 }
 
+#[test]
+fn a_reader_is_asked_for_as_much_as_there_is_room_for(rt: HostRuntime) {
+    let mut feed = ReadFeed::new([7; 5000].as_slice());
+    for given in [4096, 904, 0] {
+        let count = read(&rt, &mut feed, &mut [0; 4096]);
+        expect_eq_at(&rt, given, count, Ok(given));
+    }
+}
+
 /// The kinds of error that a read or a write may fail with.
 pub const KINDS: [ErrorKind; 10] = [
     ErrorKind::Interrupted,
