@@ -2,9 +2,10 @@
 -- Each lemma is named for what would have gone wrong.
 use Rattle.std.proofs.Common.{◌≡◌, ◌⊎◌, inl, inr, ℕ, true, false, List, [], ◌∷◌, Option, Some, None, refl, sym, ap, ◌∙◌}
 use Rattle.std.proofs.Common.{arith}
-use Rattle.std.specs.Prelude.{◌≢◌, IsTrue, Vec}
+use Rattle.std.specs.Prelude.{◌≢◌, All, IsTrue, Vec}
 use Rattle.std.specs.Io.KnownBytes.{Appends}
 use Rattle.std.proofs.lemmas.Bool.{false≢true}
+use Rattle.trace_lane.specs.Lanes.{known_room}
 use Rattle.trace_lane.specs.declared.lane_end.LaneEnd.{LaneEnd}
 use Rattle.trace_lane.specs.declared.lane_in.LaneIn.{LaneIn}
 use Rattle.trace_record.specs.declared.end.End.{End}
@@ -24,7 +25,7 @@ use Rattle.asan_senders.specs.declared.missing.Part.TheVariants as part
 use Rattle.asan_senders.specs.declared.sender.Sender.{Sender}
 use Rattle.asan_senders.specs.declared.sender.Sender.TheVariants as sender
 use Rattle.asan_senders.specs.Arrivals.{IsAnswerTo}
-use Rattle.asan_senders.specs.Senders.{SaysHowFar}
+use Rattle.asan_senders.specs.Senders.{HasRing, SaysHowFar}
 use Rattle.asan_senders.specs.Shares.{EachGivesUp, Share}
 use Rattle.asan_senders.specs.Live.{ArePrintedOf}
 use Rattle.asan_stream.specs.Outcomes.{faults_of, ending_of}
@@ -58,6 +59,16 @@ not_opened_for_a_feed_that_came F A seen options feed answer = answer
 stops_asking_at_255 : ¬ (IsTrue false ⊎ ◌≡◌ {A = ℕ} 255 most_senders)
 stops_asking_at_255 (inl over) = absurd cc
 stops_asking_at_255 (inr all) = absurd (omega arith)
+
+-- ---- lanes
+
+-- the lane of a sender has half the room that the options ask for
+lane_has_half_the_ring :
+    (F A : Type 0) (feed : F) (lane : LaneIn Item A) → known_room lane ≡ 512 →
+    ¬ All (HasRing {F = F} {A = A} 1024) (sender.Ready feed lane ∷ [])
+lane_has_half_the_ring F A feed lane half rings =
+    let whole : known_room lane ≡ 1024 = rings 0 sender.NotOpened (omega arith) in
+    absurd (omega arith)
 
 -- ---- workers that were lost
 

@@ -174,6 +174,7 @@ pub fn open_all<F: Feed + Drop, A: Allocator + Copy>(
     ensures shares { SharesAt options.quarantine result.senders.items result.shares.items }
     ensures same { vec_len result.shares ≡ vec_len seats.shares }
     ensures seated { HaveSeats result.senders.items result.shares.items }
+    ensures rings { All (HasRing options.ring) result.senders.items }
     ensures ports { length result.ports.items ≡ length result.senders.items }
     ensures live { Pairwise (HasPort is_live) result.senders.items result.ports.items }
     ensures untaken { NoneTaken result.ports.items }

@@ -2,9 +2,11 @@ use Rattle.std.proofs.Common.{◌≡◌, ◌<◌, ◌∙◌, ◌∷◌, ◌%◌,
 use Rattle.std.proofs.Common.{slice_index_or, inl, inr}
 use Rattle.std.proofs.lemmas.Bool.{cases_eq}
 use Rattle.std.proofs.lemmas.List.{get_or_default, get_or-set_other, get_or_append_left, get_or_at}
+use Rattle.std.proofs.lemmas.List.Elements.{All-push}
 use Rattle.asan_senders.specs.Arrivals.{IsArrived}
 use Rattle.asan_stream.specs.Benches.{process_of}
 use Rattle.asan_senders.specs.ReportLanes.{SharesHave, lanes_of}
+use Rattle.asan_senders.specs.Senders.{HasRing}
 use Rattle.asan_senders.specs.Shares.{SharesAt}
 use Rattle.std.proofs.Math.Nat.{mod-lt}
 use Rattle.asan_senders.proofs.Dealing.{shares_more, shares_none, shares_dealt, room_first, room_on, room_dealt}
@@ -46,6 +48,7 @@ loop-i-init g c =
       have = have_none (lanes_of c.args.seats.ports.items) (vec_len c.args.seats.shares) c.args.seats.shares.items
           seats.no_benches;
       seated = seats_none c.args.seats.senders.items c.args.seats.shares.items none;
+      rings = λ i d below. absurd (let no = rw none at below in omega arith);
     }
 
 pub open-seat-requires : goal.open-seat-requires
@@ -159,6 +162,7 @@ loop-i-preserved g c =
         | in_default w ↦ rw (w.shares-is, pushed) (seats_more senders s shares
             (no_seat s c.open-seat.result.bench c.open-seat.ensures.seated w.in_default.not-Some) inv.seated)
       ];
+      rings = rw pushed (All-push (HasRing c.args.options.ring) senders s inv.rings c.open-seat.ensures.ring);
     }
 
 pub returns-clause-came : goal.returns-clause-came
@@ -185,6 +189,9 @@ returns-clause-fits g c = c.loop-i.invariant.fits
 
 pub returns-clause-seated : goal.returns-clause-seated
 returns-clause-seated g c = c.loop-i.invariant.seated
+
+pub returns-clause-rings : goal.returns-clause-rings
+returns-clause-rings g c = c.loop-i.invariant.rings
 
 pub returns-clause-have : goal.returns-clause-have
 returns-clause-have g c = c.loop-i.invariant.have

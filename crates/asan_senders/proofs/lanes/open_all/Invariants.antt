@@ -1,9 +1,10 @@
 use Rattle.std.proofs.Common.{◌≡◌, ◌≤◌, ◌<◌, ℕ, vec_len, slice_index_or}
+use Rattle.std.specs.List.{All}
 use Rattle.std.specs.Vec.{vec_capacity}
 use Rattle.asan_senders.specs.Arrivals.{Pairwise}
 use Rattle.asan_senders.specs.ReportLanes.{AllFit, HasPort, NoneTaken, SharesHave, lanes_of}
 use Rattle.asan_senders.specs.Shares.{SharesAt, HasRoom, HaveSeats}
-use Rattle.asan_senders.specs.Senders.{Came, AllFresh}
+use Rattle.asan_senders.specs.Senders.{Came, AllFresh, HasRing}
 use Rattle.asan_senders.proofs.lanes.open_all.Given as goal
 
 pub record Going {S O : Type 0} (Gets : S → O → Type 0) (i m : ℕ) (was now : ℕ → S → S) (out : ℕ → O → O) : Type 0 where
@@ -28,4 +29,5 @@ invariant-loop-i g l = record {
   fits : AllFit (lanes_of l.ports.items) l.senders.items;
   have : SharesHave (lanes_of l.ports.items) l.shares.items;
   seated : HaveSeats l.senders.items l.shares.items;
+  rings : All (HasRing l.options.ring) l.senders.items;
 }
