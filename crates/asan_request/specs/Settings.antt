@@ -1,6 +1,6 @@
 -- What the arguments set, by what was found among them.
 use Rattle.std.specs.Prelude.{◌≡◌, ℕ, ◌<◌, ◌^◌, ◌⊎◌, Bool, true, false, List, [], Option, None}
-use Rattle.std.specs.Prelude.{Some, codes, map, string_bytes}
+use Rattle.std.specs.Prelude.{IfSome, Some, codes, map, option_map, string_bytes}
 use Rattle.std.specs.Option.{option_map_or}
 use Rattle.std.specs.Str.Parse.{IsNumeral, digits_value, without_leading_plus}
 use Rattle.asan_stream.specs.Ranges.{usual_quarantine, usual_ring, usual_workers, usual_limit}
@@ -8,8 +8,10 @@ use Rattle.asan_stream.specs.BadOptions.{bad_option_of, is_memory_bound}
 use Rattle.asan_stream.specs.declared.options.BadOption.{BadOption}
 use Rattle.asan_stream.specs.declared.options.BadOption.TheVariants as option
 use Rattle.asan_stream.specs.declared.options.Options.{Options}
+use Rattle.asan_senders.specs.Ranges.{most_senders}
+use Rattle.asan_inputs.specs.declared.serve.Serving.{Serving}
 use Rattle.asan_request.specs.declared.request.TraceFiles.{TraceFiles}
-use Rattle.clap.specs.Words.{matched_of, one_text, raw_values}
+use Rattle.clap.specs.Words.{first_value, matched_of, one_text, raw_values}
 use Rattle.clap.specs.declared.parser.matches.Found.{Found}
 
 -- the number is the one that a text spells, if the text spells one that fits into these bits
@@ -87,3 +89,21 @@ AreFilesOf found files =
 abbrev pub IsGiven : ℕ → Option (List ℕ) → ℕ → Type 0
 IsGiven bits None number = ⊥
 IsGiven bits (Some text) number = IsReadAs bits text number
+
+-- the socket that was found, with how many senders it is served for, and how
+pub record IsServingOf (found : Found) (serving : Serving) : Type 0 where
+  pub socket : first_value found (codes "socket") ≡ Some (string_bytes serving.socket)
+  pub count : IsGiven 32 (one_text found (codes "count")) serving.count
+  pub ready : first_value found (codes "ready") ≡ option_map string_bytes serving.ready
+  pub options : AreOptionsOf found serving.options
+  pub live : IsFlag (one_text found (codes "live")) serving.is_live
+
+-- no number of senders was found, or one that is out of range
+abbrev pub LacksCount : Found → Type 0
+LacksCount found =
+    (count : Option ℕ) × IsSetIfGiven 32 (one_text found (codes "count")) count
+    × IfSome count (λ number. (number ≡ 0) ⊎ (most_senders < number))
+
+-- nothing can be served: no socket was found, or no number of senders in range
+abbrev pub LacksServing : Found → Type 0
+LacksServing found = (first_value found (codes "socket") ≡ None) ⊎ LacksCount found

@@ -1,11 +1,12 @@
 //! What is read of the arguments.
 
-ghost use Rattle.std.specs.Prelude.{◌≡◌, ◌↔◌, [], Ok, IfOk, IfSome, IsTrue, Some, codes, false};
-ghost use Rattle.std.specs.Prelude.{option_map, string_bytes};
+ghost use Rattle.std.specs.Prelude.{◌≡◌, ◌↔◌, [], Ok, IfNone, IfOk, IfSome, IsTrue, Some, codes};
+ghost use Rattle.std.specs.Prelude.{false, option_map, string_bytes};
 ghost use Rattle.clap.specs.Words.{first_value, found_of, one_text};
 ghost use Rattle.asan_inputs.specs.Verbose.{is_verbose as is_verbose_of};
-ghost use Rattle.asan_request.specs.Requests.{IsAskedInWords, IsQuiet};
+ghost use Rattle.asan_request.specs.Requests.{IsAskedInWords, IsFoundIn, IsQuiet};
 ghost use Rattle.asan_request.specs.Settings.{AreFilesOf, AreOptionsOf, IsFlag, IsGiven};
+ghost use Rattle.asan_request.specs.Settings.{LacksServing};
 
 use crate::arguments::{
     CHECK, COUNT, FILES, HelpTexts, LIVE, READY, SERVE, SOCKET, VERBOSE, command,
@@ -54,6 +55,7 @@ fn request_of(
     arguments: &[String],
 ) -> Result<Option<Request>, Refusal>
     ensures asks { IfOk result (λ request. IfSome request IsAskedInWords) }
+    ensures found { IfOk result (IsFoundIn matches.now) }
     ensures quiet { is_verbose_of arguments.now ≡ false →
         IfOk result (λ request. IfSome request IsQuiet) }
 {
@@ -100,6 +102,8 @@ fn serving_of(alloc: Global, matches: &ArgMatches<'_>) -> Result<Option<Serving>
         AreOptionsOf (found_of matches.now) s.options)) }
     ensures live { IfOk result (λ serving. IfSome serving (λ s.
         IsFlag (one_text (found_of matches.now) (codes "live")) s.is_live)) }
+    ensures lacks { IfOk result (λ serving. IfNone serving
+        (LacksServing (found_of matches.now))) }
 {
     let (Some(socket), Some(count)) = (matches.get_str(SOCKET), matches.get_one(COUNT)) else {
         return Ok(None);
