@@ -1,6 +1,7 @@
 //! The program, over the words of its command line, a reader and two writers.
 
-ghost use Rattle.std.specs.Prelude.{◌≡◌, ◌≢◌, ◌≤◌, ◌⊎◌, [], Err, IfOk, OnErr, false};
+ghost use Rattle.std.specs.Prelude.{◌≡◌, ◌≢◌, ◌≤◌, ◌⊎◌, [], Err, IfErr, IfOk, Ok, OnErr};
+ghost use Rattle.std.specs.Prelude.{false};
 ghost use Rattle.asan_senders.specs.Statuses.{unchecked, unwritten};
 ghost use Rattle.asan_inputs.specs.Verbose.{is_verbose};
 ghost use Rattle.asan_session.specs.Printed.{IsInputPrinted};
@@ -53,7 +54,52 @@ where
         (output.new ≡ output.old) ⊎ (faults.new ≡ faults.old) }
     ensures known { result ≤ unwritten }
 {
-    let request = match read_arguments(rt.alloc(), words) {
+    let asked = read_arguments(rt.alloc(), words);
+    answer(rt, asked, words, input, output, faults)
+}
+
+/// Carries out what these words ask for, or says why it is not carried out, and gives the status to
+/// end with.
+fn answer<'a, R, I, O, E>(
+    rt: &'a R,
+    asked: Result<Request, Refusal>,
+    words: &[String],
+    input: I,
+    output: &mut O,
+    faults: &mut E,
+) -> u8
+where
+    R: Files<File = File> + Net + Threads + Wait + Clock + Sync + AllocGlobal,
+    I: Read + Send + Drop,
+    O: Write,
+    E: Write,
+    ensures cause { IfErr asked (λ refusal. IsStatusFor refusal result) }
+    ensures taken { IfOk asked (λ _. result ≢ refused) }
+    ensures input { asked ≡ Ok Request.Input →
+        IsInputPrinted ⟦<ReadFeed<I> as Feed>⟧.seen
+        (I.remaining input) (O.contents output.old) (O.contents output.new) result
+        ⊎ ((result ≡ unchecked) × (output.new ≡ output.old)) }
+    ensures files { (files : TraceFiles) → asked ≡ Ok (Request.Files files) →
+        AreFilesPrinted
+        ⟦<InputFeed<ReadFeed<File>, ReadFeed<I>> as Feed>⟧.seen
+        ⟦<InputDoor<'a, R, I> as Door>⟧.seen
+        files (I.remaining input) (O.contents output.old) (O.contents output.new) result
+        ⊎ ((result ≡ unchecked) × (output.new ≡ output.old)) }
+    ensures serve { (serving : Serving) → asked ≡ Ok (Request.Serve serving) →
+        ArePeersPrinted
+        ⟦<ReadFeed<UnixStream> as Feed>⟧.seen ⟦<UnixDoor as Door>⟧.seen
+        serving (O.contents output.old) (O.contents output.new) result
+        ⊎ ((result ≡ unchecked) × (output.new ≡ output.old)) }
+    ensures refused { result ≡ refused → output.new ≡ output.old }
+    ensures quiet { ((files : TraceFiles) → asked ≡ Ok (Request.Files files) →
+        files.verbose ≡ false) →
+        result ≢ refused → result ≢ unchecked → faults.new ≡ faults.old }
+    ensures apart { ((files : TraceFiles) → asked ≡ Ok (Request.Files files) →
+        files.verbose ≡ false) →
+        (output.new ≡ output.old) ⊎ (faults.new ≡ faults.old) }
+    ensures known { result ≤ unwritten }
+{
+    let request = match asked {
         Ok(request) => request,
         Err(refusal) => return refuse(refusal, words, output, faults),
     };
