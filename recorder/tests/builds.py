@@ -314,6 +314,35 @@ def check_kinds(suite, folder, compiler):
     made.cc("-c", "main.c", command=unknown, warning=warning)
 
 
+# What a compiler's program has among its texts.
+TEXTS = {"gcc": "%{!fsyntax-only", "clang": "libclang-cpp.so"}
+
+# It does not say its version.
+SILENT = """
+#include <string.h>
+#include <unistd.h>
+const char text[] = "TEXT";
+int main(int count, char **argv)
+{
+    argv[0] = "COMPILER";
+    return count > 1 && strcmp(argv[1], "--version") == 0 ? 1 : execvp(argv[0], argv);
+}
+"""
+
+
+def check_not_asked(suite, folder, compiler):
+    """A compiler is known by a text of its program, and then it is not run for its version."""
+    made = Builder(suite, folder, compiler)
+    for text in (TEXTS[compiler.name], "nothing"):
+        write(folder, silent_c=SILENT.replace("TEXT", text).replace("COMPILER", compiler.name))
+        build([compiler.name, "-w", "silent.c", "-o", "silent"], folder)
+        silent = f"{folder}/silent"
+        if text != "nothing":
+            made.link("-DVALUE=1", "main.c", "helper.c", command=silent)
+    warning = f"{silent}: neither GCC nor Clang by its --version: what it compiles is not recorded"
+    made.cc("-c", "main.c", command=silent, warning=warning)
+
+
 # What the wrapper is called, to what that leads, and for which language it is then.
 CALLED = (
     ("asancol-cc", CC, "C"),
@@ -405,6 +434,7 @@ def tests(suite, compiler):
     else:
         print("left out: ccache is not there")
     suite.test(f"{compiler} builds: kinds", check_kinds, compiler)
+    suite.test(f"{compiler} builds: not asked", check_not_asked, compiler)
     suite.test(f"{compiler} builds: names", check_names, compiler)
     suite.test(f"{compiler} builds: own wrap", check_own_wrap, compiler)
     suite.test(f"{compiler} builds: own options", check_own_options, compiler)

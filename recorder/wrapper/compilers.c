@@ -54,6 +54,7 @@
 static const struct compiler compilers[] = {
     {
         .says = "Free Software Foundation",
+        .has_text = "%{!fsyntax-only", /* its specs, for all front ends */
         .flags = GCC_CHECKS("2147483647"),
         .all_flags = GCC_CHECKS("0"),
         .use_after_return = {GCC_USE_AFTER_RETURN("0"), GCC_USE_AFTER_RETURN("1"), GCC_USE_AFTER_RETURN("1")},
@@ -64,7 +65,7 @@ static const struct compiler compilers[] = {
     },
     {
         .says = "clang version",
-        .made_of = "libclang-cpp.so",
+        .has_text = "libclang-cpp.so", /* of which it is made */
         .flags = CLANG_CHECKS("1000000000", "1"),
         .all_flags = CLANG_CHECKS("0", "0"),
         .use_after_return = {CLANG_USE_AFTER_RETURN("never"), CLANG_USE_AFTER_RETURN("runtime"),
@@ -115,15 +116,32 @@ static void read_version(const char *const *command, size_t count, char *text, s
         waitpid(child, NULL, 0);
 }
 
-/* By the library of which its program is made. Clang takes its time to start. */
-static const struct compiler *compiler_made_of(const char *path)
+/* Whether a section is read as it is in the file, and not run: texts and names of libraries are in such. */
+static bool has_texts(const Elf64_Shdr *section)
+{
+    const Elf64_Xword flags = section->sh_flags & (SHF_ALLOC | SHF_WRITE | SHF_EXECINSTR);
+    return flags == SHF_ALLOC && (section->sh_type == SHT_PROGBITS || section->sh_type == SHT_STRTAB);
+}
+
+static const struct compiler *compiler_with_text_in(struct view texts)
+{
+    for (size_t i = 0; i < COUNT(compilers); i++)
+        if (compilers[i].has_text != NULL && view_has_text(texts, compilers[i].has_text))
+            return &compilers[i];
+    return NULL;
+}
+
+/* By a text of its program: to ask it takes a process, which counts beside a small source. */
+static const struct compiler *compiler_of_program(const char *path)
 {
     const struct compiler *found = NULL;
     struct view view = view_map(path);
-    bool is_program = view_begins(view, ELFMAG);
-    for (size_t i = 0; is_program && found == NULL && i < COUNT(compilers); i++)
-        if (compilers[i].made_of != NULL && view_has_text(view, compilers[i].made_of))
-            found = &compilers[i];
+    size_t count = view_section_count(view);
+    for (size_t i = 0; i < count && found == NULL; i++) {
+        Elf64_Shdr section = view_section(view, i);
+        if (has_texts(&section))
+            found = compiler_with_text_in(view_of_section(view, &section));
+    }
     view_unmap(view);
     return found;
 }
@@ -131,7 +149,7 @@ static const struct compiler *compiler_made_of(const char *path)
 const struct compiler *compiler_of(const char *const *command, size_t count)
 {
     char text[4096];
-    const struct compiler *found = compiler_made_of(command[0]);
+    const struct compiler *found = compiler_of_program(command[0]);
     if (found != NULL)
         return found;
     read_version(command, count, text, sizeof text);

@@ -16,7 +16,7 @@ struct flags {
 /* A row of the table in compilers.c. All that differs from compiler to compiler is in it. */
 struct compiler {
     const char *says;       /* what it prints if it is asked for its version */
-    const char *made_of;    /* the library of which most programs of it are made: such a one is not asked. Or null */
+    const char *has_text;   /* what most programs of it have among their texts: such a one is not asked. Or null */
     struct flags flags;     /* before the caller's arguments: its inline check, and a call if an access is bad by it */
     struct flags all_flags; /* or a call before each access */
     struct flags use_after_return[USES_AFTER_RETURN]; /* with these */

@@ -191,7 +191,8 @@ static void count_symbols(struct parts *parts, struct view view, const Elf64_Shd
         parts->is_rust_own |= type == STT_FILE && is_of_rust_crate(name);
         parts->asks_checks |= !is_defined && strcmp(name, CHECKS_ASKED_FOR) == 0;
         bool is_name = is_defined && (type == STT_FUNC || type == STT_OBJECT);
-        parts->has_own_names |= is_name && strstr(name, RUST_OWN) == NULL;
+        if (is_name && !parts->has_own_names)
+            parts->has_own_names = strstr(name, RUST_OWN) == NULL;
         parts->has_assembly |= type == STT_NOTYPE && name[0] != 0 && strncmp(name, ".L", 2) != 0
                                && is_in_code(view, &it);
         parts->has_variables |= is_defined && (type == STT_OBJECT || type == STT_TLS);
@@ -226,13 +227,37 @@ static bool is_checked_rust(const struct parts *parts)
     return parts->is_of_rust && parts->asks_checks;
 }
 
-/* Whether some of it was compiled so. */
-static bool is_marked_object(struct view view)
+/* Whether a text is in what comes into memory, or is a name. A file of ELF has most of its bytes for debuggers. */
+static bool has_loaded_text(struct view view, const char *text)
 {
+    size_t count = view_section_count(view);
+    bool has = count == 0 && view_has_text(view, text);
+    for (size_t i = 0; i < count && !has; i++) {
+        Elf64_Shdr section = view_section(view, i);
+        if ((section.sh_flags & SHF_ALLOC) != 0 || section.sh_type == SHT_STRTAB)
+            has = view_has_text(view_of_section(view, &section), text);
+    }
+    return has;
+}
+
+/* What matters of a file before the link. */
+struct look {
+    bool is_marked; /* some of it was compiled so */
+    bool is_lto;
+};
+
+static struct look look_at(struct view view)
+{
+    if (view_section_count(view) != 0) {
+        struct parts parts = parts_of(view);
+        return (struct look){parts.marked != 0 || is_checked_rust(&parts), parts.has_lto};
+    }
+    bool is_lto = view_has_text(view, GCC_LTO), is_elf = view_begins(view, OBJECT);
     if (is_bitcode(view))
-        return has_mark(view);
-    struct parts parts = parts_of(view);
-    return parts.marked != 0 || is_checked_rust(&parts);
+        return (struct look){has_mark(view), is_lto};
+    if (is_elf || view_begins(view, ARCHIVE))
+        return (struct look){is_lto && has_mark(view), is_lto};
+    return (struct look){view_has_text(view, SWITCHES), is_lto};
 }
 
 /* A member of an archive comes in only if something asks for it, and then the callbacks come in by themselves: so an
@@ -242,13 +267,12 @@ void linked_look_at(struct linked *linked, const char *path)
     struct view view = view_map(path);
     bool is_elf = view_begins(view, OBJECT), is_one = is_object(view);
     bool is_library = view_begins(view, ARCHIVE) || (is_elf && !is_one);
-    bool is_marked = is_one ? is_marked_object(view) : is_library ? has_mark(view) : view_has_text(view, SWITCHES);
-    bool is_lto = view_has_text(view, GCC_LTO);
-    linked->has_marked |= is_marked && (!is_library || is_lto);
-    linked->has_lto |= is_lto;
+    struct look look = look_at(view);
+    linked->has_marked |= look.is_marked && (!is_library || look.is_lto);
+    linked->has_lto |= look.is_lto;
     linked->has_bitcode |= is_bitcode(view);
-    linked->may_open |= view_has_text(view, "dlopen");
-    if (!is_library && !is_marked && is_lto && linked->unmarked_lto == NULL)
+    linked->may_open |= has_loaded_text(view, "dlopen");
+    if (!is_library && !look.is_marked && look.is_lto && linked->unmarked_lto == NULL)
         linked->unmarked_lto = strdup(path);
     view_unmap(view);
 }
