@@ -19,10 +19,11 @@ struct own_data {
     bool has_own;        /* one of them */
     bool lacks_a_call;   /* a function is asked for weakly, and its stub has not come in */
     bool has_every_call; /* something has asked for all stubs */
-    bool (*is_checked)(const char *name, size_t length); /* whether the recorder has this of the library of C++; or null */
-    bool lacks_checked;  /* such a name comes from a library */
-    bool opens;          /* it opens libraries */
-    char *unasked;       /* __wrap_NAME, a function of the program's for a name that it does not ask for; or null */
+    /* Whether the recorder has this of the library of C++, with checks; or null. */
+    bool (*is_checked)(const char *name, size_t length);
+    bool lacks_checked; /* a library has given such a one */
+    bool opens;         /* it opens libraries */
+    char *unasked;      /* __wrap_NAME, a function of the program's for a name that it does not ask for; or null */
 };
 
 /* Fills in what is found of these names. */

@@ -10,8 +10,8 @@
 #include <asancol/instances.h>
 #endif
 #endif
-#if defined ASANCOL_INSTANCES && !defined ASANCOL_ALL && __GLIBCXX__ == ASANCOL_INSTANCES \
-    && __cplusplus >= 201103L && __cplusplus <= 201703L && _GLIBCXX_USE_CXX11_ABI
+#if defined ASANCOL_INSTANCES && !defined ASANCOL_ALL && __GLIBCXX__ == ASANCOL_INSTANCES && __cplusplus >= 201103L    \
+    && __cplusplus <= 201703L && _GLIBCXX_USE_CXX11_ABI
 #undef _GLIBCXX_USE_WCHAR_T
 #else
 #undef _GLIBCXX_EXTERN_TEMPLATE
