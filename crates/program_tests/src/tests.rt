@@ -8,29 +8,8 @@ use std::io::{Error, ErrorKind, Read};
 use std::test::Fail;
 use test_writers::{ShortWriter, WhenFull};
 
-#[test]
-fn output_that_is_not_flushed(rt: HostRuntime) -> Result<(), Fail> {
-    for line in [
-        "",
-        "--help",
-        "check -",
-        "check - missing",
-        "check --live -",
-        "check --live - missing",
-    ] {
-        let words = words_of(rt.alloc(), line)?;
-        let mut output = writer(rt.alloc());
-        output.flushes = false;
-        let mut faults = writer(rt.alloc());
-        let status = run(&rt, &words, b"".as_slice(), &mut output, &mut faults);
-        assert_eq!(rt; status, 4);
-        assert!(rt; !output.held.is_empty());
-        assert!(rt; faults.held.is_empty());
-    }
-    Ok(())
-}
-
-/// A reader that gives its bytes to a read that asks for 4,096, and fails any other.
+/// A reader that gives its bytes to a read that asks for 4,096, and fails any other. All tests have
+/// it, since the program is proved again for each kind of reader.
 #[derive(Drop)]
 struct GivesTo4096<'a> {
     bytes: &'a [u8],
@@ -43,6 +22,31 @@ impl Read for GivesTo4096<'_> {
         }
         self.bytes.read(buf)
     }
+}
+
+#[test]
+fn output_that_is_not_flushed(rt: HostRuntime) -> Result<(), Fail> {
+    for line in [
+        "",
+        "--help",
+        "check -",
+        "check - missing",
+        "check --live -",
+        "check --live - missing",
+    ] {
+        let words = words_of(rt.alloc(), line)?;
+        let input = GivesTo4096 {
+            bytes: b"".as_slice(),
+        };
+        let mut output = writer(rt.alloc());
+        output.flushes = false;
+        let mut faults = writer(rt.alloc());
+        let status = run(&rt, &words, input, &mut output, &mut faults);
+        assert_eq!(rt; status, 4);
+        assert!(rt; !output.held.is_empty());
+        assert!(rt; faults.held.is_empty());
+    }
+    Ok(())
 }
 
 /// How the trace below ends.
