@@ -39,17 +39,14 @@ PROGRAMS = ["crates/asancol/out/asancol", "crates/asancol/out/asancol.by-rattle"
 # Some thousand traces, the same each time.
 FUZZ = ["tests/fuzz.py", "--draws", "4000", "--seed", "1"]
 
-# The proofs share the processors like this, each in one process, since several for one proof take
-# half as much again: `rt ci` has half of them, and the bases of the mutants a quarter. The rounds, at
-# a lower priority, have what is left. So neither chain of proofs, from the lowest crate to the
-# highest, waits for anything else.
-PROCESSORS = len(os.sched_getaffinity(0))
-RT_CI = ["env", f"RT_JOBS={max(1, PROCESSORS // 2)}", "rt", "ci"]
-MUTANTS = ["tests/mutants.py", "--provers", str(max(1, PROCESSORS // 4))]
+# The bases of the mutants have half of the processors at most: `rt ci` comes first, and the rounds, at
+# a lower priority, have what is left.
+PROVERS = max(1, len(os.sched_getaffinity(0)) // 2)
+MUTANTS = ["tests/mutants.py", "--provers", str(PROVERS)]
 
 # What comes after the lint, one after another, each with the part that it counts as.
 STEPS = [
-    ("rt ci", RT_CI),
+    ("rt ci", ["rt", "ci"]),
     ("runs", [sys.executable, "tests/runs.py", *PROGRAMS]),
     ("fuzz", [sys.executable, *FUZZ, *PROGRAMS]),
 ]
