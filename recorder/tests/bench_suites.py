@@ -101,7 +101,12 @@ def main(argv: Optional[List[str]] = None) -> int:
     reader.add_argument("asancol", metavar="ASANCOL")
     reader.add_argument("names", nargs="*")
     options = reader.parse_args(argv)
-    compiler = next(it for it in compilers() if it.name == options.compiler)
+    found = {it.name: it for it in compilers()}
+    if options.compiler not in found:
+        reader.error(f"no compiler {options.compiler}: there are {', '.join(found) or 'none'}")
+    if options.rounds < 1:
+        reader.error("at least one round")
+    compiler = found[options.compiler]
     programs = [it for it in real.chosen(options.names) if not it.crate]
     real.fetch(programs)
     print(f"{'program':<12}{'sanitizer':>10}{'lean':>8}{'in all':>8}{'full':>8}{'in all':>8}"
