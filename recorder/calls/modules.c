@@ -7,9 +7,7 @@
 #include "stacks/cfi.h"
 
 #ifndef IN_SHARED_OBJECT /* what is opened may call any function */
-__asm__(".pushsection .text\n\t.balign 4\n"
-        ".globl asancol_opens\nasancol_opens:\n"
-        "\t.long asancol_every_call - .\n.popsection\n");
+__asm__(".pushsection .text\n\t.balign 4\n\t.long asancol_every_call - .\n.popsection\n");
 #endif
 
 REAL(void *, dlopen, (const char *, int));

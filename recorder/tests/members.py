@@ -135,18 +135,6 @@ def check_links(suite: Suite, folder: str, compiler: Compiler) -> None:
         os.unlink(f"{folder}/runs")
 
 
-def check_shown(suite: Suite, folder: str, compiler: Compiler) -> None:
-    """A program of C++ shows shared objects what they may look for, if it has others than the library of C++, or opens
-    some."""
-    write(folder, small_cpp="int main() { return 0; }\n", opens_cpp=OPENS, library_c=LIBRARY)
-    compiler.c(folder, ["library.c"], "library.so", "-fPIC", "-shared", "-fno-builtin", native=True)
-    for words, is_shown in ((["small.cpp"], False), (["opens.cpp"], True), (["small.cpp", "./library.so"], True),
-                            (["small.cpp", "-Wl,./library.so"], True)):
-        compiler.cpp(folder, words, "program")
-        shown = run(["nm", "-D", "--defined-only", "program"], folder).stdout.decode()
-        expect("__asan_report_store8_noabort" in shown, is_shown, f"{words}")
-
-
 def check_preloaded(suite: Suite, folder: str, compiler: Compiler) -> None:
     """The calls of a library of which the link knew nothing are checked if the program has all of them, or it is
     said."""
@@ -170,5 +158,4 @@ def tests(suite: Suite, compiler: Compiler) -> None:
     if compiler.name == "gcc":  # it reads specs
         suite.test(f"{compiler} members: late", check_late, compiler)
     suite.test(f"{compiler} members: links", check_links, compiler)
-    suite.test(f"{compiler} members: shown", check_shown, compiler)
     suite.test(f"{compiler} members: preloaded", check_preloaded, compiler)

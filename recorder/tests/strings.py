@@ -2,10 +2,9 @@
 objects that were built so work beside others, whatever they take from the library."""
 
 import os
-from typing import Set
 
 from support import (
-    CC, CXX, TESTS, Compiler, Failure, Suite, build, by_sanitizer, expect, leave_out, one_mark, reports, run, write,
+    CXX, TESTS, Compiler, Failure, Suite, build, by_sanitizer, expect, leave_out, one_mark, reports, run, write,
 )
 from unchecked import LINKERS
 
@@ -124,8 +123,7 @@ def check_texts(suite: Suite, folder: str, compiler: Compiler) -> None:
         expect(INSTANTIATED in run(["nm", "--defined-only", "made"], folder).stdout.decode(), True, f"{words}")
 
     make("-E", "main.cpp", "-o", "main.ii")
-    make("-c", "main.ii", "-o", "main.o")
-    make_instantiated("main.o")
+    make_instantiated("-c", "main.ii")
     make("-x", "c++-header", "first.h", "-o", "first.h.pch" if compiler.name == "clang" else "first.h.gch")
     make_instantiated("-Winvalid-pch", "-Werror", "-include", "first.h", "main.cpp")
     make_instantiated("-Wall", "-Wextra", "-Wundef", "-pedantic-errors", "-Werror", "-std=c++98", "main.cpp")
@@ -136,40 +134,8 @@ def check_texts(suite: Suite, folder: str, compiler: Compiler) -> None:
     places = said.split("starts here:")[-1].split("End of")[0].split()
     makes = [f"-I{it}" for it in places if "c++" in it]
     make_instantiated("-nostdinc++", *makes, "main.cpp")
-    build([CC, "-c", "main.cpp", "-o", "main.o"], folder, ASANCOL_CC=compiler.name)
-    make_instantiated("main.o")
-
-
-def names(folder: str, option: str, *files: str) -> Set[str]:
-    said = run(["nm", option, *files], folder).stdout.decode()
-    return {it.split()[-1].split("@")[0] for it in said.splitlines() if " " in it}
-
-
-# What a program with its own strings may be linked with first: their library, by its name or in a file of words; and a
-# plain library that has strings too.
-BEFORE = (["-lstdc++", "-lm"], ["@words.rsp"], ["./libhas.so", "-lstdc++"], ["-Wl,-lstdc++"])
-
-
-def check_instances(suite: Suite, folder: str, compiler: Compiler) -> None:
-    """What an object would compile of the library comes with checks all the same if it does not: by each standard, and
-    wherever the library stands. With --asancol-all it does."""
-    write(folder, object_cpp=OBJECT, host_cpp=HOST, words_rsp="-lstdc++ -lm\n", main_cpp=SMALL,
-          has_cpp="#include <string>\ntemplate class std::basic_string<char>;\n")
-    both = ["object.cpp", "host.cpp"]
-    for standard in ("c++11", "gnu++14", "gnu++17", "c++20"):
-        words = [f"-std={standard}", "-O0"]
-        build([CXX, *words, "--asancol-all", "-c", *both], folder, ASANCOL_CXX=compiler.cxx)
-        wanted = names(folder, "--defined-only", "object.o", "host.o")
-        build([CXX, *words, *both, "-o", "host"], folder, ASANCOL_CXX=compiler.cxx)
-        expect(wanted & names(folder, "-u", "host"), set(), standard)
-        expect(run(["./host"], folder).stdout.decode(), SAID, standard)
-    build([compiler.cxx, "-shared", "-fPIC", "has.cpp", "-o", "libhas.so"], folder)
-    build([CXX, "-c", "main.cpp"], folder, ASANCOL_CXX=compiler.cxx)
-    for before in BEFORE:
-        build([CC, "main.o", *before, "-o", "main"], folder, ASANCOL_CC=compiler.name)
-        expect(INSTANTIATED in names(folder, "--defined-only", "main"), True, f"{before}")
-        build([CXX, "main.o", *before, "-o", "main"], folder, ASANCOL_CXX=compiler.cxx)
-        expect(INSTANTIATED in names(folder, "--defined-only", "main"), True, f"{before}")
+    build([CXX.replace("c++", "cc"), "-c", "main.cpp", "-o", "made"], folder, ASANCOL_CC=compiler.name)
+    expect(INSTANTIATED in run(["nm", "--defined-only", "made"], folder).stdout.decode(), True, "asancol-cc")
 
 
 def check_least(suite: Suite, folder: str, compiler: Compiler, library: str) -> None:
@@ -192,4 +158,3 @@ def tests(suite: Suite, compiler: Compiler) -> None:
     suite.test(f"{compiler} strings objects", check_objects, compiler, ["-O0"])
     suite.long_test(f"{compiler} strings old objects", check_objects, compiler, ["-O1", "-D_GLIBCXX_USE_CXX11_ABI=0"])
     suite.test(f"{compiler} strings texts", check_texts, compiler)
-    suite.test(f"{compiler} strings instances", check_instances, compiler)

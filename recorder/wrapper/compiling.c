@@ -70,8 +70,6 @@ static void add_headers(struct strings *line, const struct request *request)
     const char *option = request->is_without_cxx ? "-I" : "-isystem";
     if (!request->inputs.has_text)
         return;
-    if (request->is_all)
-        strings_add(line, "-DASANCOL_ALL"); /* of what the recorder has compiled not each access is recorded */
     if (!request->is_libcxx || request->is_without_cxx)
         add_file(line, option, "cxx/libstdc++");
     if (request->is_libcxx || request->is_without_cxx)

@@ -7,7 +7,6 @@
 
 #include "common/array.h"
 #include "common/must.h"
-#include "wrapper/instances.h"
 #include "wrapper/own_data.h"
 #include "wrapper/say.h"
 #include "wrapper/self.h"
@@ -66,45 +65,24 @@ static bool has_every_call(const struct job *job)
            || job->front->links_libm;
 }
 
-/* Whether it is a program that loads the C library. */
-static bool is_program(const struct link_request *link)
-{
-    return has_start(link) && !linking_is_static(link);
-}
-
 bool linking_has_some_calls(const struct job *job)
 {
-    return is_program(&job->request.link) && !has_every_call(job);
-}
-
-/* Whether shared objects may look for names that no linker shows by itself, since it does not see who wants them. For
-   each name of any file the linker of the binutils then goes through all of these: of a program of C++ that took it a
-   fifth of its time. */
-static bool shows_names(const struct job *job)
-{
-    const struct linked *linked = &job->request.inputs.linked;
-    return !job->front->has_new || job->request.link.needs_every_call || linked->has_lto || linked->may_open;
-}
-
-bool linking_hides_names(const struct job *job)
-{
-    return is_program(&job->request.link) && has_every_call(job) && !shows_names(job);
+    const struct link_request *link = &job->request.link;
+    return has_start(link) && !linking_is_static(link) && !has_every_call(job);
 }
 
 bool linking_needs_another(struct job *job, const char *output)
 {
     struct link_request *link = &job->request.link;
-    struct own_data found = {.is_own = is_own, .is_checked = instances_have};
+    struct own_data found = {.is_own = is_own};
     own_data_find(output, wraps, wrap_count(job->front), &link->wraps, &found);
     if (found.unasked != NULL) {
         unlink(output);
         fail(found.unasked, "it would be called: the program has this function, and does not ask for it by --wrap");
     }
-    bool needs_every = ((found.lacks_a_call || found.has_every_call) && linking_has_some_calls(job))
-                       || (found.opens && linking_hides_names(job));
+    bool needs_every = (found.lacks_a_call || found.has_every_call) && linking_has_some_calls(job);
     link->needs_every_call |= needs_every;
-    link->needs_instances |= found.lacks_checked;
-    return found.has_own || needs_every || found.lacks_checked;
+    return found.has_own || needs_every;
 }
 
 static void add_file(struct strings *line, const char *name)
@@ -132,19 +110,9 @@ static void add_wraps(struct strings *line, size_t count)
     strings_add(line, word);
 }
 
-void linking_add_instances(struct strings *line)
-{
-    add_file(line, INSTANCES);
-}
-
 void linking_add_before(struct strings *line, const struct job *job)
 {
     const struct link_request *link = &job->request.link;
-    if (link->needs_instances) {
-        strings_add(line, "-Wl,--whole-archive");
-        linking_add_instances(line);
-        strings_add(line, "-Wl,--no-whole-archive");
-    }
     if (!has_start(link))
         return;
     strings_add(line, "-Wl,--undefined=asancol_first");
@@ -191,8 +159,7 @@ static void add_to_program(struct strings *line, const struct job *job)
         strings_add(line, "-Wl,--undefined=asancol_start");
     if (has_start(link) && has_every_call(job)) {
         strings_add(line, "-Wl,--undefined=" EVERY_CALL);
-        if (shows_names(job))
-            strings_add_all(line, shown, COUNT(shown));
+        strings_add_all(line, shown, COUNT(shown));
     }
     add_file(line, "libasancol_record.a");
     if (link->has_libc)
@@ -202,8 +169,6 @@ static void add_to_program(struct strings *line, const struct job *job)
 void linking_add_after(struct strings *line, const struct job *job)
 {
     const struct link_request *link = &job->request.link;
-    if (job->front->has_new)
-        linking_add_instances(line);
     strings_add(line, TAKEN_FLAGS);
     if (has_checks(&job->request))
         strings_add(line, "-Wl,--undefined=asancol_checks");

@@ -6,16 +6,12 @@
 
 /* Before the caller's arguments: what comes first in the program. */
 void linking_add_before(struct strings *line, const struct job *job);
-/* Before the library of C++: what the recorder has of it. */
-void linking_add_instances(struct strings *line);
 /* After them. */
 void linking_add_after(struct strings *line, const struct job *job);
 /* Whether a program gets the C library into itself. Then no function is wrapped. */
 bool linking_is_static(const struct link_request *link);
 /* Whether a program gets of the calls that are checked no more than its objects ask for. */
 bool linking_has_some_calls(const struct job *job);
-/* Whether one shows other shared objects than the library of C++ no more of its names than the linker by itself. */
-bool linking_hides_names(const struct job *job);
 /* Looks into what was linked. True: it has to be linked again. A function is left alone if the program has a variable
    of its name, whose uses would be wrapped too; and what is asked for weakly brings no call in. Fails if a function of
    the program's would be called that is not in a plain build. */

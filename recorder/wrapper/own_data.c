@@ -1,17 +1,14 @@
 #define _GNU_SOURCE
 #include "wrapper/own_data.h"
 
-#include <stdlib.h>
 #include <string.h>
 
-#include "common/must.h"
 #include "common/text.h"
 #include "wrapper/view.h"
 
 struct search {
     struct view view;
     const char *const *names;
-    const char *const **sorted; /* where each of them is, in their order */
     size_t count;
     const struct names *asked_for;
     struct own_data *found;
@@ -31,32 +28,11 @@ static bool is_of_one_file(const Elf64_Sym *symbol, bool has_file)
            && has_file;
 }
 
-static int compare_names(const void *one, const void *other)
-{
-    return strcmp(**(const char *const *const *)one, **(const char *const *const *)other);
-}
-
-static void sort_names(struct search *search)
-{
-    search->sorted = must(malloc((search->count + 1) * sizeof *search->sorted));
-    for (size_t i = 0; i < search->count; i++)
-        search->sorted[i] = &search->names[i];
-    qsort(search->sorted, search->count, sizeof *search->sorted, compare_names);
-}
-
-/* Where it is among the names, or null. A program has thousands of its own. */
-static const char *const *find_name(const struct search *search, const char *name)
-{
-    const char *const *wanted = &name;
-    const char *const **found = bsearch(&wanted, search->sorted, search->count, sizeof *search->sorted, compare_names);
-    return found != NULL ? *found : NULL;
-}
-
 static void look_for(struct search *search, const char *name)
 {
-    const char *const *found = find_name(search, name);
-    if (found != NULL)
-        search->found->is_own[found - search->names] = search->found->has_own = true;
+    for (size_t i = 0; i < search->count; i++)
+        if (strcmp(name, search->names[i]) == 0)
+            search->found->is_own[i] = search->found->has_own = true;
 }
 
 /* The recorder's own are weak, but for those of the operators. mold makes all of them local, and so keeps no sign. */
@@ -69,16 +45,9 @@ static void look_at_wrap(struct search *search, const Elf64_Sym *symbol, const c
         || names_have(search->asked_for, name + strlen(front)))
         return;
     found->lacks_a_call |= !is_there && !is_strong;
-    if (is_there && is_strong && found->unasked == NULL && find_name(search, name + strlen(front)) != NULL)
-        found->unasked = strdup(name);
-}
-
-/* What is asked for has the version behind its name. Names of C++ begin so. */
-static void look_at_undefined(struct search *search, const char *name)
-{
-    struct own_data *found = search->found;
-    if (found->is_checked != NULL && !found->lacks_checked && begins_with(name, "_Z"))
-        found->lacks_checked = found->is_checked(name, strcspn(name, "@"));
+    for (size_t i = 0; is_there && is_strong && i < search->count && found->unasked == NULL; i++)
+        if (strcmp(name + strlen(front), search->names[i]) == 0)
+            found->unasked = strdup(name);
 }
 
 static void look_at_table(struct search *search, const Elf64_Shdr *section)
@@ -96,18 +65,14 @@ static void look_at_table(struct search *search, const Elf64_Shdr *section)
             look_for(search, name);
         else
             look_at_wrap(search, &it, name);
-        if (it.st_shndx == SHN_UNDEF)
-            look_at_undefined(search, name);
         search->found->has_every_call |= it.st_shndx != SHN_UNDEF && strcmp(name, EVERY_CALL) == 0;
-        search->found->opens |= it.st_shndx != SHN_UNDEF && strcmp(name, OPENS) == 0;
     }
 }
 
 void own_data_find(const char *path, const char *const *names, size_t count, const struct names *asked_for,
                    struct own_data *found)
 {
-    struct search search = {view_map(path), names, NULL, count, asked_for, found};
-    sort_names(&search);
+    struct search search = {view_map(path), names, count, asked_for, found};
     size_t sections = view_section_count(search.view);
     for (size_t i = 0; i < sections; i++) {
         Elf64_Shdr section = view_section(search.view, i);
@@ -115,5 +80,4 @@ void own_data_find(const char *path, const char *const *names, size_t count, con
             look_at_table(&search, &section);
     }
     view_unmap(search.view);
-    free(search.sorted);
 }

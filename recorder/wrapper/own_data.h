@@ -10,20 +10,13 @@
 /* This brings all stubs into a program (calls/every.c). */
 #define EVERY_CALL "asancol_every_call"
 
-/* And this is in one that opens libraries (calls/modules.c). */
-#define OPENS "asancol_opens"
-
 /* What is in a program that was linked. */
 struct own_data {
     bool *is_own;        /* of each name: something other than a function has it */
     bool has_own;        /* one of them */
     bool lacks_a_call;   /* a function is asked for weakly, and its stub has not come in */
     bool has_every_call; /* something has asked for all stubs */
-    /* Whether the recorder has this of the library of C++, with checks; or null. */
-    bool (*is_checked)(const char *name, size_t length);
-    bool lacks_checked; /* a library has given such a one */
-    bool opens;         /* it opens libraries */
-    char *unasked;      /* __wrap_NAME, a function of the program's for a name that it does not ask for; or null */
+    char *unasked;       /* __wrap_NAME, a function of the program's for a name that it does not ask for; or null */
 };
 
 /* Fills in what is found of these names. */

@@ -32,7 +32,6 @@ struct link_request {
     bool has_libc;      /* named by itself */
     bool has_libm;      /* the mathematics of the C library */
     bool has_cxx_inside; /* the library of C++ is linked as an archive */
-    bool needs_instances; /* strings or streams of C++ came from a library: ours have to stand first */
     bool is_stripped;   /* what is linked has no table of symbols */
     bool is_traced;     /* the caller wants to see what the linker takes in */
     bool needs_every_call; /* what the program is linked with may call any function that is wrapped */

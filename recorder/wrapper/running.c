@@ -16,7 +16,6 @@
 
 #include "common/must.h"
 #include "wrapper/compiling.h"
-#include "wrapper/instances.h"
 #include "wrapper/linking.h"
 #include "wrapper/say.h"
 #include "wrapper/taken.h"
@@ -36,12 +35,9 @@ static struct strings make_line(const struct job *job, bool is_try)
         compiling_add_before(&line, job);
     if (job->takes_part && job->links)
         linking_add_before(&line, job);
-    for (char **word = job->arguments; *word != NULL; word++) {
-        if (job->takes_part && job->links && strcmp(*word, INSTANCES_UNCHECKED) == 0)
-            linking_add_instances(&line);
+    for (char **word = job->arguments; *word != NULL; word++)
         if (!is_try || keeps_symbols(*word))
             strings_add(&line, *word);
-    }
     if (job->takes_part)
         compiling_add_after(&line, job);
     else
@@ -192,8 +188,7 @@ static int link_first(struct job *job, struct link *link, bool is_try, bool is_s
 /* Whether it is to be linked again, by what it has taken in and what is in it. */
 static bool needs_another(struct job *job, const struct link *link, const char *output)
 {
-    bool lacks_calls = (link->taken.has_library && linking_has_some_calls(job))
-                       || (link->taken.has_other && linking_hides_names(job));
+    bool lacks_calls = link->taken.has_library && linking_has_some_calls(job);
     job->request.link.needs_every_call |= lacks_calls;
     return linking_needs_another(job, output) || lacks_calls;
 }

@@ -59,27 +59,15 @@ static bool is_of_each_link(const char *path)
     return is_one && is_of_system(path);
 }
 
-static bool begins_with_one(const char *path, const char *const *fronts, size_t count)
-{
-    for (size_t i = 0; i < count; i++)
-        if (begins_with(base_name(path), fronts[i]))
-            return true;
-    return false;
-}
-
 /* Whether a shared object is a part of the C library, or of the compiler. */
 static bool is_of_c(const char *path)
 {
     static const char *const fronts[] = {"libc.so",  "libm.so",    "ld-linux",   "libpthread.so", "libdl.so",
                                          "librt.so", "libutil.so", "libmvec.so", "libgcc_s.so"};
-    return begins_with_one(path, fronts, COUNT(fronts));
-}
-
-/* Whether it is a part of the library of C++: this opens none. */
-static bool is_of_cxx(const char *path)
-{
-    static const char *const fronts[] = {"libstdc++.so", "libc++.so", "libc++abi.so", "libunwind.so"};
-    return begins_with_one(path, fronts, COUNT(fronts));
+    for (size_t i = 0; i < COUNT(fronts); i++)
+        if (begins_with(base_name(path), fronts[i]))
+            return true;
+    return false;
 }
 
 static bool is_file(const char *path)
@@ -94,9 +82,7 @@ static void take_file(struct taken *taken, const char *path)
     if (is_of_each_link(path))
         return;
     struct view view = view_map(path);
-    bool is_library = linked_is_library(view) && !is_of_c(path);
-    taken->has_library |= is_library;
-    taken->has_other |= is_library && !is_of_cxx(path);
+    taken->has_library |= linked_is_library(view) && !is_of_c(path);
     if (linked_origin(view) == ORIGIN_OTHERS)
         names_add(is_of_system(path) ? &taken->system : &taken->own, base_name(path));
     view_unmap(view);

@@ -17,7 +17,6 @@ struct taken {
     struct names system; /* archives of the system: it could not have compiled them */
     bool has_begun;      /* anything was taken in */
     bool has_library;    /* a shared object that is no part of the C library */
-    bool has_other;      /* one that is no part of the library of C++ either */
     struct taken_archive *archives;
 };
 
