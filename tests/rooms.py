@@ -58,7 +58,10 @@ def bases() -> Iterator[str]:
         os.makedirs(top, exist_ok=True)
         lock = stack.enter_context(open(f"{top}/lock", "w", encoding="utf-8"))
         fcntl.flock(lock, fcntl.LOCK_EX)
-        for name in set(os.listdir(top)) - {*gate.crates_listed(), "lock"}:
+        # A folder with this file is none where `rt ci` looks for crates of the repository.
+        with open(f"{top}/MODULE.bazel", "w", encoding="utf-8"):
+            pass
+        for name in set(os.listdir(top)) - {*gate.crates_listed(), "lock", "MODULE.bazel"}:
             shutil.rmtree(f"{top}/{name}")
         yield top
 
