@@ -138,6 +138,40 @@ def check_texts(suite: Suite, folder: str, compiler: Compiler) -> None:
     expect(INSTANTIATED in run(["nm", "--defined-only", "made"], folder).stdout.decode(), True, "asancol-cc")
 
 
+# A loop of the library goes over bytes that were freed.
+FREED = """
+#include <new>
+#include <string>
+int main()
+{
+    std::string *text = new std::string(40, 'c');
+    ::operator delete((void *)text->data());
+    return text->rfind('x') == 0;
+}
+"""
+
+# How a link may name the library, where the wrapper of C does not by itself.
+NAMED = (
+    ["-lstdc++", "-lm"], ["-static", "-lstdc++", "-lm"], ["-static", "-Wl,-lstdc++", "-lm"],
+    ["@words"], ["-static", "@words"],
+    ["-l:libstdc++.a", "-lm"], ["-Wl,-Bstatic", "-lstdc++", "-Wl,-Bdynamic", "-lm"],
+)
+
+
+def check_named(suite: Suite, folder: str, compiler: Compiler) -> None:
+    """What the library does with freed memory is found however a link names it, as an archive too."""
+    write(folder, freed_cpp=FREED, words="-lstdc++ -lm\n")
+    build([CXX, "-O1", "-g", "-c", "freed.cpp"], folder, ASANCOL_CXX=compiler.cxx)
+    archive = run([compiler.cxx, "-print-file-name=libstdc++.a"], folder).stdout.decode().strip()
+    by_c = [[CXX.replace("c++", "cc"), "freed.o", *words] for words in (*NAMED, [archive, "-lm"])]
+    by_cxx = [[CXX, "freed.o", *words] for words in ([], ["-static"], ["-static-libstdc++"])]
+    for argv in (*by_c, *by_cxx):
+        build([*argv, "-o", "freed"], folder, ASANCOL_CC=compiler.name, ASANCOL_CXX=compiler.cxx)
+        run(["./freed"], folder, ASANCOL_TRACE="t.trace")
+        expect(reports(suite.asancol, f"{folder}/t.trace")[0], 1, " ".join(argv[1:]))
+        os.unlink(f"{folder}/t.trace")
+
+
 def check_least(suite: Suite, folder: str, compiler: Compiler, library: str) -> None:
     """A program links that has nothing of the library, or a stream alone, by each linker."""
     write(folder, none_cpp=MAIN, stream_cpp=f"#include <iostream>\nstatic std::ostream &out = std::cout << 1;\n{MAIN}")
@@ -158,3 +192,4 @@ def tests(suite: Suite, compiler: Compiler) -> None:
     suite.test(f"{compiler} strings objects", check_objects, compiler, ["-O0"])
     suite.long_test(f"{compiler} strings old objects", check_objects, compiler, ["-O1", "-D_GLIBCXX_USE_CXX11_ABI=0"])
     suite.test(f"{compiler} strings texts", check_texts, compiler)
+    suite.test(f"{compiler} strings named", check_named, compiler)
