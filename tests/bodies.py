@@ -15,6 +15,9 @@ FUNCTION = re.compile(
 )
 BLOCK = re.compile(r"^(?:pub(?:\([^)]*\))? )?(?:unsafe )?(impl|trait|mod)\b", re.M)
 
+# The line of a constant, up to its value.
+CONSTANT = re.compile(r"\s*(pub(?:\([^)]*\))? )?const (\w+): [^=]*=")
+
 
 class BadEdit(Exception):
     """An edit that cannot be applied. Its text says why."""
@@ -160,3 +163,13 @@ def changed_in(old: str, new: str) -> Optional[List[Tuple[Function, Function]]]:
     pairs = [(was, now) for was, now in zip(were, are) if was.named("") != now.named("")]
     more = [it for it in pairs if without_blanks(it[0].tail) != without_blanks(it[1].tail)]
     return more or pairs
+
+
+def constant_in(old: str, new: str) -> str:
+    """Returns the name of the constant whose value alone differs, or nothing if it is not so."""
+    lines = [it for it in zip(old.split("\n"), new.split("\n")) if it[0] != it[1]]
+    found = [[CONSTANT.match(it) for it in pair] for pair in lines]
+    if len(found) != 1 or old.count("\n") != new.count("\n"):
+        return ""
+    was, now = found[0]
+    return was[2] if was and now and was[0] == now[0] else ""

@@ -25,14 +25,19 @@ class Change(NamedTuple):
 
 class Edit(NamedTuple):
     """An edit: what it says, the texts that it makes of files, and the functions whose bodies it
-    changes, by name. There are none if it changes something else too. If it is no good there are
-    neither, and `bad` says why."""
+    changes, by name. There are none if it changes something else too; if that is a constant,
+    `users` are the functions that name it. If it is no good there are neither, and `bad` says why."""
 
     name: str
     said: str
     texts: Dict[str, str]
     changes: Dict[str, Change]
+    users: Dict[str, Change] = {}
     bad: str = ""
+
+    def tried(self) -> Dict[str, Change]:
+        """Returns the functions one of which the prover has to refuse."""
+        return self.changes or self.users
 
 
 def edit_files(folder: str) -> List[str]:
@@ -92,16 +97,25 @@ class Source:
                 raise bodies.BadEdit("the name of an edit has to end in .edit")
             texts = bodies.read_edit(file, self.folder)
         except bodies.BadEdit as bad:
-            return Edit(name_of(file), said, {}, {}, str(bad))
+            return Edit(name_of(file), said, {}, {}, bad=str(bad))
         changes: Dict[str, Change] = {}
         for path, new in texts.items():
             old = bodies.read(f"{self.folder}/{path}")
             changed = bodies.changed_in(old, new) if path.endswith(".rt") else None
             if not changed:
-                return Edit(name_of(file), said, texts, {})
+                return Edit(name_of(file), said, texts, {}, self.users_of(bodies.constant_in(old, new)))
             for was, now in changed:
                 changes[path_name(self.crate, path, was)] = Change(path, was, now)
         return Edit(name_of(file), said, texts, changes)
+
+    def users_of(self, constant: str) -> Dict[str, Change]:
+        """Returns the functions that name a constant, each as it is."""
+        word = re.compile(rf"\b{constant}\b") if constant else None
+        return {
+            name: Change(path, it, it)
+            for name, (path, it) in self.functions.items()
+            if word and word.search(it.tail)
+        }
 
     def proofs_of(self, name: str) -> Optional[List[str]]:
         """Returns the folders, below `proofs`, with what is written of a function's proof and of

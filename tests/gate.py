@@ -39,11 +39,6 @@ PROGRAMS = ["crates/asancol/out/asancol", "crates/asancol/out/asancol.by-rattle"
 # Some thousand traces, the same each time.
 FUZZ = ["tests/fuzz.py", "--draws", "4000", "--seed", "1"]
 
-# The bases of the mutants have half of the processors at most: `rt ci` comes first, and the rounds, at
-# a lower priority, have what is left.
-PROVERS = max(1, len(os.sched_getaffinity(0)) // 2)
-MUTANTS = ["tests/mutants.py", "--provers", str(PROVERS)]
-
 # What comes after the lint, one after another, each with the part that it counts as.
 STEPS = [
     ("rt ci", ["rt", "ci"]),
@@ -51,13 +46,16 @@ STEPS = [
     ("fuzz", [sys.executable, *FUZZ, *PROGRAMS]),
 ]
 
-# What runs beside them.
+# What runs beside them. The mutants are tried over the libraries that `rt ci` proves.
 BESIDE = [
     (costs.MUTANTS, [sys.executable, "tests/planted.py"]),
-    (costs.MUTANTS, [sys.executable, *MUTANTS]),
+    (costs.MUTANTS, [sys.executable, "tests/mutants.py", "--as-proved"]),
 ]
 
 COUNTS = re.compile(r"(\d+) passed, (\d+) failed")
+
+# What `rt ci` prints once a crate's library is there.
+PROVED = re.compile(r"rt: (\w+) (?:proved$|is kept: )")
 
 TEST = re.compile(r"#\s*\[\s*test\b")
 
@@ -90,12 +88,18 @@ def lowest_first(listed: Dict[str, List[str]]) -> List[str]:
 
 class Steps:
     """Commands, one after another until one fails: how many tests passed and failed so far. Each
-    command's lines go to `say`, but for the counts in its last one."""
+    command's lines go to `say`, but for the counts in its last one, and to `see` at once. What they
+    read is `given`."""
 
     def __init__(
-        self, meter: costs.Meter, steps: List[Tuple[str, List[str]]], say: Callable[[str], None]
+        self,
+        meter: costs.Meter,
+        steps: List[Tuple[str, List[str]]],
+        say: Callable[[str], None],
+        see: Callable[[str], None],
+        given: int,
     ) -> None:
-        self.meter, self.steps, self.say = meter, steps, say
+        self.meter, self.steps, self.say, self.see, self.given = meter, steps, say, see, given
         self.passed = self.failed = 0
         self.is_over = False
         self.now: "Optional[subprocess.Popen[str]]" = None
@@ -114,9 +118,11 @@ class Steps:
         """Runs a command. One that says nothing passed, or ends with another status than its counts
         say, counts as failed. One that was stopped counts for nothing."""
         last = ""
-        self.now = subprocess.Popen(argv, cwd=TOP, stdout=subprocess.PIPE, text=True)
+        pipe = subprocess.PIPE
+        self.now = subprocess.Popen(argv, cwd=TOP, stdin=self.given, stdout=pipe, text=True)
         self.meter.begins(part, self.now.pid)
         for line in self.now.stdout or ():
+            self.see(line)
             self.say(last)
             last = line
         _, status, used = os.wait4(self.now.pid, 0)
@@ -153,7 +159,15 @@ def run_all(meter: costs.Meter) -> Tuple[int, int]:
     """Takes the steps, and those beside them, and returns how many tests passed and failed. If a
     step fails, what runs beside it is ended."""
     said: List[str] = []
-    steps, beside = Steps(meter, STEPS, show), Steps(meter, BESIDE, said.append)
+    reads, writes = os.pipe()
+
+    def pass_on(line: str) -> None:
+        proved = PROVED.match(line)
+        if proved:
+            os.write(writes, f"{proved[1]}\n".encode())
+
+    steps = Steps(meter, STEPS, show, pass_on, subprocess.DEVNULL)
+    beside = Steps(meter, BESIDE, said.append, lambda _: None, reads)
     thread = threading.Thread(target=beside.run)
     thread.start()
     try:
@@ -165,7 +179,9 @@ def run_all(meter: costs.Meter) -> Tuple[int, int]:
         beside.stop()
         raise
     finally:
+        os.close(writes)
         thread.join()
+        os.close(reads)
     show("".join(said))
     return steps.passed + beside.passed, steps.failed + beside.failed
 

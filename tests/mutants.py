@@ -1,47 +1,53 @@
 #!/usr/bin/env python3
 """Tries the mutants of crates, several in one check.
 
-usage: tests/mutants.py [--lanes N] [--provers N] [--anew] [CRATE..]
+usage: tests/mutants.py [--lanes N] [--as-proved] [--anew] [CRATE..]
 
-A mutant is made by an edit, `crates/CRATE/mutants/NAME.edit` (`edits.py`). A crate and those
-below it are proved first, by `rt lib` over what checks kept, each in its base (`rooms.py`). Then
-come rounds, at a lower priority: each is one check of several mutants, most of them beside the
-right ones (`rounds.py`), in a copy of the crate. Each has to be refused by its own function's line,
-in a check of which all else is proved (`verdicts.py`).
+A mutant is made by an edit, `crates/CRATE/mutants/NAME.edit` (`edits.py`). First what a crate's
+mutants rest on is checked in its base (`rooms.py`), over the libraries of those below it. Then come
+rounds: each is one check of several mutants, most of them beside the right ones (`rounds.py`), in a
+copy of the base. Each has to be refused by its own function's line, in a check of which all else is
+proved (`verdicts.py`).
 
 Each edit has a line: whether it was refused, and by which clause or goal. What a round says nothing
 clear of is tried alone, first its function and then the whole crate. So are edits of constants,
-definitions and proofs. It is NOT REFUSED if the crate is proved with it. A BAD EDIT can't be made,
-or the prover can't read what it makes.
+with the functions that name them, and of definitions and proofs. It is NOT REFUSED if the crate is
+proved with it. A BAD EDIT can't be made, or the prover can't read what it makes.
 
 What was refused earlier, by the same toolchain, of the same files of the crate and of those below
 it, is not tried again (`kept.py`): its line has `(kept)`, and another line says how many were tried
-in this run. `--anew` tries all. So many rounds run side by side as there are processors, if
-`--lanes` says no other number, and beside them as many proofs of crates, or those of `--provers`.
-With no CRATE the edits of all crates are tried. The last line is `N passed, M failed`, and the
-status is 0 only if nothing failed.
+in this run. `--anew` tries all. So many checks run side by side as there are processors, if
+`--lanes` says no other number. The libraries are made first, by `rt lib`. With `--as-proved` they
+are those that `rt ci` makes beside this: standard input has the name of each crate, on a line, once
+that has proved it. With no CRATE the edits of all crates are tried. The last line is
+`N passed, M failed`, and the status is 0 only if nothing failed.
 """
 
 import argparse
+import contextlib
 import os
 import sys
 import threading
 import time
-from collections import Counter
-from concurrent.futures import FIRST_COMPLETED, Future, ThreadPoolExecutor, wait
-from typing import Callable, Dict, List, Tuple
+from concurrent.futures import ThreadPoolExecutor
+from functools import partial
+from typing import Callable, Dict, Iterator, List, Optional, Set, Tuple
 
+import bodies
 import gate
 import kept
 import rounds
 from edits import Edit, Source, edit_files
 from gate import TOP
-from rooms import Base, Ran, bases, ran
+from rooms import Base, Libraries, Ran, bases
 from rounds import Round
 from verdicts import BAD, REFUSED, UNTRIED, Answer, Verdicts, whole_crate
 
-# How a round is checked: what proves the crates above comes first.
-CHECK = ["nice", "-n", "10", "rt", "check", "--jobs", "1"]
+# What is left to do of a crate.
+Task = Callable[[], None]
+
+# How many functions the list of the dearest has.
+DEAREST = 60
 
 
 class Crate:
@@ -52,23 +58,39 @@ class Crate:
         self.base = Base(all_bases, name)
         self.source = Source(name, self.base.folder)
         self.edits = [self.source.edit(it) for it in edit_files(f"{TOP}/crates/{name}")]
-        rests_on = kept.sum_of(self.base.top, self.base.files())
-        self.keys = {it.name: kept.key_of(rests_on, it.name, it.said) for it in self.edits}
-        # How many of its tasks have not ended.
+        self.sum = self.sum_now()
+        self.keys = {it.name: kept.key_of(self.sum, it.name, it.said) for it in self.edits}
+        # The edits that are to be tried, how many of the tasks that try them are open, and the end.
+        self.left: List[Edit] = []
         self.open = 0
+        self.is_over = threading.Event()
+
+    def sum_now(self) -> str:
+        """Returns a sum of all that a check of the crate reads."""
+        return kept.sum_of(TOP, [*self.base.files(), f"{TOP}/crates.txt"])
+
+    def rests_on(self) -> Optional[List[str]]:
+        """Returns paths of the functions that those to be tried call, or None if an edit is of more
+        than functions and constants."""
+        tried = [name for edit in self.left for name in edit.tried()]
+        if not all(it.tried() for it in self.left):
+            return None
+        names = {it for name in tried for it in self.source.called(name) | self.source.of_impl(name)}
+        return sorted({rounds.path_of(it, self.source.functions[it][1]) for it in names})
 
 
 class Run:
     """All that is tried in this run."""
 
-    def __init__(self, lanes: int, kept_answers: kept.Kept) -> None:
-        self.pool = ThreadPoolExecutor(lanes)
+    def __init__(self, kept_answers: kept.Kept) -> None:
         self.kept = kept_answers
         self.lock = threading.Lock()
         self.answers: List[Answer] = []
         self.failed: List[str] = []
-        # Of each crate: the processor seconds of each check, and how many edits were in it.
+        # Of each crate: the processor seconds of each check, and how many edits were in it. Of each
+        # function of a round: its seconds.
         self.costs: Dict[str, List[Tuple[float, int]]] = {}
+        self.each: Dict[str, float] = {}
 
     def say(self, crate: Crate, edit: Edit, answer: Answer) -> None:
         """Notes and prints what became of an edit."""
@@ -81,9 +103,8 @@ class Run:
         if answer.kind == REFUSED and not answer.is_kept:
             self.kept.put(crate.keys[edit.name], answer.why)
 
-    def take_kept(self, crate: Crate) -> List[Edit]:
-        """Says what is known of a crate's edits, and returns the others."""
-        left = []
+    def take_kept(self, crate: Crate) -> None:
+        """Says what is known of a crate's edits, and leaves the others to be tried."""
         for edit in crate.edits:
             why = self.kept.get(crate.keys[edit.name])
             if edit.bad:
@@ -91,45 +112,69 @@ class Run:
             elif why is not None:
                 self.say(crate, edit, Answer(REFUSED, why, True))
             else:
-                left.append(edit)
-        return left
+                crate.left.append(edit)
 
-    def start(self, crate: Crate, edits: List[Edit]) -> None:
-        """Starts what tries these edits of a crate that is proved."""
-        fit = [it for it in edits if it.changes]
-        found = rounds.shared_out(crate.source, fit)
-        tasks: List[Tuple[Callable[..., None], object]] = [(self.round, it) for it in found]
-        tasks += [(self.single, it) for it in edits if not it.changes]
+    def leave(self, crate: Crate, why: str) -> None:
+        """Says of all edits of a crate that they are not tried."""
+        for edit in crate.left:
+            self.say(crate, edit, Answer(UNTRIED, why))
+
+    def begin(self, crate: Crate, pool: ThreadPoolExecutor) -> None:
+        """Checks what a crate's mutants rest on, and starts what tries them."""
+        tasks: List[Task] = []
+        with self.watched(crate):
+            made = crate.base.prove(crate.rests_on())
+            self.count(crate, made, 0)
+            if made.status or crate.sum_now() != crate.sum:
+                print("\n".join(made.lines[-12:]), flush=True)
+                self.leave(crate, "the crate is not proved as it stands, or was changed meanwhile")
+            else:
+                tasks = self.tasks(crate)
         crate.open = len(tasks)
-        for task, given in tasks:
-            self.pool.submit(self.guarded, crate, task, given)
+        if not tasks:
+            crate.is_over.set()
+        for task in tasks:
+            pool.submit(self.go_on, crate, task)
 
-    def guarded(self, crate: Crate, task: Callable[..., None], given: object) -> None:
-        try:
-            task(crate, given)
-        except Exception as error:  # whatever it is, something was not tried
-            with self.lock:
-                self.failed.append(f"{crate.name} ({type(error).__name__}: {error})")
+    def tasks(self, crate: Crate) -> List[Task]:
+        """Returns what tries a crate's edits."""
+        fit = [it for it in crate.left if it.changes]
+        found = [partial(self.round, crate, it) for it in rounds.shared_out(crate.source, fit)]
+        return [*found, *(partial(self.single, crate, it) for it in crate.left if not it.changes)]
+
+    def go_on(self, crate: Crate, task: Task) -> None:
+        """Does one of a crate's tasks."""
+        with self.watched(crate):
+            task()
         with self.lock:
             crate.open -= 1
-            if crate.open == 0:
-                if not crate.base.is_unchanged():
-                    self.failed.append(f"{crate.name} (the checks changed each other's files)")
+            is_last = crate.open == 0
+        if is_last:
+            if not crate.base.is_unchanged():
+                self.failed.append(f"{crate.name} (the checks changed each other's files)")
+            crate.is_over.set()
+
+    @contextlib.contextmanager
+    def watched(self, crate: Crate) -> Iterator[None]:
+        """Notes whatever goes wrong: something was not tried."""
+        try:
+            yield
+        except Exception as error:
+            with self.lock:
+                self.failed.append(f"{crate.name} ({type(error).__name__}: {error})")
 
     def check(self, crate: Crate, tried: Round, is_whole: bool) -> Ran:
         """Checks a crate with the texts of a round: what the round is of, or all."""
-        argv = [*CHECK]
-        for path in [] if is_whole else tried.paths():
-            argv += ["--only", path]
         with crate.base.room(tried.texts, tried.all_copies()) as folder:
-            made = ran(argv, folder)
-        self.count(crate.name, made.seconds, len(tried.edits))
+            made = crate.base.check(folder, None if is_whole else tried.paths())
+        self.count(crate, made, len(tried.edits))
         return made
 
-    def count(self, name: str, seconds: float, edits: int) -> None:
+    def count(self, crate: Crate, made: Ran, edits: int) -> None:
         """Counts a check of a crate, of so many edits or of none."""
         with self.lock:
-            self.costs.setdefault(name, []).append((seconds, edits))
+            self.costs.setdefault(crate.name, []).append((made.seconds, edits))
+            self.each.update(made.each if edits else {})
 
     def round(self, crate: Crate, tried: Round) -> None:
         """Tries a round, and then alone what it says nothing clear of. If it does not come to proofs
@@ -153,60 +198,36 @@ class Run:
 
     def single(self, crate: Crate, edit: Edit) -> None:
         """Tries one edit in its place: its functions, and then the whole crate."""
-        alone = Round([edit], edit.texts, {}, {})
-        if edit.changes:
+        texts = {it.path: bodies.read(f"{crate.base.folder}/{it.path}") for it in edit.tried().values()}
+        alone = Round([edit._replace(changes=edit.tried())], {**texts, **edit.texts}, {}, {})
+        if edit.tried():
             made = self.check(crate, alone, False)
-            answer = Verdicts(crate.name, alone, made).answer(edit)
+            answer = Verdicts(crate.name, alone, made).answer(alone.edits[0])
             if answer:
                 self.say(crate, edit, answer)
                 return
         self.say(crate, edit, whole_crate(edit, self.check(crate, alone, True)))
 
 
-def prove(run: Run, base: Base, is_possible: bool) -> bool:
-    """Proves a crate, if those below it are proved, and returns whether it is."""
-    if not is_possible:
-        return False
-    made = base.prove()
-    run.count(base.crate, made.seconds, 0)
-    if made.status:
-        print("\n".join([*made.lines[-12:], f"{base.crate}: it is not proved as it stands"]), flush=True)
-    return made.status == 0
-
-
-def try_crate(run: Run, crate: Crate, edits: List[Edit], is_proved: bool) -> None:
-    """Starts what tries these edits of a crate, once it was to be proved."""
-    if is_proved:
-        run.start(crate, edits)
-    else:
-        for edit in edits:
-            run.say(crate, edit, Answer(UNTRIED, "the crate is not proved as it stands"))
-
-
-def try_all(run: Run, provers: int, all_bases: str, names: List[str]) -> None:
-    """Tries the edits of these crates. A crate is proved only if something is to be tried in it or
-    above it. First come those with the most crates above them, which wait for it."""
-    found = {it: Crate(all_bases, it) for it in names}
-    left = {it.name: run.take_kept(it) for it in found.values()}
-    tried = [it for it in names if left[it]]
-    above = Counter(it for name in tried for it in [name, *found[name].base.below])
-    bases_of = {it: found[it].base if it in found else Base(all_bases, it) for it in above}
-    waiting = sorted(above, key=lambda it: (-above[it], len(bases_of[it].below)))
-    proved: Dict[str, bool] = {}
-    going: "Dict[Future[bool], str]" = {}
-    with ThreadPoolExecutor(provers) as pool:
-        while waiting or going:
-            for name in [it for it in waiting if proved.keys() >= set(bases_of[it].below)]:
-                if len(going) < provers:
-                    waiting.remove(name)
-                    is_possible = all(proved[it] for it in bases_of[name].below)
-                    going[pool.submit(prove, run, bases_of[name], is_possible)] = name
-            for ended in wait(going, return_when=FIRST_COMPLETED).done:
-                name = going.pop(ended)
-                proved[name] = ended.result()
-                if left.get(name):
-                    try_crate(run, found[name], left[name], proved[name])
-    run.pool.shutdown()
+def try_all(run: Run, lanes: int, crates: List[Crate], libraries: Libraries) -> None:
+    """Tries the edits of these crates, of each once the libraries below it are there."""
+    waiting = [it for it in crates if it.left]
+    started: List[Crate] = []
+    there: Set[str] = set()
+    with ThreadPoolExecutor(lanes) as pool:
+        while True:
+            for crate in [it for it in waiting if there.issuperset(it.base.below)]:
+                waiting.remove(crate)
+                started.append(crate)
+                pool.submit(run.begin, crate, pool)
+            name = libraries.next() if waiting else None
+            if name is None:
+                break
+            there.add(name)
+        for crate in waiting:
+            run.leave(crate, "a crate below it is not proved")
+        for crate in started:
+            crate.is_over.wait()
 
 
 def report(run: Run, seconds: float) -> int:
@@ -214,7 +235,9 @@ def report(run: Run, seconds: float) -> int:
     for name, checks in sorted(run.costs.items()):
         proof = sum(seconds for seconds, edits in checks if not edits)
         each = [f"{edits} in {seconds:.0f}" for seconds, edits in checks if edits]
-        print(f"{name}: processor seconds: its proof {proof:.0f}; mutants {', '.join(each) or 'none'}")
+        print(f"{name}: processor seconds: what they rest on {proof:.0f}; mutants {', '.join(each) or 'none'}")
+    dear = sorted(run.each.items(), key=lambda it: -it[1])[:DEAREST]
+    print("the dearest, in seconds: " + ", ".join(f"{name} {seconds:.0f}" for name, seconds in dear))
     tried = sum(not it.is_kept for it in run.answers)
     print(f"tried in this run: {tried} of {len(run.answers)}; {seconds:.0f} s")
     if run.failed:
@@ -232,8 +255,8 @@ def main() -> int:
         formatter_class=argparse.RawDescriptionHelpFormatter,
     )
     lanes = len(os.sched_getaffinity(0))
-    words.add_argument("--lanes", type=int, default=lanes, help="how many rounds run side by side")
-    words.add_argument("--provers", type=int, help="how many crates are proved side by side")
+    words.add_argument("--lanes", type=int, default=lanes, help="how many checks run side by side")
+    words.add_argument("--as-proved", action="store_true", help="take the libraries of an rt ci beside this")
     words.add_argument("--anew", action="store_true", help="try also what was refused before")
     words.add_argument("crates", nargs="*", metavar="CRATE")
     given = words.parse_args()
@@ -243,9 +266,15 @@ def main() -> int:
         words.error(f"no crate {unknown[0]} in crates.txt")
     began = time.monotonic()
     names = [it for it in given.crates or listed if edit_files(f"{TOP}/crates/{it}")]
-    run = Run(given.lanes, kept.Kept(given.anew))
+    run = Run(kept.Kept(given.anew))
     with bases() as all_bases:
-        try_all(run, given.provers or given.lanes, all_bases, names)
+        crates = [Crate(all_bases, it) for it in names]
+        for crate in crates:
+            run.take_kept(crate)
+        below = {it for crate in crates if crate.left for it in crate.base.below}
+        made = [it for it in gate.lowest_first(listed) if it in below]
+        as_proved = sys.stdin if given.as_proved else None
+        try_all(run, given.lanes, crates, Libraries(all_bases, made, as_proved))
     return report(run, time.monotonic() - began)
 
 

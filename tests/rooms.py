@@ -1,21 +1,21 @@
-"""Copies of crates: of each a base, where it is proved as it stands, and others in temporary folders,
-where it is checked with other texts.
+"""Folders where mutants are checked.
 
-A base has the crate and those below it, of these with their libraries, so that no two checks wait
-for one another. All bases stand in the folder of git, where `rt ci` leaves them alone: it sets aside
-what checks kept in the repository, and may run meanwhile. The toolchain begins there with what
-checks kept in the repository, and the other way round. A temporary copy has what was proved in the
-base. Each copy is a repository: `rt` works there.
+Of each crate there is a base: its text as it stands, and what was checked of it. A room is a
+temporary copy of it with other texts, and shares what was checked. A check there is by the
+toolchain's compiler itself, and not by `rt`, which would prove the crates below once more, and has
+one check at a time of crates that stand on the same ones.
 """
 
 import contextlib
 import fcntl
+import functools
 import os
 import re
 import shutil
 import subprocess
 import tempfile
-from typing import Callable, Dict, Iterator, List, NamedTuple, Optional, Tuple
+import time
+from typing import Callable, Dict, Iterator, List, NamedTuple, Optional, TextIO, Tuple
 
 import bodies
 import gate
@@ -24,6 +24,12 @@ from gate import TOP
 from rounds import Copy
 
 PARTS = ("src", "specs", "proofs")
+
+# Where a base has what was checked of its crate.
+CHECKED = "checked"
+
+# What a check prints when it is through with a function.
+CHECKED_LINE = re.compile(r"checked (\S+), \d+ of ")
 
 
 def crates_below(crate: str) -> List[str]:
@@ -47,14 +53,14 @@ def git_folder() -> Optional[str]:
 
 @contextlib.contextmanager
 def bases() -> Iterator[str]:
-    """Gives the folder where all bases stand. One command has it at a time, and others wait. What is
-    proved there stays, but for a tree that is no repository."""
+    """Gives the folder where all bases stand: in the folder of git, where they stay, or in a temporary
+    one if the tree is no repository. One command has it at a time, and others wait."""
     git = git_folder()
     with contextlib.ExitStack() as stack:
         if git:
-            top = f"{git}/asancol-proved"
+            top = f"{git}/asancol-checked"
         else:
-            top = stack.enter_context(tempfile.TemporaryDirectory(prefix="asancol-proved-"))
+            top = stack.enter_context(tempfile.TemporaryDirectory(prefix="asancol-checked-"))
         os.makedirs(top, exist_ok=True)
         lock = stack.enter_context(open(f"{top}/lock", "w", encoding="utf-8"))
         fcntl.flock(lock, fcntl.LOCK_EX)
@@ -66,64 +72,111 @@ def bases() -> Iterator[str]:
         yield top
 
 
+class Libraries:
+    """The libraries of crates, for checks of those above: as `rt ci` proves them beside this, or of
+    these crates by `rt lib` if nothing says what that proves."""
+
+    def __init__(self, all_bases: str, names: List[str], as_proved: Optional[TextIO]) -> None:
+        self.folder = f"{all_bases}/libraries"
+        shutil.rmtree(self.folder, ignore_errors=True)
+        os.mkdir(self.folder)
+        self.left = names
+        self.as_proved = as_proved
+
+    def next(self) -> Optional[str]:
+        """Waits for one more library, and returns its crate's name, or None if no other comes."""
+        for line in self.as_proved or ():
+            if self.take(line.strip()):
+                return line.strip()
+        while self.left and not self.as_proved:
+            name = self.left.pop(0)
+            made = ran(["rt", "lib"], f"{TOP}/crates/{name}")
+            if made.status == 0 and self.take(name):
+                return name
+            print("\n".join([*made.lines[-12:], f"{name}: it is not proved as it stands"]), flush=True)
+        return None
+
+    def take(self, name: str) -> bool:
+        """Takes a crate's library from where it was made, if it is there."""
+        made = f"{TOP}/crates/{name}/out/rlib/{name}.rlib"
+        copy_folder(made, f"{self.folder}/{name}.rlib", link)
+        return os.path.isfile(f"{self.folder}/{name}.rlib/format")
+
+
 class Base:
-    """A copy of a crate and of those below it, with the crates' texts as they stand now."""
+    """A crate's text as it stands, and what was checked of it, over the libraries below it."""
 
     def __init__(self, all_bases: str, crate: str) -> None:
-        self.all_bases = all_bases
         self.crate = crate
         self.below = crates_below(crate)
-        self.top = f"{all_bases}/{crate}"
-        self.folder = f"{self.top}/crates/{crate}"
+        self.libraries = f"{all_bases}/libraries"
+        self.folder = f"{all_bases}/{crate}"
         self.modules: Dict[str, Tuple[int, int, int]] = {}
-        os.makedirs(f"{self.top}/crates", exist_ok=True)
-        for name in set(os.listdir(f"{self.top}/crates")) - {crate, *self.below}:
-            shutil.rmtree(f"{self.top}/crates/{name}")
-        for name in [crate, *self.below]:
-            for part in PARTS:
-                copy_folder(f"{TOP}/crates/{name}/{part}", f"{self.top}/crates/{name}/{part}")
-        shutil.copy(f"{TOP}/HANDLES", self.top)
-        with open(f"{self.top}/crates.txt", "w", encoding="utf-8") as file:
-            for line in bodies.read(f"{TOP}/crates.txt").splitlines(True):
-                if re.split(r"[\s:]", line)[0] in [crate, *self.below]:
-                    file.write(line)
+        os.makedirs(self.folder, exist_ok=True)
+        for name in set(os.listdir(self.folder)) - {CHECKED}:
+            shutil.rmtree(f"{self.folder}/{name}")
+        for part in PARTS:
+            copy_folder(f"{TOP}/crates/{crate}/{part}", f"{self.folder}/{part}")
 
     def files(self) -> List[str]:
         """Returns all files that a check of the crate reads, in order."""
-        tops = [f"{self.top}/crates/{it}/{part}" for it in [self.crate, *self.below] for part in PARTS]
+        tops = [f"{TOP}/crates/{it}/{part}" for it in [self.crate, *self.below] for part in PARTS]
         walked = [(at, names) for top in tops for at, _, names in os.walk(top)]
-        found = [f"{at}/{it}" for at, names in walked for it in names]
-        return sorted([*found, f"{self.top}/crates.txt", f"{self.top}/HANDLES"])
+        return sorted(f"{at}/{it}" for at, names in walked for it in names)
 
-    def prove(self) -> "Ran":
-        """Proves the crate, over what checks kept, and leaves its library for those above. Those
-        below it are proved."""
-        for name in self.below:
-            shutil.rmtree(f"{self.top}/crates/{name}/out", ignore_errors=True)
-            rlib = f"crates/{name}/out/rlib"
-            copy_folder(f"{self.all_bases}/{name}/{rlib}", f"{self.top}/{rlib}", link)
-        made = ran(["rt", "lib", "--jobs", "1"], self.folder)
+    def prove(self, paths: Optional[List[str]]) -> "Ran":
+        """Checks what these paths name and all that it rests on, or without them the whole crate. It
+        begins with what `rt` checked in the repository, or else with what was checked here."""
+        by_rt = f"{TOP}/crates/{self.crate}/out/incremental"
+        if os.path.isdir(by_rt):
+            copy_folder(by_rt, f"{self.folder}/{CHECKED}", link)
+        os.makedirs(f"{self.folder}/{CHECKED}", exist_ok=True)
+        made = self.check(self.folder, paths)
         self.modules = listing(self.folder)
         return made
 
+    def check(self, folder: str, paths: Optional[List[str]]) -> "Ran":
+        """Checks a copy of the crate, or what these paths name there. What proves the crates above
+        comes before it."""
+        only = [it for path in paths or () for it in ("--only", path)]
+        words = [*self.words(), "--incremental", CHECKED, "--jobs", "1", "--progress", *only]
+        return ran(["nice", "-n", "10", f"{toolchain()}/bin/rattle", "check", *words], folder)
+
+    def words(self) -> List[str]:
+        """Returns the words that name the crate and what it stands on."""
+        kit, listed = toolchain(), gate.crates_listed()
+        root = "src/main.rt" if os.path.isfile(f"{self.folder}/src/main.rt") else "src/lib.rt"
+        found = ["--crate-name", self.crate, root]
+        for name in ["std", *listed[self.crate]]:
+            folder = self.libraries if name in listed else f"{kit}/rlibs"
+            found += ["--extern", f"{name}={folder}/{name}.rlib"]
+        for folder in (self.libraries, f"{kit}/rlibs"):
+            found += ["-L", f"dependency={folder}"]
+        found += ["--antt-project", f"{kit}/rattle/logic/antt-project.json"]
+        return [*found, "--logic-built", f"{kit}/logic_built"]
+
     def is_unchanged(self) -> bool:
-        """Returns whether each checked module is as it was: the copies share their files."""
+        """Returns whether each checked module is as it was: the rooms share their files."""
         return listing(self.folder) == self.modules
 
     @contextlib.contextmanager
     def room(self, texts: Dict[str, str], copies: List[Copy]) -> Iterator[str]:
-        """Makes a copy with other texts in it, and gives the crate's folder there."""
+        """Makes a copy with other texts in it, and gives its folder."""
         with tempfile.TemporaryDirectory(prefix="asancol-mutants-") as room:
-            own = f"{self.folder}/out"
-            leave = lambda at, names: set(names) - {"incremental"} if at == own else ()
-            shutil.copytree(self.top, room, ignore=leave, copy_function=link, dirs_exist_ok=True)
-            folder = f"{room}/crates/{self.crate}"
+            shutil.copytree(self.folder, room, copy_function=link, dirs_exist_ok=True)
             for path, text in texts.items():
-                write(f"{folder}/{path}", text)
+                write(f"{room}/{path}", text)
             for copy in copies:
                 for old, new in copy.proof_folders():
-                    copy_proofs(f"{folder}/proofs", old, new)
-            yield folder
+                    copy_proofs(f"{room}/proofs", old, new)
+            yield room
+
+
+@functools.lru_cache(maxsize=None)
+def toolchain() -> str:
+    """Returns the toolchain's folder: that of its first page."""
+    ran = subprocess.run(["rt", "doc"], stdout=subprocess.PIPE, text=True, check=True)
+    return os.path.dirname(ran.stdout.split("\n")[0])
 
 
 def copy_folder(one: str, other: str, copy: Callable[[str, str], object] = shutil.copy2) -> None:
@@ -137,7 +190,7 @@ def link(one: str, other: str) -> None:
     """Gives a checked module, or a file of a library, a second name: a check makes such a file anew
     and never writes into it. Other files are copied."""
     try:
-        if "/rlib/" in one or one.endswith(".oantt"):
+        if ".rlib/" in one or one.endswith(".oantt"):
             os.link(one, other)
             return
     except OSError:
@@ -147,7 +200,7 @@ def link(one: str, other: str) -> None:
 
 def listing(folder: str) -> Dict[str, Tuple[int, int, int]]:
     """Returns what tells whether a checked module of a crate was changed, lost or added."""
-    walked = [f"{at}/{it}" for at, _, names in os.walk(f"{folder}/out/incremental") for it in names]
+    walked = [f"{at}/{it}" for at, _, names in os.walk(f"{folder}/{CHECKED}") for it in names]
     stats = {it: os.lstat(it) for it in walked if it.endswith(".oantt")}
     return {it: (st.st_ino, st.st_size, st.st_mtime_ns) for it, st in stats.items()}
 
@@ -171,19 +224,28 @@ def copy_proofs(top: str, old: str, new: str) -> None:
 
 
 class Ran(NamedTuple):
-    """A command that has ended: its status, the processor seconds that it took, and what it
-    printed. A message is one line, whatever stood below it."""
+    """A command that has ended: its status, the processor seconds that it took, what it printed,
+    and after how many seconds it was through with each function, from the one before on. A message
+    is one line, whatever stood below it."""
 
     status: int
     seconds: float
     lines: List[str]
+    each: Dict[str, float]
 
 
 def ran(argv: List[str], folder: str) -> Ran:
-    pipe, joined = subprocess.PIPE, subprocess.STDOUT
-    with subprocess.Popen(argv, cwd=folder, stdout=pipe, stderr=joined) as command:
-        printed = command.stdout.read().decode(errors="replace") if command.stdout else ""
+    printed: List[str] = []
+    each: Dict[str, float] = {}
+    pipe, joined, none = subprocess.PIPE, subprocess.STDOUT, subprocess.DEVNULL
+    with subprocess.Popen(argv, cwd=folder, stdin=none, stdout=pipe, stderr=joined) as command:
+        last = time.monotonic()
+        for line in command.stdout or ():
+            printed.append(line.decode(errors="replace"))
+            checked = CHECKED_LINE.match(printed[-1])
+            if checked:
+                each[checked[1]], last = time.monotonic() - last, time.monotonic()
         _, status, used = os.wait4(command.pid, 0)
         command.returncode = os.WEXITSTATUS(status) if os.WIFEXITED(status) else -1
-    lines = re.sub(r"\n +", " ", printed).split("\n")
-    return Ran(command.returncode, used.ru_utime + used.ru_stime, lines)
+    lines = re.sub(r"\n +", " ", "".join(printed)).split("\n")
+    return Ran(command.returncode, used.ru_utime + used.ru_stime, lines, each)
