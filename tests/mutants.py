@@ -47,7 +47,7 @@ from verdicts import BAD, REFUSED, UNTRIED, Answer, Verdicts, whole_crate
 Task = Callable[[], None]
 
 # How many functions the list of the dearest has.
-DEAREST = 60
+DEAREST = 10
 
 
 class Crate:
@@ -235,9 +235,11 @@ def report(run: Run, seconds: float) -> int:
     for name, checks in sorted(run.costs.items()):
         proof = sum(seconds for seconds, edits in checks if not edits)
         each = [f"{edits} in {seconds:.0f}" for seconds, edits in checks if edits]
-        print(f"{name}: processor seconds: what they rest on {proof:.0f}; mutants {', '.join(each) or 'none'}")
+        of_rounds = ", ".join(each) or "none"
+        print(f"{name}: processor seconds: what they rest on {proof:.0f}; mutants {of_rounds}")
     dear = sorted(run.each.items(), key=lambda it: -it[1])[:DEAREST]
-    print("the dearest, in seconds: " + ", ".join(f"{name} {seconds:.0f}" for name, seconds in dear))
+    if dear:
+        print("dearest, in seconds: " + ", ".join(f"{name} {seconds:.0f}" for name, seconds in dear))
     tried = sum(not it.is_kept for it in run.answers)
     print(f"tried in this run: {tried} of {len(run.answers)}; {seconds:.0f} s")
     if run.failed:
@@ -256,7 +258,7 @@ def main() -> int:
     )
     lanes = len(os.sched_getaffinity(0))
     words.add_argument("--lanes", type=int, default=lanes, help="how many checks run side by side")
-    words.add_argument("--as-proved", action="store_true", help="take the libraries of an rt ci beside this")
+    words.add_argument("--as-proved", action="store_true", help="take the libraries that rt ci makes")
     words.add_argument("--anew", action="store_true", help="try also what was refused before")
     words.add_argument("crates", nargs="*", metavar="CRATE")
     given = words.parse_args()

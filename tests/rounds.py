@@ -67,9 +67,20 @@ class Round(NamedTuple):
 
 
 def path_of(name: str, function: Function) -> str:
-    """Returns a function's path in its crate: of a method, that from its type on."""
+    """Returns a function's path in its crate: of a method, that from its type on. The type has its
+    arguments if one of them is no parameter of the block."""
     kind, _, last = name.rpartition("::")
-    return f"{kind.rpartition('::')[2]}::{last}" if function.block else name.partition("::")[2]
+    if not function.block:
+        return name.partition("::")[2]
+    return f"{kind.rpartition('::')[2]}{''.join(f'+{it}' for it in arguments_of(function.block))}::{last}"
+
+
+def arguments_of(block: str) -> List[str]:
+    """Returns the arguments of the type whose own methods stand in a block, without lifetimes, or
+    none if all are parameters."""
+    found = re.match(r"impl(?:<([^>]*)>)?\s+[\w:]+<([\w\s,']*)>(?!.*\sfor\s)", block)
+    own, given = (re.findall(r"(?<!['\w])\w+", it or "") for it in found.groups()) if found else ([], [])
+    return [] if set(given) <= set(own) else given
 
 
 def shared_out(source: Source, edits: List[Edit]) -> List[Round]:

@@ -147,10 +147,18 @@ class Verdicts:
         if (control and not self.is_proved(control.name)) or edit.name in self.unread():
             return None
         for name in self.tried.changed(edit):
-            said = self.printed.get(self.name_of(name), "")
-            if NOT_PROVED.match(said):
-                return Answer(REFUSED, self.why(name, said))
+            for said in self.said_of(name, edit):
+                if NOT_PROVED.match(said):
+                    return Answer(REFUSED, self.why(name, said))
         return None
+
+    def said_of(self, name: str, edit: Edit) -> List[str]:
+        """Returns what the check says of a function that an edit changes, and of its closures if no
+        other edit can have broken one of such a name."""
+        own = self.printed.get(self.name_of(name), "")
+        inside = f"::{name.rpartition('::')[2]}::"
+        is_clear = edit.name in self.tried.copies or self.tried.edits == [edit]
+        return [own, *(said for it, said in self.printed.items() if is_clear and inside in it)]
 
     def why(self, name: str, verdict: str) -> str:
         """Returns the first line on a function, and of those on names that went only if no other
