@@ -53,13 +53,18 @@ def name_of(file: str) -> str:
 
 
 def path_name(crate: str, path: str, function: Function) -> str:
-    """Returns the name of a function by the file where it stands. A check prints most names so."""
+    """Returns the name of a function by the file where it stands. A check prints most names so: of a
+    trait's method with the type, the trait and its argument."""
     module = re.sub(r"^src/|(?:/mod)?\.rt$", "", path)
     parts = [crate] + ([] if module in ("lib", "main") else module.split("/"))
     if function.block:
-        of_trait = re.search(r"\sfor\s+(.*)", re.split(r"\swhere\b", function.block)[0])
-        kind = re.split(r"[<\s]", of_trait[1].strip().lstrip("&"))[0] if of_trait else ""
-        parts.append(kind.rpartition("::")[2] + function.owner())
+        head = re.split(r"\swhere\b", function.block)[0]
+        of_trait = re.search(r"(?:<([\w:]+)>)?\sfor\s+(.*)", head)
+        kind = re.split(r"[<\s]", of_trait[2].strip().lstrip("&"))[0] if of_trait else ""
+        own = re.findall(r"\w+", head.partition(">")[0]) if head.startswith("impl<") else []
+        given = [it for it in re.findall(r"\w+", of_trait[1] or "") if it not in own] if of_trait else []
+        argument = "".join(it[0].upper() + it[1:] for it in given)
+        parts.append(kind.rpartition("::")[2] + function.owner() + argument)
     return "::".join([*parts, function.name])
 
 

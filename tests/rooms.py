@@ -28,6 +28,9 @@ PARTS = ("src", "specs", "proofs")
 # Where a base has what was checked of its crate.
 CHECKED = "checked"
 
+# The status of a check of a path that fits no function.
+NO_SUCH_PATH = 2
+
 # What a check prints when it is through with a function.
 CHECKED_LINE = re.compile(r"checked (\S+), \d+ of ")
 
@@ -125,13 +128,16 @@ class Base:
         return sorted(f"{at}/{it}" for at, names in walked for it in names)
 
     def prove(self, paths: Optional[List[str]]) -> "Ran":
-        """Checks what these paths name and all that it rests on, or without them the whole crate. It
-        begins with what `rt` checked in the repository, or else with what was checked here."""
+        """Checks what these paths name and all that it rests on, or without them the whole crate, as
+        also if a check prints one of them otherwise. It begins with what `rt` checked in the
+        repository, or else with what was checked here."""
         by_rt = f"{TOP}/crates/{self.crate}/out/incremental"
         if os.path.isdir(by_rt):
             copy_folder(by_rt, f"{self.folder}/{CHECKED}", link)
         os.makedirs(f"{self.folder}/{CHECKED}", exist_ok=True)
         made = self.check(self.folder, paths)
+        if made.status == NO_SUCH_PATH:
+            made = self.check(self.folder, None)
         self.modules = listing(self.folder)
         return made
 
