@@ -3,10 +3,10 @@
 
 usage: recorder/tests/bench_suites.py [--rounds N] [--compiler NAME] ASANCOL [NAME..]
 
-The programs are those of real.py, without the crates of Rust, and their sources come as there. Each is built with -O2
--g for AddressSanitizer and by asancol-cc. Its tests are run once, so that what they compile is there, and then N times
-(3) by turns: with AddressSanitizer, under asancol-run, and under asancol-run --full. Nobody looks for leaks, and
-AddressSanitizer goes on after an error.
+The programs are those of real.py, without the crates of Rust, and four more that allocate or compute much. Their
+sources come as there. Each is built with -O2 -g for AddressSanitizer and by asancol-cc. Its tests are run once, so that
+what they compile is there, and then N times (3) by turns: with AddressSanitizer, under asancol-run, and under
+asancol-run --full. Nobody looks for leaks, and AddressSanitizer goes on after an error.
 
 A row has the least processor seconds of AddressSanitizer, and as parts of them what the processes of the suite took
 under asancol-run and --full, and what asancol-run and its checkers took with them. Then comes the greatest memory of a
@@ -28,6 +28,23 @@ from support import Compiler, Failure, compilers, environment, expect
 
 SANITIZED = "-O2 -g -fsanitize=address -fsanitize-recover=address"
 WAYS: Dict[str, Tuple[str, ...]] = {"sanitizer": (), "lean": (real.RUN,), "full": (real.RUN, "--full")}
+
+# Debian's sources of re2 come without its tables, which are made of the package unicode-data.
+RE2_FIRST = "make REBUILD_TABLES=1 re2/perl_groups.cc re2/unicode_casefold.cc re2/unicode_groups.cc"
+UNICODE = "/usr/share/unicode/UnicodeData.txt"
+
+# Redis has tests of its own data structures in the server.
+REDIS_BUILD = """make -j 4 MALLOC=libc CC="$CC" OPTIMIZATION=-O2 REDIS_CFLAGS="-DREDIS_TEST $FLAGS" \\
+    REDIS_LDFLAGS="$FLAGS" redis-server"""
+ZSTD_TEST = "cd tests && ./fuzzer -s5 -i200 && ./zstreamtest -s5 -i100"
+MORE = [
+    real.by_cmake("re2", "-DRE2_BUILD_TESTING=ON", first=RE2_FIRST)._replace(
+        tools=("cmake", "ctest", UNICODE), is_cpp=True
+    ),
+    real.by_cmake("leveldb", "-DLEVELDB_BUILD_BENCHMARKS=OFF")._replace(is_cpp=True),
+    real.Program("libzstd", 'make -C tests CC="$CC" CFLAGS="$FLAGS" fuzzer zstreamtest', ZSTD_TEST, r"^.*\bOK\b"),
+    real.Program("redis", f"cd src && {REDIS_BUILD}", "src/redis-server test all", r"^\d+ tests, \d+ passed"),
+]
 
 
 class Cost(NamedTuple):
@@ -107,7 +124,7 @@ def main(argv: Optional[List[str]] = None) -> int:
     if options.rounds < 1:
         reader.error("at least one round")
     compiler = found[options.compiler]
-    programs = [it for it in real.chosen(options.names) if not it.crate]
+    programs = [it for it in real.chosen(options.names, [*MORE, *real.PROGRAMS]) if not it.crate]
     real.fetch(programs)
     print(f"{'program':<12}{'sanitizer':>10}{'lean':>8}{'in all':>8}{'full':>8}{'in all':>8}"
           f"{'MB san.':>8}{'lean':>8}{'full':>8}", flush=True)
