@@ -112,7 +112,7 @@ fuzz-parsers: recorder
 
 # What checking costs: some minutes, on a machine with nothing else to do. It writes the tables of docs/SPEED.md.
 bench: asancol
-	tests/bench/bench.py --page docs/SPEED.md ./asancol
+	tests/bench/bench.py $(if $(PEER),--peer $(PEER)) --page docs/SPEED.md ./asancol
 
 # What recording costs, beside AddressSanitizer: some ten minutes, on a machine with nothing else to do. The sources of
 # the real programs come as for check-real, or these are left out.

@@ -1,12 +1,13 @@
 #!/usr/bin/env python3
 """Measures what checking costs, and writes the page of figures.
 
-usage: tests/bench/bench.py [--rounds N] [--millions N] [--page FILE] PROGRAM [WORD..]
+usage: tests/bench/bench.py [--rounds N] [--millions N] [--peer PEER] [--page FILE] PROGRAM [WORD..]
 
 Traces are made by traces.c, which a C compiler has to build. Each is checked on one thread, from standard input, with
 and without huge pages, at one and at N million events (16), interleaved; the least processor time of the rounds (3)
 counts, user and system. Then eight traces by `check`, and one free that lets a million blocks go. With words, only
-workloads whose names have one of them. With --page the tables of that file are replaced.
+workloads whose names have one of them. With --peer another program with the same output runs between PROGRAM's runs,
+and the table says how many times its time PROGRAM took. With --page the tables of that file are replaced.
 """
 
 import argparse
@@ -62,11 +63,16 @@ def least(costs: List[Cost]) -> Cost:
     return Cost(*(min(it) for it in zip(*costs)))
 
 
-class Bench:
-    """Runs of one program over traces in one folder."""
+# A program, a number of events, and whether it has huge pages.
+Way = Tuple[str, int, bool]
 
-    def __init__(self, program: str, folder: str, rounds: int) -> None:
+
+class Bench:
+    """Runs of one program, and perhaps of a peer, over traces in one folder."""
+
+    def __init__(self, program: str, peer: Optional[str], folder: str, rounds: int) -> None:
         self.program, self.folder, self.rounds = os.path.abspath(program), folder, rounds
+        self.peer = peer and os.path.abspath(peer)
         self.maker = f"{folder}/traces"
         compiler = os.environ.get("CC", "cc")
         subprocess.run([compiler, "-O2", f"{HERE}/traces.c", "-o", self.maker], check=True)
@@ -77,13 +83,14 @@ class Bench:
             subprocess.run([self.maker, workload, str(events), path], check=True)
         return path
 
-    def one_thread(self, workload: str, sizes: List[int]) -> Dict[Tuple[int, bool], Cost]:
-        """Returns the cost at each size, with and without huge pages."""
-        ways = [(events, is_huge) for events in sizes for is_huge in (False, True)]
-        seen: Dict[Tuple[int, bool], List[Cost]] = {way: [] for way in ways}
+    def one_thread(self, workload: str, sizes: List[int]) -> Dict[Way, Cost]:
+        """Returns the cost at each size, with and without huge pages, of the program and of the peer."""
+        programs = [self.program, *([self.peer] if self.peer else [])]
+        ways = [(it, events, is_huge) for events in sizes for is_huge in (False, True) for it in programs]
+        seen: Dict[Way, List[Cost]] = {way: [] for way in ways}
         for _ in range(self.rounds):
-            for events, is_huge in ways:
-                seen[events, is_huge].append(run([self.program], self.trace(workload, events), is_huge))
+            for way in ways:
+                seen[way].append(run([way[0]], self.trace(workload, way[1]), way[2]))
         return {way: least(costs) for way, costs in seen.items()}
 
     def files(self, events: int) -> Tuple[Cost, Cost]:
@@ -108,19 +115,28 @@ class Bench:
 
 
 def table_of_workloads(bench: Bench, names: List[str], millions: int) -> List[str]:
-    sizes = [MILLION, millions * MILLION]
-    lines = [
-        f"| trace of {millions} million events | ns an event | with huge pages | memory | growth |",
-        "|---|---|---|---|---|",
-    ]
+    small, large = MILLION, millions * MILLION
+    heads = [f"trace of {millions} million events", "ns an event", "with huge pages", "memory", "growth"]
+    heads += ["of the peer's time", "with huge pages", "growth of the peer"] if bench.peer else []
+    lines = [f"| {' | '.join(heads)} |", "|---" * len(heads) + "|"]
     for name in names:
-        costs = bench.one_thread(name, sizes)
-        small, large, huge = costs[sizes[0], True], costs[sizes[1], False], costs[sizes[1], True]
-        growth = math.log(huge.processor / small.processor) / math.log(millions) if millions > 1 else 1.0
-        lines.append(
-            f"| {name}: {WORKLOADS[name]} | {large.processor / sizes[1] * 1e9:.0f} "
-            f"| {huge.processor / sizes[1] * 1e9:.0f} | {large.memory / 1e6:.0f} MB | {growth:.2f} |"
-        )
+        costs = bench.one_thread(name, [small, large])
+
+        def nanoseconds(program: str, is_huge: bool) -> float:
+            return costs[program, large, is_huge].processor / large * 1e9
+
+        def growth(program: str) -> str:
+            times = costs[program, large, True].processor / costs[program, small, True].processor
+            return f"{math.log(times) / math.log(millions) if millions > 1 else 1.0:.2f}"
+
+        own, peer = bench.program, bench.peer
+        cells = [f"{name}: {WORKLOADS[name]}"]
+        cells += [f"{nanoseconds(own, is_huge):.0f}" for is_huge in (False, True)]
+        cells += [f"{costs[own, large, False].memory / 1e6:.0f} MB", growth(own)]
+        if peer:
+            cells += [f"{nanoseconds(own, it) / nanoseconds(peer, it):.2f}" for it in (False, True)]
+            cells.append(growth(peer))
+        lines.append(f"| {' | '.join(cells)} |")
     return lines
 
 
@@ -158,6 +174,7 @@ def main() -> int:
     parser = argparse.ArgumentParser(description=(__doc__ or "").split("\n")[0])
     parser.add_argument("--rounds", type=int, default=3)
     parser.add_argument("--millions", type=int, default=16)
+    parser.add_argument("--peer")
     parser.add_argument("--page")
     parser.add_argument("program")
     parser.add_argument("words", nargs="*")
@@ -165,7 +182,7 @@ def main() -> int:
     names = [it for it in WORKLOADS if not options.words or any(word in it for word in options.words)]
     folder = tempfile.mkdtemp(prefix="asancol-bench-")
     try:
-        bench = Bench(options.program, folder, options.rounds)
+        bench = Bench(options.program, options.peer, folder, options.rounds)
         print(f"Measured on {machine()}.", flush=True)
         tables = ["\n".join(table_of_workloads(bench, names, options.millions))]
         print(tables[0], flush=True)
