@@ -1,5 +1,6 @@
 """Outputs and memory that run out."""
 
+import os
 import resource
 import signal
 
@@ -48,3 +49,25 @@ def no_memory_to_begin(program):
             holds(argv, ran[0] == 127 or ran[0] < 0, ran)
         else:
             holds(argv, False, ended)
+
+
+@test
+def nothing_is_read_without_memory(program):
+    """Under each bound on memory at which it says that there was none to begin, its input is as it was: the place in a
+    file is that of both."""
+    program.leave_out_with_checks("it ends otherwise")
+    put("trace", PAST_THE_END)
+    said = 0
+    for kibibytes in range(0, 2048, 4):
+
+        def bound():
+            resource.setrlimit(resource.RLIMIT_DATA, (kibibytes << 10, kibibytes << 10))
+
+        with open("trace", "rb") as trace:
+            status, _, faults = program.run([], stdin=trace, before=bound)
+            if faults == b"no memory\n":
+                same(kibibytes, os.lseek(trace.fileno(), 0, os.SEEK_CUR), 0)
+                said += 1
+        if status == 1:
+            break
+    holds("no memory", said, "was said under no bound")
