@@ -110,7 +110,8 @@ SECONDS := 60
 fuzz-parsers: recorder
 	tests/fuzzers.py --seconds $(SECONDS)
 
-# What checking costs: some minutes, on a machine with nothing else to do. It writes the tables of docs/SPEED.md.
+# What checking costs, with PEER=PROGRAM beside a program with the same output: some minutes, on a machine with nothing
+# else to do. It writes the tables of docs/SPEED.md.
 bench: asancol
 	tests/bench/bench.py $(if $(PEER),--peer $(PEER)) --page docs/SPEED.md ./asancol
 
@@ -119,8 +120,8 @@ bench: asancol
 bench-record: recorder
 	recorder/tests/bench.py
 
-# What the suites of check-real cost under asancol-run, beside AddressSanitizer: half an hour, on a machine with nothing
-# else to do.
+# What the suites of check-real and four more cost under asancol-run, beside AddressSanitizer: some two hours, on a
+# machine with nothing else to do.
 bench-suites: asancol recorder run
 	recorder/tests/bench_suites.py ./asancol
 

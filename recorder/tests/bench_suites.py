@@ -10,7 +10,7 @@ asancol-run --full. Nobody looks for leaks, and AddressSanitizer goes on after a
 
 A row has the least processor seconds of AddressSanitizer, and as parts of them what the processes of the suite took
 under asancol-run and --full, and what asancol-run and its checkers took with them. Then comes the greatest memory of a
-process, in MB. It takes half an hour on a machine with nothing else to do.
+process, in MB. With three rounds it takes some two hours on a machine with nothing else to do, most of them for re2.
 """
 
 import argparse
