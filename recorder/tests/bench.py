@@ -23,7 +23,6 @@ programs, each of which is built six times.
 import argparse
 import os
 import random
-import subprocess
 import sys
 import tempfile
 from typing import Dict, List, NamedTuple, Optional, Sequence, Tuple
@@ -32,6 +31,8 @@ sys.path.insert(0, f"{os.path.dirname(os.path.realpath(__file__))}/../..")  # wh
 
 import real
 from support import CC, CXX, TESTS, Compiler, Failure, build, compilers, environment
+from testing import measuring
+from testing.measuring import Used
 
 ALIGNED = {
     "gcc": "-Wa,-mbranches-within-32B-boundaries",
@@ -125,8 +126,8 @@ def make(compiler: Compiler, program: Program, way: str, folder: str) -> str:
     return path
 
 
-def measure_run(path: str, program: Program, argv: Sequence[str], way: str, folder: str) -> Cost:
-    """Runs a program once, with the libraries that were built beside it."""
+def settings_for(path: str, program: Program, way: str, folder: str) -> Dict[str, str]:
+    """How a program is run: with the libraries that were built beside it."""
     asked = {"detect_leaks": program.has_leaks, "detect_stack_use_after_return": program.finds_returns,
              "quarantine_size_mb": program.quarantine_mb}
     options = ":".join(f"{name}={int(value)}" for name, value in asked.items())
@@ -138,23 +139,28 @@ def measure_run(path: str, program: Program, argv: Sequence[str], way: str, fold
         settings["ASANCOL_FULL"] = str(int(way != "lean"))
         if program.has_leaks:
             settings.update(ASANCOL_WHERE="1", ASANCOL_LEAKS="1")
-    with tempfile.TemporaryFile() as said:
-        process = subprocess.Popen([path, *argv], stdout=said, cwd=folder, env=environment(**settings))
-        _, status, usage = os.wait4(process.pid, 0)
-        process.returncode = status
+    return settings
+
+
+def measure_run(argv: Sequence[str], settings: Dict[str, str], folder: str) -> Tuple[Used, str]:
+    """Runs a program once, and returns what it took and what it printed."""
+    with tempfile.TemporaryFile("w+") as said:
+        used = measuring.measure(argv, stdout=said, cwd=folder, env=environment(**settings))
         said.seek(0)
-        rest = float(said.read()) if program.says_rest and not status else 0
+        text = said.read()
     for name in os.listdir(folder):
         if name.endswith((".trace", ".where")):
             os.unlink(f"{folder}/{name}")
-    if status:
-        raise Failure(f"{path} {' '.join(argv)}: wait status {status}")
-    return Cost(usage.ru_utime + usage.ru_stime, usage.ru_maxrss / 1024, rest)
+    if used.status:
+        raise Failure(f"{' '.join(argv)}: status {used.status}")
+    return used, text
 
 
 def measure(path: str, program: Program, way: str, folder: str) -> Cost:
-    costs = [measure_run(path, program, argv, way, folder) for argv in program.runs]
-    return Cost(sum(it.seconds for it in costs), max(it.megabytes for it in costs), costs[-1].rest_megabytes)
+    settings = settings_for(path, program, way, folder)
+    runs = [measure_run([path, *argv], settings, folder) for argv in program.runs]
+    rest = float(runs[-1][1]) if program.says_rest else 0
+    return Cost(sum(used.processor for used, _ in runs), max(used.memory for used, _ in runs) / (1 << 20), rest)
 
 
 def least(costs: Sequence[Cost]) -> Cost:

@@ -1,21 +1,24 @@
 #!/usr/bin/env python3
-"""Measures what the test suites of real programs cost under asancol-run, beside AddressSanitizer.
+"""Measures what real programs cost beside AddressSanitizer: to build, and their test suites under asancol-run.
 
 usage: recorder/tests/bench_suites.py [--rounds N] [--compiler NAME] ASANCOL [NAME..]
 
 The programs are those of real.py, without the crates of Rust, and four more that allocate or compute much. Their
-sources come as there. Each is built with -O2 -g for AddressSanitizer and by asancol-cc. Its tests are run once, so that
-what they compile is there, and then N times (3) by turns: with AddressSanitizer, under asancol-run, and under
-asancol-run --full. Nobody looks for leaks, and AddressSanitizer goes on after an error.
+sources come as there. Each is built with -O2 -g for AddressSanitizer and by asancol-cc. Its tests are run once if `make
+check` compiles them, and then N times (3) by turns: with AddressSanitizer, under asancol-run, and under asancol-run
+--full. Nobody looks for leaks, and AddressSanitizer goes on after an error.
 
 A row has the least processor seconds of AddressSanitizer, and as parts of them what the processes of the suite took
 under asancol-run and --full, and what asancol-run and its checkers took with them. Then comes the greatest memory of a
-process, in MB. With three rounds it takes some two hours on a machine with nothing else to do, most of them for re2.
+process, in MB; and the processor seconds of AddressSanitizer's build, with `./configure` if there is one, and what part
+of them that by asancol-cc took. With three rounds it takes some two hours on a machine with nothing else to do, most
+of them for re2.
 """
 
 import argparse
 import os
 import re
+import resource
 import shutil
 import subprocess
 import sys
@@ -25,6 +28,7 @@ sys.path.insert(0, f"{os.path.dirname(os.path.realpath(__file__))}/../..")  # wh
 
 import real
 from support import Compiler, Failure, compilers, environment, expect
+from testing import measuring
 
 SANITIZED = "-O2 -g -fsanitize=address -fsanitize-recover=address"
 WAYS: Dict[str, Tuple[str, ...]] = {"sanitizer": (), "lean": (real.RUN,), "full": (real.RUN, "--full")}
@@ -64,6 +68,11 @@ def seconds_in(path: str) -> float:
         return sum(int(minutes) * 60 + float(rest) for minutes, rest in re.findall(r"(\d+)m([\d.]+)s", list(file)[1]))
 
 
+def seconds_of_children() -> float:
+    used = resource.getrusage(resource.RUSAGE_CHILDREN)
+    return used.ru_utime + used.ru_stime
+
+
 class Built:
     """A program in two builds, of which each is run in the folder where it was built."""
 
@@ -73,9 +82,13 @@ class Built:
         self.settings["sanitizer"]["ASAN_OPTIONS"] = "detect_leaks=0:halt_on_error=0:exitcode=0:log_path=/dev/null"
         for way in ("lean", "full"):
             self.settings[way] = {**real.flags_for(compiler, "-O2 -g", True), "ASANCOL": asancol}
+        self.build_seconds: Dict[str, float] = {}
         for way in ("sanitizer", "lean"):
-            real.build_in(program, real.empty(self.folder(way)), self.settings[way])
-            self.measure(way)
+            before = seconds_of_children()
+            real.build_in(program, real.empty(self.folder(way)), {**self.settings[way], "MAKEFLAGS": "-j4"})
+            self.build_seconds[way] = seconds_of_children() - before
+            if "make check" in program.test:
+                self.measure(way)
 
     def folder(self, way: str) -> str:
         return f"{self.base}.{'sanitizer' if way == 'sanitizer' else 'recorded'}"
@@ -87,14 +100,12 @@ class Built:
         options = ("--exitcode", "0", "--leaks=no", "--log-file", f"{folder}/run.log", "--")
         argv = [*WAYS[way], *(options if WAYS[way] else ()), "sh", "-c", script]
         with open(f"{folder}/test.log", "wb") as log:
-            process = subprocess.Popen(argv, cwd=f"{folder}/src", env=environment(**self.settings[way]),
-                                       stdin=subprocess.DEVNULL, stdout=log, stderr=subprocess.STDOUT)
-            _, status, usage = os.wait4(process.pid, 0)
-        process.returncode = os.waitstatus_to_exitcode(status)
-        expect(process.returncode, 0, f"the tests, {folder}/test.log")
+            used = measuring.measure(argv, cwd=f"{folder}/src", env=environment(**self.settings[way]),
+                                     stdin=subprocess.DEVNULL, stdout=log, stderr=subprocess.STDOUT)
+        expect(used.status, 0, f"the tests, {folder}/test.log")
         with open(f"{folder}/test.log", encoding="utf-8", errors="replace") as text:
             passed = len(re.findall(self.program.passed, text.read(), re.M))
-        return Cost(seconds_in(f"{folder}/times"), usage.ru_utime + usage.ru_stime, usage.ru_maxrss / 1024, passed)
+        return Cost(seconds_in(f"{folder}/times"), used.processor, used.memory / (1 << 20), passed)
 
 
 def row(built: Built, rounds: int) -> str:
@@ -108,7 +119,8 @@ def row(built: Built, rounds: int) -> str:
     recorded = [best[way] for way in ("lean", "full")]
     parts = [f"{value / base:8.2f}" for it in recorded for value in (it.own_seconds, it.seconds)]
     memory = "".join(f"{best[way].megabytes:8.0f}" for way in WAYS)
-    return f"{base:10.2f}{''.join(parts)}{memory}"
+    build = built.build_seconds["sanitizer"]
+    return f"{base:10.2f}{''.join(parts)}{memory}{build:9.2f}{built.build_seconds['lean'] / build:7.2f}"
 
 
 def main(argv: Optional[List[str]] = None) -> int:
@@ -127,7 +139,7 @@ def main(argv: Optional[List[str]] = None) -> int:
     programs = [it for it in real.chosen(options.names, [*MORE, *real.PROGRAMS]) if not it.crate]
     real.fetch(programs)
     print(f"{'program':<12}{'sanitizer':>10}{'lean':>8}{'in all':>8}{'full':>8}{'in all':>8}"
-          f"{'MB san.':>8}{'lean':>8}{'full':>8}", flush=True)
+          f"{'MB san.':>8}{'lean':>8}{'full':>8}{'build':>9}{'ours':>7}", flush=True)
     failed = 0
     for program in programs:
         try:

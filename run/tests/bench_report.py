@@ -10,12 +10,11 @@ import json
 import os
 import sys
 import tempfile
-import time
 from typing import Any, Callable, Dict, List, NamedTuple
 
 sys.path.insert(0, f"{os.path.dirname(os.path.realpath(__file__))}/../..")  # where `testing` is
 
-from testing import reports, side
+from testing import measuring, reports, side
 from testing.reports import END, FREED, freed_block
 
 MANY_LINES = 100000
@@ -33,14 +32,11 @@ class Measured(NamedTuple):
 
 
 def measure(folder: str, argv: List[str], **settings: str) -> Measured:
-    began = time.perf_counter()
-    child = os.posix_spawn(reports.REPORT, [reports.REPORT, *argv], reports.settings_in(folder, **settings),
-                           file_actions=[(os.POSIX_SPAWN_OPEN, 1, os.path.join(folder, "out"),
-                                          os.O_WRONLY | os.O_CREAT | os.O_TRUNC, 0o600)])
-    _, status, used = os.wait4(child, 0)
-    if os.waitstatus_to_exitcode(status) not in (0, 1):
-        raise SystemExit(f"{' '.join(argv)} ended with {status}")
-    return Measured(time.perf_counter() - began, used.ru_utime + used.ru_stime, used.ru_maxrss / 1024)
+    with open(os.path.join(folder, "out"), "wb") as out:
+        used = measuring.measure([reports.REPORT, *argv], stdout=out, env=reports.settings_in(folder, **settings))
+    if used.status not in (0, 1):
+        raise SystemExit(f"{' '.join(argv)} ended with {used.status}")
+    return Measured(used.wall, used.processor, used.memory / (1 << 20))
 
 
 def one_report(folder: str) -> str:

@@ -19,10 +19,12 @@ import shutil
 import subprocess
 import sys
 import tempfile
-import time
 from typing import Dict, List, NamedTuple, Optional, Tuple
 
 HERE = os.path.dirname(os.path.abspath(__file__))
+sys.path.insert(0, f"{HERE}/../..")  # where `testing` is
+
+from testing import measuring
 
 WORKLOADS = {
     "local": "loads and stores of a stack and a few blocks, 2 % mallocs and frees",
@@ -49,14 +51,11 @@ def run(argv: List[str], source: Optional[str], is_huge: bool) -> Cost:
     environment = {name: value for name, value in os.environ.items() if name != "GLIBC_TUNABLES"}
     if is_huge:
         environment["GLIBC_TUNABLES"] = HUGE_PAGES
-    before = time.monotonic()
     with open(source or os.devnull, "rb") as file:
-        child = subprocess.Popen(argv, stdin=file, stdout=subprocess.DEVNULL, env=environment)
-        _, status, used = os.wait4(child.pid, 0)
-    child.returncode = os.waitstatus_to_exitcode(status)
-    if child.returncode not in (0, 1):
-        sys.exit(f"bench.py: {argv[0]} ended with status {child.returncode}")
-    return Cost(used.ru_utime + used.ru_stime, time.monotonic() - before, used.ru_maxrss * 1024)
+        used = measuring.measure(argv, stdin=file, stdout=subprocess.DEVNULL, env=environment)
+    if used.status not in (0, 1):
+        sys.exit(f"bench.py: {argv[0]} ended with status {used.status}")
+    return Cost(used.processor, used.wall, used.memory)
 
 
 def least(costs: List[Cost]) -> Cost:
