@@ -212,7 +212,7 @@ def package_finds_a_bug(_: str, folder: str) -> None:
 def package_is_whole(_: str, folder: str) -> None:
     """Pages, completions and documents are where they are looked for."""
     must(["dpkg-deb", "-x", package_of(folder), folder])
-    wanted = [f"lib/asancol/libasancol_{it}.a" for it in ("record", "static", "shared", "first", "first_static")]
+    wanted = [f"lib/asancol/libasancol_{it}.a" for it in ("record", "static", "shared", "first", "first_static", "cxx")]
     wanted += ["lib/asancol/no-second-allocator.ld", "lib/asancol/cold_reports.h", "lib/asancol/cxx/libc++/__config"]
     wanted += ["lib/asancol/cxx/libstdc++/bits/basic_string.tcc", "lib/asancol/libasancol_preload.so"]
     wanted += ["lib/asancol/cargo/rustc", "lib/asancol/cargo/rustdoc"]

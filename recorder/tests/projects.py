@@ -24,6 +24,13 @@ def check_by_itself(suite, folder, compiler):
     write(folder, main_c=PAST_THE_END, helper_c=HELPER)
     build(["recorder/asancol-cc", "-DVALUE=1", "main.c", "helper.c", "-o", "program"], folder, ASANCOL_CC=compiler.name)
     one_mark(suite, folder)
+    # Without a compiler of C++ that has the library, each object has its own strings.
+    os.unlink(f"{copy}/out/cxx/date")
+    made = run(["make", "-s", "CXX=false", "libasancol_cxx.a"], copy)
+    expect((made.returncode, made.stderr), (0, b""), "make CXX=false")
+    write(folder, text_cpp="#include <string>\nvoid add(std::string &s, char *more) { s += more; }\n")
+    build(["recorder/asancol-c++", "-c", "text.cpp"], folder, ASANCOL_CXX=compiler.cxx)
+    expect(b"W _ZNSt7__cxx1112basic_string" in run(["nm", "text.o"], folder).stdout, True, "its own strings")
 
 
 def check_own_names(suite, folder, compiler):

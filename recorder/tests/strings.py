@@ -1,10 +1,13 @@
-"""The library of C++: strings and streams are compiled with the program, and so they have checks. Programs and shared
-objects that were built so work beside others, whatever they take from the library."""
+"""The library of C++: strings and streams have checks, whether an object takes them from the recorder's archive or they
+are compiled with the program. Programs and shared objects that were built so work beside others, whatever they take
+from the library."""
 
 import os
+from typing import Set
 
 from support import (
-    CXX, TESTS, Compiler, Failure, Suite, build, by_sanitizer, expect, leave_out, one_mark, reports, run, write,
+    CC, CXX, RECORDER, TESTS, Compiler, Failure, Suite, build, by_sanitizer, expect, leave_out, one_mark, reports, run,
+    write,
 )
 from unchecked import LINKERS
 
@@ -21,10 +24,12 @@ def has(compiler: Compiler, library: str) -> bool:
     return run(argv, "/").returncode == 0
 
 
-def check_faults(suite: Suite, folder: str, compiler: Compiler, library: str) -> None:
+def check_faults(suite: Suite, folder: str, compiler: Compiler, library: str, by_object: bool) -> None:
     """Each has a report, of the same class as AddressSanitizer's if that names one."""
     flags = [*LIBRARIES[library][0], "-w", "-std=c++17"]
-    compiler.cpp(folder, [f"{TESTS}/strings.cpp"], "strings", *flags)
+    if by_object:
+        compiler.cpp(folder, [f"{TESTS}/strings.cpp"], "strings.o", *flags, "-c")
+    compiler.cpp(folder, ["strings.o" if by_object else f"{TESTS}/strings.cpp"], "strings", *flags)
     if compiler.has_sanitizer:
         compiler.cpp(folder, [f"{TESTS}/strings.cpp"], "sanitized", *flags, "-fsanitize=address", native=True)
     names = run(["./strings", "--list"], folder).stdout.decode().split()
@@ -95,9 +100,11 @@ def check_objects(suite: Suite, folder: str, compiler: Compiler, flags: "list[st
     link = ["-L.", "-lobject", "-Wl,-rpath,$ORIGIN"]
     for name, argv in (("recorded", [CXX]), ("plain", [compiler.cxx])):
         build([compiler.cxx, *flags, "-shared", "-fPIC", "object.cpp", "-o", "libobject.so"], folder)
-        build([*argv, *flags, "host.cpp", *link, "-o", name], folder, ASANCOL_CXX=compiler.cxx)
+        build([*argv, *flags, "-c", "host.cpp"], folder, ASANCOL_CXX=compiler.cxx)
+        build([*argv, *flags, "host.o", *link, "-o", name], folder, ASANCOL_CXX=compiler.cxx)
+    build([CXX, *flags, "-fPIC", "-fvisibility-inlines-hidden", "-c", "object.cpp"], folder, ASANCOL_CXX=compiler.cxx)
     for more in ((), ["-Wl,--version-script=one.map"], ["-Wl,-Bsymbolic"]):
-        shared = ["-shared", "-fPIC", "-fvisibility-inlines-hidden", "-Wl,-z,defs", "object.cpp"]
+        shared = ["-shared", "-Wl,-z,defs", "object.o"]
         build([CXX, *flags, *shared, *more, "-o", "libobject.so"], folder, ASANCOL_CXX=compiler.cxx)
         for name in ("recorded", "plain"):
             ran = run([f"./{name}"], folder, ASANCOL_TRACE="t.trace")
@@ -123,7 +130,8 @@ def check_texts(suite: Suite, folder: str, compiler: Compiler) -> None:
         expect(INSTANTIATED in run(["nm", "--defined-only", "made"], folder).stdout.decode(), True, f"{words}")
 
     make("-E", "main.cpp", "-o", "main.ii")
-    make_instantiated("-c", "main.ii")
+    make("-c", "main.ii")
+    make_instantiated("main.o")
     make("-x", "c++-header", "first.h", "-o", "first.h.pch" if compiler.name == "clang" else "first.h.gch")
     make_instantiated("-Winvalid-pch", "-Werror", "-include", "first.h", "main.cpp")
     make_instantiated("-Wall", "-Wextra", "-Wundef", "-pedantic-errors", "-Werror", "-std=c++98", "main.cpp")
@@ -134,8 +142,86 @@ def check_texts(suite: Suite, folder: str, compiler: Compiler) -> None:
     places = said.split("starts here:")[-1].split("End of")[0].split()
     makes = [f"-I{it}" for it in places if "c++" in it]
     make_instantiated("-nostdinc++", *makes, "main.cpp")
-    build([CXX.replace("c++", "cc"), "-c", "main.cpp", "-o", "made"], folder, ASANCOL_CC=compiler.name)
-    expect(INSTANTIATED in run(["nm", "--defined-only", "made"], folder).stdout.decode(), True, "asancol-cc")
+    build([CC, "-c", "main.cpp", "-o", "main.o"], folder, ASANCOL_CC=compiler.name)
+    make_instantiated("main.o")
+
+
+def names_in(folder: str, *words: str) -> Set[str]:
+    said = run(["nm", *words], folder).stdout.decode()
+    return {it.split()[-1] for it in said.splitlines() if " " in it}
+
+
+# What a process may have only once: the identities of types, and a constant.
+ONCE = ("_ZTI", "_ZTS", "_ZNSt7__cxx1112basic_stringIcSt11char_traitsIcESaIcEE4nposE")
+SUFFIX = ".asancol"
+
+
+def names_of_archive(folder: str) -> Set[str]:
+    """What an object can ask it for, without the suffix."""
+    found = names_in(folder, "--defined-only", f"{RECORDER}/libasancol_cxx.a")
+    return {it[: -len(SUFFIX)] for it in found if it.endswith(SUFFIX)}
+
+
+def asks_once(folder: str, path: str) -> bool:
+    return any(it.endswith(SUFFIX) for it in names_in(folder, "-u", path))
+
+
+def check_once(suite: Suite, folder: str, compiler: Compiler) -> None:
+    """An object asks the recorder's archive for all that it would compile of the library, or compiles it, by each
+    standard."""
+    write(folder, object_cpp=OBJECT, host_cpp=HOST, main_cpp=SMALL)
+    known = names_of_archive(folder)
+    for standard in ("c++98", "c++11", "gnu++14", "gnu++17", "c++20"):
+        for source in ("main",) if standard == "c++98" else ("main", "object", "host"):
+            words = [f"-std={standard}", "-w", "-O0", "-c", f"{source}.cpp"]
+            build([CXX, "--asancol-all", *words, "-o", "all.o"], folder, ASANCOL_CXX=compiler.cxx)
+            build([CXX, *words], folder, ASANCOL_CXX=compiler.cxx)
+            asked, wanted = (names_in(folder, *it) for it in (("-u", f"{source}.o"), ("--defined-only", "all.o")))
+            expect({it for it in asked & wanted if not it.startswith(ONCE)}, set(), f"{source}, {standard}")
+            expect(asked & known, set(), f"{source}, {standard}")
+            if source == "main":
+                expect(asks_once(folder, "main.o"), standard not in ("c++98", "c++20"), standard)
+
+
+# Each object that uses these has them, whatever the library declares; and one, of C++11 alone, only calls others.
+IN_EACH = ("_ZNSt7__cxx1112basic_stringIcSt11char_traitsIcESaIcEE12_M_constructI", "_ZNSt11char_traits",
+           "_ZNSt15basic_streambufIcSt11char_traitsIcEE6stosscEv")
+
+
+def check_standards(suite: Suite, folder: str, compiler: Compiler) -> None:
+    """The archive has all that the library declares to be compiled in it by the first standard for which it is
+    taken."""
+    known = names_of_archive(folder)
+    shared = run([compiler.cxx, "-print-file-name=libstdc++.so.6"], folder).stdout.decode().strip()
+    has = {it.split("@")[0] for it in names_in(folder, "-D", "--defined-only", shared)}
+    with open(f"{RECORDER}/cxx/once/asancol/instances.h", encoding="ascii") as file:
+        library = file.read().replace("#define ", "-D").strip().replace(" ", "=")
+    for number in range(1, 9):
+        words = [library, f"-DASANCOL_INSTANTIATES={number}", "-D_GLIBCXX_DEFINING_STRING_INSTANTIATIONS=1"]
+        words += ["-std=c++11", "-O0", "-c", f"{RECORDER}/cxx/instances.cpp", "-o", "all.o"]
+        build([CXX, "--asancol-all", *words], folder, ASANCOL_CXX=compiler.cxx)
+        found = names_in(folder, "--defined-only", "all.o") & has
+        expect(len(found) > 0, True, f"{number}")
+        expect({it for it in found - known if not it.startswith((*ONCE, *IN_EACH))}, set(), f"{number}")
+
+
+# Ways to compile that don't make the object that the arguments name, or not of this machine.
+OTHERWISE = (["-S"], ["-E"], ["-fsyntax-only"], ["-M"], ["-c", "-flto"], ["-c", "-o", "/dev/null"], ["-c", "main.cpp"])
+
+
+def check_otherwise(suite: Suite, folder: str, compiler: Compiler) -> None:
+    """What is compiled in another way than to one object has its own strings; and an object that others hold too, as a
+    store of them, is not changed under them."""
+    write(folder, main_cpp=SMALL, other_cpp=SMALL.replace("main", "other"))
+    for words in OTHERWISE:
+        made = run([CXX, *words, "other.cpp"], folder, ASANCOL_CXX=compiler.cxx)
+        expect((made.returncode, made.stderr), (0, b""), f"{words}")
+    expect(asks_once(folder, "other.o"), False, "two sources")
+    with open(f"{folder}/other.s", encoding="utf-8") as file:
+        expect(SUFFIX in file.read(), False, "assembly")
+    os.link(f"{folder}/other.o", f"{folder}/kept.o")
+    build([CXX, "-c", "other.cpp"], folder, ASANCOL_CXX=compiler.cxx)
+    expect((asks_once(folder, "other.o"), asks_once(folder, "kept.o")), (True, False), "one source")
 
 
 # A loop of the library goes over bytes that were freed.
@@ -154,7 +240,7 @@ int main()
 NAMED = (
     ["-lstdc++", "-lm"], ["-static", "-lstdc++", "-lm"], ["-static", "-Wl,-lstdc++", "-lm"],
     ["@words"], ["-static", "@words"],
-    ["-l:libstdc++.a", "-lm"], ["-Wl,-Bstatic", "-lstdc++", "-Wl,-Bdynamic", "-lm"],
+    ["-l:libstdc++.a", "-lm"], ["-Wl,-Bstatic", "-lstdc++", "-Wl,-Bdynamic", "-lm"], ["-Xlinker", "-lstdc++", "-lm"],
 )
 
 
@@ -163,7 +249,7 @@ def check_named(suite: Suite, folder: str, compiler: Compiler) -> None:
     write(folder, freed_cpp=FREED, words="-lstdc++ -lm\n")
     build([CXX, "-O1", "-g", "-c", "freed.cpp"], folder, ASANCOL_CXX=compiler.cxx)
     archive = run([compiler.cxx, "-print-file-name=libstdc++.a"], folder).stdout.decode().strip()
-    by_c = [[CXX.replace("c++", "cc"), "freed.o", *words] for words in (*NAMED, [archive, "-lm"])]
+    by_c = [[CC, "freed.o", *words] for words in (*NAMED, [archive, "-lm"], [f"-Wl,{archive}", "-lm"])]
     by_cxx = [[CXX, "freed.o", *words] for words in ([], ["-static"], ["-static-libstdc++"])]
     for argv in (*by_c, *by_cxx):
         build([*argv, "-o", "freed"], folder, ASANCOL_CC=compiler.name, ASANCOL_CXX=compiler.cxx)
@@ -177,7 +263,8 @@ def check_least(suite: Suite, folder: str, compiler: Compiler, library: str) -> 
     write(folder, none_cpp=MAIN, stream_cpp=f"#include <iostream>\nstatic std::ostream &out = std::cout << 1;\n{MAIN}")
     for linker in LINKERS:
         for name in ("none", "stream"):
-            compiler.cpp(folder, [f"{name}.cpp"], name, *LIBRARIES[library][0], f"-fuse-ld={linker}")
+            compiler.cpp(folder, [f"{name}.cpp"], f"{name}.o", *LIBRARIES[library][0], "-c")
+            compiler.cpp(folder, [f"{name}.o"], name, *LIBRARIES[library][0], f"-fuse-ld={linker}")
         one_mark(suite, folder, "./none")
         expect(run(["./stream"], folder).stdout, b"1", linker)
 
@@ -186,10 +273,15 @@ def tests(suite: Suite, compiler: Compiler) -> None:
     for library in LIBRARIES:
         if has(compiler, library):
             suite.test(f"{compiler} strings links {library}", check_least, compiler, library)
-            suite.test(f"{compiler} strings {library}", check_faults, compiler, library)
+            suite.test(f"{compiler} strings {library}", check_faults, compiler, library, False)
+            suite.test(f"{compiler} strings {library} object", check_faults, compiler, library, True)
         else:
             leave_out(f"{library} is not there for {compiler}")
     suite.test(f"{compiler} strings objects", check_objects, compiler, ["-O0"])
     suite.long_test(f"{compiler} strings old objects", check_objects, compiler, ["-O1", "-D_GLIBCXX_USE_CXX11_ABI=0"])
     suite.test(f"{compiler} strings texts", check_texts, compiler)
+    suite.test(f"{compiler} strings once", check_once, compiler)
+    if compiler.name == "gcc":  # Clang wants to see all of a stream before an instance of what reads it
+        suite.test(f"{compiler} strings standards", check_standards, compiler)
+    suite.test(f"{compiler} strings otherwise", check_otherwise, compiler)
     suite.test(f"{compiler} strings named", check_named, compiler)

@@ -21,6 +21,46 @@ static void set(struct arguments *arguments, size_t field, bool value)
 
 /* What the linker is given. */
 
+static char *joined(const char *front, const char *value)
+{
+    char *word;
+    if (asprintf(&word, "%s%s", front, value) < 0)
+        no_memory();
+    return word;
+}
+
+/* Whether a library is a part of the C library, which calls nothing that is wrapped. */
+static bool is_of_c(const char *name)
+{
+    static const char *const names[] = {"c", "m", "pthread", "dl", "rt", "util"};
+    for (size_t i = 0; i < COUNT(names); i++)
+        if (strcmp(name, names[i]) == 0)
+            return true;
+    return begins_with(name, ":libm.so");
+}
+
+/* A library: what GCC made with -flto is compiled when it is linked. */
+static void take_library(struct arguments *arguments, const char *name)
+{
+    struct request *request = arguments->request;
+    char path[2 * PATH_MAX];
+    bool is_file = name[0] == ':';
+    request->inputs.has_any = request->inputs.has_linked = true;
+    request->link.has_libc |= strcmp(name, "c") == 0;
+    request->link.has_libm |= strcmp(name, "m") == 0 || begins_with(name, ":libm.so");
+    if (strcmp(name, "stdc++") == 0 || begins_with(name, ":libstdc++."))
+        request->link.cxx = joined("-l", request->link.finds_static ? ":libstdc++.a" : name);
+    request->link.needs_every_call |= !is_of_c(name);
+    for (size_t i = 0; i < arguments->folder_count; i++) {
+        const char *folder = arguments->folders[i];
+        if (is_file)
+            snprintf(path, sizeof path, "%s/%s", folder, name + 1);
+        else
+            snprintf(path, sizeof path, "%s/lib%s.a", folder, name);
+        linked_look_at(&request->inputs.linked, path);
+    }
+}
+
 /* What a word for it says: a field of the request has this value. */
 static const struct linker_word {
     const char *word;
@@ -86,9 +126,13 @@ static void take_linker_word(struct arguments *arguments, const char *word)
         take_linker_value(arguments, value, word);
     else if (begins_with(word, "--verbose"))
         arguments->request->link.is_traced = true;
+    else if (begins_with(word, "-l"))
+        take_library(arguments, word + strlen("-l"));
     else if (!take_valued_linker_word(arguments, word) && !take_plain_linker_word(arguments, word) && word[0] != '-'
-             && word[0] != 0 && linked_takes(word))
+             && word[0] != 0 && linked_takes(word)) {
+        inputs_add_file(arguments->request, word);
         linked_look_at(&arguments->request->inputs.linked, word);
+    }
 }
 
 /* The words of a -Wl. */
@@ -98,36 +142,6 @@ static void take_linker_words(struct arguments *arguments, const char *words)
     while (rest != NULL)
         take_linker_word(arguments, strsep(&rest, ","));
     free(copy);
-}
-
-/* Whether a library is a part of the C library, which calls nothing that is wrapped. */
-static bool is_of_c(const char *name)
-{
-    static const char *const names[] = {"c", "m", "pthread", "dl", "rt", "util"};
-    for (size_t i = 0; i < COUNT(names); i++)
-        if (strcmp(name, names[i]) == 0)
-            return true;
-    return begins_with(name, ":libm.so");
-}
-
-/* A library: what GCC made with -flto is compiled when it is linked. */
-static void take_library(struct arguments *arguments, const char *name)
-{
-    struct request *request = arguments->request;
-    char path[2 * PATH_MAX];
-    bool is_file = name[0] == ':';
-    request->inputs.has_any = request->inputs.has_linked = true;
-    request->link.has_libc |= strcmp(name, "c") == 0;
-    request->link.has_libm |= strcmp(name, "m") == 0 || begins_with(name, ":libm.so");
-    request->link.needs_every_call |= !is_of_c(name);
-    for (size_t i = 0; i < arguments->folder_count; i++) {
-        const char *folder = arguments->folders[i];
-        if (is_file)
-            snprintf(path, sizeof path, "%s/%s", folder, name + 1);
-        else
-            snprintf(path, sizeof path, "%s/lib%s.a", folder, name);
-        linked_look_at(&request->inputs.linked, path);
-    }
 }
 
 static void take_folder(struct arguments *arguments, const char *folder)
@@ -157,14 +171,6 @@ static bool lists(const char *list, const char *const *names, size_t count)
         if (strstr(list, names[i]) != NULL)
             return true;
     return false;
-}
-
-static char *joined(const char *front, const char *value)
-{
-    char *word;
-    if (asprintf(&word, "%s%s", front, value) < 0)
-        no_memory();
-    return word;
 }
 
 static void take_sanitizers(struct arguments *arguments, const char *list)
@@ -221,11 +227,29 @@ static void take_machine(struct arguments *arguments, const char *word)
     arguments->request->foreign = must(strdup(word));
 }
 
-/* It only prints something, as which files it would take. */
-static void take_question(struct arguments *arguments, const char *rest)
+static void take_lto(struct arguments *arguments, const char *rest)
+{
+    take_late_calls(arguments, rest);
+    arguments->request->makes_other = true;
+}
+
+static void take_bitcode(struct arguments *arguments, const char *rest)
 {
     (void)rest;
-    arguments->request->stops_early = true;
+    arguments->request->makes_other = true;
+}
+
+static void take_object(struct arguments *arguments, const char *rest)
+{
+    (void)rest;
+    arguments->request->stops_early = arguments->request->makes_object = true;
+}
+
+/* It makes something else, or only prints something, as which files it would take. */
+static void take_other(struct arguments *arguments, const char *rest)
+{
+    (void)rest;
+    arguments->request->stops_early = arguments->request->makes_other = true;
 }
 
 /* Where the value of an option is. */
@@ -245,13 +269,8 @@ static const struct option {
     size_t field;
 } options[] = {
 #define SETS(field, word) {word, ALONE, NULL, offsetof(struct request, field)}
-    SETS(stops_early, "-c"), SETS(stops_early, "--compile"), SETS(stops_early, "-S"), SETS(stops_early, "--assemble"),
-    SETS(stops_early, "-fsyntax-only"), SETS(stops_early, "--version"), SETS(stops_early, "--help"),
-    SETS(stops_early, "--target-help"), SETS(stops_early, "-dumpversion"), SETS(stops_early, "-dumpfullversion"),
-    SETS(stops_early, "-dumpmachine"), SETS(stops_early, "-dumpspecs"), SETS(stops_early, "-emit-pch"),
-    SETS(stops_early, "-emit-ast"), SETS(stops_early, "--analyze"), SETS(stops_early, "-cc1"),
-    SETS(stops_early, "-cc1as"), SETS(is_shown, "-E"), SETS(is_shown, "--preprocess"), SETS(is_shown, "-M"),
-    SETS(is_shown, "-MM"), SETS(is_dry, "-###"),
+    SETS(is_shown, "-E"), SETS(is_shown, "--preprocess"), SETS(is_shown, "-M"), SETS(is_shown, "-MM"),
+    SETS(is_dry, "-###"),
     SETS(link.is_shared, "-shared"), SETS(link.is_shared, "--shared"), SETS(link.is_partial, "-r"),
     SETS(link.is_partial, "-no-link"), SETS(link.is_static, "-static"), SETS(link.is_static, "-static-pie"),
     SETS(link.is_static, "--static"), SETS(link.is_bare, "-nostdlib"), SETS(link.is_bare, "-nodefaultlibs"),
@@ -260,8 +279,15 @@ static const struct option {
     SETS(is_libcxx, "-stdlib=libc++"), SETS(is_libcxx, "--stdlib=libc++"), SETS(is_without_cxx, "-nostdinc++"),
 #undef SETS
 #define TAKES(word, form, take) {word, form, take, 0}
-    TAKES("-print-", JOINED, take_question), TAKES("--print-", JOINED, take_question),
-    TAKES("--help=", JOINED, take_question),
+    TAKES("-c", ALONE, take_object), TAKES("--compile", ALONE, take_object), TAKES("-S", ALONE, take_other),
+    TAKES("--assemble", ALONE, take_other), TAKES("-fsyntax-only", ALONE, take_other),
+    TAKES("--version", ALONE, take_other), TAKES("--help", ALONE, take_other), TAKES("--help=", JOINED, take_other),
+    TAKES("--target-help", ALONE, take_other), TAKES("-dumpversion", ALONE, take_other),
+    TAKES("-dumpfullversion", ALONE, take_other), TAKES("-dumpmachine", ALONE, take_other),
+    TAKES("-dumpspecs", ALONE, take_other), TAKES("-emit-pch", ALONE, take_other),
+    TAKES("-emit-ast", ALONE, take_other), TAKES("--analyze", ALONE, take_other), TAKES("-cc1", ALONE, take_other),
+    TAKES("-cc1as", ALONE, take_other), TAKES("-print-", JOINED, take_other), TAKES("--print-", JOINED, take_other),
+    TAKES("-emit-llvm", ALONE, take_bitcode),
     TAKES("-x", EITHER, take_language), TAKES("-o", EITHER, take_output), TAKES("--output", APART, take_output),
     TAKES("--output=", JOINED, take_output), TAKES("-l", EITHER, take_library), TAKES("-L", EITHER, take_folder),
     TAKES("-Wl,", JOINED, take_linker_words), TAKES("-Xlinker", APART, take_linker_word),
@@ -272,7 +298,7 @@ static const struct option {
     TAKES("-mllvm", APART, take_llvm), TAKES("-mllvm=", JOINED, take_llvm), TAKES("-Xclang", APART, take_llvm),
     TAKES("-fprofile", JOINED, take_late_calls), TAKES("--coverage", ALONE, take_late_calls),
     TAKES("-coverage", ALONE, take_late_calls), TAKES("-fopenmp", JOINED, take_late_calls),
-    TAKES("-flto", JOINED, take_late_calls), TAKES("-fuse-ld=gold", ALONE, take_late_calls),
+    TAKES("-flto", JOINED, take_lto), TAKES("-fuse-ld=gold", ALONE, take_late_calls),
     TAKES("-m32", ALONE, take_machine), TAKES("-mx32", ALONE, take_machine), TAKES("-m16", ALONE, take_machine),
 #undef TAKES
     {USE_AFTER_RETURN_OF_CLANG, JOINED, NULL, offsetof(struct request, says_use_after_return)},

@@ -11,6 +11,7 @@
 #include "common/standard.h"
 #include "wrapper/arguments.h"
 #include "wrapper/command.h"
+#include "wrapper/compiling.h"
 #include "wrapper/running.h"
 #include "wrapper/say.h"
 
@@ -71,7 +72,10 @@ int main(int count, char **argv)
         use_after_return_take(&job);
     if (request->inputs.has_any)
         warn_of_unrecorded(&job);
+    job.object = compiling_object(&job);
     if (job.takes_part && job.links && !request->is_dry)
         return running_link(&job);
+    if (job.object != NULL && !request->is_dry)
+        return running_compile(&job);
     running_become(&job);
 }

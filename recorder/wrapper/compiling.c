@@ -3,6 +3,7 @@
 
 #include <stdio.h>
 #include <string.h>
+#include <sys/stat.h>
 
 #include "common/hash.h"
 #include "common/must.h"
@@ -63,13 +64,46 @@ static void add_file(struct strings *line, const char *option, const char *name)
     strings_add(line, self_file(name));
 }
 
-/* Where the headers of the library of C++ are that have its strings and streams compiled here. They stand before others
-   that are looked for in the same way, and include these. */
-static void add_headers(struct strings *line, const struct request *request)
+/* By its source, as compilers name it. */
+static char *usual_object(const char *source)
 {
+    const char *end = strrchr(source, '.');
+    char *name;
+    if (asprintf(&name, "%.*s.o", (int)(end != NULL ? (size_t)(end - source) : strlen(source)), source) < 0)
+        no_memory();
+    return name;
+}
+
+/* Whether it is seen that one object is made of a source, and nothing else. */
+static bool makes_one_object(const struct request *request)
+{
+    const struct inputs *inputs = &request->inputs;
+    return request->makes_object && !request->makes_other && !request->is_shown && inputs->sources.count == 1
+           && inputs->sources.more == 0 && (!inputs->has_standard || request->link.output != NULL);
+}
+
+char *compiling_object(const struct job *job)
+{
+    const struct request *request = &job->request;
+    struct stat seen;
+    bool has_checks = job->compiler != NULL && request->refusal == NULL && request->kept.count == 0;
+    if (!has_checks || request->is_all || request->is_libcxx || !makes_one_object(request))
+        return NULL;
+    char *object = request->link.output != NULL ? must(strdup(request->link.output))
+                                                : usual_object(request->inputs.sources.names[0]);
+    return stat(object, &seen) != 0 || S_ISREG(seen.st_mode) ? object : NULL;
+}
+
+/* Where the headers of the library of C++ are that have its strings and streams compiled here, or taken from where they
+   are compiled once for all. They stand before others that are looked for in the same way, and include these. */
+static void add_headers(struct strings *line, const struct job *job)
+{
+    const struct request *request = &job->request;
     const char *option = request->is_without_cxx ? "-I" : "-isystem";
     if (!request->inputs.has_text)
         return;
+    if (job->object != NULL)
+        add_file(line, option, "cxx/once");
     if (!request->is_libcxx || request->is_without_cxx)
         add_file(line, option, "cxx/libstdc++");
     if (request->is_libcxx || request->is_without_cxx)
@@ -81,7 +115,7 @@ void compiling_add_before(struct strings *line, const struct job *job)
     if (job->compiler == NULL || job->request.refusal != NULL)
         return;
     add_checks(line, job);
-    add_headers(line, &job->request);
+    add_headers(line, job);
 }
 
 void compiling_add_after(struct strings *line, const struct job *job)

@@ -4,6 +4,8 @@
 
 #include "wrapper/job.h"
 
+/* The object that is made, if it can ask for what the recorder has of the library of C++ (checked_names.h); or null. */
+char *compiling_object(const struct job *job);
 /* Before the caller's arguments. */
 void compiling_add_before(struct strings *line, const struct job *job);
 /* After them: if they name a precompiled header, it has to be the first that is included. */

@@ -4,6 +4,7 @@
 #include <string.h>
 
 #include "common/array.h"
+#include "common/must.h"
 #include "common/text.h"
 
 /* The ends of names. What ends otherwise is compiled, unless its first bytes say that the linker takes it. */
@@ -47,6 +48,15 @@ static enum input input_of(const char *path)
     return INPUT_TEXT;
 }
 
+void inputs_add_file(struct request *request, const char *path)
+{
+    struct link_request *link = &request->link;
+    link->has_libm |= begins_with(base_name(path), "libm.so");
+    link->needs_every_call |= ends_with(path, ".so") || strstr(path, ".so.") != NULL;
+    if (begins_with(base_name(path), "libstdc++."))
+        link->cxx = must(strdup(path));
+}
+
 void inputs_add(struct request *request, struct language language, const char *path)
 {
     struct inputs *inputs = &request->inputs;
@@ -57,8 +67,8 @@ void inputs_add(struct request *request, struct language language, const char *p
     inputs->has_text |= input >= INPUT_TEXT;
     inputs->has_linked |= input != INPUT_HEADER;
     inputs->has_standard |= strcmp(path, "-") == 0 || strcmp(path, "/dev/stdin") == 0;
-    request->link.has_libm |= begins_with(base_name(path), "libm.so");
-    request->link.needs_every_call |= ends_with(path, ".so") || strstr(path, ".so.") != NULL;
+    inputs_add_file(request, path);
+    request->makes_other |= input == INPUT_HEADER;
     if (input >= INPUT_PREPROCESSED) {
         names_add(&inputs->sources, base_name(path));
         return;

@@ -23,5 +23,7 @@ struct language {
 /* The value of -x. */
 struct language language_of(const char *name);
 void inputs_add(struct request *request, struct language language, const char *path);
+/* What the name of a file that the linker is given says of the link. */
+void inputs_add_file(struct request *request, const char *path);
 
 #endif

@@ -13,6 +13,7 @@ struct job {
     const struct compiler *compiler; /* null: it was not asked which it is, or it is not known */
     struct request request;
     char **arguments; /* of the caller's, with a null at the end */
+    char *object;     /* that will ask for what the recorder has of the library of C++ (checked_names.h); or null */
     bool takes_part;  /* something is compiled or linked that can be recorded */
     bool links;
 };

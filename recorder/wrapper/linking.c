@@ -7,6 +7,7 @@
 
 #include "common/array.h"
 #include "common/must.h"
+#include "wrapper/checked_names.h"
 #include "wrapper/own_data.h"
 #include "wrapper/say.h"
 #include "wrapper/self.h"
@@ -169,6 +170,9 @@ static void add_to_program(struct strings *line, const struct job *job)
 void linking_add_after(struct strings *line, const struct job *job)
 {
     const struct link_request *link = &job->request.link;
+    add_file(line, CHECKED_ARCHIVE);
+    if (link->cxx != NULL)
+        strings_add(line, link->cxx); /* for what the archive asks of it */
     strings_add(line, TAKEN_FLAGS);
     if (has_checks(&job->request))
         strings_add(line, "-Wl,--undefined=asancol_checks");

@@ -32,6 +32,7 @@ struct link_request {
     bool has_libc;      /* named by itself */
     bool has_libm;      /* the mathematics of the C library */
     bool has_cxx_inside; /* the library of C++ is linked as an archive */
+    const char *cxx;     /* a word that names this library, the last one; or null */
     bool is_stripped;   /* what is linked has no table of symbols */
     bool is_traced;     /* the caller wants to see what the linker takes in */
     bool needs_every_call; /* what the program is linked with may call any function that is wrapped */
@@ -43,6 +44,8 @@ struct request {
     struct inputs inputs;
     struct link_request link;
     bool stops_early;    /* before the link */
+    bool makes_object;   /* by -c, unless it */
+    bool makes_other;    /* than an object of the machine */
     bool is_shown;       /* what is preprocessed is printed, and not compiled */
     bool is_dry;         /* what would be run is printed, and not run */
     bool is_all;         /* each access is a call, and not only one that its check finds bad */

@@ -15,6 +15,7 @@
 #include <unistd.h>
 
 #include "common/must.h"
+#include "wrapper/checked_names.h"
 #include "wrapper/compiling.h"
 #include "wrapper/linking.h"
 #include "wrapper/say.h"
@@ -130,10 +131,31 @@ static pid_t start(const struct strings *line, int output, bool is_silent)
     return child;
 }
 
-/* Links, and returns the status, or ends as the compiler has ended. */
+/* Returns the status of the compiler, or ends as it has ended. */
+static int wait_for(pid_t child, const char *name)
+{
+    int status = 0;
+    if (waitpid(child, &status, 0) != child)
+        fail(name, strerror(errno));
+    if (WIFSIGNALED(status))
+        raise(WTERMSIG(status));
+    return WIFEXITED(status) ? WEXITSTATUS(status) : 1;
+}
+
+int running_compile(struct job *job)
+{
+    struct strings line = make_line(job, false);
+    int status = wait_for(start(&line, STDOUT_FILENO, false), line.items[0]);
+    if (status != 0 || checked_names_give(job->object))
+        return status;
+    job->object = NULL; /* it is not what it was taken for, and the compiler makes it again as it is for all others */
+    running_become(job);
+}
+
+/* Links, and returns the status. */
 static int link_once(const struct job *job, bool is_try, struct link *link, bool is_silent)
 {
-    int status = 0, ends[2];
+    int ends[2];
     struct strings line = make_line(job, is_try);
     if (job->request.inputs.has_standard)
         lseek(STDIN_FILENO, link->start, SEEK_SET);
@@ -142,13 +164,10 @@ static int link_once(const struct job *job, bool is_try, struct link *link, bool
     pid_t child = start(&line, ends[1], is_silent);
     close(ends[1]);
     char *text = read_all(ends[0]);
-    if (waitpid(child, &status, 0) != child)
-        fail(line.items[0], strerror(errno));
+    int status = wait_for(child, line.items[0]);
     take_lines(link, job->request.link.is_traced, text);
     free(text);
-    if (WIFSIGNALED(status))
-        raise(WTERMSIG(status));
-    return WIFEXITED(status) ? WEXITSTATUS(status) : 1;
+    return status;
 }
 
 /* Ends with what the last link has said. What it has made gets its note. */

@@ -7,6 +7,8 @@
 /* Links, and returns the status to end with. What was linked shows which names the program has for itself: then it is
    linked again. What was not compiled by the wrapper is noted in the program. */
 int running_link(struct job *job);
+/* Compiles an object that asks for checked_names.h, and returns the status to end with. */
+int running_compile(struct job *job);
 /* Becomes the compiler. */
 _Noreturn void running_become(const struct job *job);
 

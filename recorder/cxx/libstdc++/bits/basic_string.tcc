@@ -1,4 +1,5 @@
 #define ASANCOL_HEADER <bits/basic_string.tcc>
+#define ASANCOL_NUMBER 1
 #include <asancol/compiled_here.h>
 
 #if !_GLIBCXX_USE_CXX11_ABI

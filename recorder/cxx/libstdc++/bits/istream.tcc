@@ -1,2 +1,3 @@
 #define ASANCOL_HEADER <bits/istream.tcc>
+#define ASANCOL_NUMBER 6
 #include <asancol/compiled_here.h>
