@@ -115,10 +115,10 @@ fuzz-parsers: recorder
 bench: asancol
 	tests/bench/bench.py $(if $(PEER),--peer $(PEER)) --page docs/SPEED.md ./asancol
 
-# What recording costs, beside AddressSanitizer: some ten minutes, on a machine with nothing else to do. The sources of
-# the real programs come as for check-real, or these are left out.
-bench-record: recorder
-	recorder/tests/bench.py
+# What recording costs, beside AddressSanitizer: some twenty minutes, on a machine with nothing else to do. The sources
+# of the real programs come as for check-real, or these are left out.
+bench-record: asancol recorder run
+	recorder/tests/bench.py ./asancol
 
 # What the suites of check-real and four more cost under asancol-run, beside AddressSanitizer: some two hours, on a
 # machine with nothing else to do.

@@ -1,23 +1,29 @@
 #!/usr/bin/env python3
 """Measures recorded programs beside the same ones native and under AddressSanitizer.
 
-usage: recorder/tests/bench.py [--rounds N] [NAME..]
+usage: recorder/tests/bench.py [--rounds N] ASANCOL [NAME..]
 
-For each program and compiler: the least processor time of N runs (5), user and system, of the native
-program, AddressSanitizer's (without the search for leaks), the recorded one, the one that also notes the
-stack of each malloc and free, as under asancol-run --full, the one that notes these alone, as under
-asancol-run, and the one that could record and does not; then the last four as parts of
-AddressSanitizer's, and the greatest memory of that one, of the recorded one and of the one that notes
-alone, in MB, and for one that frees much what all but the native one have at their end. Runs are
-interleaved. Every build has its branches aligned alike: without that, the time of a short loop is luck
-on some processors.
+For each program and compiler: the least processor time of N runs (5), user and system, of
+
+    native      the program alone
+    sanitizer   AddressSanitizer, which does not look for leaks
+    framed      the same, built with frame pointers: without them it sees of most stacks a frame or two
+    off         the program that could record and does not
+    lean        the one that records to a file, as under asancol-run
+    full        and as under asancol-run --full
+    run         asancol-run with the program and its checker
+    run-full    and with --full
+
+Then come all after AddressSanitizer's as parts of that, and the greatest memory of a process of five of
+them, in MB; and for a program that frees much what it has at its end. Runs are interleaved. Every build
+has its branches aligned alike: without that, the time of a short loop is luck on some processors.
 
 Small programs, each of which does one thing, and two real ones: bzip2 compresses and decompresses 2 MB
 of words, and Lua's interpreter runs a script. Their sources come from Debian as those of real.py do,
 and if they are not to be had these two are left out, by name.
 
-All of it takes about ten minutes on a machine with nothing else to do, half of them for the two real
-programs, each of which is built six times.
+All of it takes about twenty minutes on a machine with nothing else to do, half of them for the two real
+programs, each of which is built eight times.
 """
 
 import argparse
@@ -30,7 +36,7 @@ from typing import Dict, List, NamedTuple, Optional, Sequence, Tuple
 sys.path.insert(0, f"{os.path.dirname(os.path.realpath(__file__))}/../..")  # where `testing` is
 
 import real
-from support import CC, CXX, TESTS, Compiler, Failure, build, compilers, environment
+from support import CC, CXX, TESTS, TOP, Compiler, Failure, build, compilers, environment
 from testing import measuring
 from testing.measuring import Used
 
@@ -80,8 +86,15 @@ PROGRAMS = [
 ]
 
 # Each way to run a program: its build, and what its environment has besides.
-WAYS = ("native", "sanitizer", "recorded", "full", "lean", "off")
-RECORDED = WAYS[2:]
+WAYS = ("native", "sanitizer", "framed", "off", "lean", "full", "run", "run-full")
+RECORDED = WAYS[3:]
+SANITIZED = {"sanitizer": ["-fsanitize=address"], "framed": ["-fsanitize=address", "-fno-omit-frame-pointer"]}
+RUN = f"{TOP}/run/asancol-run"
+RUNS = {"run": (), "run-full": ("--full",)}
+
+
+# Whose memory is said.
+MEASURED = (*SANITIZED, "off", "lean", "full")
 
 
 class Cost(NamedTuple):
@@ -111,8 +124,8 @@ def build_real(compiler: Compiler, program: Program, flags: Sequence[str], is_re
 
 def make(compiler: Compiler, program: Program, way: str, folder: str) -> str:
     """Builds a program and returns its path. The ways of a recorded one share a build."""
-    is_recorded, is_sanitized = way in RECORDED, way == "sanitizer"
-    flags = ["-O2", ALIGNED[compiler.name]] + (["-fsanitize=address"] if is_sanitized else [])
+    is_recorded = way in RECORDED
+    flags = ["-O2", ALIGNED[compiler.name], *SANITIZED.get(way, [])]
     if program.finds_returns and is_recorded:
         flags.append("-fsanitize-address-use-after-return=runtime")
     name = program.name if program.is_real or program.finds_returns else program.source
@@ -126,20 +139,24 @@ def make(compiler: Compiler, program: Program, way: str, folder: str) -> str:
     return path
 
 
-def settings_for(path: str, program: Program, way: str, folder: str) -> Dict[str, str]:
+def settings_for(path: str, program: Program, way: str, folder: str, asancol: str) -> Dict[str, str]:
     """How a program is run: with the libraries that were built beside it."""
     asked = {"detect_leaks": program.has_leaks, "detect_stack_use_after_return": program.finds_returns,
              "quarantine_size_mb": program.quarantine_mb}
     options = ":".join(f"{name}={int(value)}" for name, value in asked.items())
-    settings = {"ASAN_OPTIONS": f"{options}:exitcode=0", "LD_LIBRARY_PATH": os.path.dirname(path)}
-    if way in ("recorded", "full", "lean"):
-        settings["ASANCOL_TRACE"] = f"{folder}/%p.trace"
-        settings["ASANCOL_QUARANTINE"] = str(program.quarantine_mb << 20)
-        settings["ASANCOL_WHERE"] = str(int(way != "recorded"))
-        settings["ASANCOL_FULL"] = str(int(way != "lean"))
-        if program.has_leaks:
-            settings.update(ASANCOL_WHERE="1", ASANCOL_LEAKS="1")
+    settings = {"ASAN_OPTIONS": f"{options}:exitcode=0", "LD_LIBRARY_PATH": os.path.dirname(path), "ASANCOL": asancol}
+    if way in ("full", "lean"):
+        settings.update(ASANCOL_TRACE=f"{folder}/%p.trace", ASANCOL_WHERE="1", ASANCOL_FULL=str(int(way == "full")),
+                        ASANCOL_LEAKS=str(int(program.has_leaks)), ASANCOL_QUARANTINE=str(program.quarantine_mb << 20))
     return settings
+
+
+def front_of(program: Program, way: str, folder: str) -> Sequence[str]:
+    """What stands before the program's command line."""
+    if way not in RUNS:
+        return ()
+    words = [f"--leaks={'yes' if program.has_leaks else 'no'}", "--quarantine", str(program.quarantine_mb << 20)]
+    return (RUN, *RUNS[way], *words, "--exitcode", "0", "--log-file", f"{folder}/run.log", "--")
 
 
 def measure_run(argv: Sequence[str], settings: Dict[str, str], folder: str) -> Tuple[Used, str]:
@@ -149,16 +166,16 @@ def measure_run(argv: Sequence[str], settings: Dict[str, str], folder: str) -> T
         said.seek(0)
         text = said.read()
     for name in os.listdir(folder):
-        if name.endswith((".trace", ".where")):
+        if name.endswith((".trace", ".where", ".log")):
             os.unlink(f"{folder}/{name}")
     if used.status:
         raise Failure(f"{' '.join(argv)}: status {used.status}")
     return used, text
 
 
-def measure(path: str, program: Program, way: str, folder: str) -> Cost:
-    settings = settings_for(path, program, way, folder)
-    runs = [measure_run([path, *argv], settings, folder) for argv in program.runs]
+def measure(path: str, program: Program, way: str, folder: str, asancol: str) -> Cost:
+    settings, front = settings_for(path, program, way, folder, asancol), front_of(program, way, folder)
+    runs = [measure_run([*front, path, *argv], settings, folder) for argv in program.runs]
     rest = float(runs[-1][1]) if program.says_rest else 0
     return Cost(sum(used.processor for used, _ in runs), max(used.memory for used, _ in runs) / (1 << 20), rest)
 
@@ -167,17 +184,17 @@ def least(costs: Sequence[Cost]) -> Cost:
     return Cost(*(min(values) for values in zip(*costs)))
 
 
-def row(compiler: Compiler, program: Program, rounds: int, folder: str) -> str:
+def row(compiler: Compiler, program: Program, rounds: int, folder: str, asancol: str) -> str:
     paths = {way: make(compiler, program, way, folder) for way in WAYS}
     costs: Dict[str, List[Cost]] = {way: [] for way in WAYS}
     for _ in range(rounds):
         for way in WAYS:
-            costs[way].append(measure(paths[way], program, way, folder))
+            costs[way].append(measure(paths[way], program, way, folder, asancol))
     best = {way: least(costs[way]) for way in WAYS}
     base = best["sanitizer"]
     seconds = "".join(f"{best[way].seconds:11.3f}" for way in WAYS)
-    parts = "".join(f"{best[way].seconds / base.seconds:10.2f}" for way in RECORDED)
-    memory = f"{base.megabytes:11.0f}{best['recorded'].megabytes:10.0f}{best['lean'].megabytes:10.0f}"
+    parts = "".join(f"{best[way].seconds / base.seconds:10.2f}" for way in WAYS[2:])
+    memory = "".join(f"{best[way].megabytes:14.0f}" for way in MEASURED)
     rest = "  then" + "".join(f"{best[way].rest_megabytes:5.0f}" for way in WAYS[1:]) if program.says_rest else ""
     return f"{program.name:<12}{compiler!s:<7}{seconds}{parts}{memory}{rest}"
 
@@ -209,18 +226,20 @@ def chosen(names: Sequence[str]) -> List[Program]:
 def main(argv: Optional[List[str]] = None) -> int:
     parser = argparse.ArgumentParser(description="measures recorded programs")
     parser.add_argument("--rounds", type=int, default=5)
+    parser.add_argument("asancol", metavar="ASANCOL")
     parser.add_argument("names", nargs="*")
     options = parser.parse_args(argv)
+    asancol = os.path.abspath(options.asancol)
     programs, found = chosen(options.names), compilers()
-    heads = "".join(f"{way:>11}" for way in WAYS) + "".join(f"{way + '/':>10}" for way in RECORDED)
-    heads += f"{'MB sanit.':>11}{'recorded':>10}{'lean':>10}"
+    heads = "".join(f"{way:>11}" for way in WAYS) + "".join(f"{way + '/':>10}" for way in WAYS[2:])
+    heads += "".join(f"{'MB ' + way:>14}" for way in MEASURED)
     print(f"{'program':<12}{'by':<7}{heads}", flush=True)
     with tempfile.TemporaryDirectory(prefix="asancol-bench-") as folder:
         write_words(folder)
         for program in programs:
             for compiler in found:
                 try:
-                    print(row(compiler, program, options.rounds, folder), flush=True)
+                    print(row(compiler, program, options.rounds, folder, asancol), flush=True)
                 except Failure as error:
                     sys.exit(str(error))
     return 0
