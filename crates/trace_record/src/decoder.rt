@@ -150,14 +150,19 @@ impl Decoder {
         let mut count = 0;
         let mut used = 0;
         if self.is_between_records() {
-            while count < out.len() && used < piece.len() {
-                let Some(front) = self.take_good(&piece[used..]) else {
+            // The decoder's own counts are changed once, so that the loop stores none.
+            let left = u64::from(self.limit) - self.events;
+            let room = out.len().min(left as usize);
+            while count < room && used < piece.len() {
+                let Some(front) = read_front(self.version, &piece[used..]) else {
                     break;
                 };
                 out[count] = front.event;
                 count += 1;
                 used += front.size;
             }
+            self.events += count as u64;
+            self.offset += used as u64;
         }
         Ahead { count, used }
     }
@@ -339,31 +344,6 @@ impl Decoder {
         }
         let said = read_record(self.version, &piece[..size]);
         self.finish(said, size, size)
-    }
-
-    /// Takes the record that begins with the piece, if it is whole and good, and the limit leaves
-    /// room for its event.
-    #[inline(always)]
-    fn take_good(&mut self, piece: &[u8]) -> Option<Front>
-        requires running { self.old.stop ≡ None }
-        requires in_records { 8 ≤ self.old.offset }
-        requires none_cut { self.old.rest ≡ [] }
-        requires begun { 0 < length piece.now }
-        ensures none { IfNone result (self.new ≡ self.old) }
-        ensures stops { IfNone result (HasNoneToRead self.old piece.now) }
-        ensures between { (self.new.stop ≡ None) × (8 ≤ self.new.offset) × (self.new.rest ≡ []) }
-        ensures limit { self.new.limit ≡ self.old.limit }
-        ensures some { IfSome result (λ front. (0 < front.size) × (front.size ≤ length piece.now)
-            × ((text : List ℕ) (events : List Event) → StandsAt self.old text events →
-            StandsAt self.new (text ++ take front.size piece.now) (events ++ front.event ∷ []))) }
-    {
-        if self.events >= u64::from(self.limit) {
-            return None;
-        }
-        let front = read_front(self.version, piece)?;
-        self.events += 1;
-        self.offset += front.size as u64;
-        Some(front)
     }
 
     /// Takes more bytes of the record that was cut.
