@@ -24,6 +24,14 @@ Part A = Branch (Branch (Leaf A) A) A
 abbrev pub part_width : ℕ
 part_width = width_over 2
 
+-- those of the third level are the areas
+abbrev pub Area : Type 0 → Type 0
+Area A = Branch (Branch (Branch (Leaf A) A) A) A
+
+-- how many granules an area has
+abbrev pub area_width : ℕ
+area_width = width_over 3
+
 module _ {A : Type 0} where
   -- the byte at an index of the root, which has room for more granules than there are
   abbrev pub root_byte : PageTable A → ℕ → ℕ
@@ -46,6 +54,18 @@ module _ {A : Type 0} where
   IsPart table number part =
       (granule : ℕ) → granule < granule_count → granule / part_width ≡ number →
       byte_of table granule ≡ part_byte part (granule % part_width)
+
+  -- the byte at an index of an area
+  abbrev pub area_byte : Area A → ℕ → ℕ
+  area_byte area index =
+      branch_byte (branch_byte (branch_byte leaf_byte (width_over 0)) (width_over 1))
+      (width_over 2) area index
+
+  -- this area has the bytes of the granules that lie in the area of that number
+  abbrev pub IsArea : PageTable A → ℕ → Area A → Type 0
+  IsArea table number area =
+      (granule : ℕ) → granule < granule_count → granule / area_width ≡ number →
+      byte_of table granule ≡ area_byte area (granule % area_width)
 
   -- the granules from one up to another have this byte now, and the others the one that they had
   abbrev pub Fills : PageTable A → PageTable A → ℕ → ℕ → ℕ → Type 0

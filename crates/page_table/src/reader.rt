@@ -4,14 +4,17 @@ ghost use Rattle.std.specs.List.{All};
 ghost use Rattle.asan_units.specs.Units.{granule_count};
 ghost use Rattle.page_table.specs.declared.reader.TheConstants.{PLACES};
 ghost use Rattle.page_table.specs.Tables.{byte_of};
-ghost use Rattle.page_table.specs.Founds.{IsFound};
+ghost use Rattle.page_table.specs.Founds.{IsFound, IsFoundArea};
 
 use crate::node::Node;
-use crate::table::{PageTable, Part};
+use crate::table::{Area, PageTable, Part};
 use std::alloc::{Allocator, Global};
 
 /// How many granules a part has.
 const PART: u64 = 1 << 26;
+
+/// How many granules an area has.
+const AREA: u64 = 1 << 33;
 
 /// How many parts a reader remembers.
 const PLACES: usize = 4;
@@ -23,19 +26,30 @@ pub(crate) struct Found<'t, A: Allocator + Copy = Global> {
     part: Option<&'t Part<A>>,
 }
 
-/// Reads the bytes of a table, which doesn't change meanwhile. It remembers the last parts of the
+/// An area of a table and its number, or no area.
+#[derive(Clone, Copy)]
+pub(crate) struct FoundArea<'t, A: Allocator + Copy = Global> {
+    number: u64,
+    area: Option<&'t Area<A>>,
+}
+
+/// Reads the bytes of a table, which doesn't change meanwhile. It remembers the first parts of the
 /// table that it found, each of 2^26 granules, and finds another granule of such a part in half the
-/// steps.
+/// steps. For granules of other parts it remembers an area, of 2^33 granules.
 #[derive(Drop)]
 pub struct Reader<'t, A: Allocator + Copy = Global> {
     /// What it reads.
     table: &'t PageTable<A>,
     /// The parts that it found, each at the place that its number says.
     found: [Found<'t, A>; PLACES],
+    /// The area that it found last.
+    area: FoundArea<'t, A>,
 
     ghost places: { length found ≡ PLACES },
 
     ghost remembered: { All (IsFound table.now) found },
+
+    ghost remembered_area: { IsFoundArea table.now area },
 }
 
 /// Where a part of this number is remembered.
@@ -60,6 +74,10 @@ impl<'t, A: Allocator + Copy> Reader<'t, A> {
                 number: 0,
                 part: None,
             }; PLACES],
+            area: FoundArea {
+                number: 0,
+                area: None,
+            },
         }
     }
 
@@ -75,14 +93,29 @@ impl<'t, A: Allocator + Copy> Reader<'t, A> {
         let found = &all[place_of(number)];
         match found.part {
             Some(part) if found.number == number => part.byte(granule % PART),
-            _ => self.byte_elsewhere(granule),
+            Some(_) => self.byte_beside(granule),
+            None => self.byte_of_new_part(granule),
         }
     }
 
-    /// The byte of a granule of another part. That part is remembered if the table keeps it: where
-    /// it doesn't, the way to the granule's byte is short.
+    /// The byte of a granule of a part whose place another one has. It is one step further off, in
+    /// the area that was found last.
+    #[inline(always)]
+    fn byte_beside(&mut self, granule: u64) -> u8
+        requires { granule < granule_count }
+        ensures byte { result ≡ byte_of (table_of self.old) granule }
+        ensures same { table_of self.new ≡ table_of self.old }
+    {
+        match self.area.area {
+            Some(area) if self.area.number == granule / AREA => area.byte(granule % AREA),
+            _ => self.byte_of_new_area(granule),
+        }
+    }
+
+    /// The byte of a granule of a part whose place is free. The part is remembered if the table
+    /// keeps it: where it doesn't, the way to the granule's byte is short.
     #[inline(never)]
-    fn byte_elsewhere(&mut self, granule: u64) -> u8
+    fn byte_of_new_part(&mut self, granule: u64) -> u8
         requires { granule < granule_count }
         ensures byte { result ≡ byte_of (table_of self.old) granule }
         ensures same { table_of self.new ≡ table_of self.old }
@@ -99,5 +132,23 @@ impl<'t, A: Allocator + Copy> Reader<'t, A> {
         };
         self.found = found;
         part.byte(granule % PART)
+    }
+
+    /// The byte of a granule of another area. That is remembered if the table keeps it.
+    #[inline(never)]
+    fn byte_of_new_area(&mut self, granule: u64) -> u8
+        requires { granule < granule_count }
+        ensures byte { result ≡ byte_of (table_of self.old) granule }
+        ensures same { table_of self.new ≡ table_of self.old }
+    {
+        let number = granule / AREA;
+        let Some(area) = self.table.area(number) else {
+            return self.table.byte(granule);
+        };
+        self.area = FoundArea {
+            number,
+            area: Some(area),
+        };
+        area.byte(granule % AREA)
     }
 }

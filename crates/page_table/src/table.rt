@@ -4,7 +4,7 @@ ghost use Rattle.asan_units.specs.Units.{granule_count};
 ghost use Rattle.page_table.specs.Runs.{length_of};
 ghost use Rattle.page_table.specs.Nodes.{IsFirstNonzero};
 ghost use Rattle.page_table.specs.Tables.{byte_of, Fills, FillsBelow, FillsRuns, FillsRunsBelow};
-ghost use Rattle.page_table.specs.Tables.{IsPart};
+ghost use Rattle.page_table.specs.Tables.{IsArea, IsPart};
 
 use crate::branch::{Branch, NODES};
 use crate::leaf::Leaf;
@@ -28,6 +28,9 @@ type Level5<A> = Branch<Level4<A>, A>;
 /// What a reader remembers of a table: 2^26 granules, the first of which has a number that 2^26
 /// divides.
 pub(crate) type Part<A> = Level2<A>;
+
+/// What it remembers beside: 2^33 granules, the first of which has a number that 2^33 divides.
+pub(crate) type Area<A> = Level3<A>;
 
 // What 128 nodes of a branch take: 2,048 bytes where they are leaves, and 4,096 where they are
 // branches.
@@ -82,6 +85,17 @@ impl<A: Allocator + Copy> PageTable<A> {
         let level4 = self.root.node(number / nodes / nodes)?;
         let level3 = level4.node(number / nodes % nodes)?;
         level3.node(number % nodes)
+    }
+
+    /// The area of the granules from 2^33 `number` on, if the table keeps it.
+    #[inline]
+    #[tactic(auto, unfolding(crate::specs::Tables::byte_of))]
+    pub(crate) fn area(&self, number: u64) -> Option<&Area<A>>
+        ensures { IfSome result (λ area. IsArea self.now number area.now) }
+    {
+        let nodes = NODES as u64;
+        let level4 = self.root.node(number / nodes)?;
+        level4.node(number % nodes)
     }
 
     /// A reader of the bytes.
