@@ -11,15 +11,16 @@ function is_once(name)
     return name ~ /^_Z(TI|TS|GV)/ || name in is_unique
 }
 
-# The line with the names that are known, each followed by the suffix.
+# The line with the names that are known, each followed by the suffix. So has what leads to what the unwinder looks up:
+# other objects have it under its name, where a tool may have made it local.
 function renamed(line,    done, name)
 {
     done = ""
-    while (match(line, /_Z[A-Za-z0-9_]+/)) {
+    while (match(line, /(DW\.ref\._|_Z)[A-Za-z0-9_]+/)) {
         name = substr(line, RSTART, RLENGTH)
         done = done substr(line, 1, RSTART + RLENGTH - 1)
         line = substr(line, RSTART + RLENGTH)
-        if (name in is_known || (line ~ /^,comdat/ && !is_once(name)))
+        if (name in is_known || name ~ /^DW/ || (line ~ /^,comdat/ && !is_once(name)))
             done = done ".asancol"
     }
     return done line

@@ -3,11 +3,14 @@ are compiled with the program. Programs and shared objects that were built so wo
 from the library."""
 
 import os
+import signal
+import subprocess
+import time
 from typing import Set
 
 from support import (
-    CC, CXX, RECORDER, TESTS, Compiler, Failure, Suite, build, by_sanitizer, expect, leave_out, one_mark, reports, run,
-    write,
+    CC, CXX, RECORDER, TESTS, Compiler, Failure, Suite, build, by_sanitizer, environment, expect, leave_out, noted,
+    one_mark, reports, run, write,
 )
 from unchecked import LINKERS
 
@@ -151,8 +154,9 @@ def names_in(folder: str, *words: str) -> Set[str]:
     return {it.split()[-1] for it in said.splitlines() if " " in it}
 
 
-# What a process may have only once: the identities of types, and a constant.
-ONCE = ("_ZTI", "_ZTS", "_ZNSt7__cxx1112basic_stringIcSt11char_traitsIcESaIcEE4nposE")
+# What a process may have only once: the identities of types, a constant, and functions whose addresses are taken.
+ONCE = ("_ZTI", "_ZTS", "_ZNSt7__cxx1112basic_stringIcSt11char_traitsIcESaIcEE4nposE",
+        "_ZNSt7__cxx1112basic_stringIcSt11char_traitsIcESaIcEED1Ev", "_ZSt4endlIcSt11char_traitsIcEE")
 SUFFIX = ".asancol"
 
 
@@ -177,8 +181,7 @@ def check_once(suite: Suite, folder: str, compiler: Compiler) -> None:
             build([CXX, "--asancol-all", *words, "-o", "all.o"], folder, ASANCOL_CXX=compiler.cxx)
             build([CXX, *words], folder, ASANCOL_CXX=compiler.cxx)
             asked, wanted = (names_in(folder, *it) for it in (("-u", f"{source}.o"), ("--defined-only", "all.o")))
-            expect({it for it in asked & wanted if not it.startswith(ONCE)}, set(), f"{source}, {standard}")
-            expect(asked & known, set(), f"{source}, {standard}")
+            expect({it for it in asked & (wanted | known) if not it.startswith(ONCE)}, set(), f"{source}, {standard}")
             if source == "main":
                 expect(asks_once(folder, "main.o"), standard not in ("c++98", "c++20"), standard)
 
@@ -205,8 +208,10 @@ def check_standards(suite: Suite, folder: str, compiler: Compiler) -> None:
         expect({it for it in found - known if not it.startswith((*ONCE, *IN_EACH))}, set(), f"{number}")
 
 
-# Ways to compile that don't make the object that the arguments name, or not of this machine.
-OTHERWISE = (["-S"], ["-E"], ["-fsyntax-only"], ["-M"], ["-c", "-flto"], ["-c", "-o", "/dev/null"], ["-c", "main.cpp"])
+# Ways to compile that don't make the object that the arguments name, or not of this machine; that keep a text, which
+# may be compiled again; and for a shared object, which any linker may make.
+OTHERWISE = (["-S"], ["-E"], ["-fsyntax-only"], ["-M"], ["-c", "-flto"], ["-c", "-o", "/dev/null"],
+             ["-c", "-save-temps=obj"], ["-c", "-fPIC"], ["-c", "main.cpp"])
 
 
 def check_otherwise(suite: Suite, folder: str, compiler: Compiler) -> None:
@@ -216,12 +221,69 @@ def check_otherwise(suite: Suite, folder: str, compiler: Compiler) -> None:
     for words in OTHERWISE:
         made = run([CXX, *words, "other.cpp"], folder, ASANCOL_CXX=compiler.cxx)
         expect((made.returncode, made.stderr), (0, b""), f"{words}")
-    expect(asks_once(folder, "other.o"), False, "two sources")
+        if words[1:] and not {"-o", "-flto"} & set(words):
+            expect(asks_once(folder, "other.o"), False, f"{words}")
     with open(f"{folder}/other.s", encoding="utf-8") as file:
         expect(SUFFIX in file.read(), False, "assembly")
     os.link(f"{folder}/other.o", f"{folder}/kept.o")
     build([CXX, "-c", "other.cpp"], folder, ASANCOL_CXX=compiler.cxx)
     expect((asks_once(folder, "other.o"), asks_once(folder, "kept.o")), (True, False), "one source")
+    build([CXX, "-c", "other.cpp", "-o", 250 * "a" + ".o"], folder, ASANCOL_CXX=compiler.cxx)
+
+
+# The address of a function is compared, as loggers do.
+COMPARED = """
+#include <ostream>
+bool is_end(std::ostream &(*what)(std::ostream &)) {
+    return what == static_cast<std::ostream &(*)(std::ostream &)>(std::endl); }
+"""
+COMPARES = """
+#include <iostream>
+bool is_end(std::ostream &(*what)(std::ostream &));
+int main() { return is_end(std::endl) && !is_end(std::flush) ? 0 : 1; }
+"""
+
+
+def check_addresses(suite: Suite, folder: str, compiler: Compiler) -> None:
+    """A function of the library has one address in all parts of a process, however each of them was compiled."""
+    write(folder, compared_cpp=COMPARED, compares_cpp=COMPARES)
+    for compared in (["-c"], ["-c", "-std=c++20"], ["-c", "-fPIC"]):
+        build([CXX, *compared, "compared.cpp"], folder, ASANCOL_CXX=compiler.cxx)
+        if "-fPIC" in compared:
+            build([compiler.cxx, "-shared", "compared.o", "-o", "libcompared.so"], folder)
+        parts = ["libcompared.so", "-Wl,-rpath,$ORIGIN"] if "-fPIC" in compared else ["compared.o"]
+        for compares in (["-c"], ["-c", "-std=c++20"], []):
+            program = "compares.o" if compares else "compares.cpp"
+            if compares:
+                build([CXX, *compares, "compares.cpp"], folder, ASANCOL_CXX=compiler.cxx)
+            for order in ([program, *parts], [*parts, program])[: 1 if "-fPIC" in compared else 2]:
+                build([CXX, *order, "-o", "compares"], folder, ASANCOL_CXX=compiler.cxx)
+                expect(run(["./compares"], folder).returncode, 0, f"{compared} {compares} {order}")
+
+
+# A compiler after which its wrapper has no time to change the object.
+KILLER = """#!/bin/sh
+%s "$@" || exit
+case " $* " in *" -c "*) kill -KILL $PPID ;; esac
+"""
+
+
+def check_unfinished(suite: Suite, folder: str, compiler: Compiler) -> None:
+    """An object that the wrapper was not left to finish is named as not checked; and if it is ended, so is the
+    compiler, which then leaves none."""
+    write(folder, freed_cpp=FREED, killer=KILLER % compiler.cxx)
+    os.chmod(f"{folder}/killer", 0o700)
+    made = run([CXX, "-O1", "-g", "-c", "freed.cpp"], folder, ASANCOL_CXX=f"{folder}/killer")
+    expect((made.returncode, asks_once(folder, "freed.o")), (-signal.SIGKILL, False), "killed")
+    build([CXX, "freed.o", "-o", "freed"], folder, ASANCOL_CXX=compiler.cxx)
+    expect(noted(f"{folder}/freed"), ["freed.o"], "the note")
+    os.unlink(f"{folder}/freed.o")
+    write(folder, slow_cpp=f"#include <regex>\n#include <filesystem>\n#include <iostream>\n{FREED}")
+    settings = environment(ASANCOL_CXX=compiler.cxx)
+    child = subprocess.Popen([CXX, "-O1", "-g", "-c", "slow.cpp"], cwd=folder, env=settings)
+    time.sleep(0.2)
+    child.terminate()
+    expect((child.wait(), os.path.exists(f"{folder}/slow.o")), (-signal.SIGTERM, False), "ended")
 
 
 # A loop of the library goes over bytes that were freed.
@@ -284,4 +346,6 @@ def tests(suite: Suite, compiler: Compiler) -> None:
     if compiler.name == "gcc":  # Clang wants to see all of a stream before an instance of what reads it
         suite.test(f"{compiler} strings standards", check_standards, compiler)
     suite.test(f"{compiler} strings otherwise", check_otherwise, compiler)
+    suite.test(f"{compiler} strings addresses", check_addresses, compiler)
+    suite.test(f"{compiler} strings unfinished", check_unfinished, compiler)
     suite.test(f"{compiler} strings named", check_named, compiler)

@@ -233,7 +233,10 @@ static void take_lto(struct arguments *arguments, const char *rest)
     arguments->request->makes_other = true;
 }
 
-static void take_bitcode(struct arguments *arguments, const char *rest)
+/* What is compiled has all that it uses of the library of C++: it is no object of the machine, or lies elsewhere than
+   where its name says; its text is kept too, and may be compiled again; or a shared object is made of it, which any
+   linker can do. */
+static void take_apart(struct arguments *arguments, const char *rest)
 {
     (void)rest;
     arguments->request->makes_other = true;
@@ -287,7 +290,9 @@ static const struct option {
     TAKES("-dumpspecs", ALONE, take_other), TAKES("-emit-pch", ALONE, take_other),
     TAKES("-emit-ast", ALONE, take_other), TAKES("--analyze", ALONE, take_other), TAKES("-cc1", ALONE, take_other),
     TAKES("-cc1as", ALONE, take_other), TAKES("-print-", JOINED, take_other), TAKES("--print-", JOINED, take_other),
-    TAKES("-emit-llvm", ALONE, take_bitcode),
+    TAKES("-emit-llvm", ALONE, take_apart), TAKES("-save-temps", JOINED, take_apart),
+    TAKES("--save-temps", JOINED, take_apart), TAKES("-working-directory", EITHER, take_apart),
+    TAKES("-fPIC", ALONE, take_apart), TAKES("-fpic", ALONE, take_apart),
     TAKES("-x", EITHER, take_language), TAKES("-o", EITHER, take_output), TAKES("--output", APART, take_output),
     TAKES("--output=", JOINED, take_output), TAKES("-l", EITHER, take_library), TAKES("-L", EITHER, take_folder),
     TAKES("-Wl,", JOINED, take_linker_words), TAKES("-Xlinker", APART, take_linker_word),

@@ -78,6 +78,100 @@ static struct known known_names(void)
     return known;
 }
 
+/* How an object asks for a symbol. */
+enum { BY_CALL = 1, OTHERWISE = 2 };
+
+/* For each symbol of a table. An address that is taken stays that of the old name: all parts of a process have the same
+   one for it, also those that were not compiled so. Tables of virtual functions have no such identity. */
+static unsigned char *how_asked(struct view view, size_t table, size_t count)
+{
+    unsigned char *how = must(calloc(count + 1, 1));
+    size_t sections = view_section_count(view);
+    for (size_t i = 0; i < sections; i++) {
+        Elf64_Shdr section = view_section(view, i);
+        struct view bytes = view_of_section(view, &section);
+        Elf64_Rela it;
+        if (section.sh_type != SHT_RELA || section.sh_link != table)
+            continue;
+        for (size_t at = 0; bytes.size - at >= sizeof it; at += sizeof it) {
+            memcpy(&it, bytes.bytes + at, sizeof it);
+            if (ELF64_R_SYM(it.r_info) < count)
+                how[ELF64_R_SYM(it.r_info)] |= ELF64_R_TYPE(it.r_info) == R_X86_64_PLT32 ? BY_CALL : OTHERWISE;
+        }
+    }
+    return how;
+}
+
+/* A table of symbols, in which names are changed. */
+struct table {
+    struct view object, symbols, texts;
+    size_t section;
+    unsigned char *how; /* once one is known */
+    struct known known;
+};
+
+static size_t symbol_count(const struct table *table)
+{
+    return table->symbols.size / sizeof(Elf64_Sym);
+}
+
+static Elf64_Sym symbol_at(const struct table *table, size_t number)
+{
+    Elf64_Sym symbol;
+    memcpy(&symbol, table->symbols.bytes + number * sizeof symbol, sizeof symbol);
+    return symbol;
+}
+
+/* The name that a symbol has and shall not keep; or null. */
+static const char *changed_name(struct table *table, size_t number)
+{
+    Elf64_Sym symbol = symbol_at(table, number);
+    const char *name = symbol.st_name < table->texts.size ? table->texts.bytes + symbol.st_name : "";
+    if (symbol.st_shndx != SHN_UNDEF || !begins_with(name, "_Z"))
+        return NULL;
+    if (table->known.names == NULL && (table->known = known_names()).names == NULL)
+        return NULL;
+    if (*place_of(&table->known, name, strlen(name)) == NULL)
+        return NULL;
+    if (begins_with(name, "_ZTV") || begins_with(name, "_ZTT"))
+        return name;
+    if (table->how == NULL)
+        table->how = how_asked(table->object, table->section, symbol_count(table));
+    return table->how[number] == BY_CALL ? name : NULL;
+}
+
+/* False: it has none. */
+static bool find_table(struct view view, struct table *table)
+{
+    size_t sections = view_section_count(view), number = 0;
+    while (number < sections && view_section(view, number).sh_type != SHT_SYMTAB)
+        number++;
+    if (number == sections)
+        return false;
+    Elf64_Shdr section = view_section(view, number);
+    struct view symbols = view_of_section(view, &section), texts = view_texts(view, section.sh_link);
+    *table = (struct table){.object = view, .symbols = symbols, .texts = texts, .section = number};
+    return texts.size != 0;
+}
+
+static void free_table(struct table *table)
+{
+    free(table->how);
+    free(table->known.names);
+}
+
+bool checked_names_are_given(struct view view)
+{
+    struct table table;
+    bool are_given = true;
+    if (!find_table(view, &table))
+        return true;
+    for (size_t i = 0; are_given && i < symbol_count(&table); i++)
+        are_given = changed_name(&table, i) == NULL;
+    free_table(&table);
+    return are_given;
+}
+
 /* An object that is being changed, and the texts of its names as they become. */
 struct object {
     char *bytes;
@@ -86,67 +180,73 @@ struct object {
     size_t texts_size;
 };
 
-/* Has each symbol that asks for a name which is known ask for that of the archive. */
-static void change_symbols(struct object *object, const Elf64_Shdr *symbols, struct view texts, FILE *changed)
+static void change_symbols(struct object *object, struct table *table, FILE *texts)
 {
-    struct known known = {NULL, 0};
-    for (uint64_t at = 0; at + sizeof(Elf64_Sym) <= symbols->sh_size; at += sizeof(Elf64_Sym)) {
-        Elf64_Sym symbol;
-        char *bytes = object->bytes + symbols->sh_offset + at;
-        memcpy(&symbol, bytes, sizeof symbol);
-        const char *name = symbol.st_name < texts.size ? texts.bytes + symbol.st_name : "";
-        if (symbol.st_shndx != SHN_UNDEF || !begins_with(name, "_Z"))
+    char *symbols = object->bytes + (table->symbols.bytes - table->object.bytes);
+    for (size_t i = 0; i < symbol_count(table); i++) {
+        Elf64_Sym symbol = symbol_at(table, i);
+        const char *name = changed_name(table, i);
+        if (name == NULL)
             continue;
-        if (known.names == NULL && (known = known_names()).names == NULL)
-            return;
-        if (*place_of(&known, name, strlen(name)) == NULL)
-            continue;
-        symbol.st_name = (Elf64_Word)ftell(changed);
-        memcpy(bytes, &symbol, sizeof symbol);
-        fprintf(changed, "%s%s%c", name, SUFFIX, 0);
+        symbol.st_name = (Elf64_Word)ftell(texts);
+        memcpy(symbols + i * sizeof symbol, &symbol, sizeof symbol);
+        fprintf(texts, "%s%s%c", name, SUFFIX, 0);
     }
-    free(known.names);
 }
 
 /* The texts come behind all else, where there is room for more of them. */
-static void change(struct object *object, struct view view, size_t number)
+static void change(struct object *object, struct view view)
 {
-    Elf64_Ehdr header;
-    Elf64_Shdr symbols = view_section(view, number), section;
-    struct view texts = view_texts(view, symbols.sh_link);
-    if (texts.size == 0 || view_of_section(view, &symbols).size == 0)
+    struct table table;
+    if (!find_table(view, &table))
         return;
-    FILE *changed = must(open_memstream(&object->texts, &object->texts_size));
-    fwrite(texts.bytes, 1, texts.size, changed);
-    change_symbols(object, &symbols, texts, changed);
-    fclose(changed);
-    memcpy(&header, view.bytes, sizeof header);
-    char *of_texts = object->bytes + header.e_shoff + symbols.sh_link * sizeof section;
-    memcpy(&section, of_texts, sizeof section);
-    if (object->texts_size == section.sh_size) {
+    object->bytes = memcpy(must(malloc(view.size)), view.bytes, view.size);
+    FILE *texts = must(open_memstream(&object->texts, &object->texts_size));
+    fwrite(table.texts.bytes, 1, table.texts.size, texts);
+    change_symbols(object, &table, texts);
+    fclose(texts);
+    if (object->texts_size == table.texts.size)
         object->texts_size = 0; /* nothing has changed */
-        return;
+    size_t sections = view_section_count(view);
+    for (size_t i = 0; i < sections; i++) {
+        Elf64_Ehdr header;
+        Elf64_Shdr section = view_section(view, i);
+        memcpy(&header, view.bytes, sizeof header);
+        if (view.bytes + section.sh_offset != table.texts.bytes || section.sh_type != SHT_STRTAB)
+            continue;
+        section.sh_offset = object->size;
+        section.sh_size = object->texts_size;
+        memcpy(object->bytes + header.e_shoff + i * sizeof section, &section, sizeof section);
     }
-    section.sh_offset = object->size;
-    section.sh_size = object->texts_size;
-    memcpy(of_texts, &section, sizeof section);
+    free_table(&table);
 }
 
-/* Another file takes its place: the one that the compiler made may have other names, as in a store of objects. */
+static bool write_object(const struct object *object, FILE *file)
+{
+    bool is_written = fwrite(object->bytes, 1, object->size, file) == object->size
+                      && fwrite(object->texts, 1, object->texts_size, file) == object->texts_size;
+    return (fclose(file) == 0) & is_written;
+}
+
+/* Another file takes its place, since the one that the compiler made may have other names, as in a store of objects.
+   Where there can be no other, it is written itself. */
 static void replace(const char *path, const struct object *object)
 {
     char *other;
     struct stat seen;
-    if (asprintf(&other, "%s.XXXXXX", path) < 0)
+    bool is_done = false;
+    if (asprintf(&other, "%.*s.asancol-XXXXXX", (int)(base_name(path) - path), path) < 0)
         no_memory();
-    int descriptor = mkstemp(other);
-    FILE *file = descriptor >= 0 ? fdopen(descriptor, "wb") : NULL;
-    bool is_written = file != NULL && stat(path, &seen) == 0 && fchmod(descriptor, seen.st_mode & ALLPERMS) == 0
-                      && fwrite(object->bytes, 1, object->size, file) == object->size
-                      && fwrite(object->texts, 1, object->texts_size, file) == object->texts_size;
-    if (file == NULL || (fclose(file) != 0) | !is_written || rename(other, path) != 0) {
+    int descriptor = stat(path, &seen) == 0 ? mkstemp(other) : -1;
+    FILE *file = descriptor >= 0 ? fdopen(descriptor, "wb") : fopen(path, "wb");
+    if (file != NULL && descriptor >= 0)
+        is_done = fchmod(descriptor, seen.st_mode & ALLPERMS) == 0;
+    if (file != NULL)
+        is_done = write_object(object, file) && (descriptor < 0 || (is_done && rename(other, path) == 0));
+    if (!is_done) {
         int error = errno;
-        unlink(other);
+        if (descriptor >= 0)
+            unlink(other);
         unlink(path);
         fail(path, strerror(error));
     }
@@ -157,17 +257,12 @@ bool checked_names_give(const char *path)
 {
     struct view view = view_map(path);
     struct object object = {.size = view.size};
-    size_t count = view_section_count(view), number = 0;
-    while (number < count && view_section(view, number).sh_type != SHT_SYMTAB)
-        number++;
-    if (number < count) {
-        object.bytes = memcpy(must(malloc(view.size)), view.bytes, view.size);
-        change(&object, view, number);
-    }
+    size_t sections = view_section_count(view);
+    change(&object, view);
     view_unmap(view);
     if (object.texts_size != 0)
         replace(path, &object);
     free(object.bytes);
     free(object.texts);
-    return count != 0;
+    return sections != 0;
 }

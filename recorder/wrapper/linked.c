@@ -6,6 +6,7 @@
 
 #include "common/array.h"
 #include "common/text.h"
+#include "wrapper/checked_names.h"
 #include "wrapper/left_out.h"
 
 /* How the files begin: an object; what Clang makes with -flto, in two forms; archives. */
@@ -300,5 +301,8 @@ enum origin linked_origin(struct view view)
     if (parts.is_of_rust && (parts.is_rust_own || !parts.has_own_names) && !parts.asks_checks)
         return ORIGIN_NONE;
     bool is_ours = is_rust || (parts.files != 0 && parts.whole >= parts.files);
-    return is_ours && !parts.has_assembly ? ORIGIN_OURS : ORIGIN_OTHERS;
+    if (!is_ours || parts.has_assembly)
+        return ORIGIN_OTHERS;
+    /* They are not if the wrapper was killed before its compiler had ended, for one. */
+    return checked_names_are_given(view) ? ORIGIN_OURS : ORIGIN_OTHERS;
 }

@@ -114,6 +114,11 @@ static void add_wraps(struct strings *line, size_t count)
 void linking_add_before(struct strings *line, const struct job *job)
 {
     const struct link_request *link = &job->request.link;
+    if (link->cxx != NULL && !job->front->has_new) {
+        strings_add(line, "-Wl,--whole-archive"); /* for what has the old names too: before the library */
+        add_file(line, CHECKED_ARCHIVE);
+        strings_add(line, "-Wl,--no-whole-archive");
+    }
     if (!has_start(link))
         return;
     strings_add(line, "-Wl,--undefined=asancol_first");

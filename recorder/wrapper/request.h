@@ -45,7 +45,7 @@ struct request {
     struct link_request link;
     bool stops_early;    /* before the link */
     bool makes_object;   /* by -c, unless it */
-    bool makes_other;    /* than an object of the machine */
+    bool makes_other;    /* than an object of the machine where it was asked for; or it may be linked without us */
     bool is_shown;       /* what is preprocessed is printed, and not compiled */
     bool is_dry;         /* what would be run is printed, and not run */
     bool is_all;         /* each access is a call, and not only one that its check finds bad */

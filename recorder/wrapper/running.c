@@ -5,6 +5,7 @@
 #include <fcntl.h>
 #include <signal.h>
 #include <spawn.h>
+#include <stdatomic.h>
 #include <stdbool.h>
 #include <stdio.h>
 #include <stdlib.h>
@@ -14,6 +15,7 @@
 #include <sys/wait.h>
 #include <unistd.h>
 
+#include "common/array.h"
 #include "common/must.h"
 #include "wrapper/checked_names.h"
 #include "wrapper/compiling.h"
@@ -137,16 +139,59 @@ static int wait_for(pid_t child, const char *name)
     int status = 0;
     if (waitpid(child, &status, 0) != child)
         fail(name, strerror(errno));
-    if (WIFSIGNALED(status))
+    if (WIFSIGNALED(status)) {
+        signal(WTERMSIG(status), SIG_DFL);
         raise(WTERMSIG(status));
+    }
     return WIFEXITED(status) ? WEXITSTATUS(status) : 1;
+}
+
+/* The compiler that makes an object, and the signal that came meanwhile to end the wrapper. */
+static _Atomic pid_t compiler;
+static volatile sig_atomic_t ending;
+
+/* It is the compiler that is meant, which then leaves no object. */
+static void pass_on(int number)
+{
+    pid_t child = atomic_load(&compiler);
+    ending = number;
+    if (child > 0)
+        kill(child, number);
+}
+
+static void pass_signals_on(void)
+{
+    static const int numbers[] = {SIGTERM, SIGINT, SIGHUP};
+    struct sigaction action = {.sa_handler = pass_on, .sa_flags = SA_RESTART}, before;
+    sigemptyset(&action.sa_mask);
+    for (size_t i = 0; i < COUNT(numbers); i++)
+        if (sigaction(numbers[i], NULL, &before) == 0 && before.sa_handler != SIG_IGN)
+            sigaction(numbers[i], &action, NULL);
+}
+
+/* Ends by a signal that was passed on. */
+static void end_if_ended(void)
+{
+    int number = ending;
+    if (number == 0)
+        return;
+    signal(number, SIG_DFL);
+    raise(number);
 }
 
 int running_compile(struct job *job)
 {
     struct strings line = make_line(job, false);
-    int status = wait_for(start(&line, STDOUT_FILENO, false), line.items[0]);
-    if (status != 0 || checked_names_give(job->object))
+    pass_signals_on();
+    end_if_ended();
+    atomic_store(&compiler, start(&line, STDOUT_FILENO, false));
+    if (ending != 0)
+        kill(atomic_load(&compiler), ending);
+    int status = wait_for(atomic_load(&compiler), line.items[0]);
+    atomic_store(&compiler, 0);
+    bool is_done = status != 0 || checked_names_give(job->object);
+    end_if_ended();
+    if (is_done)
         return status;
     job->object = NULL; /* it is not what it was taken for, and the compiler makes it again as it is for all others */
     running_become(job);

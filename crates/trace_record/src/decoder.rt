@@ -1,6 +1,6 @@
 //! The decoder: it reads one stream, whose bytes come in pieces, and gives its events and its end.
 
-ghost use Rattle.std.specs.Prelude.{◌≡◌, ◌≢◌, ◌<◌, ◌≤◌, ◌↔◌, ◌⊎◌, [], ◌∷◌, ◌++◌};
+ghost use Rattle.std.specs.Prelude.{◌≡◌, ◌≢◌, ◌<◌, ◌≤◌, ◌↔◌, ◌⊎◌, [], ◌++◌};
 ghost use Rattle.std.specs.Prelude.{ℕ, List, drop, length, slice_index, take};
 ghost use Rattle.std.specs.Prelude.{IsTrue, IsSome, IfSome, IfNone, IfOk, Some, None, Ok};
 ghost use Rattle.trace_record.specs.Ranges.{largest_limit};

@@ -1,4 +1,5 @@
-use Rattle.std.proofs.Common.{◌≡◌, ◌≤◌, List, [], ◌∷◌, ◌++◌, length, take, drop, Ok, sym, ap, ◌∙◌, append_assoc, append-nil, refl, arith}
+use Rattle.std.proofs.Common.{◌≡◌, ◌≤◌, List, [], ◌∷◌, ◌++◌, length, take, drop, Ok, sym, ap, ◌∙◌, append_assoc}
+use Rattle.std.proofs.Common.{append-nil, refl, arith}
 use Rattle.std.proofs.lemmas.List.{take_rest, take_more_set, length-set, length-drop, length-take-le}
 use Rattle.trace_record.specs.declared.event.Event.{Event}
 use Rattle.trace_record.specs.Reading.{Says}
@@ -46,7 +47,8 @@ loop-count-preserved c =
       short = (let short = was.short in omega arith);
       moved = λ _. omega arith;
       answers = λ text events at.
-          let stood = one_more c.self.inside c.loop-count.count c.loop-count.used (text ++ take c.loop-count.used piece) part
+          let stood = one_more c.self.inside c.loop-count.count c.loop-count.used
+          (text ++ take c.loop-count.used piece) part
           (events ++ take c.loop-count.count out) front.event none le (omega arith) says (was.answers text events at) in
           let bytes = joined text piece c.loop-count.used front.size in
           let more = append_assoc events (take c.loop-count.count out) (front.event ∷ [])
