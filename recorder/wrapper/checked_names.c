@@ -62,7 +62,7 @@ static struct view index_of(struct view archive, size_t *count)
     return (struct view){archive.bytes + start + at, size - at};
 }
 
-static struct known known_names(void)
+static struct known read_names(void)
 {
     struct known known = {NULL, 0};
     size_t count = 0;
@@ -76,6 +76,17 @@ static struct known known_names(void)
         if (ends_with(name, SUFFIX))
             *place_of(&known, name, length_without(name)) = name;
     return known;
+}
+
+/* The archive is read once, and only if an object asks for anything of C++. */
+static bool is_known(const char *name)
+{
+    static struct known known;
+    static bool is_read;
+    if (!is_read)
+        known = read_names();
+    is_read = true;
+    return known.room != 0 && *place_of(&known, name, strlen(name)) != NULL;
 }
 
 /* How an object asks for a symbol. */
@@ -107,7 +118,6 @@ struct table {
     struct view object, symbols, texts;
     size_t section;
     unsigned char *how; /* once one is known */
-    struct known known;
 };
 
 static size_t symbol_count(const struct table *table)
@@ -129,9 +139,7 @@ static const char *changed_name(struct table *table, size_t number)
     const char *name = symbol.st_name < table->texts.size ? table->texts.bytes + symbol.st_name : "";
     if (symbol.st_shndx != SHN_UNDEF || !begins_with(name, "_Z"))
         return NULL;
-    if (table->known.names == NULL && (table->known = known_names()).names == NULL)
-        return NULL;
-    if (*place_of(&table->known, name, strlen(name)) == NULL)
+    if (!is_known(name))
         return NULL;
     if (begins_with(name, "_ZTV") || begins_with(name, "_ZTT"))
         return name;
@@ -154,12 +162,6 @@ static bool find_table(struct view view, struct table *table)
     return texts.size != 0;
 }
 
-static void free_table(struct table *table)
-{
-    free(table->how);
-    free(table->known.names);
-}
-
 bool checked_names_are_given(struct view view)
 {
     struct table table;
@@ -168,7 +170,7 @@ bool checked_names_are_given(struct view view)
         return true;
     for (size_t i = 0; are_given && i < symbol_count(&table); i++)
         are_given = changed_name(&table, i) == NULL;
-    free_table(&table);
+    free(table.how);
     return are_given;
 }
 
@@ -218,7 +220,7 @@ static void change(struct object *object, struct view view)
         section.sh_size = object->texts_size;
         memcpy(object->bytes + header.e_shoff + i * sizeof section, &section, sizeof section);
     }
-    free_table(&table);
+    free(table.how);
 }
 
 static bool write_object(const struct object *object, FILE *file)
