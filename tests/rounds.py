@@ -144,7 +144,7 @@ def made(source: Source, beside: List[Edit], placed: List[Edit]) -> Round:
             found.controls[name] = copy_of(f"{name}_right_{number}", right, proofs)
         found.copies[edit.name] = copy_of(f"{name}_mutant_{number}", change, proofs)
     changes = [it for edit in placed for it in edit.changes.values()]
-    for path in {it.path for it in [*found.all_copies(), *changes]}:
+    for path in {*(it.path for it in found.all_copies()), *(it.path for it in changes)}:
         text = bodies.read(f"{source.folder}/{path}")
         found.texts[path] = with_all(text, found.all_copies(), changes, path)
     return found

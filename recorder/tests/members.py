@@ -109,9 +109,9 @@ def check_groups(suite: Suite, folder: str, compiler: Compiler) -> None:
 def check_weak(suite: Suite, folder: str, compiler: Compiler) -> None:
     """What is asked for weakly brings nothing in by itself."""
     write(folder, weak_c=WEAK)
-    for argv in ([], ["-Wl,-s"], ["-Wl,--gc-sections"]):
-        compiler.c(folder, ["weak.c"], "weak", "-fno-builtin", *argv)
-        expect(run(["./weak", "a"], folder).returncode, 0, f"{argv}")
+    for words in ("", "-Wl,-s", "-Wl,--gc-sections"):
+        compiler.c(folder, ["weak.c"], "weak", "-fno-builtin", *words.split())
+        expect(run(["./weak", "a"], folder).returncode, 0, words)
 
 
 def check_late(suite: Suite, folder: str, compiler: Compiler) -> None:

@@ -252,10 +252,10 @@ def check_addresses(suite: Suite, folder: str, compiler: Compiler) -> None:
         if "-fPIC" in compared:
             build([compiler.cxx, "-shared", "compared.o", "-o", "libcompared.so"], folder)
         parts = ["libcompared.so", "-Wl,-rpath,$ORIGIN"] if "-fPIC" in compared else ["compared.o"]
-        for compares in (["-c"], ["-c", "-std=c++20"], []):
+        for compares in ("-c", "-c -std=c++20", ""):
             program = "compares.o" if compares else "compares.cpp"
             if compares:
-                build([CXX, *compares, "compares.cpp"], folder, ASANCOL_CXX=compiler.cxx)
+                build([CXX, *compares.split(), "compares.cpp"], folder, ASANCOL_CXX=compiler.cxx)
             for order in ([program, *parts], [*parts, program])[: 1 if "-fPIC" in compared else 2]:
                 build([CXX, *order, "-o", "compares"], folder, ASANCOL_CXX=compiler.cxx)
                 expect(run(["./compares"], folder).returncode, 0, f"{compared} {compares} {order}")
@@ -312,7 +312,7 @@ def check_named(suite: Suite, folder: str, compiler: Compiler) -> None:
     build([CXX, "-O1", "-g", "-c", "freed.cpp"], folder, ASANCOL_CXX=compiler.cxx)
     archive = run([compiler.cxx, "-print-file-name=libstdc++.a"], folder).stdout.decode().strip()
     by_c = [[CC, "freed.o", *words] for words in (*NAMED, [archive, "-lm"], [f"-Wl,{archive}", "-lm"])]
-    by_cxx = [[CXX, "freed.o", *words] for words in ([], ["-static"], ["-static-libstdc++"])]
+    by_cxx = [[CXX, "freed.o", *words.split()] for words in ("", "-static", "-static-libstdc++")]
     for argv in (*by_c, *by_cxx):
         build([*argv, "-o", "freed"], folder, ASANCOL_CC=compiler.name, ASANCOL_CXX=compiler.cxx)
         run(["./freed"], folder, ASANCOL_TRACE="t.trace")
