@@ -10,10 +10,15 @@
 #include "base/system.h"
 #include "stacks/thread_notes.h"
 
-/* A stack is a word and then its frames. The word has its number in the lower half, and over it for which recording
-   that was given, and how many frames there are. */
-enum { COUNT_SHIFT = 56, RECORDING_SHIFT = 32 };
-#define RECORDING_MASK UINT32_C(0xffffff)
+/* A stack is a word and then its frames, the innermost first. The word has its number in the lower half, and over it for
+   which recording that was given, how many frames stand behind it, and how many there are. If there are more, the others
+   are the outermost ones of a stack that has all of its own, and a last word says where in that they begin: a recursion
+   makes many stacks that differ in few frames. */
+enum { RECORDING_SHIFT = 32, OWN_SHIFT = 52, COUNT_SHIFT = 58, OWN_MASK = (1 << (COUNT_SHIFT - OWN_SHIFT)) - 1 };
+#define RECORDING_MASK ((UINT32_C(1) << (OWN_SHIFT - RECORDING_SHIFT)) - 1)
+_Static_assert((int)MAX_FRAMES <= (int)OWN_MASK, "there is room for both counts");
+/* Of a stack that has frames of another one, at most so large a part is its own. */
+enum { MOST_OWN_PART = 4 };
 
 /* What tells a stack from an address: no address has this bit. Below are the number of the thread, and an address or
    the number of the stack's first word. */
@@ -35,6 +40,8 @@ static struct {
 } stacks = {.taken = 1};
 
 static _Alignas(PAGE) uint64_t words[STACK_WORDS];
+/* The last stack of this thread that has all frames of its own, or 0. */
+static _Thread_local uint32_t last_whole;
 /* The upper bits of a hash, and the number of the first word. */
 static _Atomic uint64_t known[STACKS];
 
@@ -50,14 +57,53 @@ static uint64_t mixed(uint64_t hash)
     return hash ^ hash >> 29;
 }
 
-static bool is_stack_at(uint64_t first, const uint64_t *frames, unsigned count)
+/* Another thread may just give its number. */
+static uint64_t word_of(uint32_t first)
 {
-    if (words[first] >> COUNT_SHIFT != count)
-        return false;
+    return atomic_load_explicit((_Atomic uint64_t *)&words[first], memory_order_relaxed);
+}
+
+static unsigned count_at(uint32_t first)
+{
+    return (unsigned)(word_of(first) >> COUNT_SHIFT);
+}
+
+/* How many stand behind the first word. */
+static unsigned own_at(uint32_t first)
+{
+    return (unsigned)(word_of(first) >> OWN_SHIFT & OWN_MASK);
+}
+
+/* Where the others stand, if there are any. */
+static const uint64_t *others_at(uint32_t first)
+{
+    return &words[words[first + 1 + own_at(first)]];
+}
+
+static bool are_same(const uint64_t *frames, const uint64_t *others, unsigned count)
+{
     for (unsigned i = 0; i < count; i++)
-        if (words[first + 1 + i] != frames[i])
+        if (frames[i] != others[i])
             return false;
     return true;
+}
+
+static bool is_stack_at(uint32_t first, const uint64_t *frames, unsigned count)
+{
+    unsigned own = own_at(first);
+    if (count_at(first) != count || !are_same(frames, &words[first + 1], own))
+        return false;
+    return own == count || are_same(frames + own, others_at(first), count - own);
+}
+
+/* How many frames a stack is to have of its own. The others are the outermost ones of this stack. */
+static unsigned own_beside(uint32_t whole, const uint64_t *frames, unsigned count)
+{
+    unsigned own = count, there = whole != 0 ? count_at(whole) : 0;
+    const uint64_t *end = &words[whole + 1 + there];
+    while (own > 1 && count - own < there && end[-1] == frames[own - 1])
+        own--, end--;
+    return own * MOST_OWN_PART <= count ? own : count;
 }
 
 /* Keeps a new one. Answers its first word; 0: there is no room. */
@@ -66,12 +112,18 @@ static uint32_t keep(const uint64_t *frames, unsigned count)
     if (atomic_load(&stacks.taken) > STACK_WORDS - (MAX_FRAMES + 1)
         || atomic_load(&stacks.count) >= STACKS - SPARE_STACKS)
         return 0;
-    uint32_t first = atomic_fetch_add(&stacks.taken, count + 1);
+    uint32_t whole = last_whole;
+    unsigned own = own_beside(whole, frames, count);
+    uint32_t first = atomic_fetch_add(&stacks.taken, 1 + own + (own < count));
     if (first > STACK_WORDS - (MAX_FRAMES + 1))
         return 0;
     atomic_fetch_add(&stacks.count, 1);
-    words[first] = (uint64_t)count << COUNT_SHIFT;
-    memcpy(&words[first + 1], frames, count * sizeof *frames);
+    words[first] = (uint64_t)count << COUNT_SHIFT | (uint64_t)own << OWN_SHIFT;
+    memcpy(&words[first + 1], frames, own * sizeof *frames);
+    if (own < count)
+        words[first + 1 + own] = whole + 1 + count_at(whole) - (count - own);
+    else
+        last_whole = first;
     return first;
 }
 
@@ -91,7 +143,7 @@ static uint32_t find_or_keep(const struct stack *stack)
             if (atomic_compare_exchange_strong(entry, &seen, tag | kept))
                 return kept;
         }
-        if ((seen & ~WORD_MASK) == tag && is_stack_at(seen & WORD_MASK, frames, count))
+        if ((seen & ~WORD_MASK) == tag && is_stack_at((uint32_t)(seen & WORD_MASK), frames, count))
             return (uint32_t)(seen & WORD_MASK);
     }
 }
@@ -148,25 +200,28 @@ call_site call_site_of_any_thread(call_site of)
     return of & ~((call_site)THREAD_UNKNOWN << THREAD_SHIFT);
 }
 
-unsigned call_site_frames(call_site of, const uint64_t **frames)
+unsigned call_site_frames(call_site of, uint64_t frames[MAX_FRAMES])
 {
-    uint64_t first = of & WORD_MASK;
+    uint32_t first = of & WORD_MASK;
     if (!(of & IS_STACK))
         return 0;
-    *frames = &words[first + 1];
-    return (unsigned)(words[first] >> COUNT_SHIFT);
+    unsigned count = count_at(first), own = own_at(first);
+    memcpy(frames, &words[first + 1], own * sizeof *frames);
+    if (own < count)
+        memcpy(frames + own, others_at(first), (count - own) * sizeof *frames);
+    return count;
 }
 
 /* The upper half of a stack's word, if its number is one of this recording. */
 static uint64_t upper_half(uint64_t word)
 {
     uint64_t recording = atomic_load(&stacks.recording) & RECORDING_MASK;
-    return word >> COUNT_SHIFT << COUNT_SHIFT | recording << RECORDING_SHIFT;
+    return word >> OWN_SHIFT << OWN_SHIFT | recording << RECORDING_SHIFT;
 }
 
 uint32_t call_site_number(call_site of)
 {
-    uint64_t word = of & IS_STACK ? atomic_load((_Atomic uint64_t *)&words[of & WORD_MASK]) : 0;
+    uint64_t word = of & IS_STACK ? word_of(of & WORD_MASK) : 0;
     return word >> RECORDING_SHIFT == upper_half(word) >> RECORDING_SHIFT ? (uint32_t)word : 0;
 }
 

@@ -25,8 +25,8 @@ uintptr_t call_site_address(call_site of);
 unsigned call_site_thread(call_site of);
 /* The same call site and stack, of whichever thread. */
 call_site call_site_of_any_thread(call_site of);
-/* Its frames, the innermost first, and how many there are; 0: it has no stack. They stay. */
-unsigned call_site_frames(call_site of, const uint64_t **frames);
+/* Its frames, the innermost first, and how many there are; 0: it has no stack. */
+unsigned call_site_frames(call_site of, uint64_t frames[MAX_FRAMES]);
 
 /* Each stack has room for one number, which a fork and the end of a recording take away. */
 uint32_t call_site_number(call_site of);

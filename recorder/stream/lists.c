@@ -95,9 +95,8 @@ void list_show_words(struct list *list, uint32_t end)
 
 uint32_t list_put_stack(struct list *list, call_site of)
 {
-    const uint64_t *frames;
-    uint64_t *words;
-    unsigned count = call_site_frames(of, &frames);
+    uint64_t frames[MAX_FRAMES], *words;
+    unsigned count = call_site_frames(of, frames);
     uint32_t number = call_site_number(of);
     if (count == 0 || number != 0)
         return number;

@@ -131,6 +131,61 @@ int main(int count, char **argv)
         os.unlink(f"{folder}/f.trace")
 
 
+# Calls of two functions by the bits of a number, the upper ones first; and then a malloc, a free, or a load.
+PATHS = """
+#include <stdlib.h>
+enum { BLOCKS = 4096, STEP = 61 };
+static char *volatile blocks[BLOCKS];
+static volatile char *left(unsigned, unsigned, int);
+static volatile char *right(unsigned, unsigned, int);
+static volatile char *act(unsigned number, unsigned path, int depth)
+{
+    if (depth != 0)
+        return (path >> (depth - 1) & 1 ? right : left)(number, path, depth - 1);
+    if (blocks[number] == NULL)
+        return blocks[number] = malloc(8);
+    if (path == number)
+        return blocks[number] + *(volatile char *)blocks[number] * 0;
+    free(blocks[number]);
+    return NULL;
+}
+#define CALLED { volatile char *volatile found = act(number, path, depth); return found; }
+static volatile char *left(unsigned number, unsigned path, int depth) CALLED
+static volatile char *right(unsigned number, unsigned path, int depth) CALLED
+int main(int count, char **argv)
+{
+    int depth = atoi(argv[1]);
+    for (unsigned i = 0; i < BLOCKS; i++)
+        act(i, i, depth);
+    for (unsigned i = 0; i < BLOCKS; i += STEP)
+        act(i, i ^ 1365, depth);
+    for (unsigned i = 0; i < BLOCKS; i += STEP)
+        act(i, i, depth);
+    return 0;
+}
+"""
+
+
+def check_paths(suite, folder, compiler):
+    """Each of thousands of stacks has all its calls, however many it has in common with others."""
+    write(folder, p_c=PATHS)
+    compiler.c(folder, ["p.c"], "p", "-O1", "-fno-inline", "-fno-optimize-sibling-calls", "-w")
+    for depth in (12, 14, 20):
+        trace = f"{depth}.trace"
+        run(["./p", str(depth)], folder, ASANCOL_TRACE=trace, ASANCOL_WHERE="1")
+        side = side_of(f"{folder}/{trace}")
+        numbers, faults = range(0, 4096, 61), side.faults()
+        expect(len(faults), len(numbers), "faults")
+        known = list({call for it in faults for call in (*it.place, *it.allocated, *it.freed)})
+        names = {call: name for call, (name, _) in zip(known, side.lines(known))}
+        for number, fault in zip(numbers, faults):
+            for calls, path in ((fault.place, number), (fault.allocated, number), (fault.freed, number ^ 1365)):
+                ways = [("left", "right")[path >> bit & 1] for bit in range(depth)]
+                wanted = [*(name for way in ways for name in ("act", way)), "act", "main"][:32]
+                found = [names[it] for it in calls]  # and then what has called main
+                expect(found[: len(wanted)], wanted, f"{number} of depth {depth}")
+
+
 def tests(suite, compiler):
     suite.test(f"{compiler} stop", check_stop, lives_of(suite, compiler))
     if shutil.which("gdb"):
@@ -141,3 +196,4 @@ def tests(suite, compiler):
         suite.test(f"{compiler} where {level}", check_where, compiler, level)
     suite.test(f"{compiler} where, many", check_many_places, compiler)
     suite.test(f"{compiler} where, far from a block", check_far, compiler)
+    suite.test(f"{compiler} where, by many ways", check_paths, compiler)
