@@ -10,11 +10,12 @@
 #include "base/system.h"
 #include "stacks/thread_notes.h"
 
-/* A stack is a word and then its frames, the innermost first. The word has its number in the lower half, and over it for
-   which recording that was given, how many frames stand behind it, and how many there are. If there are more, the others
-   are the outermost ones of a stack that has all of its own, and a last word says where in that they begin: a recursion
-   makes many stacks that differ in few frames. */
-enum { RECORDING_SHIFT = 32, OWN_SHIFT = 52, COUNT_SHIFT = 58, OWN_MASK = (1 << (COUNT_SHIFT - OWN_SHIFT)) - 1 };
+/* A stack is a word and then its frames, the innermost first. The word has its number in the lower half, and over it
+   for which recording that was given, how many frames stand behind it, and how many there are. If there are more, the
+   others are the outermost ones of a stack that has all of its own, and a last word says where in that they begin: a
+   recursion makes many stacks that differ in few frames. */
+enum { RECORDING_SHIFT = 32, OWN_SHIFT = 52, COUNT_SHIFT = 58 };
+enum { OWN_MASK = (1 << (COUNT_SHIFT - OWN_SHIFT)) - 1 };
 #define RECORDING_MASK ((UINT32_C(1) << (OWN_SHIFT - RECORDING_SHIFT)) - 1)
 _Static_assert((int)MAX_FRAMES <= (int)OWN_MASK, "there is room for both counts");
 /* Of a stack that has frames of another one, at most so large a part is its own. */

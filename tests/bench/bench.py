@@ -4,7 +4,7 @@
 usage: tests/bench/bench.py [--rounds N] [--millions N] [--peer PEER] [--page FILE] PROGRAM [WORD..]
 
 Traces are made by traces.c, which a C compiler has to build. Each is checked on one thread, from standard input, with
-and without huge pages, at one and at N million events (16), interleaved; the least processor time of the rounds (3)
+and without huge pages, at one and at N million events (16), interleaved; the least processor time of the rounds (9)
 counts, user and system. Then eight traces by `check`, and one free that lets a million blocks go. With words, only
 workloads whose names have one of them. With --peer another program with the same output runs between PROGRAM's runs,
 and the table says how many times its time PROGRAM took. With --page the tables of that file are replaced.
@@ -171,7 +171,7 @@ def replace_tables(page: str, tables: List[str]) -> None:
 
 def main() -> int:
     parser = argparse.ArgumentParser(description=(__doc__ or "").split("\n")[0])
-    parser.add_argument("--rounds", type=int, default=3)
+    parser.add_argument("--rounds", type=int, default=9)
     parser.add_argument("--millions", type=int, default=16)
     parser.add_argument("--peer")
     parser.add_argument("--page")
