@@ -8,18 +8,21 @@
 
 #include "base/platform.h"
 #include "base/system.h"
+#include "common/format.h"
 #include "stacks/thread_notes.h"
 
-/* A stack is a word and then its frames, the innermost first. The word has its number in the lower half, and over it
+/* A stack is a word and then its frames, the innermost first. The word has its number in the lower bits, and over it
    for which recording that was given, how many frames stand behind it, and how many there are. If there are more, the
    others are the outermost ones of a stack that has all of its own, and a last word says where in that they begin: a
    recursion makes many stacks that differ in few frames. */
-enum { RECORDING_SHIFT = 32, OWN_SHIFT = 52, COUNT_SHIFT = 58 };
+enum { RECORDING_SHIFT = 28, OWN_SHIFT = 52, COUNT_SHIFT = 58 };
 enum { OWN_MASK = (1 << (COUNT_SHIFT - OWN_SHIFT)) - 1 };
+#define NUMBER_MASK ((UINT32_C(1) << RECORDING_SHIFT) - 1)
 #define RECORDING_MASK ((UINT32_C(1) << (OWN_SHIFT - RECORDING_SHIFT)) - 1)
+_Static_assert(SIDE_STACK_WORDS <= NUMBER_MASK, "a number is a place beside the stream");
 _Static_assert((int)MAX_FRAMES <= (int)OWN_MASK, "there is room for both counts");
-/* Of a stack that has frames of another one, at most so large a part is its own. */
-enum { MOST_OWN_PART = 4 };
+/* A stack that has frames of another one has at most one in so many of its own. */
+enum { LEAST_PER_OWN = 4 };
 
 /* What tells a stack from an address: no address has this bit. Below are the number of the thread, and an address or
    the number of the stack's first word. */
@@ -41,8 +44,9 @@ static struct {
 } stacks = {.taken = 1};
 
 static _Alignas(PAGE) uint64_t words[STACK_WORDS];
-/* The last stack of this thread that has all frames of its own, or 0. */
-static _Thread_local uint32_t last_whole;
+/* The last stack of this thread that has all frames of its own, or 0. Relaxed: no other thread looks at it, and a
+   signal handler finds one whose words are there. */
+static _Thread_local _Atomic uint32_t last_whole;
 /* The upper bits of a hash, and the number of the first word. */
 static _Atomic uint64_t known[STACKS];
 
@@ -104,7 +108,7 @@ static unsigned own_beside(uint32_t whole, const uint64_t *frames, unsigned coun
     const uint64_t *end = &words[whole + 1 + there];
     while (own > 1 && count - own < there && end[-1] == frames[own - 1])
         own--, end--;
-    return own * MOST_OWN_PART <= count ? own : count;
+    return own * LEAST_PER_OWN <= count ? own : count;
 }
 
 /* Keeps a new one. Answers its first word; 0: there is no room. */
@@ -113,7 +117,7 @@ static uint32_t keep(const uint64_t *frames, unsigned count)
     if (atomic_load(&stacks.taken) > STACK_WORDS - (MAX_FRAMES + 1)
         || atomic_load(&stacks.count) >= STACKS - SPARE_STACKS)
         return 0;
-    uint32_t whole = last_whole;
+    uint32_t whole = atomic_load_explicit(&last_whole, memory_order_relaxed);
     unsigned own = own_beside(whole, frames, count);
     uint32_t first = atomic_fetch_add(&stacks.taken, 1 + own + (own < count));
     if (first > STACK_WORDS - (MAX_FRAMES + 1))
@@ -121,10 +125,12 @@ static uint32_t keep(const uint64_t *frames, unsigned count)
     atomic_fetch_add(&stacks.count, 1);
     words[first] = (uint64_t)count << COUNT_SHIFT | (uint64_t)own << OWN_SHIFT;
     memcpy(&words[first + 1], frames, own * sizeof *frames);
-    if (own < count)
+    if (own < count) {
         words[first + 1 + own] = whole + 1 + count_at(whole) - (count - own);
-    else
-        last_whole = first;
+        return first;
+    }
+    atomic_signal_fence(memory_order_seq_cst);
+    atomic_store_explicit(&last_whole, first, memory_order_relaxed);
     return first;
 }
 
@@ -213,8 +219,8 @@ unsigned call_site_frames(call_site of, uint64_t frames[MAX_FRAMES])
     return count;
 }
 
-/* The upper half of a stack's word, if its number is one of this recording. */
-static uint64_t upper_half(uint64_t word)
+/* What stands over the number in a stack's word, if that is one of this recording. */
+static uint64_t upper_part(uint64_t word)
 {
     uint64_t recording = atomic_load(&stacks.recording) & RECORDING_MASK;
     return word >> OWN_SHIFT << OWN_SHIFT | recording << RECORDING_SHIFT;
@@ -223,7 +229,7 @@ static uint64_t upper_half(uint64_t word)
 uint32_t call_site_number(call_site of)
 {
     uint64_t word = of & IS_STACK ? word_of(of & WORD_MASK) : 0;
-    return word >> RECORDING_SHIFT == upper_half(word) >> RECORDING_SHIFT ? (uint32_t)word : 0;
+    return word >> RECORDING_SHIFT == upper_part(word) >> RECORDING_SHIFT ? (uint32_t)word & NUMBER_MASK : 0;
 }
 
 uint32_t call_site_give_number(call_site of, uint32_t number)
@@ -233,7 +239,7 @@ uint32_t call_site_give_number(call_site of, uint32_t number)
     for (;;) {
         if (call_site_number(of) != 0)
             return call_site_number(of);
-        if (atomic_compare_exchange_strong(word, &seen, upper_half(seen) | number))
+        if (atomic_compare_exchange_strong(word, &seen, upper_part(seen) | number))
             return number;
     }
 }
