@@ -21,7 +21,7 @@ enum { OWN_MASK = (1 << (COUNT_SHIFT - OWN_SHIFT)) - 1 };
 #define RECORDING_MASK ((UINT32_C(1) << (OWN_SHIFT - RECORDING_SHIFT)) - 1)
 _Static_assert(SIDE_STACK_WORDS <= NUMBER_MASK, "a number is a place beside the stream");
 _Static_assert((int)MAX_FRAMES <= (int)OWN_MASK, "there is room for both counts");
-/* A stack that has frames of another one has at most one in so many of its own. */
+/* A stack shares frames only if at most one in so many is its own. */
 enum { LEAST_PER_OWN = 4 };
 
 /* What tells a stack from an address: no address has this bit. Below are the number of the thread, and an address or
