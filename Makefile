@@ -15,7 +15,7 @@ REDZONES := examples/stack_and_global_poison.trace
 .PHONY: all demo check check-mutants check-mutants-alone stress fuzz fuzz-parsers failures bench soak install \
         uninstall clean recorder docs check-recorder check-real check-suites bench-record bench-suites stress-record \
         stress-segments install-recorder run check-run check-farm bench-run bench-scale install-run install-units \
-        options dist deb check-packages lint release test
+        options dist deb check-packages lint release test races
 
 # The program, proved.
 all: asancol
@@ -110,6 +110,10 @@ SECONDS := 60
 fuzz-parsers: recorder
 	tests/fuzzers.py --seconds $(SECONDS)
 
+# What threads share in the recorder, under the ThreadSanitizer of each compiler that is there: under a minute.
+races:
+	tests/fuzzers.py races
+
 # What checking costs, with PEER=PROGRAM beside a program with the same output: some minutes, on a machine with nothing
 # else to do. It writes the tables of docs/SPEED.md.
 bench: asancol
@@ -157,9 +161,12 @@ bench-run: asancol recorder run
 	run/tests/bench_report.py
 
 # The test suites of real programs under asancol-run: each passes as without it, and has no report. The sources
-# come from Debian by `apt-get source` the first time; it takes some minutes.
+# come from Debian by `apt-get source` the first time; it takes some minutes. SUITES="nginx tmux" runs those alone, and
+# SUITES=long those that take longer.
+SUITES :=
+
 check-real: asancol recorder run
-	recorder/tests/real.py ./asancol
+	recorder/tests/real.py ./asancol $(SUITES)
 
 # AddressSanitizer's own tests, of compiler-rt and of GCC, recorded: each has the report that it has with the real
 # runtime. The sources come as for check-real. Allow it an hour, and more beside other work.
@@ -176,8 +183,13 @@ stress-record: asancol recorder
 stress-segments: asancol recorder run
 	recorder/tests/segments_stress.py ./asancol
 
-install-recorder:
+# The list of the calls has no links where the other documents are not.
+CALLS_PAGE := $(ROOT)/share/doc/asancol/docs/CALLS.md
+
+install-recorder: $(if $(HAS_PYTHON),docs)
 	$(MAKE) -C recorder install PREFIX=$(PREFIX) DESTDIR=$(DESTDIR)
+	test ! -f docs/CALLS.md || { install -d $(dir $(CALLS_PAGE)) && \
+	    sed -z 's/\[\([^]`]*\)\]([^)]*)/\1/g' docs/CALLS.md > $(CALLS_PAGE) && chmod 644 $(CALLS_PAGE); }
 
 install-run:
 	$(MAKE) -C run install PREFIX=$(PREFIX) DESTDIR=$(DESTDIR)
@@ -204,7 +216,7 @@ PROGRAMS := asancol asancol-run asancol-report asancol-listen
 
 uninstall:
 	$(MAKE) -C recorder uninstall PREFIX=$(PREFIX) DESTDIR=$(DESTDIR)
-	rm -rf $(ROOT)/lib/asancol
+	rm -rf $(ROOT)/lib/asancol $(CALLS_PAGE)
 	rm -f $(foreach it,$(PROGRAMS),$(ROOT)/bin/$(it) $(ROOT)/share/man/man1/$(it).1)
 	rm -f $(ROOT)/share/man/man5/asancol-trace.5 $(ROOT)/share/man/man5/asancol-results.5
 	rm -f $(UNITS:%=$(ROOT)/lib/systemd/system/%)

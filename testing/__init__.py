@@ -3,6 +3,7 @@
 - `expectations`: what a test saw and did not expect, and what is left out.
 - `programs`: the programs of this tree, environments without settings of asancol, runs, and waiting.
 - `suite`: finds tests, runs them side by side, and says what came of them.
+- `watch`: ends tests that hang.
 - `traces`: traces and their records, built and read.
 - `side`: side memories, written here, and read by what asancol-report reads them with.
 - `lines`: the lines of reports and of ends.

@@ -2,8 +2,8 @@
 
 Each target is built by GCC and by Clang with AddressSanitizer and UndefinedBehaviorSanitizer, and is run on its seeds
 and on changes of them, the same each time. Then libFuzzer runs it for some seconds, if Clang has it; what it finds is
-left in the current folder. The stream of the recorder, its heap, and what it notes of stacks are built with
-ThreadSanitizer, and four threads share each of them.
+left in the current folder. The stream of the recorder with what stands beside it, its heap, and what it notes of stacks
+and threads are built with ThreadSanitizer, and four threads share each of them; asancol-run has one thread.
 """
 
 import os
@@ -12,7 +12,7 @@ import tempfile
 from typing import List, NamedTuple, Sequence
 
 from .expectations import Failure, LeftOut
-from .programs import TOP, compilers_there
+from .programs import TOP, call, compilers_there
 from .suite import Later, Suite
 
 RECORDER, RUN, COMMON = f"{TOP}/recorder", f"{TOP}/run", f"{TOP}/common"
@@ -33,6 +33,8 @@ class Target(NamedTuple):
     seeds: Sequence[bytes]
     words: Sequence[bytes] = ()  # that libFuzzer puts into inputs
     flags: Sequence[str] = ()
+    sanitizers: str = SANITIZERS
+    races: Sequence[str] = ("thread",)  # the sanitizers under which threads run
 
 
 ENVIRONMENT = [
@@ -68,7 +70,7 @@ TARGETS = [
     Target("asancol-run: hub",
            [f"{THEIRS}/hub.c",
             *(f"{RUN}/{it}.c" for it in ("side", "modules", "processes", "end_line", "verdict", "deaths", "json", "say",
-                                         "names")),
+                                         "names", "printable")),
             f"{COMMON}/path.c"],
            [SIDE + REPORT + b"p0 end " + it + b"\n" for it in ENDS],
            [b"p0 end ", b"events ", b" reports ", b" checked "]),
@@ -81,23 +83,50 @@ TARGETS = [
 # Programs that draw their own inputs.
 DRAWN = [
     Target("walks over stacks",
-           [f"{OURS}/unwinding.c", *(f"{RECORDER}/stacks/{it}.c" for it in ("unwinding", "trail"))], []),
+           [f"{OURS}/unwinding.c", *(f"{RECORDER}/stacks/{it}.c" for it in ("unwinding", "walks"))], []),
+    Target("walks through functions",
+           [f"{OURS}/walks.c", f"{RECORDER}/base/memory.c",
+            *(f"{RECORDER}/stacks/{it}.c" for it in ("unwinding", "walks", "cfi"))], [],
+           flags=["-pthread"], sanitizers="undefined"),  # it reads the redzones of frames
 ]
+
+# The parts of the stream.
+STREAM = ("state", "regions", "places", "watched", "stated", "opening", "growing", "sending", "switching", "holes",
+          "tail", "left_out", "ending", "losing", "output", "windows", "segments")
+
+# Threads wait for others as long as it takes: on a busy machine one may sleep in the middle of a record for so long
+# that another one puts a record in its place, and both write there (holes.c). recorder/tests/exploring.py has the
+# orders of that.
+PATIENT = "-DIS_PATIENT=1"
+
+# The parts of the allocator.
+HEAP = ("arena", "entering", "origin", "spare", "shards", "retiring", "poisoning", "quarantine", "freeing",
+        "program_hooks", "allocating", "numbers", "nearest", "snapshot")
 
 # What threads share.
 SHARED = [
     Target("heap",
-           [f"{OURS}/heap.c", *(f"{RECORDER}/heap/{it}.c" for it in ("heap", "arena", "nearest", "snapshot"))], [],
-           flags=["-include", f"{OURS}/heap.h"]),
-    Target("stacks", [f"{OURS}/stacks.c", f"{RECORDER}/process/threads.c"], [], flags=["-DIS_STATIC"]),
+           [f"{OURS}/heap.c", *(f"{RECORDER}/heap/{it}.c" for it in HEAP)], [],
+           flags=["-include", f"{OURS}/heap.h"], races=("thread", SANITIZERS)),
+    Target("stacks", [f"{OURS}/stacks.c", f"{RECORDER}/process/threads.c", f"{RECORDER}/stacks/walks.c"], [],
+           flags=["-DIS_STATIC"]),
     Target("thread notes", [f"{OURS}/thread_notes.c", f"{RECORDER}/stacks/thread_notes.c"], []),
+    Target("stream, and what stands beside it",
+           [f"{OURS}/races.c",
+            *(f"{RECORDER}/{it}.c" for it in ("base/descriptors", "base/errors", "base/memory", "process/asking",
+                                              "process/hub_names", "shadow/globals", "shadow/shadow",
+                                              "stacks/stacks", "stacks/thread_notes", "stacks/walks")),
+            *(f"{RECORDER}/stream/{it}.c" for it in (
+                *STREAM, "fault_list", "faults", "findings", "lists", "maps", "record", "side", "stating", "suspending",
+                "thread_list"))], [],
+           flags=["-D_GNU_SOURCE=", PATIENT, "-iquote", OURS, "-include", f"{OURS}/races.h"]),
 ]
 
 
 def run(argv: Sequence[str], folder: str, seconds: float = PATIENCE) -> str:
     settings = {**os.environ, "ASAN_OPTIONS": "detect_leaks=0", "UBSAN_OPTIONS": "print_stacktrace=1"}
-    ran = subprocess.run(argv, cwd=folder, env=settings, stdin=subprocess.DEVNULL, stdout=subprocess.PIPE,
-                         stderr=subprocess.STDOUT, timeout=seconds, check=False)
+    ran = call(argv, cwd=folder, env=settings, stdin=subprocess.DEVNULL, stdout=subprocess.PIPE,
+               stderr=subprocess.STDOUT, timeout=seconds, check=False)
     text = ran.stdout.decode(errors="replace")
     if ran.returncode != 0:
         raise Failure(f"{os.path.basename(argv[0])}: status {ran.returncode}: {text[-3000:]}")
@@ -109,7 +138,7 @@ def build(compiler: str, target: Target, sanitizers: str, more: Sequence[str], f
     argv = [compiler, "-std=gnu11", "-g", "-O1", "-fno-omit-frame-pointer", *WARNINGS, *target.flags]
     argv += ["-iquote", RECORDER, "-iquote", RUN, "-iquote", TOP]
     argv += [f"-fsanitize={sanitizers}", "-fno-sanitize-recover=all", *target.sources, *more, "-o", program]
-    said = run(argv, folder)
+    said = run(argv, folder, 5 * PATIENCE)
     if said:
         raise Failure(said)
     return program
@@ -150,22 +179,23 @@ def check_fuzzer(suite: Suite, folder: str, _libfuzzer: str, target: Target, sec
 
 def check_threads(suite: Suite, folder: str, compiler: str) -> None:
     """Four threads that write into a stream and into its segments, under ThreadSanitizer and under the others."""
-    parts = ("state", "regions", "places", "watched", "stated", "opening", "growing", "sending", "switching", "holes",
-             "tail", "left_out", "ending", "losing", "output", "windows", "segments")
-    sources = [f"{OURS}/threads.c", f"{RECORDER}/process/hub_names.c", f"{RECORDER}/base/errors.c"]
-    sources += [f"{RECORDER}/stream/{part}.c" for part in parts]
+    sources = [f"{OURS}/threads.c", *(f"{RECORDER}/process/{part}.c" for part in ("asking", "hub_names"))]
+    sources += [f"{RECORDER}/base/{part}.c" for part in ("descriptors", "errors")]
+    sources += [f"{RECORDER}/stream/{part}.c" for part in STREAM]
     for sanitizers in ("thread", SANITIZERS):
-        run([build(compiler, Target("threads", sources, []), sanitizers, ["-pthread"], folder)], folder)
+        target = Target("threads", sources, [], flags=[PATIENT])
+        run([build(compiler, target, sanitizers, ["-pthread"], folder)], folder)
 
 
 def check_races(suite: Suite, folder: str, compiler: str, target: Target) -> None:
-    """Four threads that share something, under ThreadSanitizer."""
-    run([build(compiler, target, "thread", ["-pthread"], folder)], folder)
+    """Threads that share something, under ThreadSanitizer, and if they can be under the others."""
+    for sanitizers in target.races:
+        run([build(compiler, target, sanitizers, ["-pthread"], folder)], folder)
 
 
 def check_drawn(suite: Suite, folder: str, compiler: str, target: Target) -> None:
     """What a program draws by itself."""
-    run([build(compiler, target, SANITIZERS, [], folder)], folder)
+    run([build(compiler, target, target.sanitizers, [], folder)], folder)
 
 
 def need_libfuzzer() -> None:
@@ -187,8 +217,8 @@ def add_tests(suite: Suite, seconds: float, programs: Sequence[str], front: str 
             suite.test(f"{front}{target.name}: fuzzer", check_fuzzer, libfuzzer, target, seconds)
     if "recorder" in programs:
         for compiler in compilers_there():
-            suite.test(f"{front}recorder: threads: {compiler}", check_threads, compiler)
+            suite.test(f"{front}recorder: races in the stream alone: {compiler}", check_threads, compiler)
             for target in DRAWN:
                 suite.test(f"{front}recorder: {target.name}: {compiler}", check_drawn, compiler, target)
             for target in SHARED:
-                suite.test(f"{front}recorder: {target.name}: {compiler}", check_races, compiler, target)
+                suite.test(f"{front}recorder: races in the {target.name}: {compiler}", check_races, compiler, target)

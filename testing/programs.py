@@ -1,10 +1,16 @@
-"""The programs of this tree, and runs: in an environment without settings of asancol, and with patience."""
+"""The programs of this tree, and runs: in an environment without settings of asancol, and with patience. What takes
+longer is killed with all that it has started, and is a failure."""
 
+import contextlib
 import os
 import shutil
+import signal
+import socket
 import subprocess
+import threading
 import time
-from typing import Callable, Dict, List, NamedTuple, Optional, Sequence
+from types import TracebackType
+from typing import Any, Callable, Dict, Iterator, List, NamedTuple, Optional, Sequence, Type
 
 from .expectations import Failure
 
@@ -38,11 +44,100 @@ class Ran(NamedTuple):
     err: str
 
 
+def text_of(pid: int, name: str) -> str:
+    """Returns what the system says of a process; nothing if it has ended."""
+    try:
+        with open(f"/proc/{pid}/{name}", encoding="utf-8", errors="replace") as file:
+            return file.read().strip()
+    except OSError:
+        return ""
+
+
+def tree_of(pid: int) -> List[int]:
+    """Returns the numbers of a process and of all that it, or one of those, has started, as far as none in between has
+    ended."""
+    found = [pid]
+    parents = {int(it): text_of(int(it), "stat").rpartition(")")[2].split()[1:2] for it in os.listdir("/proc")
+               if it.isdigit()}
+    for each in found:
+        found += [it for it, parent in parents.items() if parent == [str(each)]]
+    return found
+
+
+def kill_tree(pid: int) -> str:
+    """Kills a process and all below it. Returns what each was at: where it waited, or where it ran."""
+    said = []
+    for each in tree_of(pid):
+        where = text_of(each, "wchan").strip("0") or text_of(each, "syscall").split(" ")[0]
+        said.append(f"{text_of(each, 'comm')} {each} in {where or 'nothing'}")
+        try:
+            os.kill(each, signal.SIGKILL)
+        except OSError:  # it has ended, or another user owns it
+            continue
+    return ", ".join(said)
+
+
+@contextlib.contextmanager
+def killed_after(pid: int, patience: float = PATIENCE) -> Iterator[None]:
+    """Kills a process and all below it if what is done here takes longer: so who reads what it prints finds an end."""
+    late = threading.Timer(patience, kill_tree, [pid])
+    late.daemon = True
+    late.start()
+    try:
+        yield
+    finally:
+        late.cancel()
+
+
+class Started(subprocess.Popen):  # type: ignore[type-arg]
+    """A program that was started. It is waited for with patience, and killed where its `with` ends by an error."""
+
+    def late(self, seconds: Optional[float]) -> Failure:
+        return Failure(f"{self.args!r} took more than {seconds or 0:.3g} s: {kill_tree(self.pid)}")
+
+    def wait(self, timeout: Optional[float] = PATIENCE) -> int:
+        try:
+            return super().wait(timeout)
+        except subprocess.TimeoutExpired:
+            raise self.late(timeout) from None
+
+    def communicate(self, input: Any = None, timeout: Optional[float] = PATIENCE) -> Any:
+        try:
+            return super().communicate(input, timeout)
+        except subprocess.TimeoutExpired as late:
+            raise Failure(f"{self.late(timeout)}; it had printed {late.output!r}") from None
+
+    def line(self) -> Any:
+        """Returns the next line that it prints; nothing if it has ended, or is killed since none came."""
+        with killed_after(self.pid):
+            return self.stdout.readline() if self.stdout else ""
+
+    def __exit__(self, kind: Optional[Type[BaseException]], error: Optional[BaseException],
+                 trace: Optional[TracebackType]) -> None:
+        if error is not None and self.poll() is None:
+            kill_tree(self.pid)
+        super().__exit__(kind, error, trace)
+
+
+def call(argv: Sequence[str], *, input: Any = None, capture_output: bool = False, check: bool = False,
+         timeout: float = PATIENCE, **options: Any) -> "subprocess.CompletedProcess[Any]":
+    """Runs a program as subprocess.run does, with patience."""
+    if capture_output:
+        options.update(stdout=subprocess.PIPE, stderr=subprocess.PIPE)
+    if input is not None:
+        options["stdin"] = subprocess.PIPE
+    with Started(argv, **options) as program:
+        out, err = program.communicate(input, timeout)
+    ran: "subprocess.CompletedProcess[Any]" = subprocess.CompletedProcess(argv, program.returncode, out, err)
+    if check:
+        ran.check_returncode()
+    return ran
+
+
 def run(argv: Sequence[str], folder: str, stdin: Optional[bytes] = None, /,
         **settings: str) -> "subprocess.CompletedProcess[bytes]":
     """Runs a program in a folder, and takes what it prints."""
-    return subprocess.run(argv, cwd=folder, env=environment(**settings), input=stdin or b"", capture_output=True,
-                          timeout=PATIENCE, check=False)
+    return call(argv, cwd=folder, env=environment(**settings), input=stdin or b"", capture_output=True)
 
 
 def ran_of(ran: "subprocess.CompletedProcess[bytes]", errors: str = "replace") -> Ran:
@@ -51,11 +146,7 @@ def ran_of(ran: "subprocess.CompletedProcess[bytes]", errors: str = "replace") -
 
 def finish(started: "subprocess.Popen[str]", patience: float = PATIENCE) -> Ran:
     """Waits until a program that was started has ended."""
-    try:
-        out, err = started.communicate(timeout=patience)
-    except subprocess.TimeoutExpired:
-        started.kill()
-        raise
+    out, err = started.communicate(timeout=patience)
     return Ran(started.returncode, out, err)
 
 
@@ -66,6 +157,21 @@ def wait_until(is_so: Callable[[], bool], what: str, patience: float = SOON) -> 
         if time.monotonic() > end:
             raise Failure(f"{what} did not come")
         time.sleep(0.02)
+
+
+def accept(listening: socket.socket) -> socket.socket:
+    """Returns the next peer. No wait for it takes longer than PATIENCE."""
+    listening.settimeout(PATIENCE)
+    peer, _ = listening.accept()
+    peer.settimeout(PATIENCE)
+    return peer
+
+
+def join(thread: threading.Thread, what: str, patience: float = PATIENCE) -> None:
+    """Waits for the end of a thread."""
+    thread.join(patience)
+    if thread.is_alive():
+        raise Failure(f"{what} did not end")
 
 
 def compilers_there() -> List[str]:

@@ -10,7 +10,7 @@ import subprocess
 from typing import Any, Callable, Dict, Optional
 
 from .expectations import LeftOut
-from .programs import REPORT, Ran, environment, write_text
+from .programs import REPORT, Ran, Started, call, environment, write_text
 from .side import Parts, Program, fault, fill, look_at, of_program, write_side
 from .suite import Suite, test
 
@@ -57,7 +57,7 @@ def build(folder: str, name: str = "program", source: str = PLACES_C, *flags: st
         raise LeftOut("gcc is not there")
     path = f"{folder}/{name}"
     write_text(f"{path}.c", source)
-    subprocess.run(["gcc", "-g", "-O1", "-Wl,--build-id", *flags, f"{path}.c", "-o", path], check=True)
+    call(["gcc", "-g", "-O1", "-Wl,--build-id", *flags, f"{path}.c", "-o", path], check=True)
     return look_at(path)
 
 
@@ -113,8 +113,8 @@ def settings_in(folder: str, **settings: str) -> Dict[str, str]:
 
 
 def report(folder: str, *argv: str, stdin: object = subprocess.DEVNULL, **settings: str) -> Ran:
-    ran = subprocess.run([REPORT, *argv], cwd=folder, env=settings_in(folder, **settings), stdin=stdin,  # type: ignore
-                         stdout=subprocess.PIPE, stderr=subprocess.PIPE, check=False, timeout=PATIENCE)
+    ran = call([REPORT, *argv], cwd=folder, env=settings_in(folder, **settings), stdin=stdin,  # type: ignore
+               stdout=subprocess.PIPE, stderr=subprocess.PIPE, check=False, timeout=PATIENCE)
     return Ran(ran.returncode, ran.stdout.decode("utf-8", "surrogateescape"), ran.stderr.decode())
 
 
@@ -129,8 +129,8 @@ class Feed:
 
     def __init__(self, folder: str, *argv: str, **settings: str) -> None:
         self.ours, theirs = socket.socketpair(socket.AF_UNIX, socket.SOCK_SEQPACKET)
-        self.child = subprocess.Popen([REPORT, "--run", *argv], cwd=folder, env=settings_in(folder, **settings),
-                                      stdin=theirs.fileno(), stdout=subprocess.PIPE, stderr=subprocess.PIPE)
+        self.child = Started([REPORT, "--run", *argv], cwd=folder, env=settings_in(folder, **settings),
+                             stdin=theirs.fileno(), stdout=subprocess.PIPE, stderr=subprocess.PIPE)
         theirs.close()
 
     def send(self, entry: object, *descriptors: int) -> None:

@@ -27,6 +27,14 @@ class Side(layout.Side):
         super().__init__(descriptor)
         weakref.finalize(self, os.close, descriptor)
 
+    def skipped(self) -> int:
+        """What was not looked at, as numbers that are added."""
+        return int(layout.PROGRESS.unpack(self.bytes_at(layout.PROGRESS_AT, layout.PROGRESS.size))[19])
+
+    def used_again(self) -> int:
+        """How many bytes of blocks had been handed out when freed memory came again; 0 if it never has."""
+        return int(layout.PROGRESS.unpack(self.bytes_at(layout.PROGRESS_AT, layout.PROGRESS.size))[-1])
+
     def has_needed(self, events: int) -> bool:
         """Whether all that may be bad is among so many events."""
         return self.needed <= events + 1 and self.noted == 0
@@ -127,10 +135,11 @@ def thread(number: int, system_number: int, name: str = "", created: int = 0, st
 def side(maps: str = "", builds: Sequence[Tuple[int, str]] = (), faults: Sequence[bytes] = (),
          index: Sequence[int] = (), process: int = 7, ending: int = EXIT, signal: int = 0, events: int = 0,
          left_out: int = 0, started: int = (1 << 63) - 1, argv: Sequence[str] = ("./program",),
-         stacks: Sequence[int] = (), needed: int = 0, segment: int = 1, stated: int = 0, is_at_limit: bool = False,
+         stacks: Sequence[int] = (), needed: int = 1, segment: int = 1, stated: int = 0, is_at_limit: bool = False,
          quarantine: int = 1 << 28, noted: int = 0, calls: int = 0, starts: int = 0, has_checks: int = 1,
          has_begun: int = 1, threads: Sequence[bytes] = (), last_thread: int = 0, first_name: str = "",
          findings: int = 0, findings_lost: int = 0, leaks: int = 0, leaks_missed: int = 0, left_good: int = 0,
+         inside: int = 0, closed_off: int = 0, sender: int = 0, skipped: int = 0, used_again: int = 0,
          header: bytes = layout.HEADER) -> Parts:
     """Returns a side memory. The first word of the stacks is of none. Segments are counted from 1."""
     parent = 1
@@ -139,7 +148,8 @@ def side(maps: str = "", builds: Sequence[Tuple[int, str]] = (), faults: Sequenc
     names = b"".join(word.encode("utf-8", "surrogateescape") + b"\0" for word in argv) + b"\0"
     ids = b"".join(layout.BUILD.pack(start, len(text) // 2, bytes.fromhex(text)) for start, text in builds)
     progress = layout.PROGRESS.pack(needed, segment - 1, stated, noted, *[0] * 4, calls, starts, has_begun, findings,
-                                    findings_lost, leaks, leaks_missed, left_good)
+                                    findings_lost, leaks, leaks_missed, left_good, inside, closed_off, sender, skipped,
+                                    *[0] * 33, used_again)
     beside = layout.BESIDE_THREADS.pack(last_thread, 0, first_name.encode())
     return [(0, head), (layout.ARGV_AT, names), (layout.BUILDS_AT, ids), (layout.PROGRESS_AT, progress),
             (layout.BESIDE_THREADS_AT, beside),
@@ -169,11 +179,11 @@ class Program(NamedTuple):
 
 def look_at(path: str) -> Program:
     """Runs a program that prints its places and its map."""
-    text = subprocess.run([path], stdout=subprocess.PIPE, check=True, text=True).stdout
+    text = programs.call([path], stdout=subprocess.PIPE, check=True, text=True).stdout
     lines = text.split("\n")
     places = {words[0]: int(words[1], 16) for words in (line.split() for line in lines) if len(words) == 2}
     maps = "".join(line + "\n" for line in lines if len(line.split()) > 4)
-    notes = subprocess.run(["readelf", "-n", path], stdout=subprocess.PIPE, check=True, text=True).stdout
+    notes = programs.call(["readelf", "-n", path], stdout=subprocess.PIPE, check=True, text=True).stdout
     return Program(path, places, maps, notes.partition("Build ID: ")[2].split("\n")[0])
 
 

@@ -7,6 +7,7 @@ side by side, one on each processor, each in its own folder. What several of the
 """
 
 import argparse
+import faulthandler
 import functools
 import importlib
 import os
@@ -24,7 +25,8 @@ from types import ModuleType
 from typing import Any, Callable, List, NamedTuple, Optional, Sequence
 
 from .expectations import LeftOut
-from .programs import CC, TOP, compilers_there
+from .programs import CC, SOON, TOP, compilers_there
+from .watch import Watch, kill_all
 
 HAS_TESTS = re.compile(r"^(?:def tests\(|@\w*test$)", re.M)
 # What no XML may have.
@@ -106,6 +108,7 @@ class Suite:
         self.which = Which.ALL
         self.tests: List[Test] = []
         self.results: List[Result] = []
+        self.watch = Watch()
 
     def __enter__(self) -> "Suite":
         return self
@@ -177,12 +180,18 @@ class Suite:
         began = time.monotonic()
         folder = os.path.realpath(tempfile.mkdtemp(prefix="asancol-test-"))
         wrong = left_out = ""
+        self.watch.begin(test.name, folder)
         try:
             self.call(test, folder)
         except LeftOut as why:
             left_out = str(why)
         except Exception as error:  # whatever it is, the test has failed
             wrong = f"{type(error).__name__}: {error}"
+        hung = self.watch.end(folder)
+        if hung:
+            wrong, left_out = f"{hung}\n{wrong}", ""
+        if wrong:
+            kill_all(folder)
         shutil.rmtree(folder, ignore_errors=True)
         return Result(test.name, test.run.__module__, time.monotonic() - began, wrong, left_out)
 
@@ -192,7 +201,7 @@ class Suite:
             print(f"no test has a name with {' or '.join(self.words)}: --list prints the names", flush=True)
         self.prepare()
         shared = dict.fromkeys(it for test in chosen for it in test.arguments if isinstance(it, Later))
-        with self.executor() as pool:
+        with self.watch, self.executor() as pool:
             for each in shared:
                 pool.submit(each.made)
             running: List["Future[Result]"] = [pool.submit(self.run_test, test) for test in chosen]
@@ -212,6 +221,19 @@ class Suite:
             print(f"left out: {result.name}: {result.left_out}", flush=True)
 
     # ---- what came of them
+
+    def fail_for_threads(self, patience: float = SOON) -> bool:
+        """Counts each thread that tests have left as a failure. Returns whether there is one: who ends this process as
+        usual waits for it for ever."""
+        left = [it for it in threading.enumerate() if it is not threading.current_thread() and not it.daemon]
+        for each in left:
+            each.join(patience)
+        left = [it for it in left if it.is_alive()]
+        for each in left:
+            self.take(Result(each.name, __name__, 0, "this thread was left by a test, and does not end"))
+        if left:
+            faulthandler.dump_traceback(all_threads=True)
+        return bool(left)
 
     def finish(self) -> int:
         """Prints the counts, and returns the status to end with."""
@@ -258,7 +280,8 @@ def read(reader: argparse.ArgumentParser) -> argparse.Namespace:
 def handle_ignored() -> None:
     """Has the programs of tests find the defaults of signals that this process ignores, as by nohup or in the
     background of a script: what has a handler here begins as the default there."""
-    for number in (signal.SIGHUP, signal.SIGINT, signal.SIGQUIT):
+    by_python = {signal.SIGPIPE, signal.SIGXFSZ}
+    for number in signal.valid_signals() - by_python:
         if signal.getsignal(number) == signal.SIG_IGN:
             signal.signal(number, lambda *_: None)
 
@@ -272,10 +295,14 @@ def run(make: Callable[[Sequence[str]], Suite], request: argparse.Namespace) -> 
             print("\n".join(it.name for it in suite.chosen()))
             return 0
         suite.run_all()
+        has_threads = suite.fail_for_threads()
         suite.clean_up()
         if request.junit:
             suite.write_junit(request.junit)
-        return suite.finish()
+        status = suite.finish()
+        if has_threads:
+            os._exit(status)
+        return status
 
 
 def expect_built(asancol: str) -> None:

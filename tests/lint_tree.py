@@ -8,6 +8,7 @@ usage: tests/lint_tree.py
 - No line of C, C++ or Python has more than 120 bytes.
 - Each file is as `rt fmt` lays it out. Without `rt` that is left out, and it says so.
 - No file is a link: `rt ci` takes no tree with one in it.
+- No test waits without a limit (`waits.py`).
 - No word stands there for which the field has another (`words.py`).
 - Each edit of a mutant can be made: what it takes away stands once in its file.
 - Each lemma right in a folder `proofs` is cited. `Examples` and `Refuted` are lists of
@@ -39,6 +40,7 @@ import bodies
 import golden
 import names
 import pages
+import waits
 import words
 from files import TOP, files_of_tree
 
@@ -169,6 +171,7 @@ def findings() -> Iterator[Finding]:
     yield from long_lines_of_others(files)
     yield from bad_layouts(files)
     yield from links(files)
+    yield from waits.findings(files)
     yield from words.findings(files)
     yield from bad_edits(files)
     yield from other_release()

@@ -4,6 +4,7 @@ import os
 import sys
 from typing import Callable, List, Tuple
 
+import waits
 from testing import TOP, Ran, environment, expect, expect_in, expect_not_in, write_text
 from testing.programs import ran_of, run
 
@@ -50,6 +51,20 @@ def linters_find_what_is_planted(_: str, folder: str) -> None:
     ran = run_in(path, sys.executable, "tests/lint.py", *tools, PATH=f"{folder}/none")
     none = "".join(f"not there: {it}\n" for it in tools)
     expect((ran.status, ran.out), (0, f"{none}0 passed, 0 failed, 3 skipped\n"), ran.err)
+
+
+def waits_without_limits_are_found(_: str, __: str) -> None:
+    """Where a test waits for ever, it has a line; where it has a limit, or a text says so, it has none."""
+    planted = """import subprocess, threading
+said = subprocess.run(["true"])
+with subprocess.Popen(["true"]) as started: pass
+peer, _ = listening.accept()
+thread = threading.Thread(target=print)
+thread = threading.Thread(target=print, daemon=True)
+said, peer = call(["true"]), accept(listening)
+text = "subprocess.run([])"
+"""
+    expect(sorted(line for line, _ in waits.waits_in(planted)), [2, 3, 4, 5], "lines")
 
 
 def release(path: str, folder: str) -> Ran:
@@ -103,6 +118,7 @@ def releases_are_made_once(_: str, folder: str) -> None:
 
 # Name, what it does with a built asancol and a folder for itself, and the programs that it needs.
 TESTS: List[Tuple[str, Callable[[str, str], None], Tuple[str, ...]]] = [
+    ("lint: waits", waits_without_limits_are_found, ()),
     ("lint", linters_find_what_is_planted, ("git", "git-clang-format", "shellcheck", "pyflakes3")),
     ("release: made once", releases_are_made_once, ("git",)),
 ]

@@ -26,7 +26,7 @@ import test_quick
 from completions import HELP, TOP, text_of
 from files import files_of_tree, is_repository
 from testing import Failure, LeftOut, Ran, Suite, environment, expect, suite
-from testing.programs import PATIENCE, path_without, ran_of
+from testing.programs import call, path_without, ran_of
 
 
 # The page that `make docs` makes, and nobody commits.
@@ -35,9 +35,8 @@ MADE = "docs/CALLS.md"
 
 def run(argv: List[str], folder: str = TOP, **settings: str) -> Ran:
     """Runs a command, in an environment that says nothing to make or to asancol."""
-    ran = subprocess.run(argv, cwd=folder, env=environment("MAKE", "MFLAGS", "GIT_", **settings), capture_output=True,
-                         stdin=subprocess.DEVNULL, timeout=PATIENCE, check=False)
-    return ran_of(ran)
+    return ran_of(call(argv, cwd=folder, env=environment("MAKE", "MFLAGS", "GIT_", **settings), capture_output=True,
+                       stdin=subprocess.DEVNULL))
 
 
 def must(argv: List[str], folder: str = TOP, **settings: str) -> str:
@@ -110,6 +109,8 @@ def what_is_installed_goes_again(_: str, folder: str) -> None:
     argv = [f"DESTDIR={folder}", "PREFIX=/usr"]
     must(["make", "-s", "install", *argv])
     expect(os.path.isfile(f"{folder}/usr/bin/asancol"), True, "that it is installed")
+    calls = must(["cat", f"{folder}/usr/share/doc/asancol/docs/CALLS.md"])
+    expect(("| `memcpy`, `mempcpy` | " in calls, "](" in calls), (True, False), "the list of calls, without links")
     must(["make", "-s", "uninstall", *argv])
     left = [f"{place}/{name}" for place, _, names in os.walk(folder) for name in names]
     expect(left, [], "what is left")
@@ -123,7 +124,7 @@ def programs_stay_small(_: str, folder: str) -> None:
         must(["make", "-s", "install-recorder", f"PREFIX={place}", *filter(None, [asked])])
         must([f"{place}/bin/asancol-cc", "-g", "examples/bug.c", "-o", f"{place}/bug"])
         sizes.append(os.path.getsize(f"{place}/bug"))
-    expect((sizes[0] < 350_000, sizes[1] > 2 * sizes[0]), (True, True), f"bytes of a program: {sizes}")
+    expect((sizes[0] < 380_000, sizes[1] > 2 * sizes[0]), (True, True), f"bytes of a program: {sizes}")
 
 
 def says_what_is_missing(_: str, folder: str) -> None:
@@ -213,7 +214,8 @@ def package_is_whole(_: str, folder: str) -> None:
     """Pages, completions and documents are where they are looked for."""
     must(["dpkg-deb", "-x", package_of(folder), folder])
     wanted = [f"lib/asancol/libasancol_{it}.a" for it in ("record", "static", "shared", "first", "first_static", "cxx")]
-    wanted += ["lib/asancol/no-second-allocator.ld", "lib/asancol/cold_reports.h", "lib/asancol/cxx/libc++/__config"]
+    wanted += ["lib/asancol/no-second-allocator.ld", "lib/asancol/cold_reports.h", "lib/asancol/clang_intrinsics.h",
+               "lib/asancol/cxx/libc++/__config"]
     wanted += ["lib/asancol/cxx/libstdc++/bits/basic_string.tcc", "lib/asancol/libasancol_preload.so"]
     wanted += ["lib/asancol/cargo/rustc", "lib/asancol/cargo/rustdoc"]
     for name in ("asancol", "asancol-cc", "asancol-c++", "asancol-fc", "asancol-cargo", "asancol-run", "asancol-report",

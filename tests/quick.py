@@ -41,6 +41,7 @@ sys.path.insert(0, f"{os.path.dirname(os.path.realpath(__file__))}/..")  # where
 import gate
 from files import TOP
 from testing import environment
+from testing.programs import killed_after
 
 COUNTS = re.compile(r"(\d+) passed[,;] (\d+) failed")
 LEFT_OUT = re.compile(r"^left out: (.*)$", re.M)
@@ -57,6 +58,8 @@ TAIL = 6000
 
 # A test of a crate may take so long. Nothing is measured by it.
 PATIENCE = "600"
+# So may a part, in seconds.
+LONGEST = 3600
 
 
 def processors() -> int:
@@ -72,22 +75,22 @@ class Ended(NamedTuple):
     seconds: float
 
 
-def ended(argv: List[str], folder: str = TOP) -> Ended:
-    """Runs a command and takes all that it prints. It finds no settings of make or asancol."""
-    with subprocess.Popen(
+def ended(argv: List[str], folder: str = TOP, longest: float = LONGEST) -> Ended:
+    """Runs a command and takes all that it prints until it ends, whatever it leaves running. It
+    finds no settings of make or asancol. If it takes longer, it is killed."""
+    with tempfile.TemporaryFile("w+", errors="replace") as file, subprocess.Popen(
         argv,
         cwd=folder,
         env=environment("MAKE", "MFLAGS"),
         stdin=subprocess.DEVNULL,
-        stdout=subprocess.PIPE,
+        stdout=file,
         stderr=subprocess.STDOUT,
-        text=True,
-        errors="replace",
     ) as command:
-        printed = command.stdout.read() if command.stdout else ""
-        _, status, used = os.wait4(command.pid, 0)
+        with killed_after(command.pid, longest):
+            _, status, used = os.wait4(command.pid, 0)
         command.returncode = os.waitstatus_to_exitcode(status)
-    return Ended(command.returncode, printed, used.ru_utime + used.ru_stime)
+        file.seek(0)
+        return Ended(command.returncode, file.read(), used.ru_utime + used.ru_stime)
 
 
 class Results:

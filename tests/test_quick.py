@@ -2,17 +2,22 @@
 
 import contextlib
 import io
+import os
+import re
 import shutil
 import subprocess
 import sys
 import tempfile
+import time
 from typing import Callable, List, Tuple
 
 import quick
 from completions import TOP
-from testing import Suite, compilers_there, environment, expect, expect_in
-from testing.programs import path_without
+from testing import Failure, Suite, compilers_there, environment, expect, expect_in, wait_until
+from testing.programs import call, path_without
+from testing.programs import run as run_of_test
 from testing.suite import Which
+from testing.watch import LONGEST, Watch
 
 
 def ended(*commands: str) -> Tuple[int, str]:
@@ -56,6 +61,75 @@ def quick_ones_and_the_rest_are_all(_: str) -> None:
         expect([it.name for it in tests.chosen()], wanted, which)
 
 
+def left_running_is_not_waited_for(_: str) -> None:
+    """A part has ended when its command has, or is killed since it takes too long, whatever that leaves running."""
+    began = time.monotonic()
+    expect(ended("sleep 30 & echo 2 passed, 0 failed")[0], 0, "the status")
+    late = quick.ended(["sh", "-c", "echo begun; sleep 30; true"], longest=0.5)
+    expect((late.status, late.printed), (-9, "begun\n"), "one that is late")
+    expect(time.monotonic() - began < 20, True, "at once")
+
+
+def hanging_test_fails(_: str) -> None:
+    """A test that hangs fails by its name: at once if what it runs can be killed, and else with all others."""
+    tests = Suite()
+    tests.watch = Watch(longest=0.5, grace=60, between=0.1)
+    holds_the_pipe = ["sh", "-c", "sleep 60 & exec sleep 60"]
+    tests.test("hangs", lambda _, folder: run_of_test(holds_the_pipe, folder))
+    tests.test("passes", lambda *_: None)
+    with contextlib.redirect_stdout(io.StringIO()):
+        tests.run_all()
+    by_name = {it.name: it.wrong for it in tests.results}
+    expect(by_name["passes"], "", "the other test")
+    expect_in(by_name["hangs"], "took more than 0.5 s", "sleep, sleep")
+    alone = f"""import sys; sys.path.insert(0, {TOP!r})
+import time
+from testing import Suite
+from testing.watch import Watch
+tests = Suite()
+tests.watch = Watch(longest=0.3, grace=0.3, between=0.1)
+tests.test("waits for nothing", lambda *_: time.sleep(60))
+tests.run_all()"""
+    ran = call([sys.executable, "-c", alone], capture_output=True, text=True)
+    expect(ran.returncode, 1, "the status")
+    expect_in(ran.stdout, "FAILED waits for nothing: it hangs", "0 passed, 1 failed\n")
+
+
+def late_program_is_killed(_: str) -> None:
+    """A program that takes too long is killed with all that it has started, and it is said what each was at."""
+    began, said = time.monotonic(), ""
+    try:
+        call(["sh", "-c", "sh -c 'sleep 61; true' & echo begun; sleep 60; true"], capture_output=True, timeout=0.5)
+    except Failure as late:
+        said = str(late)
+    expect_in(said, "took more than 0.5 s: sh ", "it had printed b'begun\\n'")
+    numbers = re.findall(r"\w+ (\d+) in \w+", said)
+    expect((len(numbers), said.count("sleep ")), (4, 2 + said.count("sleep 6")), said)
+    wait_until(lambda: not any(os.path.exists(f"/proc/{it}/exe") for it in numbers), "their ends")
+    expect(time.monotonic() - began < 20, True, "at once")
+
+
+def left_thread_fails(_: str) -> None:
+    """A thread that a test has left fails by its name, and the suite ends."""
+    alone = f"""import sys; sys.path.insert(0, {TOP!r})
+import argparse, threading, time
+from testing import Suite
+from testing.suite import Which, run
+def leave(*_):
+    threading.Thread(target=time.sleep, args=(60,), name="sleeper").start()
+class Left(Suite):
+    def fail_for_threads(self, patience=0.1):
+        return super().fail_for_threads(patience)
+def make(words):
+    tests = Left(words)
+    tests.test("leaves a thread", leave)
+    return tests
+run(make, argparse.Namespace(words=[], which=Which.ALL, list=False, junit=None))"""
+    ran = call([sys.executable, "-c", alone], capture_output=True, text=True, timeout=30)
+    expect(ran.returncode, 1, "the status")
+    expect_in(ran.stdout, "FAILED sleeper: this thread was left by a test", "1 passed, 1 failed\n")
+
+
 def copy_of_tree(folder: str) -> str:
     """Copies what tells of the crates, and what the fake is tested with."""
     left = shutil.ignore_patterns("out", "proofs")
@@ -69,7 +143,7 @@ def copy_of_tree(folder: str) -> str:
 def run_in(folder: str, *argv: str, **settings: str) -> "subprocess.CompletedProcess[str]":
     argv = (sys.executable, f"{folder}/tests/quick.py", *argv)
     own = environment("MAKE", **settings)
-    return subprocess.run(argv, env=own, stdout=subprocess.PIPE, text=True, check=False)
+    return call(argv, env=own, stdout=subprocess.PIPE, text=True, timeout=LONGEST)
 
 
 def wrong_fake_fails(_: str) -> None:
@@ -97,6 +171,10 @@ def runs_without_toolchain(_: str) -> None:
 # Name, what it does, and the programs that it needs.
 TESTS: List[Tuple[str, Callable[[str], None], Tuple[str, ...]]] = [
     ("make test: counts", parts_are_counted, ()),
+    ("make test: what is left running", left_running_is_not_waited_for, ()),
+    ("make test: what hangs", hanging_test_fails, ()),
+    ("make test: what takes too long", late_program_is_killed, ()),
+    ("make test: what tests leave", left_thread_fails, ()),
     ("make test: the rule", quick_ones_and_the_rest_are_all, ()),
     ("make test: a wrong fake", wrong_fake_fails, ("cc",)),
     ("make test: without the toolchain", runs_without_toolchain, ("cc", "git")),

@@ -30,6 +30,21 @@ def output_that_ends_early(program):
 
 
 @test
+def limit_of_files(program):
+    """Where the signal of a limit on files is not ignored, it ends the program, after all that there is room for."""
+    put("trace", PAST_THE_END)
+
+    def bound():
+        resource.setrlimit(resource.RLIMIT_FSIZE, (9, 9))
+        resource.setrlimit(resource.RLIMIT_CORE, (0, 0))
+
+    with open("output", "wb") as output:
+        status = program.run(["check", "trace"], stdout=output, before=bound)[0]
+    with open("output", "rb") as output:
+        same("limit", (status, output.read()), (-signal.SIGXFSZ, past_the_end().encode()[:9]))
+
+
+@test
 def no_memory_to_begin(program):
     """There is a bound on memory under which the program starts, and has none to begin."""
     program.leave_out_with_checks("it ends otherwise")
