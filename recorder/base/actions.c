@@ -25,8 +25,9 @@ int action_set(int number, const struct system_action *action, struct system_act
     return (int)system_call4(SYS_rt_sigaction, number, (long)action, (long)old, SIGNAL_SET_BYTES);
 }
 
-int action_handle(int number, void (*handler)(int, siginfo_t *, void *), struct system_action *old)
+int action_handle(int number, void (*handler)(int, siginfo_t *, void *), uint64_t mask, struct system_action *old)
 {
-    struct system_action ours = {handler, ACTION_FLAGS | WITH_RESTORER, return_from_handler, ~(uint64_t)0};
+    unsigned long more = mask >> (number - 1) & 1 ? 0 : SA_NODEFER;
+    struct system_action ours = {handler, ACTION_FLAGS | WITH_RESTORER | more, return_from_handler, mask};
     return action_set(number, &ours, old);
 }

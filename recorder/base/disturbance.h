@@ -2,6 +2,7 @@
 #ifndef ASANCOL_DISTURBANCE_H
 #define ASANCOL_DISTURBANCE_H
 
+#include <stdbool.h>
 #include <stdint.h>
 
 /* Two that the C library keeps for itself: by one it cancels a thread, which has to wait too, and by the other it
@@ -17,6 +18,10 @@ struct disturbance {
    trace was cut. */
 void undisturbed_begin(struct disturbance *before);
 void undisturbed_end(const struct disturbance *before);
+/* Faults come through as well from now on, since the handler of these signals knows what to do: who blocks them dies of
+   one without a word. If they were not raised by a fault, that handler has them wait. */
+void undisturbed_by_faults(uint64_t set);
+bool is_undisturbed(uint64_t mask);
 /* A call that failed has raised a signal, which is blocked: takes it away again. */
 void signal_take_away(int number);
 

@@ -23,10 +23,18 @@ static inline bool lock_try(struct lock *lock)
                                                    memory_order_relaxed);
 }
 
+/* Who has it mostly gives it soon: to sleep and to be woken takes longer. */
 static inline void lock_take(struct lock *lock)
 {
-    if (lock_try(lock))
-        return;
+    enum { LOOKS = 100 };
+    for (int looks = 0; looks < LOOKS; looks++) {
+        uint32_t state = atomic_load_explicit(&lock->state, memory_order_relaxed);
+        if (state == LOCK_FREE && lock_try(lock))
+            return;
+        if (state == LOCK_AWAITED)
+            break;
+        __builtin_ia32_pause();
+    }
     while (atomic_exchange_explicit(&lock->state, LOCK_AWAITED, memory_order_acquire) != LOCK_FREE)
         system_futex(&lock->state, FUTEX_WAIT_PRIVATE, LOCK_AWAITED);
 }

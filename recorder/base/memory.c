@@ -4,6 +4,7 @@
 #include <errno.h>
 #include <string.h>
 
+#include "common/format.h"
 #include "base/platform.h"
 #include "base/system.h"
 
@@ -48,10 +49,12 @@ static bool is_page_there(uintptr_t page)
 
 bool memory_is_there(struct known_page *known, uintptr_t address, size_t size)
 {
+    if (address < PAGE || address >= ADDRESS_END || size > ADDRESS_END - address)
+        return false;
     for (uintptr_t page = address / PAGE * PAGE; page < address + size; page += PAGE) {
         if (page == known->start)
             continue;
-        if (page == 0 || page > UINTPTR_MAX - 2 * PAGE || !is_page_there(page))
+        if (!is_page_there(page))
             return false;
         known->start = page;
     }

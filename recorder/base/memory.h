@@ -6,19 +6,20 @@
 #include <stddef.h>
 #include <stdint.h>
 
-/* False: not all of it is there. */
-bool memory_read(uint64_t from, void *to, size_t size);
-/* Reads a text up to its zero, or as much of it as there is room for. False: it is not there. */
-bool memory_read_text(uint64_t from, char *to, size_t room);
+#include "base/platform.h"
 
+/* False: not all of it is there. */
+bool memory_read(uint64_t from, void *to, size_t size) OWN_NAME(memory_read);
+/* Reads a text up to its zero, or as much of it as there is room for. False: it is not there. */
+bool memory_read_text(uint64_t from, char *to, size_t room) OWN_NAME(memory_read_text);
 
 /* The page that could be read last; 0: none. */
 struct known_page {
     uintptr_t start;
 };
 
-/* Whether so many bytes can be read, at most a page of them: the system is asked once for each page. No more than what
-   the system says now, so not for memory that another thread gives back. */
+/* Whether so many bytes can be read: the system is asked once for each page. Nothing is in page 0, and nothing beyond
+   the end of addresses. No more than what the system says now, so not for memory that another thread gives back. */
 bool memory_is_there(struct known_page *known, uintptr_t address, size_t size);
 
 #endif

@@ -182,6 +182,11 @@ SYSTEM_CALL ssize_t system_sendmsg(int descriptor, const struct msghdr *message,
     return system_call3(SYS_sendmsg, descriptor, (long)message, flags);
 }
 
+SYSTEM_CALL ssize_t system_recvmsg(int descriptor, struct msghdr *message, int flags)
+{
+    return system_call3(SYS_recvmsg, descriptor, (long)message, flags);
+}
+
 SYSTEM_CALL int system_getsockopt(int descriptor, int level, int name, void *value, socklen_t *size)
 {
     return (int)system_call6(SYS_getsockopt, descriptor, level, name, (long)value, (long)size, 0);
@@ -262,6 +267,11 @@ SYSTEM_CALL pid_t system_setsid(void)
 SYSTEM_CALL int system_getrlimit(int resource, struct rlimit *limit)
 {
     return (int)system_call4(SYS_prlimit64, 0, resource, 0, (long)limit);
+}
+
+SYSTEM_CALL int system_setrlimit(int resource, const struct rlimit *limit)
+{
+    return (int)system_call4(SYS_prlimit64, 0, resource, (long)limit, 0);
 }
 
 SYSTEM_CALL int system_sched_yield(void)

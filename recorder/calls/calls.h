@@ -3,6 +3,7 @@
 #define ASANCOL_CALLS_H
 
 #include <stdarg.h>
+#include <stdbool.h>
 #include <stdint.h>
 #include <string.h>
 #include <sys/uio.h>
@@ -104,6 +105,14 @@ static inline size_t wide_length_within(const wchar_t *text, size_t most)
     const wchar_t *end = wmemchr(text, 0, most);
     return end != NULL ? (size_t)(end - text) + 1 : most;
 }
+
+/* there.c: memory that a call gives to the system, which may not be there. */
+
+bool call_is_there(const volatile void *start, size_t size) OWN_NAME(call_is_there);
+/* How many of the first bytes of a text can be read, at most up to its end and with that. */
+size_t call_text_there(const char *text) OWN_NAME(call_text_there);
+/* Looks at what can be read of a text, and answers what the call is to be given. */
+void *call_gives(const char *text, struct call call) OWN_NAME(call_gives);
 
 /* formats.c: what a printf reads and writes by its format, but for its output. Nothing without a format. */
 void format_checks_print(const char *format, va_list values, struct call call) OWN_NAME(format_checks_print);

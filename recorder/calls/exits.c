@@ -7,16 +7,15 @@
 #include <sys/stat.h>
 #include <unistd.h>
 
-#include "calls/library.h"
-#include "calls/stubs.h"
-#include "interface/hooks.h"
 #include "base/system.h"
+#include "calls/words.h"
 
 REAL(_Noreturn void, _exit, (int));
 REAL(_Noreturn void, _Exit, (int));
 REAL(_Noreturn void, abort, (void));
 REAL(_Noreturn void, __assert_fail, (const char *, const char *, unsigned, const char *));
 REAL(int, daemon, (int, int));
+REAL(pid_t, fork, (void));
 REAL(int, execve, (const char *, char *const *, char *const *));
 REAL(int, execv, (const char *, char *const *));
 REAL(int, execvpe, (const char *, char *const *, char *const *));
@@ -93,6 +92,17 @@ CHECK int checked_daemon(int keeps_folder, int keeps_streams)
     return -1;
 }
 
+/* Its number is noted: a child that is ended at once says nothing itself. */
+GUARD_OWN(fork);
+CHECK pid_t checked_fork(void)
+{
+    IS_OWN_FRAME;
+    pid_t child = real_fork();
+    if (child > 0 && HAS_HOOK(child_forked))
+        asancol_hooks.child_forked(child);
+    return child;
+}
+
 /* A function that returns twice is not called from here, where its second return would meet other frames: the caller's
    place is noted, and it goes on there. */
 CHECK void note_caller_of_vfork(uintptr_t stack)
@@ -145,14 +155,30 @@ static char *const *environment_now(void)
     return is_known ? *LIBRARY->environment : NULL;
 }
 
-/* After the arguments stands what the process becomes. */
+/* What cannot be read the system refuses. */
+static void reads_target(const struct target *target, char *const *words, struct call call)
+{
+    call_gives(target->name, call);
+    GIVES_LIST(words);
+    GIVES_LIST(target->environment);
+}
+
+/* After the arguments stands what the process becomes. A function of another form has its own call. */
 #define EXEC(name, parameters, arguments, ...)                                                                         \
-    GUARD_OWN(name);                                                                                                   \
-    CHECK int checked_##name parameters                                                                                \
+    static int run_##name(struct call call, UNPACKED parameters)                                                       \
     {                                                                                                                  \
-        struct leaving leaving = leave(&(struct target){__VA_ARGS__});                                                 \
-        real_##name arguments;                                                                                         \
+        IS_OWN_FRAME;                                                                                                  \
+        const struct target target = {__VA_ARGS__};                                                                    \
+        reads_target(&target, argv, call);                                                                             \
+        struct leaving leaving = leave(&target);                                                                       \
+        real_##name(UNPACKED arguments);                                                                               \
         return stay(leaving);                                                                                          \
+    }                                                                                                                  \
+    GUARD_OWN(name);                                                                                                   \
+    CHECK int checked_##name(UNPACKED parameters)                                                                      \
+    {                                                                                                                  \
+        IS_OWN_FRAME;                                                                                                  \
+        return run_##name(THIS_CALL(#name), UNPACKED arguments);                                                       \
     }
 
 EXEC(execve, (const char *path, char *const *argv, char *const *environment), (path, argv, environment),
@@ -196,17 +222,17 @@ static void take_argv(char **argv, size_t count, const char *first, va_list rest
 GUARD_OWN(execl);
 CHECK int checked_execl(const char *path, const char *first, ...)
 {
-    WITH_ARGV(first, checked_execv(path, argv));
+    WITH_ARGV(first, run_execv(THIS_CALL("execl"), path, argv));
 }
 
 GUARD_OWN(execlp);
 CHECK int checked_execlp(const char *file, const char *first, ...)
 {
-    WITH_ARGV(first, checked_execvp(file, argv));
+    WITH_ARGV(first, run_execvp(THIS_CALL("execlp"), file, argv));
 }
 
 GUARD_OWN(execle);
 CHECK int checked_execle(const char *path, const char *first, ...)
 {
-    WITH_ARGV(first, checked_execve(path, argv, va_arg(again, char **)));
+    WITH_ARGV(first, run_execve(THIS_CALL("execle"), path, argv, va_arg(again, char **)));
 }

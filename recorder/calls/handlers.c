@@ -34,3 +34,34 @@ CHECK sighandler_t checked___sysv_signal(int number, sighandler_t handler)
 {
     return set_handler(number, handler, (int)SA_RESETHAND | SA_NODEFER);
 }
+
+/* Other names of these. */
+GUARD_OWN(bsd_signal);
+CHECK sighandler_t checked_bsd_signal(int number, sighandler_t handler)
+{
+    return set_handler(number, handler, SA_RESTART);
+}
+
+GUARD_OWN(ssignal);
+CHECK sighandler_t checked_ssignal(int number, sighandler_t handler)
+{
+    return set_handler(number, handler, SA_RESTART);
+}
+
+GUARD_OWN(sysv_signal);
+CHECK sighandler_t checked_sysv_signal(int number, sighandler_t handler)
+{
+    return set_handler(number, handler, (int)SA_RESETHAND | SA_NODEFER);
+}
+
+/* It asks for what is there by the C library's own sigaction, and may block the signal. */
+REAL(sighandler_t, sigset, (int, sighandler_t));
+
+GUARD_OWN(sigset);
+CHECK sighandler_t checked_sigset(int number, sighandler_t handler)
+{
+    struct sigaction before;
+    bool is_known = checked_sigaction(number, NULL, &before) == 0;
+    sighandler_t seen = real_sigset(number, handler);
+    return is_known && seen != SIG_ERR && seen != SIG_HOLD ? before.sa_handler : seen;
+}

@@ -7,6 +7,7 @@
 
    One member of the library, that comes in only if it is asked for. */
 #include "calls/library.h"
+#include "shadow/mapping.h"
 
 #define BEGIN(name)                                                                                                    \
     ".weak __interceptor_" #name "\n" SHOWN("__interceptor_" #name)                                                    \
@@ -64,7 +65,6 @@ struct next_function {
 
 extern struct next_function next_functions[] __attribute__((visibility("hidden")));
 extern struct next_function next_functions_end[] __attribute__((visibility("hidden")));
-extern const char __ehdr_start[], _end[];
 
 /* Until they are found nothing is the program's own. */
 __attribute__((used)) static size_t program_size;
@@ -73,7 +73,7 @@ __attribute__((constructor(101))) static void find_next_functions(void)
 {
     for (struct next_function *it = next_functions; it != next_functions_end; it++)
         it->code = library_next(it->name);
-    program_size = (size_t)(_end - __ehdr_start);
+    program_size = own_code.size;
 }
 
 #endif

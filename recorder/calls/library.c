@@ -111,12 +111,32 @@ static const struct {
     size_t place;
 } wanted_names[] = {
 #define WANTED(name) {#name, offsetof(struct library, name)}
-    WANTED(__errno_location), WANTED(vsnprintf), WANTED(strtod), WANTED(clock_gettime), WANTED(__register_atfork),
-    WANTED(__cxa_at_quick_exit), WANTED(_dl_find_object), WANTED(dl_iterate_phdr), WANTED(fputs),
-    WANTED(pthread_key_create), WANTED(pthread_setspecific), WANTED(pthread_getattr_default_np),
-    WANTED(pthread_attr_getstacksize), WANTED(pthread_attr_destroy), WANTED(fork), WANTED(dladdr), WANTED(dlsym),
-    WANTED(__cxa_atexit), WANTED(_IO_flush_all), WANTED(__chk_fail), WANTED(getc), WANTED(getwc), WANTED(ferror),
-    WANTED(__ctype_get_mb_cur_max), WANTED(dlerror),
+    WANTED(__errno_location),
+    WANTED(vsnprintf),
+    WANTED(strtod),
+    WANTED(clock_gettime),
+    WANTED(__register_atfork),
+    WANTED(__cxa_at_quick_exit),
+    WANTED(_dl_find_object),
+    WANTED(dl_iterate_phdr),
+    WANTED(fputs),
+    WANTED(pthread_key_create),
+    WANTED(pthread_setspecific),
+    WANTED(pthread_getattr_default_np),
+    WANTED(pthread_attr_getstacksize),
+    WANTED(pthread_attr_destroy),
+    WANTED(fork),
+    WANTED(dladdr),
+    WANTED(dlsym),
+    WANTED(__cxa_atexit),
+    WANTED(_IO_flush_all),
+    WANTED(__chk_fail),
+    WANTED(getc),
+    WANTED(getwc),
+    WANTED(ferror),
+    WANTED(__ctype_get_mb_cur_max),
+    WANTED(dlerror),
+    WANTED(dlvsym),
 };
 
 /* A variable, which may have been moved into the program. */
@@ -138,6 +158,7 @@ static void find_all(const struct object *program, const struct object *from)
     if (alone != 0)
         library.__libc_single_threaded = (const char *)alone;
     library.stderr_stream = (FILE **)find_variable(program, from, "stderr");
+    library.optind = (const int *)find_variable(program, from, "optind");
     static const char *const names[] = {"environ", "_environ", "__environ"};
     uintptr_t environment = 0;
     for (size_t i = 0; i < sizeof names / sizeof *names && environment == 0; i++)
@@ -217,6 +238,30 @@ void *library_first(const char *name)
     struct search search = {.name = name, .is_past_own = true};
     library.dl_iterate_phdr(look_for_name, &search);
     return (void *)search.found;
+}
+
+/* Whether it leads there, since the program has the recorder itself. */
+static bool is_preloaded(const struct dl_phdr_info *module)
+{
+#ifdef IS_PRELOAD
+    (void)module;
+    return false;
+#else
+    return object_is_named(module->dlpi_name, "libasancol_preload.so");
+#endif
+}
+
+static int look_for_library(struct dl_phdr_info *module, size_t size, void *function)
+{
+    struct code_range range = object_range(module);
+    (void)size;
+    return range_has(range, (uintptr_t)function)
+           && (range_has(range, (uintptr_t)library.vsnprintf) || is_preloaded(module));
+}
+
+bool library_has(const void *function)
+{
+    return library.dl_iterate_phdr(look_for_library, (void *)(uintptr_t)function) == 1;
 }
 
 /* Some functions of time are those that the system maps into the process. */

@@ -50,6 +50,8 @@ struct library {
     void (*_dl_get_tls_static_info)(size_t *size, size_t *alignment); /* of the loader; null: there is none */
     const uint32_t *_thread_db_sizeof_pthread; /* what it keeps of a thread has so many bytes; or null */
     char *(*dlerror)(void);
+    void *(*dlvsym)(void *where, const char *name, const char *version);
+    const int *optind; /* or null */
 };
 
 extern struct library library OWN_NAME(library);
@@ -79,6 +81,8 @@ void library_find(struct hook_page *hook_page);
 void *library_next(const char *name) OWN_NAME(library_next);
 /* Likewise in all objects, with the program first. Where a program only names it, it is not the program's. */
 void *library_first(const char *name);
+/* Whether a function is the C library's. */
+bool library_has(const void *function);
 /* After a library was opened: the mathematics may have come with it. */
 void library_look_again(void);
 /* From now on no call is checked. */

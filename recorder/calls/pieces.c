@@ -19,8 +19,10 @@ size_t good_length(const void *start, size_t size)
 
 size_t good_pieces(const struct iovec *pieces, size_t count)
 {
-    size_t before = 0;
-    for (size_t i = 0; i < least(count, IOV_MAX); i++) {
+    size_t before = 0, most = least(count, IOV_MAX);
+    if (!call_is_there(pieces, most * sizeof *pieces))
+        return SIZE_MAX;
+    for (size_t i = 0; i < most; i++) {
         size_t good = good_length(pieces[i].iov_base, pieces[i].iov_len);
         if (good != SIZE_MAX)
             return before + good;

@@ -10,6 +10,7 @@
 #define _GNU_SOURCE
 #include "calls/plain.h"
 
+#include <dlfcn.h>
 #include <errno.h>
 #include <link.h>
 #include <stdatomic.h>
@@ -20,9 +21,12 @@
 #include "calls/objects.h"
 #include "base/system.h"
 #include "common/text.h"
+#include "heap/heap.h"
 #include "process/aside.h"
 #include "process/link_note.h"
 #include "process/process.h"
+#include "process/threads.h"
+#include "shadow/mapping.h"
 #include "stacks/unwinding.h"
 #include "stream/maps.h"
 #include "stream/side.h"
@@ -67,33 +71,97 @@ static const struct stub *find_stub(const char *name)
     return NULL;
 }
 
-/* dlsym has no check. What a library has opened by itself it asks for its functions first: so what was loaded is looked
-   at then. dlsym answers by its caller, so it is jumped to. */
-__attribute__((used)) static void *(*next_dlsym)(void *, const char *);
-extern const unsigned char dlsym_stub[] __attribute__((visibility("hidden")));
+/* The recorder's function of this name, or null. */
+static void *own_of(const char *name)
+{
+#ifdef IS_PRELOAD
+    uintptr_t own = aside_function_behind(name);
+#else
+    uintptr_t own = heap_function_behind(name);
+    if (own == 0)
+        own = thread_function_behind(name);
+#endif
+    return (void *)own;
+}
 
-__asm__(".pushsection .text\n"
-        ".p2align 4\n"
-        ".globl dlsym_stub\n.hidden dlsym_stub\n.type dlsym_stub,@function\ndlsym_stub:\n"
-        "\t.cfi_startproc\n"
-        "\tendbr64\n"
-        "\tpushq %rdi\n"
-        "\t.cfi_adjust_cfa_offset 8\n"
-        "\tpushq %rsi\n"
-        "\t.cfi_adjust_cfa_offset 8\n"
-        "\tsubq $8, %rsp\n"
-        "\t.cfi_adjust_cfa_offset 8\n"
-        "\tcall look_for_opened\n"
-        "\taddq $8, %rsp\n"
-        "\t.cfi_adjust_cfa_offset -8\n"
-        "\tpopq %rsi\n"
-        "\t.cfi_adjust_cfa_offset -8\n"
-        "\tpopq %rdi\n"
-        "\t.cfi_adjust_cfa_offset -8\n"
-        "\tjmp *next_dlsym(%rip)\n"
-        "\t.cfi_endproc\n"
-        ".size dlsym_stub, .-dlsym_stub\n"
-        ".popsection\n");
+void *plain_instead_of(void *found, const char *name, bool is_new)
+{
+    void *own = own_of(name);
+    if (own != NULL || !is_new || range_has(own_code, (uintptr_t)found))
+        return own != NULL && library_has(found) ? own : found;
+    for (const struct stub *it = plain_stubs; it != plain_stubs_end; it++)
+        if (*(void *const *)at_distance(&it->function) == found && strcmp(at_distance(&it->name), name) == 0)
+            return (void *)(uintptr_t)at_distance(&it->code);
+    return found;
+}
+
+/* What a library has opened by itself it asks for its functions first: so what was loaded is looked at then. dlsym and
+   dlvsym answer by their caller, so they are jumped to, unless they would answer the C library's function where the
+   recorder has one. If that comes next after the recorder, it does for all others. */
+struct answer {
+    void *own; /* or null: `by` says it */
+    uintptr_t by;
+};
+
+static void look_for_opened(void);
+
+static void *ask_for(void *where, const char *name, const char *version)
+{
+    return version == NULL ? library.dlsym(where, name) : library.dlvsym(where, name, version);
+}
+
+static void *find_own(void *where, const char *name, const char *version)
+{
+    look_for_opened();
+    /* The first of all may be the program's. With a version it is none of those, which have no versions. */
+    void *own = where != RTLD_DEFAULT || version != NULL ? own_of(name) : NULL;
+    void *found = own != NULL ? ask_for(where, name, version) : NULL;
+    return found != NULL && library_has(found) ? own : NULL;
+}
+
+__attribute__((used)) static struct answer answer_dlsym(void *where, const char *name)
+{
+    return (struct answer){find_own(where, name, NULL), (uintptr_t)library.dlsym};
+}
+
+__attribute__((used)) static struct answer answer_dlvsym(void *where, const char *name, const char *version)
+{
+    return (struct answer){find_own(where, name, version), (uintptr_t)library.dlvsym};
+}
+
+#ifdef IS_PRELOAD
+#define STUB_OF(name) "asancol_instead_" name /* called from the first moment on (process/exports.c) */
+#else
+#define STUB_OF(name) "asancol_plain_" name
+#endif
+
+#define FINDS(name, label)                                                                                             \
+    extern const unsigned char stub_of_##name[] __asm__(label) __attribute__((visibility("hidden")));                  \
+    __asm__(".pushsection .text\n"                                                                                     \
+            ".p2align 4\n"                                                                                             \
+            ".globl " label "\n"                                                                                       \
+            ".hidden " label "\n"                                                                                      \
+            ".type " label ",@function\n" label ":\n"                                                                  \
+            "\t.cfi_startproc\n"                                                                                       \
+            "\tendbr64\n"                                                                                              \
+            "\tpushq %rdi\n\t.cfi_adjust_cfa_offset 8\n"                                                               \
+            "\tpushq %rsi\n\t.cfi_adjust_cfa_offset 8\n"                                                               \
+            "\tpushq %rdx\n\t.cfi_adjust_cfa_offset 8\n"                                                               \
+            "\tcall answer_" #name "\n"                                                                                \
+            "\tmovq %rdx, %r11\n"                                                                                      \
+            "\tpopq %rdx\n\t.cfi_adjust_cfa_offset -8\n"                                                               \
+            "\tpopq %rsi\n\t.cfi_adjust_cfa_offset -8\n"                                                               \
+            "\tpopq %rdi\n\t.cfi_adjust_cfa_offset -8\n"                                                               \
+            "\ttestq %rax, %rax\n"                                                                                     \
+            "\tjz 1f\n"                                                                                                \
+            "\tret\n"                                                                                                  \
+            "1:\tjmp *%r11\n"                                                                                          \
+            "\t.cfi_endproc\n"                                                                                         \
+            ".size " label ", .-" label "\n"                                                                           \
+            ".popsection\n");
+
+FINDS(dlsym, STUB_OF("dlsym"))
+FINDS(dlvsym, STUB_OF("dlvsym"))
 
 /* Where a slot leads, and where it shall. `is_export`: to a function of the recorder's that has the name itself. */
 struct way {
@@ -116,7 +184,9 @@ static bool find_way(const char *name, struct way *way)
         *way = (struct way){*(const uintptr_t *)at_distance(&stub->function), (uintptr_t)at_distance(&stub->code),
                             aside_is_behind(at_distance(&stub->function))};
     else if (strcmp(name, "dlsym") == 0)
-        *way = (struct way){(uintptr_t)next_dlsym, (uintptr_t)dlsym_stub, false};
+        *way = (struct way){(uintptr_t)library.dlsym, (uintptr_t)stub_of_dlsym, false};
+    else if (strcmp(name, "dlvsym") == 0)
+        *way = (struct way){(uintptr_t)library.dlvsym, (uintptr_t)stub_of_dlvsym, false};
     else
         return false;
     return is_checked(way->from);
@@ -343,7 +413,6 @@ void plain_begin(void)
     const struct hook_page *hook_page = (const struct hook_page *)HOOK_PAGE_START;
     if (hook_page->library.size == 0 || !recorder_checks_libraries())
         return;
-    next_dlsym = library.dlsym;
     enter_stubs();
     library.dl_iterate_phdr(read_library, NULL);
 #ifdef IS_PRELOAD
@@ -360,9 +429,11 @@ void plain_look_again(void)
 }
 
 /* It has its place in the map of modules too. */
-__attribute__((used)) static void look_for_opened(void)
+static void look_for_opened(void)
 {
     struct look look = {.is_start = false};
+    if (!is_on)
+        return;
     library.dl_iterate_phdr(look_at, &look);
     if (look.has_found) {
         unwinding_modules_changed();

@@ -10,6 +10,10 @@
 void plain_begin(void);
 /* Those that were loaded since, too. Not in a signal handler. */
 void plain_look_again(void);
+/* What stands for a function that was found by its name: the program's stub, so that a function has one address, and
+   its calls by that are checked; and for one of the C library's allocator, whose blocks are not known, the recorder's.
+   `is_new`: it is the version that new programs get. */
+void *plain_instead_of(void *found, const char *name, bool is_new);
 /* Whether a module that is called so, without its folders, is the C library or belongs to it: its calls are not the
    program's. */
 bool plain_is_of_library(const char *name);

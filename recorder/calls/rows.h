@@ -16,6 +16,9 @@
 #define WRITES_ARRAY(start, count, size) call_checks_array(CODE_STORE, start, (size_t)(count), size, call)
 #define READS_STRING(text) call_checks_string(CODE_LOAD, text, call)
 #define WRITES_STRING(text) call_checks_string(CODE_STORE, text, call)
+#define GIVES_STRING(text) text = call_gives(text, call)
+#define GIVEN_WITHIN(text, most) LEAST(call_text_there(text), most)
+#define IS_THERE(start) call_is_there(start, sizeof *(start))
 #define READS_WIDE(text) call_checks_wide(CODE_LOAD, text, call)
 #define WRITES_WIDE(text) call_checks_wide(CODE_STORE, text, call)
 
@@ -54,6 +57,7 @@
 #define HAS_BEGUN(child)                                                                                               \
     if (is_expected)                                                                                                   \
         asancol_hooks.child_number(DONE && (child) != NULL ? *(child) : 0)
+#define HAS_ENDED(child, status) note_ended((int)(child), status)
 #define NAMES_THREAD(thread, name) note_thread_name(thread, name)
 #define ALLOCATES note_called_from(call.caller)
 #define ALLOCATED note_called_from(0)
@@ -90,6 +94,18 @@
         real_##name arguments;                                                                                         \
         after;                                                                                                         \
         (void)call;                                                                                                    \
+    }
+
+#define LOCK(name, parameters, bytes)                                                                                  \
+    REAL(int, name, parameters);                                                                                       \
+    STUB_OF_LOCK(name, bytes)                                                                                          \
+    CHECK int checked_##name parameters                                                                                \
+    {                                                                                                                  \
+        _Static_assert(sizeof *lock == bytes, "as the stub has it");                                                   \
+        IS_OWN_FRAME;                                                                                                  \
+        struct call call = THIS_CALL(#name);                                                                           \
+        WRITES(lock, sizeof *lock);                                                                                    \
+        return real_##name(lock);                                                                                      \
     }
 
 #endif

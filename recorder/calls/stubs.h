@@ -1,5 +1,5 @@
 /* What the linker calls in the place of a wrapped function: a stub before the check. A program may have a function of
-   that name with other parameters. So the stub touches no argument, and asks whether the name is the C library's. Only
+   that name with other parameters. So the stub changes no argument, and asks whether the name is the C library's. Only
    then it goes to the check; else it goes to the function. */
 #ifndef ASANCOL_STUBS_H
 #define ASANCOL_STUBS_H
@@ -36,12 +36,13 @@ _Static_assert(offsetof(struct hook_page, program) == 56, "as the stubs have it"
 
 /* `label` goes to `check` if the code of `tested` is in one of the three ranges of the hook page, and else to
    `real`. */
-#define GUARD(label, tested, check, real)                                                                              \
+#define GUARD(label, tested, check, real) GUARD_AFTER("", label, tested, check, real)
+#define GUARD_AFTER(first, label, tested, check, real)                                                                 \
     __asm__(".pushsection .text\n"                                                                                     \
             ".p2align 4\n"                                                                                             \
             HIDE(label) ".type " label ",@function\n" label ":\n.L" label ":\n"                                        \
             "\t.cfi_startproc\n"                                                                                       \
-            "\tendbr64\n"                                                                                              \
+            "\tendbr64\n" first                                                                                        \
             "\tmovabsq $" TEXT(HOOK_PAGE_START) ", %r10\n"                                                             \
             GO_IF_IN("8", "16", tested, check)                                                                         \
             GO_IF_IN("24", "32", tested, check)                                                                        \
@@ -82,28 +83,51 @@ _Static_assert(offsetof(struct hook_page, program) == 56, "as the stubs have it"
     GUARD("__wrap_" #name, "__real_" #name, "checked_" #name, "__real_" #name)                                         \
     LIST(name)
 
+/* Of a lock: its function is called as it is if the shadow of the lock is clean, whosever function that is. That is one
+   word, of an object that begins a granule. It is read for addresses alone, short of the map's end. */
+_Static_assert(SHADOW_START == 0x7fff8000 && ADDRESS_END >> 47 == 1 && GRANULE == 8, "as the stubs have it");
+#define STUB_OF_LOCK(name, bytes)                                                                                      \
+    __asm__(BIND("__wrap_" #name));                                                                                    \
+    GUARD_AFTER("\tmovq %rdi, %r11\n"                                                                                  \
+                "\ttestb $7, %dil\n"                                                                                   \
+                "\tjne 1f\n"                                                                                           \
+                "\tshrq $3, %r11\n"                                                                                    \
+                "\tleaq 8(%r11), %r10\n"                                                                               \
+                "\tshrq $44, %r10\n"                                                                                   \
+                "\tjne 1f\n"                                                                                           \
+                "\tmovq 0x7fff8000(%r11), %r11\n"                                                                      \
+                "\tshlq $64 - " #bytes ", %r11\n"                                                                      \
+                "\tjne 1f\n"                                                                                           \
+                "\tjmp *__real_" #name "@GOTPCREL(%rip)\n"                                                             \
+                "1:\n",                                                                                                \
+                "__wrap_" #name, "__real_" #name, "checked_" #name, "__real_" #name)                                   \
+    LIST(name)
+
 /* For a function whose effect depends on its caller, and that the program calls to end, to go on otherwise or to give
-   memory another use: what it does is seen as long as the name is not the object's own, or the program's. */
+   memory another use: what it does is seen as long as the name is not the object's own, or the program's. Before the
+   recorder's start, as from .preinit_array, it is not. */
 #define GUARD_OWN_OF_CALLER(name)                                                                                      \
     __asm__(".pushsection .text\n"                                                                                     \
-            ".p2align 4\n"                                                                                             \
-            BIND("__wrap_" #name) HIDE("__wrap_" #name)                                                                \
-            ".type __wrap_" #name ",@function\n__wrap_" #name ":\n.L__wrap_" #name ":\n"                              \
-            "\t.cfi_startproc\n"                                                                                       \
-            "\tendbr64\n"                                                                                              \
-            "\tmovq __real_" #name "@GOTPCREL(%rip), %r11\n"                                                           \
-            "\tmovq %r11, %r10\n"                                                                                      \
-            "\tsubq asancol_own_code(%rip), %r10\n"                                                                    \
-            "\tcmpq asancol_own_code+8(%rip), %r10\n"                                                                  \
-            "\tjb 1f\n"                                                                                                \
-            "\tmovabsq $" TEXT(HOOK_PAGE_START) ", %r10\n"                                                             \
-            "\tsubq 56(%r10), %r11\n"                                                                                  \
-            "\tcmpq 64(%r10), %r11\n"                                                                                  \
-            "\tjae checked_" #name "\n"                                                                                \
-            "1:\tjmp *__real_" #name "@GOTPCREL(%rip)\n"                                                               \
-            "\t.cfi_endproc\n"                                                                                         \
-            ".size __wrap_" #name ", .-__wrap_" #name "\n"                                                             \
-            ".popsection\n")
+            ".p2align 4\n" BIND("__wrap_" #name)                                                                       \
+                HIDE("__wrap_" #name) ".type __wrap_" #name ",@function\n__wrap_" #name ":\n.L__wrap_" #name ":\n"     \
+                                      "\t.cfi_startproc\n"                                                             \
+                                      "\tendbr64\n"                                                                    \
+                                      "\tcmpq $0, asancol_own_code+8(%rip)\n"                                          \
+                                      "\tje 1f\n"                                                                      \
+                                      "\tmovq __real_" #name "@GOTPCREL(%rip), %r11\n"                                 \
+                                      "\tmovq %r11, %r10\n"                                                            \
+                                      "\tsubq asancol_own_code(%rip), %r10\n"                                          \
+                                      "\tcmpq asancol_own_code+8(%rip), %r10\n"                                        \
+                                      "\tjb 1f\n"                                                                      \
+                                      "\tmovabsq $" TEXT(HOOK_PAGE_START) ", %r10\n"                                   \
+                                                                          "\tsubq 56(%r10), %r11\n"                    \
+                                                                          "\tcmpq 64(%r10), %r11\n"                    \
+                                                                          "\tjae checked_" #name "\n"                  \
+                                                                          "1:\tjmp *__real_" #name "@GOTPCREL(%rip)\n" \
+                                                                          "\t.cfi_endproc\n"                           \
+                                                                          ".size __wrap_" #name ", .-__wrap_" #name    \
+                                                                          "\n"                                         \
+                                                                          ".popsection\n")
 
 /* For one whose effect is the same whoever calls it, plain libraries too; and a plain program that has the recorder
    preloaded. */

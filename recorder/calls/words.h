@@ -4,17 +4,21 @@
 #ifndef ASANCOL_WORDS_OF_ROWS_H
 #define ASANCOL_WORDS_OF_ROWS_H
 
+#include <aio.h>
 #include <arpa/inet.h>
 #include <dirent.h>
 #include <emmintrin.h>
 #include <errno.h>
 #include <fcntl.h>
+#include <ftw.h>
+#include <getopt.h>
 #include <glob.h>
 #include <grp.h>
 #include <ifaddrs.h>
 #include <limits.h>
 #include <linux/capability.h>
 #include <mntent.h>
+#include <mqueue.h>
 #include <net/if.h>
 #include <netdb.h>
 #include <netinet/ether.h>
@@ -23,13 +27,16 @@
 #include <pwd.h>
 #include <regex.h>
 #include <sched.h>
+#include <semaphore.h>
 #include <signal.h>
+#include <spawn.h>
 #include <stdarg.h>
 #include <stdio.h>
 #include <stdlib.h>
 #include <sys/epoll.h>
 #include <sys/ioctl.h>
 #include <sys/prctl.h>
+#include <sys/ptrace.h>
 #include <sys/resource.h>
 #include <sys/select.h>
 #include <sys/sem.h>
@@ -42,9 +49,12 @@
 #include <sys/time.h>
 #include <sys/timeb.h>
 #include <sys/times.h>
+#include <sys/timex.h>
+#include <sys/user.h>
 #include <sys/utsname.h>
 #include <sys/wait.h>
 #include <termios.h>
+#include <threads.h>
 #include <time.h>
 #include <unistd.h>
 #include <utime.h>
@@ -148,13 +158,13 @@ static inline void compares(const char *one, const char *other, size_t most, int
     READS(other, read);
 }
 
-HELPER static void wide_compares(const wchar_t *one, const wchar_t *other, size_t most, struct call call)
+HELPER static void wide_compares(const wchar_t *one, const wchar_t *other, size_t most, int fold(int), struct call call)
 {
     size_t read = 0;
     while (read < most) {
         wchar_t first = one[read], second = other[read];
         read++;
-        if (first == 0 || first != second)
+        if (first == 0 || fold(first) != fold(second))
             break;
     }
     READS_ARRAY(one, read, sizeof *one);
@@ -163,7 +173,8 @@ HELPER static void wide_compares(const wchar_t *one, const wchar_t *other, size_
 
 #define COMPARES(one, other, most) compares(one, other, most, as_it_is, call)
 #define COMPARES_FOLDED(one, other, most) compares(one, other, most, lowered, call)
-#define WIDE_COMPARES(one, other, most) wide_compares(one, other, most, call)
+#define WIDE_COMPARES(one, other, most) wide_compares(one, other, most, as_it_is, call)
+#define WIDE_COMPARES_FOLDED(one, other, most) wide_compares(one, other, most, lowered, call)
 
 /* Numbers. Where there is none, blanks and a sign are read all the same. */
 
@@ -220,12 +231,21 @@ HELPER static void reads_real(const char *text, struct call call)
 
 #define ROOM(length)                                                                                                   \
     READS(length, sizeof *length);                                                                                     \
-    socklen_t room = length != NULL ? *length : 0
+    socklen_t room = IS_THERE(length) ? *length : 0
 #define WRITES_ADDRESS(address, length) WRITES(address, LEAST(*length, room))
+
+/* The head of a message, or zeros where it is not there. */
+HELPER static struct msghdr head_of(const struct msghdr *message)
+{
+    struct msghdr none = {0};
+    return IS_THERE(message) ? *message : none;
+}
 
 HELPER static void reads_message(const struct msghdr *message, struct call call)
 {
     READS(message, sizeof *message);
+    if (!IS_THERE(message))
+        return;
     READS_HEADS(message->msg_iov, message->msg_iovlen);
     READS(message->msg_name, message->msg_namelen);
     READS(message->msg_control, message->msg_controllen);
@@ -238,10 +258,20 @@ HELPER static void writes_message(const struct msghdr *message, size_t room, siz
     WRITES(message->msg_control, message->msg_controllen);
 }
 
+/* How many messages the system takes at once. */
+enum { MOST_MESSAGES = 1024 };
+
+HELPER static void reads_messages(const struct mmsghdr *messages, unsigned count, struct call call)
+{
+    READS_ARRAY(messages, count, sizeof *messages);
+    for (unsigned i = 0; i < count && i < MOST_MESSAGES && IS_THERE(&messages[i]); i++)
+        reads_message(&messages[i].msg_hdr, call);
+}
+
 /* The first message with a bad byte, or `count`. */
 HELPER static unsigned first_bad_message(const struct mmsghdr *messages, unsigned count, size_t *good)
 {
-    for (unsigned i = 0; i < count; i++) {
+    for (unsigned i = 0; i < count && i < MOST_MESSAGES && IS_THERE(&messages[i]); i++) {
         const struct msghdr *message = &messages[i].msg_hdr;
         if ((*good = good_pieces(message->msg_iov, message->msg_iovlen)) != SIZE_MAX)
             return i;
@@ -257,6 +287,7 @@ HELPER static unsigned first_bad_message(const struct mmsghdr *messages, unsigne
         pieces_check(CODE_LOAD, messages[wrong].msg_hdr.msg_iov, messages[wrong].msg_hdr.msg_iovlen, good,             \
                      messages[wrong].msg_len, call)
 #define READS_MESSAGE(message) reads_message(message, call)
+#define READS_MESSAGES(messages, count) reads_messages(messages, count, call)
 #define WRITES_MESSAGE(message, room, size) writes_message(message, room, (size_t)(size), call)
 
 /* The system reads whole words of a set. A count may be greater than what the set has room for. */
@@ -272,7 +303,8 @@ HELPER static void reads_set(const void *set, int count, struct call call)
 /* What is waited for, and what was found. */
 HELPER static void checks_files(enum code code, struct pollfd *files, nfds_t count, struct call call)
 {
-    for (nfds_t i = 0; i < count && files != NULL; i++) {
+    enum { MOST_FILES = 1 << 20 }; /* as the system has it */
+    for (nfds_t i = 0; i < count && i < MOST_FILES && files != NULL; i++) {
         if (code == CODE_LOAD)
             READS(&files[i], offsetof(struct pollfd, revents));
         else
@@ -309,7 +341,18 @@ HELPER static void checks_list(enum code code, char *const *list, struct call ca
     }
 }
 
-#define READS_LIST(list) checks_list(CODE_LOAD, list, call)
+/* One that the system reads. */
+HELPER static void gives_list(char *const *list, struct call call)
+{
+    for (; list != NULL; list++) {
+        READS(list, sizeof *list);
+        if (!IS_THERE(list) || *list == NULL)
+            return;
+        call_gives(*list, call);
+    }
+}
+
+#define GIVES_LIST(list) gives_list(list, call)
 
 HELPER static void writes_name(const void *entry, struct call call)
 {
@@ -412,6 +455,143 @@ HELPER static struct request request_of(unsigned long number)
 
 #define READS_REQUEST(request, with) READS(with, request_of(request).read)
 #define WRITES_REQUEST(request, with) WRITES(with, request_of(request).written)
+
+/* What fcntl reads and writes at its argument. */
+HELPER static struct request control_of(int command)
+{
+    switch (command) {
+    case F_SETLK:
+    case F_SETLKW:
+    case F_OFD_SETLK:
+    case F_OFD_SETLKW:
+        return (struct request){0, sizeof(struct flock), 0};
+    case F_GETLK:
+    case F_OFD_GETLK:
+        return (struct request){0, sizeof(struct flock), sizeof(struct flock)};
+    case F_SETOWN_EX:
+        return (struct request){0, sizeof(struct f_owner_ex), 0};
+    case F_GETOWN_EX:
+        return (struct request){0, 0, sizeof(struct f_owner_ex)};
+    default:
+        return (struct request){0, 0, 0};
+    }
+}
+
+#define READS_CONTROL(command, with) READS(with, control_of(command).read)
+#define WRITES_CONTROL(command, with) WRITES(with, control_of(command).written)
+
+/* Likewise ptrace at its last argument. */
+HELPER static struct request traced_of(int request)
+{
+    switch (request) {
+    case PTRACE_GETREGS:
+        return (struct request){0, 0, sizeof(struct user_regs_struct)};
+    case PTRACE_SETREGS:
+        return (struct request){0, sizeof(struct user_regs_struct), 0};
+    case PTRACE_GETFPREGS:
+        return (struct request){0, 0, sizeof(struct user_fpregs_struct)};
+    case PTRACE_SETFPREGS:
+        return (struct request){0, sizeof(struct user_fpregs_struct), 0};
+    case PTRACE_GETSIGINFO:
+        return (struct request){0, 0, sizeof(siginfo_t)};
+    case PTRACE_SETSIGINFO:
+        return (struct request){0, sizeof(siginfo_t), 0};
+    case PTRACE_GETEVENTMSG:
+        return (struct request){0, 0, sizeof(long)};
+    case PTRACE_GETREGSET:
+    case PTRACE_SETREGSET:
+        return (struct request){0, sizeof(struct iovec), sizeof(struct iovec)};
+    default:
+        return (struct request){0, 0, 0};
+    }
+}
+
+HELPER static void writes_traced(int request, void *with, struct call call)
+{
+    WRITES(with, traced_of(request).written);
+    const struct iovec *registers = with;
+    if (request == PTRACE_GETREGSET)
+        WRITES(registers->iov_base, registers->iov_len);
+}
+
+#define READS_TRACED(request, with) READS(with, traced_of(request).read)
+#define WRITES_TRACED(request, with) writes_traced(request, with, call)
+
+/* A stream in memory, which may come to use all of it. */
+HELPER static void opens_memory(const void *memory, size_t size, const char *mode, struct call call)
+{
+    if (memory == NULL || mode == NULL)
+        return;
+    if (mode[0] == 'r' && mode[1] != '+' && (mode[1] == 0 || mode[2] != '+'))
+        READS(memory, size);
+    else
+        WRITES(memory, size);
+}
+
+#define OPENS_MEMORY(memory, size, mode) opens_memory(memory, size, mode, call)
+
+/* A text, or its part that the first match names. */
+#define READS_MATCHED(text, to, flags)                                                                                 \
+    if (!((flags) & REG_STARTEND))                                                                                     \
+        READS_STRING(text);                                                                                            \
+    else if ((to) != NULL && (to)->rm_so >= 0 && (to)->rm_eo > (to)->rm_so)                                            \
+    READS((text) + (to)->rm_so, (to)->rm_eo - (to)->rm_so)
+
+/* The words of a program as far as getopt has come, and its long options up to one without a name. */
+HELPER static void reads_words(char *const *words, int from, int count, struct call call)
+{
+    for (int i = from > 0 ? from : 1; i < count; i++)
+        READS_STRING(words[i]);
+}
+
+HELPER static void reads_options(const struct option *options, struct call call)
+{
+    for (; options != NULL; options++) {
+        READS(options, sizeof *options);
+        if (options->name == NULL)
+            return;
+        READS_STRING(options->name);
+    }
+}
+
+/* Whether one of the words that were looked at may be a long option: then the list of these was read. */
+HELPER static bool has_long_word(char *const *words, int first, int end, struct call call)
+{
+    bool is_any = strcmp(call.name, "getopt_long_only") == 0;
+    for (int i = first > 0 ? first : 1; i < end; i++) {
+        const char *word = words[i];
+        if (word[0] == '-' && (word[1] == '-' ? word[2] != 0 : is_any && word[1] != 0 && word[2] != 0))
+            return true;
+    }
+    return false;
+}
+
+#define BEGINS_WORDS(words, count)                                                                                     \
+    int first = LIBRARY->optind != NULL ? *LIBRARY->optind : INT_MAX;                                                  \
+    READS_ARRAY(words, (count) > 0 ? (count) : 0, sizeof *(words))
+#define READS_WORDS(words, count)                                                                                      \
+    if (first != INT_MAX)                                                                                              \
+    reads_words(words, first, *LIBRARY->optind < (count) ? *LIBRARY->optind : (count), call)
+#define READS_OPTIONS(words, options)                                                                                  \
+    if (first != INT_MAX && has_long_word(words, first, *LIBRARY->optind, call))                                       \
+    reads_options(options, call)
+
+/* Addresses after calls, without the first, which is the check's own. So there has to be room for one more: what is
+   more than that lacks its last one. */
+enum { MAX_CALLERS = 256 };
+
+HELPER static int give_callers(void **to, void *const *found, int count)
+{
+    for (int i = 1; i < count; i++)
+        to[i - 1] = found[i];
+    return count > 0 ? count - 1 : count;
+}
+
+#define BEGINS_CALLERS(count)                                                                                          \
+    bool are_few = (count) > 0 && (count) <= MAX_CALLERS;                                                              \
+    void *callers[are_few ? (count) + 1 : 1]
+#define CALLERS_WITHIN(to, count) are_few ? callers : (to), are_few ? (count) + 1 : (count)
+#define GIVES_CALLERS(to) result = give_callers(to, are_few ? callers : (to), result)
 
 /* How many sets of capabilities a version of the call has. */
 HELPER static size_t sets_of_version(uint32_t version)

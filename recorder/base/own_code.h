@@ -1,0 +1,22 @@
+/* Which code is the recorder's own, so that a fault in there is its mistake. The build (Makefile) gives it a section
+   for itself. The checks of calls and accesses are not there: they touch what the program has given. */
+#ifndef ASANCOL_OWN_CODE_H
+#define ASANCOL_OWN_CODE_H
+
+#include <stdbool.h>
+#include <stddef.h>
+#include <stdint.h>
+
+/* Likewise for a function among the recorder's own that touches memory for the program, as its C library would: a
+   fault there is the program's. */
+#define OF_PROGRAM __attribute__((noinline, section(".text.of_program")))
+
+/* Whether this instruction is there, by the frame pointer too: own.c works for any of the recorder's functions, and the
+   one that has called it counts. */
+bool own_code_has(uintptr_t instruction, uintptr_t frame);
+
+/* Into blocks. */
+void program_clear(void *to, size_t size);
+void program_copy(void *to, const void *from, size_t size);
+
+#endif
