@@ -90,6 +90,10 @@ static inline bool is_side_header(const char header[8])
 /* The name of that memory, as the map of a process has it. */
 #define SIDE_MEMORY "asancol"
 
+/* A process that can't make that memory asks the hub for one, before its first bytes: by a byte with which no trace
+   begins, and one with the number of its error. The answer is a byte, and with it the descriptor if there is one. */
+enum { SIDE_ASKS = 0, SIDE_QUESTION = 2 };
+
 /* How a process has ended; or it goes on in the next segment, since the limit of events was reached. */
 enum ending { ENDING_NONE, ENDING_EXIT, ENDING_EXEC, ENDING_SIGNAL, ENDING_LOST, ENDING_SEGMENT };
 
@@ -114,7 +118,7 @@ enum finding_kind {
 enum { FINDING_LAST = FINDING_OTHER_ALIGNMENT };
 
 enum { SIDE_ARGV = 4000, SIDE_BUILD_COUNT = 112, SIDE_ID = 23, SIDE_FAULTS = 1 << 16, SIDE_THREADS = 1 << 12 };
-enum { SIDE_NAME = 120, SIDE_CALL = 32, SIDE_THREAD_NAME = 16 };
+enum { SIDE_NAME = 120, SIDE_CALL = 32, SIDE_THREAD_NAME = 16, SIDE_CHILDREN = 32 };
 /* The shadow round a bad byte: its row, and so many before and after it. */
 enum { SIDE_ROW = 16, SIDE_ROWS_BESIDE = 5, SIDE_SHADOW = SIDE_ROW * (2 * SIDE_ROWS_BESIDE + 1) };
 /* Where its parts begin, but for the first: */
@@ -189,6 +193,24 @@ struct side_progress {
     uint64_t leaks; /* how many of the findings are leaks */
     uint64_t leaks_missed; /* 1: it was to look for leaks, and could not the last time */
     uint64_t left_good; /* how many good mallocs, frees and poisons of its blocks it has left out */
+    uint64_t inside;    /* the signal of a fault that the recorder's own code has met; 0: none */
+    uint64_t closed_off; /* 1: it has closed the descriptor, so what was not sent by then is missing */
+    uint64_t sender;     /* another process that has sent the signal that has ended it; 0: none, as far as it knows */
+    uint64_t skipped;    /* enum side_skipped */
+    uint64_t noted_children;          /* how many children of a fork have had their numbers put here, */
+    uint32_t children[SIDE_CHILDREN]; /* in turn: the last ones are there */
+    uint64_t used_again; /* how many bytes of blocks' memory it had handed out when it first handed out freed memory
+                            again: that stays in later segments; 0: it never has */
+};
+
+/* What was not looked at: these are added. */
+enum side_skipped {
+    SKIPPED_FAMILIES = 1, /* by which family of functions a block was freed: ASANCOL_MISMATCHES is 0 */
+    SKIPPED_RETURNS = 2,  /* functions asked for frames by which uses after return are found, and
+                             ASANCOL_USE_AFTER_RETURN is 0 */
+    SKIPPED_LEAKS = 4,    /* ASANCOL_LEAKS is not 1 */
+    SKIPPED_FRAMES = 8,   /* an access from another stack that met a frame in a block */
+    SKIPPED_SPARE = 16,   /* what a handler has allocated that had interrupted the allocator */
 };
 
 /* What its environment has set for it, beside the quarantine. */

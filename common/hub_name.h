@@ -11,6 +11,15 @@
 /* A mark is PROCESS.END. */
 #define MARK_UNSEEN "unseen"
 #define MARK_EXPECTED "expected"
+#define MARK_KILLED "killed"
+
+/* What a process that has lost its environment asks for beside the hub, and why one is not recorded: a request is one
+   message, a word and, of one that is not recorded, two more lines with its program and why. A hub that takes the
+   process for its own answers with at least a byte: with the settings, each ended by a zero, as an environment has
+   them. Then it closes. */
+#define ASK_SETTINGS "settings"
+#define ASK_UNSEEN "unseen"
+enum { ASK_MOST = 512, SETTINGS_MOST = 8192 };
 
 /* How many of its first bytes everybody may know: a secret follows a last dash in the folder of a run. The name of a
    socket without a folder begins with its only slash. */
@@ -24,6 +33,24 @@ static inline size_t hub_public_bytes(const char *hub)
             dash = length;
     }
     return slash > 0 && dash > slash ? dash : length;
+}
+
+/* The name of the socket that is asked: in the folder of the hub, or after its name. False: it has no room. */
+static inline bool hub_ask_name(char *name, size_t room, const char *hub)
+{
+    static const char end[] = "/ask";
+    size_t length = 0, slash = 0;
+    for (; hub[length] != 0; length++)
+        if (hub[length] == '/')
+            slash = length;
+    size_t front = slash > 0 ? slash : length;
+    if (front + sizeof end > room)
+        return false;
+    for (size_t i = 0; i < front; i++)
+        name[i] = hub[i];
+    for (size_t i = 0; i < sizeof end; i++)
+        name[front + i] = end[i];
+    return true;
 }
 
 /* The address of the hub's socket, and how long it is; 0: the name has no room. An abstract name needs no folder: it is

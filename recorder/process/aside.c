@@ -4,6 +4,7 @@
 #include <link.h>
 #include <stdatomic.h>
 #include <stddef.h>
+#include <string.h>
 
 #include "calls/library.h"
 #include "calls/objects.h"
@@ -55,6 +56,14 @@ uintptr_t way_of(struct exported *it)
     uintptr_t to = aside_is_own() ? it->own : (uintptr_t)library_next(it->name);
     atomic_store_explicit(&it->to, to, memory_order_relaxed);
     return to;
+}
+
+uintptr_t aside_function_behind(const char *name)
+{
+    for (struct exported *it = exported; it != exported_end; it++)
+        if (strcmp(it->name, name) == 0)
+            return it->code;
+    return 0;
 }
 
 void aside_find_behind(const struct object *of)

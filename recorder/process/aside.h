@@ -32,7 +32,9 @@ static inline bool aside_is_own(void)
 struct object;
 /* Finds what the names hide of this object, the C library. Once, before the first slot is looked at (plain.c). */
 void aside_find_behind(const struct object *of);
-/* Whether a pointer to a function is one to that. */
+/* Where a call of a name leads, if the recorder has that; or 0. */
+uintptr_t aside_function_behind(const char *name);
+/* Whether a pointer to a function is one to what is hidden. */
 #ifdef IS_PRELOAD
 bool aside_is_behind(const void *pointer);
 #else

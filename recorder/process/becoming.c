@@ -12,6 +12,7 @@
 #include "calls/library.h"
 #include "base/digits.h"
 #include "base/self.h"
+#include "process/given.h"
 #include "process/hub_names.h"
 #include "process/process.h"
 #include "stream/side.h"
@@ -21,11 +22,12 @@
 /* So much of the name that a descriptor has is shown. */
 enum { SHOWN_ROOM = 256 };
 
+/* What the program gives need not be there: the system says so then. */
 static const char *value_in(char *const *environment, const char *front)
 {
     size_t length = strlen(front);
-    for (; environment != NULL && *environment != NULL; environment++)
-        if (strncmp(*environment, front, length) == 0)
+    for (; given_is_there((uintptr_t)environment, sizeof *environment) && *environment != NULL; environment++)
+        if (given_text_is_there(*environment) && strncmp(*environment, front, length) == 0)
             return *environment + length;
     return NULL;
 }
@@ -61,6 +63,8 @@ static const char *path_of(const struct target *target, char *room)
         joined_add(&joined, put_digits(digits + sizeof digits, (unsigned)target->descriptor, 1), sizeof digits);
         return room;
     }
+    if (!given_text_is_there(target->name))
+        return NULL;
     bool is_looked_for = target->is_looked_for && strchr(target->name, '/') == NULL;
     return !is_looked_for ? target->name : look_for(target->name, room) ? room : NULL;
 }
@@ -70,14 +74,14 @@ static const char *why_unseen(const struct target *target, const char *path)
 {
     struct stat seen;
     const char *hub = value_in(target->environment, HUB_ENTRY);
-    if (hub == NULL || *hub == 0)
-        return "it was started without ASANCOL_HUB in its environment";
-    if (strcmp(hub, recorder_hub()) != 0)
+    bool has_hub = hub != NULL && *hub != 0;
+    if (has_hub && strcmp(hub, recorder_hub()) != 0)
         return "it was started with another ASANCOL_HUB";
     bool has_rights = system_stat(path, &seen) == 0
                       && (((seen.st_mode & S_ISUID) && seen.st_uid != system_geteuid()) || (seen.st_mode & S_ISGID));
-    return has_rights ? "it is set-user-ID or set-group-ID, so it ignores its settings"
-                      : NEVER_BEGAN;
+    if (has_rights)
+        return "it is set-user-ID or set-group-ID, so it ignores its settings";
+    return has_hub ? NEVER_BEGAN : "it was started without ASANCOL_HUB in its environment, and did not find the run";
 }
 
 /* The file if it was built so, or null: with why it may never connect. */
@@ -127,6 +131,11 @@ bool becoming_note_child(const struct target *target)
     bool is_noted = path != NULL && unseen_expect_child(recorder_hub(), target->name, why);
     side_end_calls(calls);
     return is_noted;
+}
+
+void becoming_note_killed(int child, int number)
+{
+    unseen_killed(recorder_hub(), child, number);
 }
 
 void becoming_note_number(int child)

@@ -6,7 +6,6 @@
 #include <stdbool.h>
 #include <stddef.h>
 
-#define HUB_ENTRY "ASANCOL_HUB="
 #define NEVER_BEGAN "it ended before its recording began"
 
 /* What an exec is given: a name, which is looked for in the folders of PATH if that is so and it has no slash; or, if
@@ -25,5 +24,7 @@ void becoming_take_back(void);
 /* Before a child is begun, and once it has its number; 0: it has not begun. */
 bool becoming_note_child(const struct target *target);
 void becoming_note_number(int child);
+/* A signal has ended a child, which may not have come so far as to say so itself. */
+void becoming_note_killed(int child, int number);
 
 #endif

@@ -5,22 +5,36 @@
 
 struct beginning beginning;
 
-/* What the system says of the process follows the environment, as long as nobody has moved that. */
+#ifndef IN_SHARED_OBJECT
+
+/* A number of the system's. It begins none with a null. */
+static uint64_t number_behind(char *const *variables, uint64_t type, uint64_t otherwise)
+{
+    while (*variables != NULL)
+        variables++;
+    while (*variables == NULL)
+        variables++;
+    for (const Elf64_auxv_t *it = (const Elf64_auxv_t *)variables; it->a_type != AT_NULL; it++)
+        if (it->a_type == type)
+            return it->a_un.a_val;
+    return otherwise;
+}
+
+bool beginning_is_set_user(char *const *variables)
+{
+    return number_behind(variables, AT_SECURE, 1) != 0;
+}
+
+#endif
+
 void beginning_note(char **argv, char **variables)
 {
     beginning.argv = argv;
 #ifndef IN_SHARED_OBJECT
     if (beginning.variables != NULL || variables == NULL)
         return;
-    char **at = variables;
-    while (*at != NULL)
-        at++;
-    for (const Elf64_auxv_t *it = (const Elf64_auxv_t *)(at + 1); it->a_type != AT_NULL; it++) {
-        if (it->a_type == AT_SECURE)
-            beginning.is_set_user = it->a_un.a_val;
-        if (it->a_type == AT_SYSINFO_EHDR)
-            beginning.system_code = it->a_un.a_val;
-    }
+    beginning.is_set_user = beginning_is_set_user(variables);
+    beginning.system_code = number_behind(variables, AT_SYSINFO_EHDR, 0);
     beginning.variables = variables;
 #else
     (void)variables; /* where the object is opened later, they may be others */

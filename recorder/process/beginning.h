@@ -3,6 +3,7 @@
 #ifndef ASANCOL_BEGINNING_H
 #define ASANCOL_BEGINNING_H
 
+#include <stdbool.h>
 #include <stdint.h>
 
 #include "base/platform.h"
@@ -10,11 +11,15 @@
 /* The arguments of the command, and the environment as it was then. Null: it is too early. */
 extern struct beginning {
     char **argv, **variables;
-    uint64_t is_set_user; /* or likewise: the environment is not to be believed */
+    bool is_set_user;     /* the environment is not to be believed */
     uint64_t system_code; /* where the code begins that the system maps into the process */
 } beginning OWN_NAME(beginning);
 
 void beginning_note(char **argv, char **variables) OWN_NAME(beginning_note);
+/* Whether the process has more rights than who has started it, by set-user-ID, set-group-ID or a file's capabilities.
+   So it is if nobody says. The variables are those that the system has put on the stack, with its numbers behind them:
+   the dynamic linker leaves a null there for each that it takes away. */
+bool beginning_is_set_user(char *const *variables) OWN_NAME(beginning_is_set_user);
 /* The first word, or an empty one. */
 const char *beginning_name(void) OWN_NAME(beginning_name);
 

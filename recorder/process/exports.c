@@ -37,6 +37,8 @@
             ".popsection\n");
 
 #include "out/exported.def"
+EXPORT(dlsym)
+EXPORT(dlvsym)
 
 /* All arguments are in these registers: no function here has others. */
 __asm__(".pushsection .text\n"

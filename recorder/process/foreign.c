@@ -3,8 +3,11 @@
 
 #include <dlfcn.h>
 #include <stdlib.h>
+#include <sys/auxv.h>
 
+#include "process/beginning.h"
 #include "process/hub_names.h"
+#include "process/orphan.h"
 #include "process/unseen.h"
 
 enum { WHY_ROOM = 320, MAX_NAME_LENGTH = 200 };
@@ -17,12 +20,16 @@ void foreign_note(void)
     Dl_info object;
     struct joined joined = {.text = why, .room = sizeof why};
     const char *hub = secure_getenv("ASANCOL_HUB");
-    if (hub == NULL || *hub == 0)
-        return;
     bool is_named = dladdr(&asancol_checks, &object) != 0 && object.dli_fname != NULL;
     joined_add(&joined, "it loaded ", sizeof why);
     joined_add(&joined, is_named ? object.dli_fname : "a library", MAX_NAME_LENGTH);
     joined_add(&joined, ", which was built by asancol-cc, and was not built so itself", sizeof why);
-    joined_add(&joined, "; --preload records it", sizeof why);
-    unseen_note(hub, why);
+    beginning.is_set_user = getauxval(AT_SECURE);
+    bool has_hub = hub != NULL && *hub != 0;
+    joined_add(&joined, has_hub ? "; --preload records it" : "; its environment was cleaned, of LD_PRELOAD too",
+               sizeof why);
+    if (has_hub)
+        unseen_note(hub, why);
+    else
+        orphan_say(why);
 }

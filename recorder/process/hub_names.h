@@ -9,6 +9,9 @@
 #include "base/platform.h"
 #include "common/hub_name.h"
 
+/* Before its name in an environment. */
+#define HUB_ENTRY "ASANCOL_HUB="
+
 /* A text that is put together; what has no room is left out, and noted. */
 struct joined {
     char *text;

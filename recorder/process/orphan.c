@@ -1,17 +1,28 @@
 #define _GNU_SOURCE
 #include "process/orphan.h"
 
+#include <errno.h>
 #include <fcntl.h>
 #include <stdbool.h>
+#include <stdint.h>
+#include <string.h>
 #include <sys/prctl.h>
 
+#include "process/ancestors.h"
+#include "process/asking.h"
 #include "process/beginning.h"
+#include "base/digits.h"
+#include "common/hub_name.h"
 #include "common/inherited.h"
 #include "base/system.h"
+#include "process/hub_names.h"
 #include "process/unseen.h"
 
 /* As long as the name of a socket is. */
 enum { NAME_ROOM = 109, PIECE = 4096 };
+
+/* What is done with the name of a run that has our mark. False: that is another one, whose mark is the same. */
+typedef bool take_run(const char *hub, const char *why);
 
 /* The names of abstract sockets in a text that comes in pieces: each follows " @", up to the end of its line. */
 struct names {
@@ -21,15 +32,11 @@ struct names {
     char before;
 };
 
-static bool is_of_hub(const char *name)
+static bool has_word_of_hub(const char *name)
 {
-    for (; *name != 0; name++) {
-        size_t count = 0;
-        while (HUB_WORD[count] != 0 && name[count] == HUB_WORD[count])
-            count++;
-        if (HUB_WORD[count] == 0)
+    for (; *name != 0; name++)
+        if (strncmp(name, HUB_WORD, strlen(HUB_WORD)) == 0)
             return true;
-    }
     return false;
 }
 
@@ -48,31 +55,146 @@ static bool take_byte(struct names *names, char byte)
     return is_end;
 }
 
-/* Finds the hub whose mark the slack has. */
-static bool find_hub(struct names *names, unsigned long slack)
+static bool has_mark(const char *name, unsigned long slack)
 {
-    char piece[PIECE];
-    ssize_t count;
-    bool is_found = false;
-    int file = system_open("/proc/net/unix", O_RDONLY | O_CLOEXEC, 0);
-    while (file >= 0 && !is_found && (count = system_read(file, piece, sizeof piece)) > 0)
-        for (ssize_t i = 0; i < count && !is_found; i++)
-            is_found = take_byte(names, piece[i]) && is_of_hub(names->name)
-                       && slack_for(names->name, names->length, slack) == slack;
-    if (file >= 0)
-        system_close(file);
-    return is_found;
+    return has_word_of_hub(name) && (slack == 0 || slack_for(name, strlen(name), slack) == slack);
 }
 
-void orphan_note(void)
+/* Among the names that the system lists. */
+static bool look_at_names(unsigned long slack, take_run *take, const char *why)
 {
     struct names names = {.length = 0};
-    long slack = system_prctl(PR_GET_TIMERSLACK);
-    if (slack <= 0 || !slack_has_mark((unsigned long)slack) || !find_hub(&names, (unsigned long)slack))
-        return;
-    /* With more rights than who has started it, it makes nothing where that one likes. */
-    if (beginning.is_set_user != 0)
-        unseen_knock(names.name);
-    else
-        unseen_note(names.name, "it was started without ASANCOL_HUB in its environment");
+    char piece[PIECE];
+    ssize_t count;
+    bool is_taken = false;
+    int file = system_open("/proc/net/unix", O_RDONLY | O_CLOEXEC, 0);
+    while (file >= 0 && !is_taken && (count = system_read(file, piece, sizeof piece)) > 0)
+        for (ssize_t i = 0; i < count && !is_taken; i++)
+            is_taken = take_byte(&names, piece[i]) && has_mark(names.name, slack) && take(names.name, why);
+    if (file >= 0)
+        system_close(file);
+    return is_taken;
 }
+
+/* What getdents64 gives. */
+struct entry {
+    uint64_t node, offset;
+    unsigned short length;
+    unsigned char type;
+    char name[];
+};
+
+/* Among the folders of runs in a folder: another network has other names. */
+static bool look_in(const char *base, unsigned long slack, take_run *take, const char *why)
+{
+    _Alignas(8) char piece[PIECE];
+    long count;
+    bool is_taken = false;
+    int folder = system_open(base, O_RDONLY | O_DIRECTORY | O_CLOEXEC | O_NONBLOCK, 0);
+    while (folder >= 0 && !is_taken && (count = system_call3(SYS_getdents64, folder, (long)piece, PIECE)) > 0) {
+        for (long at = 0; at < count && !is_taken; at += ((const struct entry *)(piece + at))->length) {
+            char name[NAME_ROOM] = "";
+            struct joined joined = {.text = name, .room = sizeof name};
+            joined_add(&joined, base, NAME_ROOM);
+            joined_add(&joined, "/", 1);
+            joined_add(&joined, ((const struct entry *)(piece + at))->name, NAME_ROOM);
+            joined_add(&joined, HUB_END, NAME_ROOM);
+            is_taken = !joined.is_cut && has_mark(name, slack) && take(name, why);
+        }
+    }
+    if (folder >= 0)
+        system_close(folder);
+    return is_taken;
+}
+
+static bool look_at_folders(unsigned long slack, take_run *take, const char *why)
+{
+    static const char *const bases[] = {"/tmp", "/dev/shm", "/var/tmp"};
+    char name[NAME_ROOM], digits[DIGITS_ROOM];
+    struct joined joined = {.text = name, .room = sizeof name};
+    joined_add(&joined, "/run/user/", NAME_ROOM);
+    joined_add(&joined, put_digits(digits + sizeof digits, system_geteuid(), 1), DIGITS_ROOM);
+    bool is_taken = look_in(name, slack, take, why);
+    for (size_t i = 0; i < sizeof bases / sizeof *bases && !is_taken; i++)
+        is_taken = look_in(bases[i], slack, take, why);
+    return is_taken;
+}
+
+/* Finds the run. False: there is none, or none takes this process for its own. */
+static bool look_for_run(take_run *take, const char *why)
+{
+    long slack = system_prctl(PR_GET_TIMERSLACK);
+    /* The system makes zero of it where a process runs in real time: then each run is asked. */
+    bool may_have_mark = slack == 0 || (slack > 0 && slack_has_mark((unsigned long)slack));
+    if (may_have_mark && look_at_names((unsigned long)slack, take, why))
+        return true;
+    return (may_have_mark && look_at_folders((unsigned long)slack, take, why)) || ancestors_hubs(take, why);
+}
+
+/* A process with more rights than who has started it makes nothing where that one likes. */
+static bool leave_word(const char *hub, const char *why)
+{
+    if (beginning.is_set_user)
+        return unseen_tell(hub, why);
+    unseen_note(hub, why);
+    return true;
+}
+
+#ifdef IN_SHARED_OBJECT
+
+void orphan_say(const char *why)
+{
+    look_for_run(leave_word, why);
+}
+
+#else
+
+static struct {
+    char text[SETTINGS_MOST];
+    const char *in_the_way;
+} given;
+
+static bool take_settings(const char *hub, const char *why)
+{
+    (void)why;
+    static const char other_user[] = "it runs as another user than asancol-run, and need not trust its settings";
+    long length = ask(hub, ASK_SETTINGS, true, given.text, sizeof given.text - 2);
+    if (length == 0)
+        return false;
+    /* That of one is what there is to say, whatever others with its mark answer. */
+    if (length == -EACCES)
+        given.in_the_way = other_user;
+    else if (length > 0)
+        given.in_the_way = NULL;
+    else if (given.in_the_way != other_user)
+        given.in_the_way = "it was started without ASANCOL_HUB in its environment, and the run did not answer";
+    if (length < 0)
+        given.text[0] = 0;
+    return length > 0 || length == -ETIMEDOUT; /* else another one's may come, whose mark is the same */
+}
+
+void orphan_ask(void)
+{
+    if (beginning.is_set_user)
+        given.in_the_way = "it is set-user-ID or set-group-ID, so it ignores its settings";
+    else
+        look_for_run(take_settings, NULL);
+}
+
+const char *orphan_value(const char *name)
+{
+    size_t length = strlen(name);
+    for (const char *at = given.text; *at != 0; at += strlen(at) + 1)
+        if (strncmp(at, name, length) == 0 && at[length] == '=')
+            return at[length + 1] != 0 ? at + length + 1 : NULL;
+    return NULL;
+}
+
+void orphan_say(const char *why)
+{
+    why = why != NULL ? why : given.in_the_way;
+    if (why != NULL)
+        look_for_run(leave_word, why);
+}
+
+#endif

@@ -1,8 +1,16 @@
-/* A process that has no setting of ours, and runs under an asancol-run all the same. */
+/* A process that has no setting of ours, and runs under an asancol-run all the same: its environment was cleaned, or is
+   not to be believed. It finds the run by what it has inherited (common/inherited.h). */
 #ifndef ASANCOL_ORPHAN_H
 #define ASANCOL_ORPHAN_H
 
-/* Leaves its word with the hub, if there is one. */
-void orphan_note(void);
+#include "base/platform.h"
+
+/* Asks the run for its settings, if there is one that takes this process for its own. */
+void orphan_ask(void);
+/* What the run has said of a setting, or null. */
+const char *orphan_value(const char *name);
+
+/* Leaves word with the run, if there is one. Null: with what is in the way of recording this process. */
+void orphan_say(const char *why) OWN_NAME(orphan_say);
 
 #endif

@@ -27,21 +27,31 @@ static bool is_ending(const char *text)
     return (flags & EXITING) != 0;
 }
 
+/* What the system says of a thread of this folder in a file, or as much of it as there is room. Answers its length, or
+   an error. */
+static ssize_t read_file(int folder, const char *thread, const char *name, char *text, size_t room)
+{
+    char path[32];
+    text[0] = 0;
+    if (strlen(thread) + strlen(name) >= sizeof path)
+        return -ENAMETOOLONG;
+    strcpy(path, thread);
+    strcat(path, name);
+    int file = (int)system_call4(SYS_openat, folder, (long)path, O_RDONLY | O_CLOEXEC, 0);
+    if (file < 0)
+        return file;
+    ssize_t length = system_read(file, text, room - 1);
+    system_close(file);
+    text[length > 0 ? length : 0] = 0;
+    return length;
+}
+
 /* Whether a thread of this folder runs, or may run. */
 static bool runs(int folder, const char *thread)
 {
-    char path[32], text[512];
-    if (strlen(thread) + sizeof "/stat" > sizeof path)
-        return true;
-    strcpy(path, thread);
-    strcat(path, "/stat");
-    int file = (int)system_call4(SYS_openat, folder, (long)path, O_RDONLY | O_CLOEXEC, 0);
-    if (file < 0)
-        return file != -ENOENT && file != -ESRCH;
-    ssize_t length = system_read(file, text, sizeof text - 1);
-    system_close(file);
-    text[length > 0 ? length : 0] = 0;
-    return length != -ESRCH && !is_ending(text);
+    char text[512];
+    ssize_t length = read_file(folder, thread, "/stat", text, sizeof text);
+    return length != -ENOENT && length != -ESRCH && !is_ending(text);
 }
 
 /* Visits the threads of this folder that run, this one among them, until a visit answers true. False: nobody says which
@@ -121,4 +131,31 @@ bool other_threads_has(pid_t thread)
     if (folder >= 0)
         system_close(folder);
     return is_there;
+}
+
+/* What follows a name at the start of a line, or null. */
+static const char *find_line(const char *text, const char *name)
+{
+    size_t length = strlen(name);
+    while (text != NULL && strncmp(text, name, length) != 0) {
+        text = strchr(text, '\n');
+        text = text != NULL ? text + 1 : NULL;
+    }
+    return text != NULL ? text + length : NULL;
+}
+
+bool other_threads_is_deaf(pid_t thread, int number)
+{
+    enum { ROOM = 4096 }; /* a line with all groups of the user comes before the signals */
+    char text[ROOM], digits[DIGITS_ROOM];
+    int folder = system_open(tasks, O_RDONLY | O_DIRECTORY | O_CLOEXEC, 0);
+    if (folder < 0)
+        return false;
+    read_file(folder, put_digits(digits + sizeof digits, (uint64_t)thread, 1), "/status", text, sizeof text);
+    system_close(folder);
+    const char *state = find_line(text, "State:\t"), *blocked = find_line(text, "SigBlk:\t");
+    uint64_t all = 0;
+    for (; blocked != NULL && *blocked != 0 && *blocked != '\n'; blocked++)
+        all = all << 4 | (uint64_t)(*blocked <= '9' ? *blocked - '0' : *blocked - 'a' + 10);
+    return state != NULL && *state == 'S' && (all >> (number - 1) & 1) != 0;
 }

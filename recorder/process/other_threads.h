@@ -12,5 +12,7 @@ bool has_other_threads(void);
 bool other_threads_visit(void (*visit)(pid_t thread, void *with), void *with);
 /* Whether this one runs, or may run. */
 bool other_threads_has(pid_t thread);
+/* Whether this one sleeps, and has blocked a signal. */
+bool other_threads_is_deaf(pid_t thread, int number);
 
 #endif

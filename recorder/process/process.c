@@ -17,6 +17,7 @@
 #include "process/unseen.h"
 #include "stacks/fake_stack.h"
 #include "stacks/thread_notes.h"
+#include "stacks/walks.h"
 #include "stream/ending.h"
 #include "stream/left_out.h"
 #include "stream/losing.h"
@@ -60,7 +61,7 @@ void recorder_say_who(void)
 {
     unseen_note(process.settings.passed_over, "ASANCOL_TRACE is set for it, so its trace is there");
     if (recorder_hub() == NULL)
-        orphan_note();
+        orphan_say(NULL);
 }
 
 /* The recorder stands after the program's own objects, so this constructor comes after theirs. */
@@ -145,6 +146,8 @@ void recorder_start(void)
         return;
     undisturbed_begin(&before);
     self_note_process();
+    if (settings_hub() == NULL)
+        orphan_ask();
     settings_read(&process.settings);
     process.pattern = process.settings.trace;
     bool wanted = output_name() != NULL;
@@ -247,7 +250,8 @@ void recorder_say_child(void)
 {
     static const char why[] = "it was not made by fork, but by _Fork or clone";
     state_forget();
-    recorder_say("a child is not recorded: ", output_name(), why);
+    if (process.settings.hub == NULL)
+        recorder_say("a child is not recorded: ", output_name(), why);
     unseen_note(process.settings.hub, why);
 }
 
@@ -257,6 +261,7 @@ void recorder_finish(enum finish finish)
         leave_vfork();
         return;
     }
+    heap_ends_here();
     stream_end(finish, ENDING_EXIT, 0);
     stream_say_left_out();
 }
@@ -267,6 +272,7 @@ void recorder_exit(bool is_last)
         leave_vfork();
         return;
     }
+    heap_ends_here();
     stream_close(is_last);
     if (is_last)
         stream_say_left_out();
@@ -368,7 +374,9 @@ static void after_fork_in_child(void)
     struct disturbance before;
     errno = process.error_before_fork;
     self_note_process();
+    heap_is_alone();
     thread_is_alone();
+    walks_are_alone();
     say_again();
     stream_forget();
     stream_unlock();

@@ -7,6 +7,8 @@
 #include <stdint.h>
 
 #include "process/becoming.h"
+#include "process/beginning.h"
+#include "process/hub_names.h"
 #include "process/unseen.h"
 
 extern void *__libc_stack_end;
@@ -58,21 +60,16 @@ static const char *value_after(const char *entry, const char *front)
     return *front == 0 ? entry : NULL;
 }
 
-/* The hub, by the arguments, variables and numbers with which the system begins each process; or null. */
+/* The hub, by the arguments and variables with which the system begins each process; or null. */
 static const char *hub_at_start(char *const **argv)
 {
     const long *at = __libc_stack_end;
     const char *hub = NULL;
     *argv = (char *const *)(at + 1);
-    char *const *variable = *argv + *at + 1;
-    for (; *variable != NULL; variable++)
-        if (hub == NULL)
-            hub = value_after(*variable, HUB_ENTRY);
-    const Elf64_auxv_t *number = (const void *)(variable + 1);
-    for (; number->a_type != AT_NULL; number++)
-        if (number->a_type == AT_SECURE && number->a_un.a_val != 0)
-            return NULL;
-    return hub != NULL && *hub != 0 ? hub : NULL;
+    char *const *variables = *argv + *at + 1;
+    for (char *const *it = variables; *it != NULL && hub == NULL; it++)
+        hub = value_after(*it, HUB_ENTRY);
+    return hub != NULL && *hub != 0 && !beginning_is_set_user(variables) ? hub : NULL;
 }
 
 void first_resolver(void)

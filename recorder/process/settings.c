@@ -10,6 +10,7 @@
 #include "common/format.h"
 #include "base/say.h"
 #include "base/system.h"
+#include "process/orphan.h"
 
 #define PREFIX "ASANCOL_"
 
@@ -72,14 +73,14 @@ static void look_for_unknown(void)
     }
 }
 
-/* The value of a setting, or null where it has none. */
+/* The value of a setting, or null where it has none. What the environment does not say the run may have said. */
 static const char *value_of(const char *name)
 {
     size_t length = strlen(name);
-    for (char **entry = beginning.variables; beginning.is_set_user == 0 && entry != NULL && *entry != NULL; entry++)
-        if (strncmp(*entry, name, length) == 0 && (*entry)[length] == '=')
-            return (*entry)[length + 1] != 0 ? *entry + length + 1 : NULL;
-    return NULL;
+    for (char **entry = beginning.variables; !beginning.is_set_user && entry != NULL && *entry != NULL; entry++)
+        if (strncmp(*entry, name, length) == 0 && (*entry)[length] == '=' && (*entry)[length + 1] != 0)
+            return *entry + length + 1;
+    return orphan_value(name);
 }
 
 /* Adds to a text that has this much room. Returns false where it does not fit. */
@@ -196,14 +197,23 @@ const char *settings_hub(void)
     return value_of("ASANCOL_HUB");
 }
 
+/* The value of a setting, for good: a program may write over its environment, as for a title of its own in `ps`. */
+static const char *kept_value(const char *name, struct entry *entry)
+{
+    const char *value = value_of(name);
+    entry->text[0] = 0;
+    return value != NULL && add(entry->text, sizeof entry->text, value) ? entry->text : value;
+}
+
 /* Where the stream goes: the trace comes first, and then the hub. */
 static void read_outputs(struct settings *settings)
 {
-    static struct entry trace, beside;
+    static struct entry trace, beside, hub, socket;
     settings->trace = name_from_root("ASANCOL_TRACE", &trace);
-    settings->hub = settings->trace == NULL ? settings_hub() : NULL;
-    settings->passed_over = settings->trace != NULL ? settings_hub() : NULL;
-    settings->socket = settings->trace == NULL && settings->hub == NULL ? value_of("ASANCOL_SOCKET") : NULL;
+    const char *named = kept_value("ASANCOL_HUB", &hub);
+    settings->hub = settings->trace == NULL ? named : NULL;
+    settings->passed_over = settings->trace != NULL ? named : NULL;
+    settings->socket = settings->trace == NULL && named == NULL ? kept_value("ASANCOL_SOCKET", &socket) : NULL;
     if (settings->hub != NULL)
         settings->trace = traces_beside(settings->hub, &beside);
 }
@@ -212,7 +222,7 @@ void settings_read(struct settings *settings)
 {
     static struct entry log;
     say_to(name_from_root("ASANCOL_LOG", &log));
-    if (beginning.is_set_user == 0)
+    if (!beginning.is_set_user)
         look_for_unknown();
     read_outputs(settings);
     settings->stop = number_of("ASANCOL_STOP", 1, EVENT_LIMIT, 0);

@@ -8,12 +8,14 @@
 
 #include "base/actions.h"
 #include "base/disturbance.h"
+#include "base/memory.h"
+#include "base/own_code.h"
 #include "base/self.h"
 #include "base/system.h"
 #include "calls/stubs.h"
 #include "process/process.h"
 #include "process/signal_stack.h"
-#include "stacks/own_stack.h"
+#include "shadow/mapping.h"
 #include "stream/faults.h"
 #include "stream/losing.h"
 #include "stream/side.h"
@@ -80,49 +82,216 @@ static uint32_t how_accessed(int number, uint64_t address, const greg_t *registe
            | (number == SIGSEGV && is_near ? SIDE_STACK_USED_UP : 0);
 }
 
-/* Notes where the process was. The kernel says of a wild address that is none, as it has no number for it. */
-static void note_last(int number, const siginfo_t *info, const ucontext_t *context)
+/* Signals that a fault raises; each may be sent as well. */
+static const int faults[] = {SIGSEGV, SIGBUS, SIGILL, SIGFPE};
+enum { FAULTS = sizeof faults / sizeof *faults };
+
+/* Its place among them, or FAULTS. */
+static unsigned place_of(int number)
+{
+    unsigned place = 0;
+    while (place < FAULTS && faults[place] != number)
+        place++;
+    return place;
+}
+
+static bool is_fault(int number, const siginfo_t *info)
+{
+    return place_of(number) < FAULTS && info->si_code > 0;
+}
+
+/* What a signal says: where it has come, and which address could not be accessed, of which the kernel says nothing if
+   it is so wild that it has no number for it. */
+struct met {
+    struct registers registers;
+    uint64_t address;
+    uint32_t how;
+};
+
+static struct met met_by(int number, const siginfo_t *info, const ucontext_t *context)
 {
     const greg_t *registers = context->uc_mcontext.gregs;
-    struct registers now = {
-        .instruction = (uintptr_t)registers[REG_RIP],
-        .stack = (uintptr_t)registers[REG_RSP],
-        .frame = (uintptr_t)registers[REG_RBP],
-    };
-    uint64_t address = (uintptr_t)info->si_addr;
     bool has_address = (number == SIGSEGV || number == SIGBUS) && info->si_code > 0 && info->si_code != SI_KERNEL;
-    uint32_t how = has_address ? how_accessed(number, address, registers) : 0;
+    struct met met = {.address = has_address ? (uintptr_t)info->si_addr : 0};
+    met.how = has_address ? how_accessed(number, met.address, registers) : 0;
+    met.registers.instruction = (uintptr_t)registers[REG_RIP];
+    met.registers.stack = (uintptr_t)registers[REG_RSP];
+    met.registers.frame = (uintptr_t)registers[REG_RBP];
+    return met;
+}
+
+/* Notes where the process was. */
+static void note_last(int number, const struct met *met)
+{
+    struct registers now = met->registers;
     /* A call to where no code is: what lies on top of the stack leads to it. */
-    if (has_address && address == now.instruction && stack_top(now.stack) != 0) {
+    struct known_page page = {0};
+    if ((met->how & SIDE_HAS_ADDRESS) && met->address == now.instruction
+        && memory_is_there(&page, now.stack, sizeof now.stack)) {
         now.instruction = *(const uintptr_t *)now.stack - 1;
         now.stack += sizeof(uintptr_t);
     }
     call_site last = call_site_at(&now);
-    fault_note_last(number == SIGABRT && aborting != 0 ? aborting : last, has_address ? address : 0, how);
+    fault_note_last(number == SIGABRT && aborting != 0 ? aborting : last, met->address, met->how);
+}
+
+/* Faults in the recorder's own code. The process is to die of them, and to say so. */
+
+/* Not if the stack is used up, when it is the program that has called too deep, and not at its wild pointer. */
+static bool is_inside(int number, const siginfo_t *info, const struct met *met)
+{
+    return is_fault(number, info) && !(met->how & SIDE_STACK_USED_UP) && !is_in_guard(met->address)
+           && own_code_has(met->registers.instruction, met->registers.frame);
+}
+
+/* No lock is taken, since this thread may have it. What is noted of the stack may meet the same fault again: all else
+   is noted by then. */
+static void note_inside(int number, const struct met *met)
+{
+    static _Atomic bool is_noted;
+    if (atomic_exchange(&is_noted, true) || !recorder_is_own_process())
+        return;
+    side_note_last(&(struct side_last){met->registers.instruction + 1, met->address, 0, SIDE_NO_THREAD, met->how});
+    side_note_inside(number);
+    note_last(number, met);
+}
+
+static void act_by_default(int number)
+{
+    struct system_action none = {0};
+    action_set(number, &none, NULL);
+}
+
+void before_handler(int, siginfo_t *, void *) OWN_NAME(before_handler);
+
+/* The program does not see this signal: a handler that was to come once, which the system takes away first, stays. */
+static void keep_handler(int number)
+{
+    struct system_action seen;
+    if (action_set(number, NULL, &seen) != 0 || seen.handler != NULL || !(seen.flags & (unsigned)SA_RESETHAND))
+        return;
+    seen.handler = before_handler;
+    action_set(number, &seen, NULL);
+}
+
+/* A signal as of a fault, that was sent while the recorder is not to be disturbed: it waits in its place, with all that
+   its sender has said. */
+static bool has_to_wait(int number, siginfo_t *info, ucontext_t *context)
+{
+    uint64_t mask, set = signal_bit(number);
+    __builtin_memcpy(&mask, &context->uc_sigmask, sizeof mask);
+    if (place_of(number) == FAULTS || info->si_code > 0 || !is_undisturbed(mask))
+        return false;
+    mask |= set;
+    __builtin_memcpy(&context->uc_sigmask, &mask, sizeof mask);
+    system_sigprocmask(SIG_BLOCK, &set, NULL);
+    keep_handler(number);
+    if (system_call4(SYS_rt_tgsigqueueinfo, system_getpid(), system_gettid(), number, (long)info) != 0)
+        system_tgkill(system_getpid(), system_gettid(), number);
+    return true;
 }
 
 static void on_ending(int number, siginfo_t *info, void *context)
 {
     if (number == SIGBUS && info->si_code > 0 && stream_has_lost(info->si_addr))
         return;
-    if (recorder_is_own_process())
-        note_last(number, info, context);
-    recorder_finish_in_handler(number);
-    struct system_action none = {0};
-    action_set(number, &none, NULL);
+    if (has_to_wait(number, info, context))
+        return;
+    struct met met = met_by(number, info, context);
+    if (is_inside(number, info, &met)) {
+        note_inside(number, &met);
+    } else {
+        if (recorder_is_own_process()) {
+            note_last(number, &met);
+            side_note_sender(info->si_code <= 0 && info->si_pid != system_getpid() ? info->si_pid : 0);
+        }
+        recorder_finish_in_handler(number);
+    }
+    act_by_default(number);
     /* A fault comes again by itself, and with what the kernel says of it. */
-    bool may_be_fault = number == SIGSEGV || number == SIGBUS || number == SIGILL || number == SIGFPE;
-    if (!may_be_fault || info->si_code <= 0)
+    if (!is_fault(number, info))
         system_tgkill(system_getpid(), system_gettid(), number);
+}
+
+/* The program's handlers of faults. What stands before them asks first whether the recorder's own code has met it, and
+   goes on to them with all as it was. */
+static struct {
+    _Atomic uintptr_t handler;
+    _Atomic bool wants_info; /* which the system writes only if it is asked to */
+} of_program[FAULTS];
+
+/* Where the program's handler is; 0: there is nothing to handle. */
+__attribute__((used)) static uintptr_t handler_to_come(int number, siginfo_t *info, void *context)
+{
+    struct met met = met_by(number, info, context);
+    if (number == SIGBUS && info->si_code > 0 && stream_has_lost(info->si_addr)) {
+        keep_handler(number);
+        return 0;
+    }
+    if (has_to_wait(number, info, context))
+        return 0;
+    if (!is_inside(number, info, &met))
+        return atomic_load_explicit(&of_program[place_of(number)].handler, memory_order_relaxed);
+    note_inside(number, &met);
+    act_by_default(number);
+    return 0;
+}
+
+__asm__(".pushsection .text\n"
+        ".p2align 4\n"
+        ".hidden asancol_before_handler\n"
+        ".globl asancol_before_handler\n"
+        ".type asancol_before_handler,@function\n"
+        "asancol_before_handler:\n"
+        "\t.cfi_startproc\n"
+        "\tendbr64\n"
+        "\tpushq %rdi\n\t.cfi_adjust_cfa_offset 8\n"
+        "\tpushq %rsi\n\t.cfi_adjust_cfa_offset 8\n"
+        "\tpushq %rdx\n\t.cfi_adjust_cfa_offset 8\n"
+        "\tcall handler_to_come\n"
+        "\tpopq %rdx\n\t.cfi_adjust_cfa_offset -8\n"
+        "\tpopq %rsi\n\t.cfi_adjust_cfa_offset -8\n"
+        "\tpopq %rdi\n\t.cfi_adjust_cfa_offset -8\n"
+        "\ttestq %rax, %rax\n"
+        "\tjz 1f\n"
+        "\tjmp *%rax\n"
+        "1:\tret\n"
+        "\t.cfi_endproc\n"
+        ".size asancol_before_handler, .-asancol_before_handler\n"
+        ".popsection\n");
+
+/* One that was there before. */
+static void stand_before(int number, struct system_action seen)
+{
+    unsigned place = place_of(number);
+    atomic_store(&of_program[place].handler, (uintptr_t)seen.handler);
+    atomic_store(&of_program[place].wants_info, (seen.flags & SA_SIGINFO) != 0);
+    seen.handler = before_handler;
+    seen.flags |= SA_SIGINFO;
+    action_set(number, &seen, NULL);
+}
+
+static bool is_function(uintptr_t handler)
+{
+    return handler != (uintptr_t)SIG_DFL && handler != (uintptr_t)SIG_IGN;
 }
 
 void signals_handle(void)
 {
     struct system_action seen;
+    uint64_t set = 0;
     signal_stack_of_first();
-    for (int number = 1; number <= LAST_SIGNAL; number++)
-        if (ends_process(number) && action_set(number, NULL, &seen) == 0 && seen.handler == NULL)
-            action_handle(number, on_ending, NULL);
+    for (unsigned i = 0; i < FAULTS; i++)
+        set |= signal_bit(faults[i]);
+    for (int number = 1; number <= LAST_SIGNAL; number++) {
+        if (!ends_process(number) || action_set(number, NULL, &seen) != 0)
+            continue;
+        if (seen.handler == NULL)
+            action_handle(number, on_ending, ~set, NULL);
+        else if (place_of(number) < FAULTS && is_function((uintptr_t)seen.handler))
+            stand_before(number, seen);
+    }
+    undisturbed_by_faults(set);
     has_handlers = true;
 }
 
@@ -133,13 +302,52 @@ extern int real_sigaction(int, const struct sigaction *, struct sigaction *) __a
 REAL(int, sigaction, (int, const struct sigaction *, struct sigaction *));
 #endif
 
-int signals_set_action(int number, const struct sigaction *action, struct sigaction *old)
+/* What is set in place of the program's action. */
+static void take_place(int number, struct sigaction *action)
 {
-    struct sigaction ours = {.sa_sigaction = on_ending, .sa_flags = ACTION_FLAGS};
-    __builtin_memset(&ours.sa_mask, 0xff, sizeof ours.sa_mask);
-    bool to_default = action != NULL && action->sa_handler == SIG_DFL && has_handlers && ends_process(number);
-    int result = real_sigaction(number, to_default ? &ours : action, old);
-    if (result == 0 && old != NULL && (old->sa_flags & SA_SIGINFO) && old->sa_sigaction == on_ending)
+    bool is_handled = is_function((uintptr_t)action->sa_handler);
+    if (is_handled && place_of(number) < FAULTS) {
+        action->sa_sigaction = before_handler;
+        action->sa_flags |= SA_SIGINFO;
+    } else if (action->sa_handler == SIG_DFL && ends_process(number)) {
+        *action = (struct sigaction){.sa_sigaction = on_ending, .sa_flags = ACTION_FLAGS | SA_NODEFER};
+        __builtin_memset(&action->sa_mask, 0xff, sizeof action->sa_mask);
+        for (unsigned i = 0; i < FAULTS; i++)
+            action->sa_mask.__val[0] &= ~signal_bit(faults[i]);
+    }
+}
+
+/* What the program had set before. */
+static void put_old(struct sigaction *old, uintptr_t handler, bool wants_info)
+{
+    if (!(old->sa_flags & SA_SIGINFO))
+        return;
+    if (old->sa_sigaction == on_ending)
         *old = (struct sigaction){.sa_handler = SIG_DFL};
+    if (old->sa_sigaction != before_handler)
+        return;
+    old->sa_sigaction = (void (*)(int, siginfo_t *, void *))handler;
+    if (!wants_info)
+        old->sa_flags &= ~SA_SIGINFO;
+}
+
+OF_PROGRAM int signals_set_action(int number, const struct sigaction *action, struct sigaction *old)
+{
+    unsigned place = place_of(number);
+    uintptr_t before = place < FAULTS ? atomic_load(&of_program[place].handler) : 0;
+    bool wanted_info = place < FAULTS && atomic_load(&of_program[place].wants_info);
+    struct sigaction ours;
+    if (action != NULL && has_handlers) {
+        ours = *action;
+        take_place(number, &ours);
+        if (place < FAULTS && ours.sa_sigaction == before_handler) { /* from now on: the old one may come so too */
+            atomic_store(&of_program[place].wants_info, (action->sa_flags & SA_SIGINFO) != 0);
+            atomic_store(&of_program[place].handler, (uintptr_t)action->sa_handler);
+        }
+        action = &ours;
+    }
+    int result = real_sigaction(number, action, old);
+    if (result == 0 && old != NULL)
+        put_old(old, before, wanted_info);
     return result;
 }

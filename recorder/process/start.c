@@ -36,6 +36,8 @@ static struct {
    for before that, as LeakSanitizer does. */
 static void end_at_exit(bool is_last)
 {
+    if (recorder_is_own_process())
+        heap_ends_here();
     if (is_last)
         leaks_look_at_end();
     if (is_last && recorder_is_own_process() && stream_has_one_end())
@@ -135,5 +137,6 @@ const struct above above = {
     .say_child = recorder_say_child,
     .list_unchecked = unchecked_list,
     .has_frame = stack_has_frame,
+    .is_own_frame = stack_is_own_frame,
     .halt_at = halt_at,
 };

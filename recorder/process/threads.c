@@ -17,6 +17,8 @@
 #include "process/signal_stack.h"
 #include "calls/library.h"
 #include "heap/heap.h"
+#include "base/behind.h"
+#include "base/own_code.h"
 #include "base/platform.h"
 #include "base/self.h"
 #include "shadow/shadow.h"
@@ -25,6 +27,7 @@
 #include "stacks/own_stack.h"
 #include "stacks/stacks.h"
 #include "stacks/thread_notes.h"
+#include "stacks/walks.h"
 #include "stream/state.h"
 #include "base/system.h"
 
@@ -78,7 +81,7 @@ bool stack_has_frame(uintptr_t frame, uintptr_t address)
     if (is_in(switched, frame))
         all = switched;
     else if (!is_on_own_stack(frame) && !is_on_handlers_stack(frame, &all))
-        return false;
+        all = (struct span){heap_start_around(frame), heap_end_around(frame)}; /* the program has switched by itself */
     /* With the granule behind it: that is stated too (stated.c). */
     return address >= frame && is_in(all, address) && heap_end_around(address) >= address + 2 * GRANULE;
 }
@@ -222,6 +225,15 @@ static struct span made_around(uintptr_t address)
     return (struct span){0, 0};
 }
 
+bool stack_is_own_frame(uintptr_t frame)
+{
+    stack_t seen = {.ss_flags = SS_DISABLE};
+    system_sigaltstack(NULL, &seen);
+    /* Without one nobody knows: in a handler the system says so of one with SS_AUTODISARM, on which that may be. */
+    bool is_of_handlers = (seen.ss_flags & SS_DISABLE) || frame - (uintptr_t)seen.ss_sp < seen.ss_size;
+    return is_on_own_stack(frame) && !is_of_handlers && !is_in(switched, frame) && made_around(frame).top == 0;
+}
+
 void stack_begins(struct span all)
 {
     static _Atomic size_t next;
@@ -340,7 +352,9 @@ static void end_thread(void *unused)
     (void)unused;
     fake_thread_ends();
     signal_stack_ends();
+    walks_give();
     clear_own_stack();
+    heap_thread_ends();
 }
 
 /* What the C library keeps of a thread lies at the upper end of its stack. */
@@ -441,7 +455,7 @@ static struct start *prepare(const pthread_attr_t *attributes, void *argument, u
 typedef void *routine_of(void *);
 typedef int create(pthread_t *, const pthread_attr_t *, routine_of *, void *);
 
-REPLACES int pthread_create(pthread_t *thread, const pthread_attr_t *attributes, routine_of *routine, void *argument)
+static int own_pthread_create(pthread_t *thread, const pthread_attr_t *attributes, routine_of *routine, void *argument)
 {
     static _Atomic uintptr_t real;
     create *next = (create *)find_real(&real, "pthread_create");
@@ -457,9 +471,12 @@ REPLACES int pthread_create(pthread_t *thread, const pthread_attr_t *attributes,
     return error;
 }
 
+REPLACES int pthread_create(pthread_t *thread, const pthread_attr_t *attributes, routine_of *routine, void *argument)
+    __attribute__((alias("own_pthread_create")));
+
 typedef int create_of_c11(thrd_t *, thrd_start_t, void *);
 
-REPLACES int thrd_create(thrd_t *thread, thrd_start_t routine, void *argument)
+static int own_thrd_create(thrd_t *thread, thrd_start_t routine, void *argument)
 {
     static _Atomic uintptr_t real;
     create_of_c11 *next = (create_of_c11 *)find_real(&real, "thrd_create");
@@ -475,10 +492,26 @@ REPLACES int thrd_create(thrd_t *thread, thrd_start_t routine, void *argument)
     return result;
 }
 
+REPLACES int thrd_create(thrd_t *thread, thrd_start_t routine, void *argument)
+    __attribute__((alias("own_thrd_create")));
+
+#if !defined IS_STATIC && !defined IS_PRELOAD
+
+uintptr_t thread_function_behind(const char *name)
+{
+    static const struct behind rows[] = {
+        {BEHIND(pthread_create, own_pthread_create, own_pthread_create)},
+        {BEHIND(thrd_create, own_thrd_create, own_thrd_create)},
+    };
+    return behind_find(rows, sizeof rows / sizeof *rows, name);
+}
+
+#endif
+
 /* A jump. If a library makes it, no call of the compilers' comes first; and only here it is known where it goes. */
 
 /* The stack pointer of a jmp_buf, which the C library keeps turned and mixed with a secret. */
-static uintptr_t target_of(const void *to)
+static OF_PROGRAM uintptr_t target_of(const void *to)
 {
     enum { OF_STACK_POINTER = 6 * sizeof(uintptr_t), TURN = 17 };
     uintptr_t mixed, secret;
@@ -490,6 +523,7 @@ static uintptr_t target_of(const void *to)
 static void frames_left_by_jump(uintptr_t frame, uintptr_t target)
 {
     stack_frames_left(frame);
+    heap_left_by_jump(target);
     leave_fakes(target);
     if (is_in(switched, target)) {
         if (!is_in(switched, frame) || frame > target)

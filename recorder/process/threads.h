@@ -7,8 +7,11 @@
 
 #include "base/platform.h"
 
-/* Whether an address in a block is in this frame or above it, on a stack on which this thread is known to be. */
+/* Whether an address in a block is in this frame or above it, on the same stack: in a block that this frame is in, too.
+   */
 bool stack_has_frame(uintptr_t frame, uintptr_t address) OWN_NAME(stack_has_frame);
+/* Whether it is on the thread's own stack, and on no other that lies in an array there. */
+bool stack_is_own_frame(uintptr_t frame);
 /* Frames from this one up may be left without their returns: in a child of vfork those below its parent's call. */
 void stack_frames_left(uintptr_t frame) OWN_NAME(stack_frames_left);
 /* The thread calls vfork, with this stack pointer. */
@@ -30,6 +33,9 @@ struct stack_switch {
 
 /* What threads that were created are to be given, and have not taken yet. */
 void threads_visit_waiting(void (*visit)(uintptr_t argument));
+
+/* The recorder's function of this name (base/behind.h). */
+uintptr_t thread_function_behind(const char *name);
 
 void stack_switches(const struct stack_switch *it) OWN_NAME(stack_switches);
 /* Memory becomes the stack of a new context. */

@@ -161,7 +161,8 @@ static struct name name_of(const struct map_line *line)
 static bool is_of_system(const struct map_line *line)
 {
     static const char *const folders[] = {"/lib/", "/lib32/", "/lib64/", "/libx32/",
-                                          "/usr/lib/", "/usr/lib32/", "/usr/lib64/", "/usr/libx32/"};
+                                          "/usr/lib/", "/usr/lib32/", "/usr/lib64/", "/usr/libx32/",
+                                          "/usr/libexec/"};
     for (size_t i = 0; i < sizeof folders / sizeof *folders; i++)
         if (begins_with(line->path, folders[i]))
             return true;

@@ -4,6 +4,7 @@
 #include <errno.h>
 #include <fcntl.h>
 
+#include "process/asking.h"
 #include "process/beginning.h"
 #include "base/digits.h"
 #include "process/hub_names.h"
@@ -26,22 +27,15 @@ static int make_mark(const char *name, const char *program, const char *why, con
     return system_symlink(text, name);
 }
 
-static bool connect_to(const char *hub, bool is_abstract)
+bool unseen_tell(const char *hub, const char *why)
 {
-    struct sockaddr_un address;
-    socklen_t length = hub_socket(&address, hub, is_abstract);
-    int made = length > 0 ? system_socket(AF_UNIX, SOCK_STREAM | SOCK_CLOEXEC, 0) : -1;
-    if (made < 0)
-        return false;
-    bool is_there = system_connect(made, &address, length) == 0;
-    system_close(made);
-    return is_there;
-}
-
-void unseen_knock(const char *hub)
-{
-    if (hub != NULL && !connect_to(hub, false))
-        connect_to(hub, true);
+    char text[ASK_MOST], answer;
+    struct joined joined = {.text = text, .room = sizeof text};
+    joined_add(&joined, ASK_UNSEEN "\n", sizeof text);
+    joined_add(&joined, beginning_name(), MAX_PROGRAM_LENGTH);
+    joined_add(&joined, "\n", 1);
+    joined_add(&joined, why, sizeof text);
+    return ask(hub, text, false, &answer, sizeof answer) > 0;
 }
 
 void unseen_note(const char *hub, const char *why)
@@ -52,7 +46,7 @@ void unseen_note(const char *hub, const char *why)
     int failed = hub_mark(name, hub, (unsigned long)system_getpid(), MARK_UNSEEN)
                      ? make_mark(name, beginning_name(), why, NULL) : -ENOENT;
     if (failed != 0 && failed != -EEXIST)
-        unseen_knock(hub);
+        unseen_tell(hub, why);
 }
 
 #ifndef IN_SHARED_OBJECT
@@ -79,6 +73,14 @@ void unseen_expect_no_more(const char *hub)
     char name[HUB_MARK_ROOM];
     if (hub != NULL && hub_mark(name, hub, (unsigned long)system_getpid(), MARK_EXPECTED))
         system_unlink(name);
+}
+
+void unseen_killed(const char *hub, int child, int number)
+{
+    char name[HUB_MARK_ROOM], digits[DIGITS_ROOM], parent[DIGITS_ROOM];
+    if (hub != NULL && hub_mark(name, hub, (unsigned long)child, MARK_KILLED))
+        make_mark(name, put_digits(parent + sizeof parent, (unsigned)system_getpid(), 1),
+                  put_digits(digits + sizeof digits, (unsigned)number, 1), NULL);
 }
 
 /* One thread begins one child at a time. */

@@ -1,0 +1,25 @@
+/* What listens beside a hub: it gives settings to a process that has lost its environment, and takes word of one that
+   is not recorded. Linked into programs and into shared objects, and called at any time. */
+#ifndef ASANCOL_ASKING_H
+#define ASANCOL_ASKING_H
+
+#include <stdbool.h>
+#include <stddef.h>
+#include <sys/socket.h>
+
+#include "base/platform.h"
+
+/* How long an answer is waited for. */
+enum { ASK_PATIENCE_MS = 60000 };
+
+/* Waits for a place in a queue that is full (EAGAIN): as long as there is patience. */
+int connect_patiently(int descriptor, const void *address, socklen_t length, int *patience_ms)
+    OWN_NAME(connect_patiently);
+/* Whether who listens at the other end is of our user, or root: a name is anybody's who takes it. */
+bool is_trusted(int descriptor) OWN_NAME(is_trusted);
+
+/* Sends a request, and waits until the hub has closed, at most so long. Answers how many bytes came: 0 if the hub does
+   not take the process for its own; -EACCES: with `trusting`, who listens is another user; or another error. */
+long ask(const char *hub, const char *request, bool trusting, char *answer, size_t room) OWN_NAME(ask);
+
+#endif

@@ -1,0 +1,30 @@
+/* Memory that the program gives to the system, of which nothing is known. */
+#ifndef ASANCOL_GIVEN_H
+#define ASANCOL_GIVEN_H
+
+#include <stdbool.h>
+#include <stddef.h>
+#include <stdint.h>
+#include <string.h>
+
+#include "base/platform.h"
+
+/* Whether so many bytes can be read. The system is asked unless they are in the program's file, in a live block, or
+   above us on the thread's own stack. */
+bool given_is_there(uintptr_t start, size_t size);
+/* Whether a text can, up to its end. */
+bool given_text_is_there(const char *text);
+
+/* How many of the first bytes of a text can be read, at most up to its end and with that. */
+static inline size_t given_text_length(const char *text, bool (*is_there)(uintptr_t start, size_t size))
+{
+    const char *at = text, *end = NULL;
+    while (text != NULL && end == NULL && is_there((uintptr_t)at, 1)) {
+        size_t piece = PAGE - (uintptr_t)at % PAGE;
+        end = memchr(at, 0, piece);
+        at += piece;
+    }
+    return (size_t)((end != NULL ? end + 1 : at) - text);
+}
+
+#endif
