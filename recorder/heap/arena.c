@@ -20,17 +20,20 @@
 #include "shadow/mapping.h"
 #include "shadow/shadow.h"
 
+#include <errno.h>
+#include <stdatomic.h>
 #include <string.h>
 #include <sys/mman.h>
 #include <time.h>
 
+#include "base/own_code.h"
 #include "base/system.h"
 #include "calls/library.h"
 
 /* For how many units notes are asked for: they then fill whole pages. */
-enum { NOTE_STEP = 256 };
+enum { NOTE_STEP = REGION_UNITS };
 /* By how many units memory grows: by as many as there are, within these, up to a huge page. It is poison until it is
-   handed out (heap.c), which takes an eighth of it in the shadow. */
+   handed out (poisoning.h), which takes an eighth of it in the shadow. */
 enum { LEAST_STEP = 4, MOST_STEP = 32 };
 /* So many units at most may be in huge pages, since between these and others the system has a limit of changes. */
 enum { MOST_HUGE = 1 << 18 };
@@ -47,25 +50,36 @@ enum { AT_ONCE = (32 << 20) / UNIT };
 enum { MOST_BY_HAND = 1 << 17 };
 
 struct arena arena;
+_Thread_local volatile sig_atomic_t arena_changing;
+
+_Atomic bool arena_was_left;
 
 bool arena_give_memory(void *start, size_t bytes)
 {
-    int flags = MAP_PRIVATE | MAP_ANONYMOUS | MAP_NORESERVE | MAP_FIXED_NOREPLACE;
-    return system_mmap(start, bytes, PROT_READ | PROT_WRITE, flags, -1, 0) == (long)start;
+    enum { FLAGS = MAP_PRIVATE | MAP_ANONYMOUS | MAP_NORESERVE };
+    long made = system_mmap(start, bytes, PROT_READ | PROT_WRITE, FLAGS | MAP_FIXED_NOREPLACE, -1, 0);
+    if (made == -EEXIST && atomic_load_explicit(&arena_was_left, memory_order_relaxed))
+        made = system_mmap(start, bytes, PROT_READ | PROT_WRITE, FLAGS | MAP_FIXED, -1, 0);
+    return made == (long)start;
 }
 
-static bool note(uint32_t units)
+/* Those on the blocks of a unit but the first. */
+static struct block *other_notes(uint32_t unit)
 {
-    if (units <= arena.noted)
-        return true;
-    size_t from = arena.noted, count = (units - from + NOTE_STEP - 1) / NOTE_STEP * NOTE_STEP;
+    return block_at(unit, 1) - 1;
+}
+
+/* Makes room for notes on units from one number on. */
+static bool note_from(uint32_t from, size_t count)
+{
     const struct {
         void *start;
         size_t bytes;
     } parts[] = {{arena.units + from, count * sizeof(struct unit)},
-                 {block_at(arena.noted, 0), count * sizeof(struct block)},
-                 {block_at(arena.noted, 1), count * (SLOTS - 1) * sizeof(struct block)}};
-    for (int i = 0; i < (int)(sizeof parts / sizeof *parts); i++) {
+                 {block_at(from, 0), count * sizeof(struct block)},
+                 {other_notes(from), count * SLOTS * sizeof(struct block)}};
+    int used = from < FIRST_BIG ? 3 : 2; /* a run has no second slot */
+    for (int i = 0; i < used; i++) {
         if (arena_give_memory(parts[i].start, parts[i].bytes)) {
             system_madvise(parts[i].start, parts[i].bytes, MADV_DONTDUMP); /* a core has the blocks alone */
             continue;
@@ -74,7 +88,18 @@ static bool note(uint32_t units)
             system_munmap(parts[i].start, parts[i].bytes);
         return false;
     }
-    arena.noted += (uint32_t)count;
+    return true;
+}
+
+/* Likewise on all units below one, in a row. */
+static bool note_below(uint32_t *noted, uint32_t units)
+{
+    if (units <= *noted)
+        return true;
+    uint32_t count = (units - *noted + NOTE_STEP - 1) / NOTE_STEP * NOTE_STEP;
+    if (!note_from(*noted, count))
+        return false;
+    *noted += count;
     return true;
 }
 
@@ -83,14 +108,14 @@ static bool commit(uint32_t units, bool is_slab)
 {
     if (units <= arena.committed)
         return true;
-    if (units > UNITS)
+    if (units > FIRST_BIG)
         return false;
     uint32_t step = arena.committed < LEAST_STEP ? LEAST_STEP : arena.committed;
     step = step < MOST_STEP ? step : MOST_STEP;
     uint32_t count = (units - arena.committed + step - 1) / step * step;
-    if (count > UNITS - arena.committed)
-        count = UNITS - arena.committed;
-    if (!note(arena.committed + count))
+    if (count > FIRST_BIG - arena.committed)
+        count = FIRST_BIG - arena.committed;
+    if (!note_below(&arena.noted, arena.committed + count))
         return false;
     if (!arena_give_memory(unit_start(arena.committed), (size_t)count * UNIT))
         return false;
@@ -108,10 +133,12 @@ bool arena_find(void)
 {
     shadow_map(); /* in a static program this comes before all constructors */
     arena.blocks = (struct block *)RANGE;
-    arena.units = (struct unit *)(arena.blocks + (size_t)UNITS * SLOTS);
+    arena.units = (struct unit *)(arena.blocks + BLOCK_NUMBERS);
     unsigned char *bytes = (unsigned char *)(arena.units + UNITS);
     arena.spare = bytes + (size_t)UNITS * UNIT;
     SET_NOTE(arena.top, 1);
+    arena.big_noted = FIRST_BIG;
+    SET_NOTE(arena.big_top, FIRST_BIG);
     arena.period = 1;
     __atomic_store_n(&arena.bytes, bytes, __ATOMIC_RELEASE);
     if (commit(1, false))
@@ -125,7 +152,7 @@ void arena_keep_call_sites(void)
     if (arena.call_sites != NULL || (arena.bytes == NULL && !arena_find()))
         return;
     void *start = arena.spare + SPARE_BYTES;
-    size_t bytes = (size_t)UNITS * SLOTS * sizeof(struct call_sites);
+    size_t bytes = BLOCK_NUMBERS * sizeof(struct call_sites);
     if (!arena_give_memory(start, bytes))
         return;
     system_madvise(start, bytes, MADV_NOHUGEPAGE);
@@ -197,11 +224,14 @@ static uint32_t give_back_stale(uint32_t first, uint32_t count, uint8_t period)
 
 static void give_back_since(uint8_t period)
 {
+    arena_begin_change();
     for (uint32_t unit = 1, count; unit < arena.top && arena.waiting != 0; unit += count) {
-        count = arena.units[unit].kind == UNIT_SLAB ? 1 : arena.units[unit].count;
+        uint8_t kind = arena.units[unit].kind;
+        count = kind == UNIT_SLAB || kind == UNIT_NEW ? 1 : arena.units[unit].count;
         if (arena.units[unit].kind == UNIT_FREE)
-            arena.waiting -= give_back_stale(unit, count, period);
+            SET_NOTE(arena.waiting, arena.waiting - give_back_stale(unit, count, period));
     }
+    arena_end_change();
 }
 
 bool arena_give_back(void)
@@ -234,7 +264,7 @@ void arena_clear(void *start, size_t size)
     }
     for (uint32_t unit = first; unit < end; unit++)
         if (arena.units[unit].stale != 0) {
-            memset(start, 0, size);
+            program_clear(start, size);
             return;
         }
 }
@@ -260,7 +290,7 @@ static uint32_t find_run(uint32_t count)
 
 static uint32_t take_new(uint32_t count, bool is_slab)
 {
-    if (count > UNITS - arena.top)
+    if (count > FIRST_BIG - arena.top)
         return 0;
     if (!commit(arena.top + count, is_slab) && !(arena_give_back() && commit(arena.top + count, is_slab)))
         return 0;
@@ -268,7 +298,69 @@ static uint32_t take_new(uint32_t count, bool is_slab)
     return arena.top - count;
 }
 
-uint32_t arena_take_run(uint32_t count, bool is_slab)
+uint32_t arena_take_unused(uint32_t count)
+{
+    return take_new(count, false);
+}
+
+uint32_t arena_take_big(uint32_t count)
+{
+    uint32_t first = arena.big_top;
+    bool is_there = count <= UNITS - first && note_below(&arena.big_noted, first + count)
+                    && arena_give_memory(unit_start(first), (size_t)count * UNIT);
+    if (is_there)
+        SET_NOTE(arena.big_top, first + count);
+    return is_there ? first : 0;
+}
+
+bool arena_drop(uint32_t first, uint32_t count)
+{
+    return system_madvise(unit_start(first), (size_t)count * UNIT, MADV_DONTNEED) == 0;
+}
+
+void arena_forget(uint32_t unit)
+{
+    struct block *notes = other_notes(unit);
+    system_madvise(notes, SLOTS * sizeof *notes, MADV_DONTNEED);
+    if (arena.call_sites != NULL)
+        system_madvise(&arena.call_sites[notes - arena.blocks], SLOTS * sizeof *arena.call_sites, MADV_DONTNEED);
+}
+
+_Static_assert(REGION_UNITS * sizeof(struct unit) % PAGE == 0, "the notes on the units of a region fill whole pages");
+
+/* Puts new memory there, so that the system needs no tables any more for what it was. */
+static void renew(void *start, size_t bytes, bool is_notes)
+{
+    int flags = MAP_PRIVATE | MAP_ANONYMOUS | MAP_NORESERVE | MAP_FIXED;
+    if (system_mmap(start, bytes, PROT_READ | PROT_WRITE, flags, -1, 0) == (long)start && is_notes)
+        system_madvise(start, bytes, MADV_DONTDUMP);
+}
+
+void arena_renew_region(uint32_t region)
+{
+    renew(unit_start(region * REGION_UNITS), (size_t)REGION_UNITS * UNIT, false);
+}
+
+void arena_forget_region(uint32_t region)
+{
+    enum { COUNT = REGION_UNITS };
+    uint32_t first = region * REGION_UNITS;
+    struct block *others = other_notes(first);
+    if (first < FIRST_BIG)
+        renew(others, COUNT * SLOTS * sizeof *others, true);
+    system_madvise(block_at(first, 0), COUNT * sizeof(struct block), MADV_DONTNEED);
+    system_madvise(&arena.units[first], COUNT * sizeof(struct unit), MADV_DONTNEED);
+    if (arena.call_sites == NULL)
+        return;
+    system_madvise(&arena.call_sites[first], COUNT * sizeof *arena.call_sites, MADV_DONTNEED);
+    if (first < FIRST_BIG) {
+        struct call_sites *sites = &arena.call_sites[others - arena.blocks];
+        renew(sites, COUNT * SLOTS * sizeof *sites, true);
+        system_madvise(sites, COUNT * SLOTS * sizeof *sites, MADV_NOHUGEPAGE);
+    }
+}
+
+static uint32_t take_run(uint32_t count, bool is_slab)
 {
     uint32_t first = find_run(count);
     if (first == 0)
@@ -276,7 +368,7 @@ uint32_t arena_take_run(uint32_t count, bool is_slab)
     if (first == 0)
         return 0;
     for (uint32_t i = 0; i < count; i++) {
-        arena.waiting -= arena.units[first + i].stale != 0;
+        SET_NOTE(arena.waiting, arena.waiting - (arena.units[first + i].stale != 0));
         unit_write(first + i, (struct unit){.kind = i == 0 ? UNIT_RUN : UNIT_RUN_BODY, .count = i == 0 ? count : i});
     }
     arena.taken += count;
@@ -287,6 +379,14 @@ uint32_t arena_take_run(uint32_t count, bool is_slab)
     return first;
 }
 
+uint32_t arena_take_run(uint32_t count, bool is_slab)
+{
+    arena_begin_change();
+    uint32_t first = take_run(count, is_slab);
+    arena_end_change();
+    return first;
+}
+
 static void leave_run(uint32_t first, uint32_t count)
 {
     bool is_much = count >= AT_ONCE;
@@ -294,12 +394,13 @@ static void leave_run(uint32_t first, uint32_t count)
         give_back(first, count);
     for (uint32_t i = 0; i < count; i++)
         arena.units[first + i].stale = is_much ? 0 : arena.period;
-    arena.waiting += is_much ? 0 : count;
+    SET_NOTE(arena.waiting, arena.waiting + (is_much ? 0 : count));
     arena.taken -= count;
 }
 
 void arena_give_run(uint32_t first, uint32_t count)
 {
+    arena_begin_change();
     leave_run(first, count);
     uint32_t after = first + count;
     if (after < arena.top && arena.units[after].kind == UNIT_FREE) {
@@ -316,4 +417,5 @@ void arena_give_run(uint32_t first, uint32_t count)
     list_run(first, count);
     if (arena.waiting > MOST_WAITING)
         arena_give_back();
+    arena_end_change();
 }

@@ -4,6 +4,8 @@
 #ifndef ASANCOL_ARENA_H
 #define ASANCOL_ARENA_H
 
+#include <signal.h>
+#include <stdatomic.h>
 #include <stdbool.h>
 #include <stddef.h>
 #include <stdint.h>
@@ -14,9 +16,15 @@
 #include "stacks/stacks.h"
 
 enum { UNIT = 1 << 16, MIN_SLOT_SIZE = 2 * REDZONE, SLOTS = UNIT / MIN_SLOT_SIZE, ALIGNMENT = 16 };
-/* There are 2^38 bytes in units, */
-enum { UNITS = 1 << 22 };
-/* and this many bytes for signal handlers. */
+/* There are 2^42 bytes in units, but in a test of the allocator alone; */
+#ifndef UNITS
+enum { UNITS = 1 << 26 };
+#endif
+/* the second half for blocks of more than BIG_BYTES, except in a recording in order. */
+enum { FIRST_BIG = UNITS / 2, BIG_BYTES = 1 << 19 };
+/* A region of these has one mapping of the file that says it is unused (shadow/unused.h). */
+enum { REGION_UNITS = 1 << 9, REGIONS = UNITS / REGION_UNITS };
+/* And there are this many bytes for signal handlers. */
 #define SPARE_BYTES ((uint64_t)1 << 34)
 /* Free runs are listed by their number of units, the longer ones together. */
 enum { BINS = 64 };
@@ -50,10 +58,12 @@ struct block {
         struct block *next; /* in its list of free slots, or in the quarantine */
         uint64_t alignment; /* of one that is live: what its `new` was given; 0: it was none with an alignment */
         uint64_t large_size; /* of one that is not recorded */
+        uint64_t settled;    /* of one that is held, and in no order: whether its free is over (BLOCK_SETTLED) */
     };
 };
 
 enum block_state { BLOCK_FREE, BLOCK_LIVE, BLOCK_HELD, BLOCK_UNRECORDED };
+#define BLOCK_SETTLED UINT64_MAX
 
 /* Where a block was allocated and freed; 0 if it is not known, or not freed. */
 struct call_sites {
@@ -61,6 +71,17 @@ struct call_sites {
 };
 
 enum unit_kind { UNIT_NEW, UNIT_SLAB, UNIT_RUN, UNIT_RUN_BODY, UNIT_FREE, UNIT_FREE_END };
+
+/* What is done with a slab or a run whose addresses are handed out once (shards.c). */
+enum unit_form {
+    FORM_NONE,
+    FORM_OPEN,     /* a shard takes slots from it */
+    FORM_CLOSED,   /* all slots were handed out */
+    FORM_OLD,      /* and it is looked at as they are freed */
+    FORM_LISTED,   /* and half of them were freed, so that it may be used again */
+    FORM_RETIRED,  /* all that it had is freed for good: it keeps notes alone */
+    FORM_FORGOTTEN /* and not even these */
+};
 
 struct unit {
     uint8_t kind;
@@ -76,26 +97,49 @@ struct unit {
             uint32_t slot_size, used; /* of a slab; and how many were ever used */
         };
     };
+    /* Of a slab of a shard. */
+    uint32_t left;  /* its slots that are not freed, and one more while it is open; atomic */
+    uint32_t turns; /* how often it was opened */
+    uint32_t listed_before, listed_next; /* among those that may be used again; 0 is none */
+    uint32_t dead;  /* how many of its pages are counted as dead (retiring.c) */
+    uint16_t given; /* a bit for each page that was given back */
+    uint8_t form;   /* enum unit_form */
+    bool is_listed;
 };
 
 extern struct arena {
     /* Null until the first allocation. It is released, and without the lock it is acquired; so is `call_sites`. */
     unsigned char *bytes;
     struct unit *units;
-    struct block *blocks; /* SLOTS for each unit, by block_number */
+    struct block *blocks; /* by block_number */
     unsigned char *spare; /* memory for signal handlers */
     struct call_sites *call_sites; /* one for each of `blocks`; or null: they are not noted */
     uint32_t noted;       /* units that have notes, */
     uint32_t committed;   /* and memory */
     uint32_t top;         /* units used so far, with unit 0, which is never used: it is the first block's neighbour */
+    uint32_t big_noted, big_top; /* likewise from FIRST_BIG on, where each run gets its memory by itself */
     uint32_t bins[BINS + 1];
     /* Of giving back (arena.c). */
     uint32_t taken, most_taken; /* units, now and at most */
     uint32_t waiting;
-    uint32_t calls; /* of the allocator, while some waited */
     uint8_t period; /* 1 or 2, in turn */
     int64_t period_start_ms;
 } arena;
+
+/* Not 0: this thread is changing the notes on units, which are not whole just now. */
+extern _Thread_local volatile sig_atomic_t arena_changing;
+
+static inline void arena_begin_change(void)
+{
+    arena_changing++;
+    atomic_signal_fence(memory_order_seq_cst);
+}
+
+static inline void arena_end_change(void)
+{
+    atomic_signal_fence(memory_order_seq_cst);
+    arena_changing--;
+}
 
 static inline unsigned char *unit_start(uint32_t unit)
 {
@@ -117,11 +161,13 @@ static inline uint32_t slots_in(uint32_t bytes, uint32_t factor)
 }
 
 /* Where the notes on a slot stand. Those on the first slot of all units come before the others, and a run has no other:
-   so the notes on a thousand runs take some pages, and not a page each. */
+   so the notes on a thousand runs take some pages, and not a page each. The others of a unit begin with a page, in the
+   place of the first, which stays empty. */
 static inline size_t block_number(uint32_t unit, uint32_t slot)
 {
-    return slot == 0 ? unit : UNITS + (size_t)unit * (SLOTS - 1) + slot - 1;
+    return slot == 0 ? unit : UNITS + (size_t)unit * SLOTS + slot;
 }
+#define BLOCK_NUMBERS (UNITS + (size_t)UNITS * SLOTS)
 
 static inline struct block *block_at(uint32_t unit, uint32_t slot)
 {
@@ -134,7 +180,16 @@ static inline bool arena_is_found(void)
     return __atomic_load_n(&arena.bytes, __ATOMIC_ACQUIRE) != NULL;
 }
 
-/* All but whether it is stale. */
+/* The unit after this one that was used, or may have been; 0: there is none. */
+static inline uint32_t unit_after(uint32_t unit)
+{
+    unit++;
+    if (unit >= arena.top && unit < FIRST_BIG)
+        unit = FIRST_BIG;
+    return unit < FIRST_BIG || unit < arena.big_top ? unit : 0;
+}
+
+/* All but whether it is stale, and what shards do with it. */
 static inline void unit_write(uint32_t number, struct unit value)
 {
     struct unit *unit = &arena.units[number];
@@ -167,26 +222,33 @@ static inline uintptr_t block_address(const struct block *block, uintptr_t slot)
 bool arena_find(void);
 /* Makes room for the call sites of blocks, which takes memory as it is written to. */
 void arena_keep_call_sites(void);
+/* A handler has jumped out of the allocator: so what is mapped now may be mapped already, by what it has interrupted,
+   and is nobody's. */
+extern _Atomic bool arena_was_left;
 /* Makes whole pages of the range usable, which are zeros. */
 bool arena_give_memory(void *start, size_t bytes);
 /* Units in a row, of any bytes, for a slab or for a large block; 0 if there is no memory. */
 uint32_t arena_take_run(uint32_t count, bool is_slab);
 /* Their memory waits to be given back to the system. */
 void arena_give_run(uint32_t first, uint32_t count);
+/* Units in a row that were never used, of zeros, at most so many; 0 if there is no memory. Nothing is noted of them. */
+uint32_t arena_take_unused(uint32_t count);
+/* Likewise a run for a big block. */
+uint32_t arena_take_big(uint32_t count);
+/* Gives the memory of units back to the system for good. False: the process has locked it. */
+bool arena_drop(uint32_t first, uint32_t count);
+/* Likewise of all units of a region, with what the system keeps of it. */
+void arena_renew_region(uint32_t region);
+/* Gives back the notes on the blocks of a unit, except on the first; or all notes on the units of a region, which are
+   new then. */
+void arena_forget(uint32_t unit);
+void arena_forget_region(uint32_t region);
 /* Makes zeros of a block's bytes, which lie in a run. Whoever has the block needs no lock. */
 void arena_clear(void *start, size_t size);
 /* Gives back all that waits. False: nothing did. */
 bool arena_give_back(void);
 /* Looks at the clock, and gives back what has waited for a period. */
 void arena_look_at_clock(void);
-
-/* At each call of the allocator. */
-static inline void arena_count_call(void)
-{
-    enum { CALLS = 16 }; /* a look at the clock takes longer than the rest of a call that does little */
-    if (UNLIKELY(arena.waiting != 0) && ++arena.calls % CALLS == 0)
-        arena_look_at_clock();
-}
 
 /* The block that is nearest to an address, and not far from it. */
 struct nearest {

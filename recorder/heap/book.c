@@ -8,8 +8,8 @@
    looked at: so one block is enough.
 
    **The book** has what the checker has got so: entries by their addresses, whose spans have no byte in common. A free
-   of the process need not look at the book: it is stated when the next fault comes near. An entry whose block has left
-   the quarantine is stale. It serves for another block of its size at its place, unless poison was stated in its span.
+   of the process need not look at the book: it is stated when the next fault comes near. An entry whose unit was opened
+   again since is stale. It serves for another block of its size at its place, unless poison was stated in its span.
 
    What is stated must not meet what the checker has. If another entry is in the way, the stream goes on in its next
    segment, and the book is empty. So it does if more spans would be held than the checker may hold. Hence the checker
@@ -19,6 +19,7 @@
 #include <string.h>
 
 #include "heap/blocks.h"
+#include "heap/retiring.h"
 #include "shadow/shadow.h"
 #include "stream/record.h"
 #include "stream/switching.h"
@@ -29,7 +30,8 @@ struct entry {
     uintptr_t start;
     uint32_t size;
     bool is_held;     /* and not live, in the checker */
-    bool is_stale;    /* the process has another block there since, or none */
+    bool is_stale;    /* the process may have another block there since, or none */
+    uint32_t turn;    /* of the unit in which it is */
     bool is_poisoned; /* poison or an unpoison was stated in its span since */
 };
 
@@ -109,20 +111,17 @@ static struct found found_of(const struct block *block)
     return (struct found){(uintptr_t)block_start(block), block->size, block->state == BLOCK_HELD, false};
 }
 
-void book_release(const struct block *block)
+/* How often the unit there was opened, which is to hand out slots of it again. */
+static uint32_t turn_of(uintptr_t address)
 {
-    if (book.count == 0)
-        return;
-    struct found found = found_of(block);
-    uint32_t count;
-    do {
-        count = book.count;
-        struct entry *entry = entry_for(&found);
-        if (entry != NULL && is_of(entry, &found))
-            entry->is_stale = true;
-        /* A handler may have moved the entries meanwhile. */
-        atomic_signal_fence(memory_order_seq_cst);
-    } while (book.count != count);
+    uintptr_t distance = address - (uintptr_t)arena.bytes;
+    uint32_t unit = (uint32_t)(distance / UNIT);
+    return arena_is_found() && distance < (size_t)UNITS * UNIT && is_used(unit) ? NOTE_NOW(arena.units[unit].turns) : 0;
+}
+
+static bool is_stale(const struct entry *entry)
+{
+    return entry->is_stale || entry->turn != turn_of(entry->start);
 }
 
 /* States a malloc whose span meets that of no entry. Null: it is not stated. */
@@ -132,7 +131,7 @@ static struct entry *state_malloc(uintptr_t start, uint32_t size)
         return NULL;
     struct entry *entry = &book.entries[first_after(span_start(start))];
     memmove(entry + 1, entry, (size_t)(&book.entries[book.count] - entry) * sizeof *entry);
-    *entry = (struct entry){.start = start, .size = size};
+    *entry = (struct entry){.start = start, .size = size, .turn = turn_of(start)};
     book.count++;
     return entry;
 }
@@ -140,7 +139,7 @@ static struct entry *state_malloc(uintptr_t start, uint32_t size)
 static bool state_free(struct entry *entry)
 {
     uint64_t held = book.held_bytes + span_bytes(entry->size);
-    if (held > atomic_load_explicit(&heap.bound, memory_order_relaxed) || !record_here(CODE_FREE, entry->start, 0))
+    if (held > atomic_load_explicit(&heap_bound, memory_order_relaxed) || !record_here(CODE_FREE, entry->start, 0))
         return false;
     entry->is_held = true;
     book.held_bytes = held;
@@ -153,23 +152,36 @@ static bool state_block(const struct found *block)
     struct entry *entry = entry_for(block);
     if (entry == NULL)
         entry = state_malloc(block->start, block->size);
-    if (entry == NULL || !is_of(entry, block) || (entry->is_stale && entry->is_poisoned))
+    if (entry == NULL || !is_of(entry, block) || (is_stale(entry) && entry->is_poisoned))
         return false;
     bool is_stated = block->is_held ? entry->is_held || state_free(entry) : !entry->is_held;
-    if (is_stated)
+    if (is_stated) {
         entry->is_stale = block->is_unsure;
+        entry->turn = turn_of(entry->start);
+    }
     return is_stated;
 }
 
-/* The block whose span has an address. False: there is none. */
+/* Whether the checker would hold a block of this size once it is freed. */
+static bool can_be_held(uint32_t size)
+{
+    return span_bytes(size) <= atomic_load_explicit(&heap_bound, memory_order_relaxed);
+}
+
+/* The block whose span has an address. False: there is none, or none that the checker would hold. */
 static bool find(uintptr_t address, struct found *found)
 {
     struct block block;
     uintptr_t start;
+    if (retiring_forgot(address)) {
+        *found = (struct found){address / ALIGNMENT * ALIGNMENT, ALIGNMENT, true, false};
+        return true;
+    }
     if (!arena_find_around(address, &block, &start) || block.state == BLOCK_UNRECORDED)
         return false;
     *found = (struct found){start, block.size, block.state == BLOCK_HELD, false};
-    return address >= span_start(start) && address < span_end(start, block.size);
+    return (!found->is_held || can_be_held(block.size)) && address >= span_start(start)
+           && address < span_end(start, block.size);
 }
 
 /* Where a block of no bytes begins that has this granule in a redzone; or 0. It meets no entry. If it can be, it meets
@@ -227,17 +239,27 @@ static bool state_byte(struct entry *entry, uintptr_t granule, unsigned has)
     return has == GRANULE || record_poison_here(KIND_USER, granule + has, GRANULE - has);
 }
 
-static bool state_granule(uintptr_t granule, enum holding holding)
+/* The byte of a granule. The shadow of what is freed for good says only that it is bad. */
+static unsigned char shade_of(uintptr_t granule)
 {
     struct found block;
     unsigned char shade = *shadow_of(granule);
+    if (shade != SHADE_USER || !retiring_has(granule))
+        return shade;
+    return find(granule, &block) ? byte_of(block.start, block.size, block.is_held, granule) : SHADE_HEAP;
+}
+
+static bool state_granule(uintptr_t granule, enum holding holding)
+{
+    struct found block;
+    unsigned char shade = shade_of(granule);
     struct entry *entry = entry_of_granule(granule);
     if (entry != NULL && is_known(entry, granule, shade))
         return true;
     if (shade != SHADE_HEAP && shade != SHADE_FREED)
         return state_byte(entry, granule, addressable_of(shade));
     if (!find(granule, &block))
-        return shade == SHADE_HEAP && entry == NULL && state_released(granule);
+        return entry == NULL && state_released(granule);
     block.is_unsure = holding == HEAP_INTERRUPTED;
     return byte_of(block.start, block.size, block.is_held, granule) == shade && state_block(&block);
 }
@@ -300,17 +322,40 @@ enum stating book_state_access(uint64_t address, unsigned width, enum holding ho
     return is_again ? STATING_AGAIN : state_as_poison(granule, KIND_USER);
 }
 
+/* Whether what the checker has at an address is what is there. */
+static bool state_freed(const struct block *block, const struct entry *entry)
+{
+    if (block == NULL)
+        return entry == NULL;
+    struct found found = found_of(block);
+    return state_block(&found);
+}
+
+/* So that a free is bad in a segment that has to do: a free of the block that the checker takes for live comes first.
+   That may release others there, so the book is of no use afterwards. */
+static void state_any_free(struct entry *entry)
+{
+    if (entry != NULL && !entry->is_held && record_here(CODE_FREE, entry->start, 0))
+        entry->is_held = entry->is_stale = true;
+    atomic_store(&book.is_spoiled, true);
+}
+
 enum stating book_state_free(uint64_t address)
 {
     const struct block *block = block_from((const void *)address);
     unsigned segment = atomic_load(&STREAM->segment);
     if (block != NULL && is_in_use(block))
         return STATING_NOT_NEEDED;
-    const struct entry *entry = entry_in(address, address + 1);
-    bool is_stated = entry == NULL || entry->start != address;
-    if (block != NULL) {
-        struct found found = found_of(block);
-        is_stated = state_block(&found);
-    }
-    return is_stated ? STATING_DONE : go_on(segment, book.count != 0);
+    if (block != NULL && !can_be_held(block->size))
+        block = NULL;
+    struct entry *entry = entry_in(address, address + 1);
+    if (entry != NULL && entry->start != address)
+        entry = NULL; /* a block around it is in nobody's way */
+    bool is_spoiled = atomic_exchange(&book.is_spoiled, false) && book.count != 0;
+    if (!is_spoiled && state_freed(block, entry))
+        return STATING_DONE;
+    if (go_on(segment, book.count != 0) == STATING_AGAIN)
+        return STATING_AGAIN;
+    state_any_free(entry);
+    return STATING_DONE;
 }

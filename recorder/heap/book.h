@@ -7,12 +7,8 @@
 
 #include "stream/state.h"
 
-struct block;
-
 /* A segment begins, of which the checker knows nothing. */
 void book_forget(void);
-/* A block leaves the quarantine: what the checker knows of it is stale. */
-void book_release(const struct block *block);
 /* States what a bad access finds. At the lock that is poison, whatever it is. */
 enum stating book_state_access(uint64_t address, unsigned width, enum holding holding);
 /* States what a bad free of this address finds. */

@@ -127,18 +127,29 @@ static enum finding_kind kind_of(const struct block *block, const struct release
     return has_other_size(block, release) ? FINDING_SIZE : FINDING_NONE;
 }
 
+static call_site allocated_at(const struct block *block)
+{
+    return NOTE_NOW(arena.call_sites[block - arena.blocks].allocated);
+}
+
+bool families_differ(const struct block *block, const struct release *release)
+{
+    if (!atomic_load_explicit(&are_checked, memory_order_relaxed) || arena.call_sites == NULL)
+        return false;
+    return kind_of(block, release) != FINDING_NONE
+           && is_known((enum family)block->family, call_site_address(allocated_at(block)))
+           && is_known(release->family, release->caller) && is_release(release);
+}
+
 void families_look_at(const struct block *block, const struct release *release)
 {
     static const char *const made[] = {"malloc", "operator new", "operator new []"};
     static const char *const freed[] = {NULL, "operator delete", "operator delete []"};
-    if (!atomic_load_explicit(&are_checked, memory_order_relaxed) || arena.call_sites == NULL)
+    if (!families_differ(block, release))
         return;
-    call_site allocated = arena.call_sites[block - arena.blocks].allocated;
+    call_site allocated = allocated_at(block);
     enum family family = (enum family)block->family;
     enum finding_kind kind = kind_of(block, release);
-    if (kind == FINDING_NONE || !is_known(family, call_site_address(allocated))
-        || !is_known(release->family, release->caller) || !is_release(release))
-        return;
     bool is_alignment = kind == FINDING_OTHER_ALIGNMENT;
     finding_note(&(struct finding){
         .kind = kind,

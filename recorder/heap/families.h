@@ -17,6 +17,7 @@ struct release {
 };
 
 /* Notes what is wrong with that, if it is known to be. The allocator's lock is held. */
+bool families_differ(const struct block *block, const struct release *release);
 void families_look_at(const struct block *block, const struct release *release);
 
 /* Notes that more is asked for than there can be, but of an operator: that throws, or answers null. Without the

@@ -13,11 +13,21 @@
 void heap_set_bound(uint64_t bytes);
 /* More may be held since before. The heap is locked. */
 void heap_release_down_to_bound(void);
+/* This thread ends, and allocates hardly anything any more. */
+void heap_thread_ends(void);
+/* In a child of a fork: the other threads are gone, and none was in the allocator. */
+void heap_is_alone(void);
 /* No other thread is in the allocator between these two. A signal handler may come between and do the same. */
 void heap_lock(void);
 void heap_unlock(void);
 /* Whether this thread is in the allocator. */
 bool heap_is_entered(void);
+/* This thread is about to jump to this stack pointer: maybe out of the allocator, which a signal handler of it has
+   interrupted. */
+void heap_left_by_jump(uintptr_t target);
+/* This thread ends the process, maybe in a signal handler that has interrupted it in the allocator: what was freed
+   there is freed now. */
+void heap_ends_here(void);
 /* Whether it has the allocator for itself: also in a signal handler that has interrupted it in there. */
 bool heap_is_locked_here(void);
 /* Records what stands: a malloc for each block that is live, a malloc and a free for each that is held, and poison for
@@ -85,5 +95,7 @@ int heap_add_hooks(struct heap_hooks hooks) OWN_NAME(heap_add_hooks);
 void *heap_own_malloc(size_t size);
 /* Whether what stands in its place takes its blocks from the recorder. */
 bool heap_is_below(void);
+/* The recorder's function of this name (base/behind.h). */
+uintptr_t heap_function_behind(const char *name);
 
 #endif

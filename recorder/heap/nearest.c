@@ -4,6 +4,7 @@
 #include "heap/arena.h"
 #include "heap/blocks.h"
 #include "heap/heap.h"
+#include "heap/retiring.h"
 #include "shadow/shadow.h"
 #include "stream/record.h"
 #include "stream/side.h"
@@ -14,7 +15,8 @@ enum { MOST_SLOTS = 1 << 12 };
 /* A slot or a run, or a part of a unit that has none. */
 struct slot {
     uintptr_t start, end;
-    size_t block; /* the number of its notes; 0 if there is none */
+    size_t block;            /* the number of its notes; 0 if there is none */
+    uint32_t forgotten_size; /* of a slot that has none any more; or 0 */
 };
 
 static struct unit unit_now(uint32_t number)
@@ -23,15 +25,25 @@ static struct unit unit_now(uint32_t number)
     struct unit now = {.kind = NOTE_NOW(unit->kind), .lead = NOTE_NOW(unit->lead), .count = NOTE_NOW(unit->count)};
     now.slot_size = NOTE_NOW(unit->slot_size);
     now.used = NOTE_NOW(unit->used);
+    now.form = NOTE_NOW(unit->form);
     return now;
 }
 
-static struct block block_now(size_t number)
+/* Of a block that was freed so long ago that its notes went back, only how many bytes it had at most. */
+static struct block forgotten_in(uint32_t slot_size)
 {
-    const struct block *block = &arena.blocks[number];
+    struct block block = {.size = slot_size - 2 * REDZONE};
+    block.state = BLOCK_HELD;
+    block.offset = REDZONE / ALIGNMENT;
+    return block;
+}
+
+static struct block block_now(const struct slot *slot)
+{
+    const struct block *block = &arena.blocks[slot->block];
     struct block now = {.size = NOTE_NOW(block->size), .large_size = NOTE_NOW(block->large_size)};
     now.all_bits = NOTE_NOW(block->all_bits);
-    return now;
+    return slot->forgotten_size != 0 && now.state == BLOCK_FREE ? forgotten_in(slot->forgotten_size) : now;
 }
 
 static struct call_sites call_sites_now(size_t number)
@@ -58,6 +70,7 @@ static void find_in_slab(uint32_t number, const struct unit *unit, uintptr_t add
         return; /* the rest of a unit, in which there is no slot yet */
     slot->end = slot->start + unit->slot_size;
     slot->block = block_number(number, index);
+    slot->forgotten_size = unit->form == FORM_FORGOTTEN ? unit->slot_size : 0;
 }
 
 /* Units in a row that are free, by the notes on the first and on the last of them. Between these may stand older notes:
@@ -81,12 +94,14 @@ static bool find_slot(uintptr_t address, struct slot *slot)
     if (distance >= (size_t)UNITS * UNIT)
         return false;
     uint32_t number = (uint32_t)(distance / UNIT), first = number, top = NOTE_NOW(arena.top);
-    if (number >= top) {
-        *slot = (struct slot){(uintptr_t)unit_start(top), (uintptr_t)unit_start(UNITS), 0};
+    uint32_t big_top = NOTE_NOW(arena.big_top), end = number < FIRST_BIG ? FIRST_BIG : UNITS;
+    if (number >= (number < FIRST_BIG ? top : big_top)) {
+        uint32_t from = number < FIRST_BIG ? top : big_top;
+        *slot = (struct slot){.start = (uintptr_t)unit_start(from), .end = (uintptr_t)unit_start(end)};
         return true;
     }
     struct unit unit = unit_now(number);
-    *slot = (struct slot){(uintptr_t)unit_start(number), (uintptr_t)unit_start(number) + UNIT, 0};
+    *slot = (struct slot){.start = (uintptr_t)unit_start(number), .end = (uintptr_t)unit_start(number) + UNIT};
     find_free(number, &unit, slot);
     if (unit.kind == UNIT_SLAB)
         find_in_slab(number, &unit, address, slot);
@@ -113,7 +128,7 @@ static bool look_at(const struct slot *slot, uintptr_t address, uint64_t *least,
 {
     if (slot->block == 0)
         return false;
-    struct block block = block_now(slot->block);
+    struct block block = block_now(slot);
     uintptr_t start = block_address(&block, slot->start);
     uint64_t size = block.state == BLOCK_UNRECORDED ? block.large_size : block.size;
     uint64_t far = distance_of(address, start, size);
@@ -131,7 +146,7 @@ bool arena_find_nearest(uintptr_t address, struct nearest *found)
     struct slot here, slot;
     uint64_t least = UINT64_MAX;
     *found = (struct nearest){0, 0, {0, 0}};
-    if (!find_slot(address, &here))
+    if (!find_slot(address, &here) || retiring_forgot(address))
         return false;
     look_at(&here, address, &least, found);
     uintptr_t last = here.start - 1, next = here.end;
@@ -149,7 +164,7 @@ bool arena_find_around(uintptr_t address, struct block *block, uintptr_t *start)
     struct slot slot;
     if (!find_slot(address, &slot) || slot.block == 0)
         return false;
-    *block = block_now(slot.block);
+    *block = block_now(&slot);
     *start = block_address(block, slot.start);
     return block->state != BLOCK_FREE;
 }
@@ -161,7 +176,7 @@ void heap_poison_count(uintptr_t address)
     struct slot slot;
     if (heap.is_unpainted || !find_slot(address, &slot) || slot.block == 0)
         return;
-    struct block block = block_now(slot.block);
+    struct block block = block_now(&slot);
     uintptr_t before = address - block_address(&block, slot.start) + GRANULE;
     if (address % GRANULE != 0 || before == 0 || (before & (before - 1)) != 0)
         return;
@@ -178,7 +193,7 @@ static bool live_near(uintptr_t address, uintptr_t *start, uintptr_t *end)
     struct slot slot;
     if (!find_slot(address, &slot) || slot.block == 0)
         return false;
-    struct block block = block_now(slot.block);
+    struct block block = block_now(&slot);
     *start = block_address(&block, slot.start);
     *end = *start + (block.state == BLOCK_LIVE ? block.size : block.large_size);
     return block.state == BLOCK_LIVE || block.state == BLOCK_UNRECORDED;

@@ -1,4 +1,4 @@
-/* The shadow of blocks: what the collector will make of them. Only heap.c uses this, with its lock held.
+/* The shadow of blocks: what the collector will make of them. Only the allocator uses this.
 
    What a record makes bad is painted before the record takes its place in the stream: the redzones of a malloc, the
    bytes of a free. What it makes good is painted after: the bytes of a malloc. So whoever finds a byte addressable

@@ -4,8 +4,10 @@
 #include <malloc.h>
 #include <stdlib.h>
 
+#include "base/behind.h"
 #include "heap/blocks.h"
 #include "heap/heap.h"
+#include "base/own_code.h"
 #include "base/platform.h"
 #include "stream/findings.h"
 
@@ -50,10 +52,12 @@ static void *allocate_array(size_t count, size_t size, uintptr_t caller)
     return heap_allocate(bytes, ALIGNMENT, true, caller);
 }
 
-REPLACES void *calloc(size_t count, size_t size)
+static void *own_calloc(size_t count, size_t size)
 {
     return allocate_array(count, size, CALLER());
 }
+
+REPLACES void *calloc(size_t count, size_t size) __attribute__((alias("own_calloc")));
 
 void *heap_own_realloc(void *old, size_t size)
 {
@@ -73,10 +77,12 @@ static void *move_array(void *old, size_t count, size_t size, uintptr_t caller)
     return heap_move(old, bytes, caller, "reallocarray");
 }
 
-REPLACES void *reallocarray(void *old, size_t count, size_t size)
+static void *own_reallocarray(void *old, size_t count, size_t size)
 {
     return move_array(old, count, size, CALLER());
 }
+
+REPLACES void *reallocarray(void *old, size_t count, size_t size) __attribute__((alias("own_reallocarray")));
 
 static size_t power_of_two(size_t least)
 {
@@ -97,16 +103,18 @@ static void note_alignment(const char *call, uintptr_t caller, size_t alignment,
 }
 
 /* As the C library does, what is no alignment is rounded up to one. */
-REPLACES void *memalign(size_t alignment, size_t size)
+static void *own_memalign(size_t alignment, size_t size)
 {
     if (UNLIKELY(!is_power_of_two(alignment)))
         note_alignment("memalign", CALLER(), alignment, size);
     return heap_allocate(size, power_of_two(alignment), false, CALLER());
 }
 
+REPLACES void *memalign(size_t alignment, size_t size) __attribute__((alias("own_memalign")));
+
 /* The C library takes any size, as C17 does. AddressSanitizer goes by C11: the size is a multiple of the alignment. But
    that of a `new` need not be. */
-REPLACES void *aligned_alloc(size_t alignment, size_t size)
+static void *own_aligned_alloc(size_t alignment, size_t size)
 {
     bool is_whole = is_power_of_two(alignment) && (size & (alignment - 1)) == 0;
     if (UNLIKELY(!is_whole) && !heap_is_called_by_operator())
@@ -114,7 +122,14 @@ REPLACES void *aligned_alloc(size_t alignment, size_t size)
     return heap_allocate(size, power_of_two(alignment), false, CALLER());
 }
 
-REPLACES int posix_memalign(void **result, size_t alignment, size_t size)
+REPLACES void *aligned_alloc(size_t alignment, size_t size) __attribute__((alias("own_aligned_alloc")));
+
+static OF_PROGRAM void put_result(void **result, void *address)
+{
+    *result = address;
+}
+
+static int own_posix_memalign(void **result, size_t alignment, size_t size)
 {
     int before = errno;
     if (alignment < sizeof(void *) || !is_power_of_two(alignment)) {
@@ -125,14 +140,18 @@ REPLACES int posix_memalign(void **result, size_t alignment, size_t size)
     errno = before;
     if (address == NULL)
         return ENOMEM;
-    *result = address;
+    put_result(result, address);
     return 0;
 }
 
-REPLACES void *valloc(size_t size)
+REPLACES int posix_memalign(void **result, size_t alignment, size_t size) __attribute__((alias("own_posix_memalign")));
+
+static void *own_valloc(size_t size)
 {
     return heap_allocate(size, PAGE, false, CALLER());
 }
+
+REPLACES void *valloc(size_t size) __attribute__((alias("own_valloc")));
 
 /* Of no bytes it is a page, as with AddressSanitizer. */
 static void *allocate_pages(size_t size, uintptr_t caller)
@@ -147,12 +166,14 @@ static void *allocate_pages(size_t size, uintptr_t caller)
     return heap_allocate(bytes, PAGE, false, caller);
 }
 
-REPLACES void *pvalloc(size_t size)
+static void *own_pvalloc(size_t size)
 {
     return allocate_pages(size, CALLER());
 }
 
-REPLACES size_t malloc_usable_size(void *pointer)
+REPLACES void *pvalloc(size_t size) __attribute__((alias("own_pvalloc")));
+
+static size_t own_malloc_usable_size(void *pointer)
 {
     size_t size = pointer == NULL ? 0 : heap_live_size(pointer);
     if (LIKELY(size != SIZE_MAX))
@@ -161,7 +182,10 @@ REPLACES size_t malloc_usable_size(void *pointer)
     return 0;
 }
 
-/* The names by which a program calls the C library's own allocator, under one that it defines. */
+REPLACES size_t malloc_usable_size(void *pointer) __attribute__((alias("own_malloc_usable_size")));
+
+/* The names by which a program calls the C library's own allocator, under one that it defines; and what dlsym answers
+   such a program. */
 
 static void note_below(void)
 {
@@ -169,49 +193,51 @@ static void note_below(void)
         atomic_store_explicit(&is_below, true, memory_order_relaxed);
 }
 
-REPLACES void *__libc_malloc(size_t size)
+#define BELOW(name, parameters, result)                                                                                \
+    static void *below_##name parameters                                                                               \
+    {                                                                                                                  \
+        note_below();                                                                                                  \
+        return result;                                                                                                 \
+    }                                                                                                                  \
+    REPLACES void *__libc_##name parameters __attribute__((alias("below_" #name)));
+
+BELOW(malloc, (size_t size), heap_allocate(size, ALIGNMENT, false, CALLER()))
+BELOW(calloc, (size_t count, size_t size), allocate_array(count, size, CALLER()))
+BELOW(realloc, (void *old, size_t size), heap_move(old, size, CALLER(), "realloc"))
+BELOW(reallocarray, (void *old, size_t count, size_t size), move_array(old, count, size, CALLER()))
+BELOW(memalign, (size_t alignment, size_t size), heap_allocate(size, power_of_two(alignment), false, CALLER()))
+BELOW(valloc, (size_t size), heap_allocate(size, PAGE, false, CALLER()))
+BELOW(pvalloc, (size_t size), allocate_pages(size, CALLER()))
+
+REPLACES void __libc_free(void *pointer) __attribute__((alias("heap_own_free")));
+
+#if !defined IS_STATIC && !defined IS_PRELOAD
+
+static const struct behind rows[] = {
+    {BEHIND(malloc, heap_own_malloc, below_malloc)},
+    {BEHIND(free, heap_own_free, heap_own_free)},
+    {BEHIND(calloc, own_calloc, below_calloc)},
+    {BEHIND(realloc, heap_own_realloc, below_realloc)},
+    {BEHIND(reallocarray, own_reallocarray, below_reallocarray)},
+    {BEHIND(memalign, own_memalign, below_memalign)},
+    {BEHIND(aligned_alloc, own_aligned_alloc, own_aligned_alloc)},
+    {BEHIND(posix_memalign, own_posix_memalign, own_posix_memalign)},
+    {BEHIND(valloc, own_valloc, below_valloc)},
+    {BEHIND(pvalloc, own_pvalloc, below_pvalloc)},
+    {BEHIND(malloc_usable_size, own_malloc_usable_size, own_malloc_usable_size)},
+    {BEHIND(__libc_malloc, below_malloc, below_malloc)},
+    {BEHIND(__libc_free, heap_own_free, heap_own_free)},
+    {BEHIND(__libc_calloc, below_calloc, below_calloc)},
+    {BEHIND(__libc_realloc, below_realloc, below_realloc)},
+    {BEHIND(__libc_reallocarray, below_reallocarray, below_reallocarray)},
+    {BEHIND(__libc_memalign, below_memalign, below_memalign)},
+    {BEHIND(__libc_valloc, below_valloc, below_valloc)},
+    {BEHIND(__libc_pvalloc, below_pvalloc, below_pvalloc)},
+};
+
+uintptr_t heap_function_behind(const char *name)
 {
-    note_below();
-    return heap_allocate(size, ALIGNMENT, false, CALLER());
+    return behind_find(rows, sizeof rows / sizeof *rows, name);
 }
 
-REPLACES void __libc_free(void *pointer)
-{
-    heap_give_back(pointer, CALLER());
-}
-
-REPLACES void *__libc_calloc(size_t count, size_t size)
-{
-    note_below();
-    return allocate_array(count, size, CALLER());
-}
-
-REPLACES void *__libc_realloc(void *old, size_t size)
-{
-    note_below();
-    return heap_move(old, size, CALLER(), "realloc");
-}
-
-REPLACES void *__libc_reallocarray(void *old, size_t count, size_t size)
-{
-    note_below();
-    return move_array(old, count, size, CALLER());
-}
-
-REPLACES void *__libc_memalign(size_t alignment, size_t size)
-{
-    note_below();
-    return heap_allocate(size, power_of_two(alignment), false, CALLER());
-}
-
-REPLACES void *__libc_valloc(size_t size)
-{
-    note_below();
-    return heap_allocate(size, PAGE, false, CALLER());
-}
-
-REPLACES void *__libc_pvalloc(size_t size)
-{
-    note_below();
-    return allocate_pages(size, CALLER());
-}
+#endif

@@ -4,6 +4,7 @@
 #include "heap/blocks.h"
 #include "heap/book.h"
 #include "heap/heap.h"
+#include "heap/quarantine.h"
 #include "shadow/shadow.h"
 #include "stream/record.h"
 
@@ -75,22 +76,29 @@ static void add_unused(struct snapshot *snapshot, uintptr_t start, uintptr_t end
     snapshot->to = end;
 }
 
-/* All but large live blocks, which may have gigabytes. What is a block, live or held, becomes that after it; what was
-   released was redzone for the checker, and is bad as before. */
+/* A unit, or a run, but for a live block in a run, which may have gigabytes. Returns how many units it has. */
+static uint32_t snapshot_unit(struct snapshot *snapshot, uint32_t unit)
+{
+    bool is_run = is_used(unit) && arena.units[unit].kind == UNIT_RUN;
+    uint32_t count = is_run ? arena.units[unit].count : 1;
+    const struct block *block = block_at(unit, 0);
+    uintptr_t start = (uintptr_t)unit_start(unit), end = start + (uintptr_t)count * UNIT;
+    if (is_run && is_in_use(block)) {
+        add_unused(snapshot, start, (uintptr_t)block_start(block));
+        start = (uintptr_t)block_start(block) + size_of(block);
+    }
+    add_unused(snapshot, start, end);
+    return count;
+}
+
+/* What is a block, live or held, becomes that after it; what was released was redzone for the checker, and is bad as
+   before. */
 static void snapshot_memory(struct snapshot *snapshot)
 {
-    for (uint32_t unit = 0; unit < heap.poisoned; unit++) {
-        bool is_run = unit < arena.top && arena.units[unit].kind == UNIT_RUN;
-        uint32_t count = is_run ? arena.units[unit].count : 1;
-        const struct block *block = block_at(unit, 0);
-        uintptr_t start = (uintptr_t)unit_start(unit), end = start + (uintptr_t)count * UNIT;
-        if (is_run && (block->state == BLOCK_LIVE || block->state == BLOCK_UNRECORDED)) {
-            add_unused(snapshot, start, (uintptr_t)block_start(block));
-            start = (uintptr_t)block_start(block) + size_of(block);
-        }
-        add_unused(snapshot, start, end);
-        unit += count - 1;
-    }
+    for (uint32_t unit = 0; unit < heap.poisoned;)
+        unit += snapshot_unit(snapshot, unit);
+    for (uint32_t unit = FIRST_BIG; unit < arena.big_top;)
+        unit += snapshot_unit(snapshot, unit);
     snapshot_unused(snapshot);
 }
 
@@ -117,7 +125,7 @@ static void fit_quarantine(uint64_t most_held, uint64_t room)
         most = fit < most ? fit : most;
     }
     while (heap.held_count > most)
-        heap_release_oldest();
+        quarantine_release_oldest();
 }
 
 void heap_snapshot(uint64_t most_held, uint64_t room)
@@ -126,6 +134,7 @@ void heap_snapshot(uint64_t most_held, uint64_t room)
     book_forget();
     if (is_lean())
         return;
+    heap_order();
     fit_quarantine(most_held, room);
     snapshot_memory(&snapshot);
     heap_for_each(snapshot_live, &snapshot);

@@ -116,7 +116,7 @@ static void scan_pages(uintptr_t start, uintptr_t end, enum mark mark, const str
 static void scan_block(const struct block *block, enum mark mark)
 {
     uintptr_t start = (uintptr_t)block_start(block), end = start + size_of(block);
-    if (size_of(block) < PAGE)
+    if (size_of(block) < PAGE && start % PAGE != 0)
         scan(start, end, mark, block);
     else
         scan_pages(start, end, mark, block, false);

@@ -25,8 +25,9 @@ struct slot {
 };
 
 enum { MAX_SLOTS = 1 << 16 };
-/* For how long threads are waited for. */
-enum { PATIENCE_MS = 3000 };
+/* For how long threads are waited for; and one that sleeps with the signal blocked, as the C
+   library does for a moment. */
+enum { PATIENCE_MS = 3000, DEAF_PATIENCE_MS = 30 };
 
 /* Of this the allocator's lock guards all but what is atomic. */
 static struct {
@@ -145,16 +146,32 @@ static bool has_stopped(struct slot *slot, unsigned looks)
     return slot->is_gone || atomic_load(&slot->context) != NULL;
 }
 
+/* Whether a thread cannot be stopped: it was so at each look since a time, which is 0 before the first. */
+static bool is_deaf(const struct slot *slot, uint64_t *since)
+{
+    uint64_t now = milliseconds();
+    if (!other_threads_is_deaf(slot->thread, USER_SIGNAL))
+        *since = 0;
+    else if (*since == 0)
+        *since = now;
+    return *since != 0 && now - *since >= DEAF_PATIENCE_MS;
+}
+
 static bool wait_for_all(uint64_t end)
 {
     unsigned looks = 0;
-    for (uint32_t i = world.first; i < world.count;)
-        if (has_stopped(slot_at(i), looks))
+    uint64_t deaf_since = 0;
+    for (uint32_t i = world.first; i < world.count;) {
+        struct slot *slot = slot_at(i);
+        if (has_stopped(slot, looks)) {
             i++;
-        else if (milliseconds() > end)
+            deaf_since = 0;
+        } else if (milliseconds() > end || is_deaf(slot, &deaf_since)) {
             return false;
-        else
+        } else {
             rest(looks++);
+        }
+    }
     return true;
 }
 
@@ -193,7 +210,7 @@ static bool find_slots(void)
 
 static bool take_signal(struct system_action *old)
 {
-    if (action_handle(USER_SIGNAL, on_stop, old) != 0)
+    if (action_handle(USER_SIGNAL, on_stop, ~(uint64_t)0, old) != 0)
         return false;
     if (old->handler != on_stop)
         atomic_store(&world.before, old->handler);

@@ -16,6 +16,7 @@
 
 #ifndef IN_SHARED_OBJECT
 #include "calls/library.h"
+#include "process/orphan.h"
 #include "process/settings.h"
 #include "process/unseen.h"
 
@@ -32,7 +33,10 @@ static _Noreturn void fail(const char *why)
         if (system_write(STDERR_FILENO, pieces[i], strlen(pieces[i])) < 0)
             break;
 #ifndef IN_SHARED_OBJECT
-    unseen_note(settings_hub(), why);
+    if (settings_hub() != NULL)
+        unseen_note(settings_hub(), why);
+    else
+        orphan_say(why);
 #endif
     system_exit(127);
 }
@@ -68,6 +72,16 @@ static void guard(uint64_t address)
     system_mprotect((void *)shadow_of(address), SHADOW_BYTES / GRANULE, PROT_NONE);
 }
 
+#ifndef IN_SHARED_OBJECT
+
+bool is_in_guard(uint64_t address)
+{
+    return address - (uintptr_t)shadow_of(SHADOW_START) < SHADOW_BYTES / GRANULE
+           || address - (uintptr_t)shadow_of(STATED_START) < SHADOW_BYTES / GRANULE;
+}
+
+#endif
+
 enum { HOOK_PAGE_FLAGS = MAP_PRIVATE | MAP_ANONYMOUS | MAP_FIXED_NOREPLACE };
 
 /* The program writes into it before the constructors of the objects that are loaded with it. */
@@ -100,13 +114,20 @@ static const char *map_hook_page(void)
 extern const Elf64_Ehdr __ehdr_start __attribute__((visibility("hidden"), weak));
 
 struct code_range own_code;
+/* What is to be added to the addresses in its headers. */
+static uintptr_t own_base;
+
+static const Elf64_Phdr *segments_of(const Elf64_Ehdr *header)
+{
+    return (const Elf64_Phdr *)((const unsigned char *)header + header->e_phoff);
+}
 
 static void find_own_code(void)
 {
     const Elf64_Ehdr *header = &__ehdr_start;
     if (header == NULL)
         return;
-    const Elf64_Phdr *segment = (const Elf64_Phdr *)((const unsigned char *)header + header->e_phoff);
+    const Elf64_Phdr *segment = segments_of(header);
     uintptr_t start = UINTPTR_MAX, end = 0;
     for (unsigned i = 0; i < header->e_phnum; i++) {
         if (segment[i].p_type != PT_LOAD)
@@ -115,7 +136,25 @@ static void find_own_code(void)
         end = segment[i].p_vaddr + segment[i].p_memsz;
     }
     own_code = (struct code_range){(uintptr_t)header, end - start};
+    own_base = (uintptr_t)header - start;
 }
+
+#ifndef IN_SHARED_OBJECT
+
+bool is_in_own_file(uint64_t start, uint64_t size)
+{
+    if (start - own_code.start >= own_code.size)
+        return false;
+    const Elf64_Phdr *segment = segments_of(&__ehdr_start);
+    for (unsigned i = 0; i < __ehdr_start.e_phnum; i++) {
+        uint64_t into = start - own_base - segment[i].p_vaddr;
+        if (segment[i].p_type == PT_LOAD && into < segment[i].p_memsz && size <= segment[i].p_memsz - into)
+            return (segment[i].p_flags & PF_R) != 0;
+    }
+    return false;
+}
+
+#endif
 
 #ifdef IN_SHARED_OBJECT
 

@@ -12,5 +12,10 @@ void shadow_map(void) OWN_NAME(shadow_map);
 bool shadow_try_to_map(void);
 /* The object's own code, as the program's in `hook_page`. */
 extern struct code_range own_code OWN_NAME(own_code);
+/* Whether this is in the shadow of the maps themselves, which can't be read: nothing leads there but a wild pointer of
+   the program's. */
+bool is_in_guard(uint64_t address);
+/* Whether the bytes are in a part of the object's file that is in memory. */
+bool is_in_own_file(uint64_t start, uint64_t size);
 
 #endif

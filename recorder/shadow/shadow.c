@@ -7,11 +7,52 @@
 
 #include "base/system.h"
 
+#ifndef IN_SHARED_OBJECT
+
+#define ARENA_START ((uint64_t)ARENA_NUMBER << ARENA_SHIFT)
+enum { FILE_COUNT = ((uint64_t)1 << ARENA_SHIFT) / SHADOW_OF_FILE, BITS = 32 };
+
+/* A bit for each part: a file is its shadow. Written with the allocator's lock. */
+static _Atomic uint32_t of_file[FILE_COUNT / BITS];
+
+bool shadow_is_of_file(uint64_t address)
+{
+    uint64_t number = (address - ARENA_START) / SHADOW_OF_FILE;
+    return address >= ARENA_START && number < FILE_COUNT
+           && (atomic_load_explicit(&of_file[number / BITS], memory_order_relaxed) >> number % BITS & 1) != 0;
+}
+
+void shadow_note_file(uint64_t address, bool is_of_file)
+{
+    uint64_t number = (address - ARENA_START) / SHADOW_OF_FILE;
+    uint32_t bit = UINT32_C(1) << number % BITS;
+    if (is_of_file)
+        atomic_fetch_or_explicit(&of_file[number / BITS], bit, memory_order_relaxed);
+    else
+        atomic_fetch_and_explicit(&of_file[number / BITS], ~bit, memory_order_relaxed);
+}
+
+#endif
+
+/* Whether whole pages of it are zeros once they are given back. */
+static bool has_zeros_behind(uint64_t address, uint64_t size)
+{
+#ifdef IN_SHARED_OBJECT
+    (void)size;
+    return !is_in_arena(address);
+#else
+    for (uint64_t at = address; at < address + size && is_in_arena(at); at += SHADOW_OF_FILE)
+        if (shadow_is_of_file(at))
+            return false;
+    return !shadow_is_of_file(address + size - 1);
+#endif
+}
+
 /* Fills the shadow of whole granules. Zeros in whole pages give the pages back. */
 static void fill(uint64_t address, uint64_t size, unsigned char shade)
 {
     unsigned char *first = (unsigned char *)shadow_of(address), *end = (unsigned char *)shadow_of(address + size);
-    if (shade == 0 && end - first > 2 * PAGE) {
+    if (shade == 0 && end - first > 2 * PAGE && has_zeros_behind(address, size)) {
         uintptr_t mask = ~(uintptr_t)(PAGE - 1);
         unsigned char *pages = (unsigned char *)(((uintptr_t)first + PAGE - 1) & mask);
         unsigned char *pages_end = (unsigned char *)((uintptr_t)end & mask);

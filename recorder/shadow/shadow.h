@@ -1,5 +1,5 @@
 /* The shadow: a byte for each granule of 8 bytes, as AddressSanitizer has it. The compilers' inline checks read it
-   before each access, and their code writes the redzones of frames into it. heap.c writes the state of blocks,
+   before each access, and their code writes the redzones of frames into it. The allocator writes the state of blocks,
    variables.c that of globals and of scopes that end, and the process its own poison.
 
    **The shadow decides only what is recorded; the verdict is the collector's.** An access that the check lets through
@@ -27,7 +27,9 @@
 
    The shadow begins at AddressSanitizer's own place, which fits into an instruction, and ends a little above 2^44.
    asancol-cc gives the compilers this number. */
+#ifndef SHADOW_START /* as a test of the allocator alone has it */
 #define SHADOW_START ((uint64_t)0x7fff8000)
+#endif
 #define SHADOW_BYTES (ADDRESS_END / GRANULE)
 /* The allocator's memory is from 2^45 up to 5 * 2^43 (arena.h), */
 #define ARENA_SHIFT 43
@@ -77,10 +79,22 @@ enum {
 /* In `stated` alone: a thread is bringing the stream up just now, in a segment whose number ends in these four bits. */
 enum { STATED_BUSY = 0xe0, BUSY_NUMBERS = 0x10 };
 
+/* In one of the two maps: a program that has no recorder has nothing there. */
+static inline bool is_in_maps(uint64_t address)
+{
+    return address - SHADOW_START < SHADOW_BYTES || address - STATED_START < SHADOW_BYTES;
+}
+
 static inline bool is_in_arena(uint64_t address)
 {
     return address >> ARENA_SHIFT == ARENA_NUMBER;
 }
+
+/* So many bytes of the allocator's memory, from a multiple of that on, may have a file as their shadow (unused.h). At
+   any time. */
+#define SHADOW_OF_FILE ((uint64_t)1 << 25)
+bool shadow_is_of_file(uint64_t address);
+void shadow_note_file(uint64_t address, bool is_of_file);
 
 static inline volatile unsigned char *shadow_of(uint64_t address)
 {

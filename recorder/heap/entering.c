@@ -1,0 +1,377 @@
+#include "heap/entering.h"
+
+#include <linux/membarrier.h>
+#include <sys/mman.h>
+
+#include "base/system.h"
+#include "calls/library.h"
+#include "heap/freeing.h"
+#include "heap/heap.h"
+#include "heap/shards.h"
+#include "heap/spare.h"
+#include "stream/losing.h"
+#include "stream/side.h"
+#include "stream/state.h"
+
+/* What is held before the settings are read is held, too. */
+struct heap heap;
+_Atomic uint64_t heap_bound = QUARANTINE_BOUND;
+
+static _Thread_local volatile enum { OUTSIDE, AT_THE_LOCK, INSIDE } is_inside;
+/* What it has, or is about to take. */
+static _Thread_local volatile enum { HAS_NOTHING, HAS_SHARD, HAS_ALL } has;
+/* The shard of this thread, or null: it has none yet, or its end has come. */
+static _Thread_local struct shard *own;
+static _Thread_local bool is_over;
+
+/* What signal handlers have freed while this thread was in here: the newest first, and what was used for one and is not
+   any more. A handler puts one in at the front of the one list and takes the front of the other, as may another handler
+   that comes between. Only this thread does the reverse, when no handler is in the middle of that: so whoever finds the
+   front that it has read finds the list that it has read. */
+struct deferred {
+    struct deferred *next;
+    void *pointer;
+    uintptr_t caller;
+    const char *call;
+};
+
+/* How many need no spare memory. */
+enum { DEFERRED = 32 };
+static _Thread_local struct {
+    struct deferred first[DEFERRED];
+    _Atomic unsigned used; /* of these */
+    struct deferred *_Atomic waiting, *_Atomic unused;
+} deferred;
+
+bool heap_is_entered(void)
+{
+    return is_inside != OUTSIDE;
+}
+
+bool heap_is_locked_here(void)
+{
+    if (is_inside == INSIDE)
+        return has == HAS_ALL || library_is_alone();
+    return is_inside == AT_THE_LOCK && library_is_alone();
+}
+
+struct shard *heap_shard(void)
+{
+    return has == HAS_SHARD ? own : NULL;
+}
+
+/* All shards. */
+
+/* Who goes in says so, and then looks whether all are closed. Who closes them says that, and then looks who is in. One
+   of the two sees the other: both are sequentially consistent, or the kernel makes it so for who closes (membarrier),
+   and who goes in needs no locked instruction. A thread that is alone need not say so. */
+static bool enter_own(void)
+{
+    if (library_is_alone())
+        return !atomic_load_explicit(&heap.is_closed, memory_order_relaxed);
+    if (LIKELY(atomic_load_explicit(&heap.has_barrier, memory_order_acquire))) {
+        atomic_store_explicit(&own->is_busy, true, memory_order_relaxed);
+        atomic_signal_fence(memory_order_seq_cst);
+    } else {
+        atomic_exchange(&own->is_busy, true);
+    }
+    if (LIKELY(!atomic_load(&heap.is_closed)))
+        return true;
+    atomic_store_explicit(&own->is_busy, false, memory_order_release);
+    return false;
+}
+
+static long membarrier(int command)
+{
+    return system_call3(SYS_membarrier, command, 0, 0);
+}
+
+/* A thread of lower priority may be in the middle, so that it needs this processor. */
+static void wait_for(const struct shard *shard)
+{
+    enum { LOOKS = 100, TURNS = 200 };
+    static const struct timespec a_while = {.tv_nsec = 50000};
+    for (int looks = 0; atomic_load_explicit(&shard->is_busy, memory_order_acquire); looks++) {
+        if (looks < LOOKS)
+            __builtin_ia32_pause();
+        else if (looks < TURNS)
+            system_sched_yield();
+        else
+            system_nanosleep(&a_while);
+    }
+}
+
+static void close_all(void)
+{
+    atomic_store(&heap.is_closed, true);
+    if (atomic_load_explicit(&heap.has_barrier, memory_order_relaxed))
+        membarrier(MEMBARRIER_CMD_PRIVATE_EXPEDITED);
+    for (const struct shard *it = atomic_load(&heap.shards); it != NULL; it = it->next)
+        if (it != own)
+            wait_for(it);
+}
+
+static void take_all(void)
+{
+    bool alone = library_is_alone();
+    if (!alone)
+        lock_take(&heap.gate);
+    heap.is_locked = !alone;
+    if (!alone && !heap_is_ordered())
+        close_all();
+    note_all_left_out();
+}
+
+static void give_all(void)
+{
+    if (!heap.is_locked)
+        return;
+    if (!heap_is_ordered())
+        atomic_store(&heap.is_closed, false);
+    heap.is_locked = false;
+    lock_give(&heap.gate);
+}
+
+/* Gives this thread a shard, and before a second one goes in without a locked instruction, finds how. */
+static void find_own(void)
+{
+    bool alone = library_is_alone();
+    has = HAS_ALL; /* the gate's lock, as far as jumps are concerned */
+    if (!alone)
+        lock_take(&heap.gate);
+    if (!alone && !atomic_load_explicit(&heap.has_barrier, memory_order_relaxed)
+        && membarrier(MEMBARRIER_CMD_REGISTER_PRIVATE_EXPEDITED) == 0)
+        atomic_store_explicit(&heap.has_barrier, true, memory_order_release);
+    own = shard_take();
+    if (!alone)
+        lock_give(&heap.gate);
+}
+
+static void enter_somewhere(void)
+{
+    if (own == NULL && !is_over && !heap_is_ordered())
+        find_own();
+    for (;;) {
+        has = HAS_SHARD;
+        if (own != NULL && enter_own())
+            return;
+        has = HAS_ALL;
+        take_all();
+        if (own == NULL || heap_is_ordered())
+            return;
+        give_all();
+    }
+}
+
+/* In which frame this thread has come in. */
+static _Thread_local uintptr_t entered_at;
+
+static bool was_left_at(uintptr_t frame);
+
+/* False: it is a handler that has interrupted this thread in here. */
+static bool may_enter(uintptr_t frame)
+{
+    if (UNLIKELY(is_inside != OUTSIDE) && !was_left_at(frame))
+        return false;
+    entered_at = frame;
+    is_inside = AT_THE_LOCK;
+    atomic_signal_fence(memory_order_seq_cst);
+    return true;
+}
+
+bool heap_enter(void)
+{
+    if (!may_enter((uintptr_t)__builtin_frame_address(0)))
+        return false;
+    has = HAS_SHARD;
+    if (UNLIKELY(own == NULL || !enter_own()))
+        enter_somewhere();
+    is_inside = INSIDE;
+    return true;
+}
+
+bool heap_enter_all(void)
+{
+    if (!may_enter((uintptr_t)__builtin_frame_address(0)))
+        return false;
+    has = HAS_ALL;
+    take_all();
+    is_inside = INSIDE;
+    return true;
+}
+
+static void put_in_front(struct deferred *_Atomic *list, struct deferred *it)
+{
+    it->next = atomic_load(list);
+    while (!atomic_compare_exchange_strong(list, &it->next, it))
+        ;
+}
+
+static void free_deferred(void)
+{
+    struct deferred *taken = atomic_exchange(&deferred.waiting, NULL), *in_order = NULL;
+    while (taken != NULL) {
+        struct deferred *next = taken->next;
+        taken->next = in_order;
+        in_order = taken;
+        taken = next;
+    }
+    while (in_order != NULL) {
+        struct deferred *it = in_order;
+        in_order = it->next;
+        free_block(NULL, it->pointer, origin_of(it->caller), it->call, (struct use){FAMILY_ANY, 0, 0});
+        put_in_front(&deferred.unused, it);
+    }
+}
+
+static bool has_deferred(void)
+{
+    return UNLIKELY(atomic_load_explicit(&deferred.waiting, memory_order_relaxed) != NULL);
+}
+
+static void go_out(void)
+{
+    is_inside = AT_THE_LOCK;
+    atomic_signal_fence(memory_order_seq_cst);
+    if (has == HAS_ALL)
+        give_all();
+    else if (own != NULL && atomic_load_explicit(&own->is_busy, memory_order_relaxed))
+        atomic_store_explicit(&own->is_busy, false, memory_order_release);
+    has = HAS_NOTHING;
+    is_inside = OUTSIDE;
+}
+
+void heap_leave(void)
+{
+    is_inside = INSIDE;
+    if (has == HAS_ALL)
+        while (has_deferred())
+            free_deferred();
+    go_out();
+    while (has_deferred() && heap_enter_all()) {
+        free_deferred();
+        go_out();
+    }
+}
+
+/* How often this thread, in signal handlers, has locked while it was in here already. */
+static _Thread_local unsigned nested;
+
+void heap_lock(void)
+{
+    if (!heap_enter_all())
+        nested++;
+}
+
+void heap_unlock(void)
+{
+    if (nested > 0)
+        nested--;
+    else
+        heap_leave();
+}
+
+/* Jumps. */
+
+/* This thread is in here no more, in the middle of something that stays half done: a block is nobody's, or free and
+   still counts as live. False: it would not do, or it can't be known if the lock was taken already. */
+static bool leave_from_the_middle(void)
+{
+    bool may_have_all = has == HAS_ALL && is_inside == AT_THE_LOCK && !library_is_alone();
+    if (arena_changing != 0 || may_have_all)
+        return false;
+    atomic_store_explicit(&arena_was_left, true, memory_order_relaxed);
+    nested = 0;
+    heap_leave();
+    return true;
+}
+
+/* Whether a signal handler of this thread has jumped out of here. Whoever is called in this frame is called by none
+   that this thread has interrupted, if that has come in below it. */
+static bool was_left_at(uintptr_t frame)
+{
+    if (is_inside == OUTSIDE || frame < entered_at || !above.is_own_frame(frame) || !above.is_own_frame(entered_at))
+        return false;
+    bool is_left = leave_from_the_middle();
+    if (!is_left)
+        stream_stop("a signal handler has jumped out of the allocator");
+    return is_left;
+}
+
+void heap_left_by_jump(uintptr_t target)
+{
+    was_left_at(target);
+}
+
+void heap_ends_here(void)
+{
+    note_all_left_out();
+    if (is_inside == OUTSIDE || !has_deferred() || leave_from_the_middle())
+        return;
+    for (const struct deferred *it = atomic_load(&deferred.waiting); it != NULL; it = it->next)
+        side_note_finding_lost();
+}
+
+/* Threads. */
+
+void heap_thread_ends(void)
+{
+    if (own == NULL || !heap_enter_all())
+        return;
+    shard_give(own);
+    own = NULL;
+    is_over = true;
+    heap_leave();
+}
+
+void heap_is_alone(void)
+{
+    for (struct shard *it = atomic_load(&heap.shards); it != NULL; it = it->next)
+        atomic_store_explicit(&it->is_busy, false, memory_order_relaxed);
+    shards_are_left(own);
+}
+
+/* Whatever a handler frees while its thread is in here. */
+
+static bool make_deferred(void)
+{
+    enum { BYTES = SPARE_PIECE, COUNT = BYTES / sizeof(struct deferred) };
+    struct deferred *made = spare_take(BYTES, ALIGNMENT);
+    for (size_t i = 0; made != NULL && i < COUNT; i++)
+        put_in_front(&deferred.unused, &made[i]);
+    return made != NULL;
+}
+
+static struct deferred *take_unused(void)
+{
+    struct deferred *front = atomic_load(&deferred.unused);
+    while (front != NULL && !atomic_compare_exchange_strong(&deferred.unused, &front, front->next))
+        ;
+    return front;
+}
+
+/* Null: there is no memory. */
+static struct deferred *take_deferred(void)
+{
+    struct deferred *it = take_unused();
+    unsigned number = atomic_load(&deferred.used);
+    while (it == NULL && number < DEFERRED)
+        if (atomic_compare_exchange_strong(&deferred.used, &number, number + 1))
+            it = &deferred.first[number];
+    while (it == NULL && make_deferred())
+        it = take_unused();
+    return it;
+}
+
+void heap_defer(void *pointer, uintptr_t caller, const char *call)
+{
+    struct deferred *it = take_deferred();
+    if (it == NULL) {
+        side_note_finding_lost();
+        return;
+    }
+    it->pointer = pointer;
+    it->caller = caller;
+    it->call = call;
+    put_in_front(&deferred.waiting, it);
+}

@@ -1,0 +1,13 @@
+/* What the program wants to be called after each malloc and before each free (heap_add_hooks). */
+#ifndef ASANCOL_PROGRAM_HOOKS_H
+#define ASANCOL_PROGRAM_HOOKS_H
+
+#include <stdbool.h>
+#include <stddef.h>
+
+bool has_hooks(void);
+void hooks_after_malloc(const void *start, size_t size);
+/* False: the program keeps the block, and nobody else is called. */
+bool hooks_before_free(const void *start);
+
+#endif

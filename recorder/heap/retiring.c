@@ -1,0 +1,448 @@
+#define _GNU_SOURCE
+#include "heap/retiring.h"
+
+#include <sys/mman.h>
+
+#include "base/system.h"
+#include "calls/library.h"
+#include "heap/central.h"
+#include "heap/placing.h"
+#include "shadow/shadow.h"
+#include "shadow/unused.h"
+#include "stream/side.h"
+
+enum { PAGES = UNIT / PAGE };
+/* So many bytes of notes are kept of units that have nothing else. */
+enum { MOST_KEPT_BYTES = 64 << 20 };
+
+static uint32_t whole_pages(size_t bytes)
+{
+    return (uint32_t)((bytes + PAGE - 1) / PAGE * PAGE);
+}
+
+/* How many bytes of notes a unit has, in whole pages. A run has hardly any. Call sites count even before they are
+   noted: so what is taken off for a unit is what was added for it. */
+static uint32_t note_bytes(const struct unit *unit)
+{
+    if (unit->kind != UNIT_SLAB)
+        return sizeof(struct block) + sizeof(struct call_sites);
+    uint32_t slots = slots_of(unit);
+    return whole_pages(slots * sizeof(struct block)) + whole_pages(slots * sizeof(struct call_sites));
+}
+
+/* Regions. */
+
+/* Of each unit of a region the notes went back, or it has none. */
+static void count_forgotten(uint32_t unit, uint32_t count)
+{
+    for (uint32_t region; count > 0; unit++, count--) {
+        region = unit / REGION_UNITS;
+        SET_NOTE(heap.forgotten[region], heap.forgotten[region] + 1);
+        if (heap.forgotten[region] == REGION_UNITS)
+            arena_forget_region(region);
+    }
+}
+
+static void count_retired(uint32_t unit, uint32_t count)
+{
+    heap.retired_units += count;
+    for (uint32_t region; count > 0; unit++, count--) {
+        region = unit / REGION_UNITS;
+        SET_NOTE(heap.retired[region], heap.retired[region] + 1);
+        if (heap.retired[region] != REGION_UNITS)
+            continue;
+        arena_renew_region(region);
+        if (!heap.is_unpainted)
+            unused_show((uintptr_t)unit_start(region * REGION_UNITS));
+    }
+}
+
+/* Notes. */
+
+/* 0: it was taken back meanwhile. */
+static uint32_t take_oldest(void)
+{
+    uint32_t unit = heap.kept[heap.first_kept];
+    heap.first_kept = (heap.first_kept + 1) % MOST_KEPT;
+    heap.kept_count--;
+    return unit;
+}
+
+static void forget_oldest(void)
+{
+    uint32_t unit = take_oldest();
+    if (unit == 0)
+        return;
+    heap.kept_bytes -= note_bytes(&arena.units[unit]);
+    if (arena.units[unit].kind != UNIT_SLAB) {
+        count_forgotten(unit, arena.units[unit].count);
+        return;
+    }
+    SET_NOTE(arena.units[unit].form, FORM_FORGOTTEN);
+    arena_forget(unit);
+    count_forgotten(unit, 1);
+}
+
+static void keep(uint32_t unit)
+{
+    /* A handler may jump out of the middle: then the bytes are too many. */
+    heap.kept_bytes += note_bytes(&arena.units[unit]);
+    atomic_signal_fence(memory_order_seq_cst);
+    heap.kept[(heap.first_kept + heap.kept_count) % MOST_KEPT] = unit;
+    heap.kept_count++;
+    while (heap.kept_count == MOST_KEPT || (heap.kept_bytes > MOST_KEPT_BYTES && heap.kept_count > 0))
+        forget_oldest();
+}
+
+static uint32_t units_of(const struct unit *unit)
+{
+    return unit->kind == UNIT_SLAB ? 1 : unit->count;
+}
+
+/* The place of the oldest of these with so many units, or null. What was a run of a big block has notes on one slot of
+   each unit alone, so no slab fits there. */
+static uint32_t *find_kept(uint32_t least, uint32_t most)
+{
+    bool is_big = (size_t)least * UNIT > BIG_BYTES;
+    while (heap.kept_count > 0 && heap.kept[heap.first_kept] == 0)
+        take_oldest();
+    for (uint32_t i = 0; i < heap.kept_count; i++) {
+        uint32_t *place = &heap.kept[(heap.first_kept + i) % MOST_KEPT], units = units_of(&arena.units[*place]);
+        if (*place != 0 && is_big == (*place >= FIRST_BIG) && units >= least && units <= most)
+            return place;
+    }
+    return NULL;
+}
+
+/* The rest of a longer run is used no more. So that is taken only if there is none of this length. */
+uint32_t retiring_take_back(uint32_t count)
+{
+    uint32_t *place = find_kept(count, count);
+    place = place != NULL ? place : find_kept(count, UNITS);
+    if (place == NULL)
+        return 0;
+    uint32_t number = *place, units = units_of(&arena.units[number]);
+    struct unit *unit = &arena.units[number];
+    *place = 0;
+    heap.kept_bytes -= note_bytes(unit);
+    heap.retired_units -= units;
+    for (uint32_t at = number; at < number + units; at++)
+        SET_NOTE(heap.retired[at / REGION_UNITS], heap.retired[at / REGION_UNITS] - 1);
+    SET_NOTE(unit->form, FORM_NONE);
+    arena_forget(number);
+    side_note_reuse((uint64_t)arena.top * UNIT);
+    return number;
+}
+
+void retiring_leave(uint32_t unit, uint32_t count)
+{
+    count_retired(unit, count);
+    count_forgotten(unit, count);
+}
+
+/* Giving back. */
+
+static void set_dead(struct unit *unit, unsigned dead)
+{
+    if (dead != unit->dead)
+        atomic_fetch_add_explicit(&heap.dead, dead - unit->dead, memory_order_relaxed);
+    unit->dead = dead;
+}
+
+static struct listed *list_of(const struct unit *unit)
+{
+    uint32_t slot_size;
+    return &heap.listed[class_of(unit->slot_size, &slot_size)];
+}
+
+static void list(uint32_t number)
+{
+    struct unit *unit = &arena.units[number];
+    struct listed *all = list_of(unit);
+    arena_begin_change();
+    unit->listed_before = all->last;
+    unit->listed_next = 0;
+    if (all->last != 0)
+        arena.units[all->last].listed_next = number;
+    else
+        all->first = number;
+    all->last = number;
+    unit->is_listed = true;
+    arena_end_change();
+}
+
+static void unlist(struct unit *unit)
+{
+    if (!unit->is_listed)
+        return;
+    struct listed *all = list_of(unit);
+    arena_begin_change();
+    unit->is_listed = false;
+    if (unit->listed_before != 0)
+        arena.units[unit->listed_before].listed_next = unit->listed_next;
+    else
+        all->first = unit->listed_next;
+    if (unit->listed_next != 0)
+        arena.units[unit->listed_next].listed_before = unit->listed_before;
+    else
+        all->last = unit->listed_before;
+    arena_end_change();
+}
+
+/* Units in a row that have nothing. The process may have locked them: then they may be used again. */
+static void give_back_row(uint32_t first, uint32_t count)
+{
+    bool is_back = arena_drop(first, count);
+    if (is_back && !heap.is_unpainted)
+        unused_show_again((uintptr_t)unit_start(first), (uint64_t)count * UNIT);
+    central_take();
+    for (uint32_t unit = first; unit < first + count; unit++) {
+        unlist(&arena.units[unit]);
+        set_dead(&arena.units[unit], is_back ? 0 : PAGES);
+        if (is_back) {
+            count_retired(unit, 1);
+            keep(unit);
+        } else {
+            SET_NOTE(arena.units[unit].form, FORM_LISTED);
+            list(unit);
+        }
+    }
+    central_give();
+}
+
+static void sort(uint32_t *numbers, uint32_t count)
+{
+    for (uint32_t i = 1; i < count; i++)
+        for (uint32_t at = i; at > 0 && numbers[at - 1] > numbers[at]; at--) {
+            uint32_t before = numbers[at - 1];
+            numbers[at - 1] = numbers[at];
+            numbers[at] = before;
+        }
+}
+
+static void give_back(uint32_t *units, uint32_t count)
+{
+    sort(units, count);
+    for (uint32_t i = 0, row; i < count; i += row) {
+        for (row = 1; i + row < count && units[i + row] == units[i] + row; row++)
+            ;
+        give_back_row(units[i], row);
+    }
+}
+
+void retiring_flush(struct shard *shard)
+{
+    uint32_t count = shard->retired_count;
+    shard->retired_count = 0;
+    give_back(shard->retired, count);
+}
+
+/* Nothing is recorded, so its memory may be used again. */
+static void recycle(uint32_t unit, uint32_t count)
+{
+    if (unit >= FIRST_BIG) {
+        arena_drop(unit, count);
+        return;
+    }
+    central_take();
+    unlist(&arena.units[unit]);
+    set_dead(&arena.units[unit], 0);
+    SET_NOTE(arena.units[unit].form, FORM_NONE);
+    arena_give_run(unit, count);
+    central_give();
+}
+
+void retire(struct shard *shard, uint32_t unit)
+{
+    if (heap.is_unpainted) {
+        recycle(unit, 1);
+        return;
+    }
+    SET_NOTE(arena.units[unit].form, FORM_RETIRED);
+    if (shard == NULL) {
+        give_back(&unit, 1);
+        return;
+    }
+    shard->retired[shard->retired_count++] = unit;
+    if (shard->retired_count == MOST_RETIRED)
+        retiring_flush(shard);
+}
+
+/* The shadow of a big one is its own, until all of a region is retired. */
+static void poison_run(uint32_t first, uint32_t count)
+{
+    uintptr_t start = (uintptr_t)unit_start(first);
+    uint64_t size = (uint64_t)count * UNIT;
+    if (!heap.is_unpainted && !unused_show_again(start, size))
+        shadow_poison(start, size, SHADE_USER);
+}
+
+void retire_run(uint32_t unit)
+{
+    uint32_t count = arena.units[unit].count;
+    if (heap.is_unpainted) {
+        recycle(unit, count);
+        return;
+    }
+    bool is_back = arena_drop(unit, count);
+    central_take();
+    SET_NOTE(arena.units[unit].form, FORM_RETIRED);
+    poison_run(unit, count);
+    if (is_back) {
+        count_retired(unit, count);
+        keep(unit);
+    }
+    central_give();
+}
+
+/* Pages of units that have blocks. */
+
+/* A bit for each page in which a slot lies that is not freed. */
+static unsigned living_pages(uint32_t number)
+{
+    const struct unit *unit = &arena.units[number];
+    unsigned living = 0;
+    for (uint32_t slot = 0; slot < unit->used; slot++) {
+        struct block now;
+        const struct block *block = block_at(number, slot);
+        now.all_bits = __atomic_load_n(&block->all_bits, __ATOMIC_ACQUIRE);
+        if (now.state == BLOCK_HELD && __atomic_load_n(&block->settled, __ATOMIC_ACQUIRE) == BLOCK_SETTLED)
+            continue;
+        uint32_t from = unit->lead + slot * unit->slot_size, last = from + unit->slot_size - 1;
+        living |= (2U << last / PAGE) - (1U << from / PAGE);
+    }
+    return living;
+}
+
+static void give_back_pages(uint32_t number, unsigned pages)
+{
+    for (unsigned from = 0, count; from < PAGES; from += count) {
+        count = 1;
+        if ((pages >> from & 1) == 0)
+            continue;
+        while (from + count < PAGES && (pages >> (from + count) & 1) != 0)
+            count++;
+        if (system_madvise(unit_start(number) + (size_t)from * PAGE, (size_t)count * PAGE, MADV_DONTNEED) == 0)
+            arena.units[number].given |= (uint16_t)(((1U << count) - 1) << from);
+    }
+}
+
+/* The compilers' own would be a function of a library. */
+static unsigned bits_in(unsigned set)
+{
+    unsigned count = 0;
+    for (; set != 0; set &= set - 1)
+        count++;
+    return count;
+}
+
+/* How many pages hold freed blocks, if the so many that are left lay together. */
+static unsigned dead_pages(const struct unit *unit, uint32_t left)
+{
+    uint64_t live = (uint64_t)left * unit->slot_size;
+    unsigned there = PAGES - bits_in(unit->given), needed = (unsigned)((live + PAGE - 1) / PAGE);
+    return there > needed ? there - needed : 0;
+}
+
+/* Pages in which nothing lives are given back, and if much of a unit is freed it is listed. What is left may become 0
+   meanwhile, and the unit retired without central: that stays so, and not all of its pages count as dead. */
+static void look_at(uint32_t number)
+{
+    struct unit *unit = &arena.units[number];
+    uint32_t left = __atomic_load_n(&unit->left, __ATOMIC_RELAXED);
+    if (left == 0 || left > slots_of(unit) / 2)
+        return;
+    central_take();
+    uint8_t form = FORM_OLD;
+    bool is_old = __atomic_compare_exchange_n(&unit->form, &form, FORM_LISTED, false, __ATOMIC_RELAXED,
+                                              __ATOMIC_RELAXED);
+    if (is_old)
+        list(number);
+    if (is_old || form == FORM_LISTED) {
+        give_back_pages(number, ~living_pages(number) & ~(unsigned)unit->given & ((1U << PAGES) - 1));
+        set_dead(unit, dead_pages(unit, left));
+    }
+    central_give();
+}
+
+void retiring_begin(uint32_t number)
+{
+    struct unit *unit = &arena.units[number];
+    uint8_t closed = FORM_CLOSED;
+    if (__atomic_compare_exchange_n(&unit->form, &closed, FORM_OLD, false, __ATOMIC_RELAXED, __ATOMIC_RELAXED))
+        look_at(number);
+}
+
+void retiring_count(uint32_t number)
+{
+    const struct unit *unit = &arena.units[number];
+    uint32_t left = __atomic_load_n(&unit->left, __ATOMIC_RELAXED);
+    if (UNLIKELY((left & (left - 1)) == 0) && NOTE_NOW(unit->form) >= FORM_OLD)
+        look_at(number);
+}
+
+/* Nobody retires it from now on: unless that is about to happen. What the process has locked was retired, and is
+   not. */
+static bool open_listed(struct unit *unit)
+{
+    uint32_t left = __atomic_load_n(&unit->left, __ATOMIC_RELAXED);
+    while (left != 0 || unit->dead == PAGES)
+        if (__atomic_compare_exchange_n(&unit->left, &left, left + 1, false, __ATOMIC_ACQ_REL, __ATOMIC_RELAXED))
+            return true;
+    return false;
+}
+
+uint32_t retiring_take_listed(unsigned class)
+{
+    uint32_t number;
+    while ((number = heap.listed[class].first) != 0) {
+        struct unit *unit = &arena.units[number];
+        unlist(unit);
+        if (NOTE_NOW(unit->form) != FORM_LISTED || !open_listed(unit))
+            continue;
+        SET_NOTE(unit->form, FORM_OPEN); /* from now on nobody looks at its pages */
+        set_dead(unit, 0);
+        unit->given = 0;
+        side_note_reuse((uint64_t)arena.top * UNIT);
+        return number;
+    }
+    return 0;
+}
+
+/* The region of an address that was handed out once; or REGIONS. */
+static uint32_t region_of(uintptr_t address)
+{
+    uintptr_t distance = address - (uintptr_t)arena.bytes;
+    bool is_known = arena_is_found() && distance < (size_t)UNITS * UNIT && is_used((uint32_t)(distance / UNIT));
+    return is_known ? (uint32_t)(distance / UNIT / REGION_UNITS) : REGIONS;
+}
+
+static const struct unit *unit_at(uintptr_t address)
+{
+    return &arena.units[(address - (uintptr_t)arena.bytes) / UNIT];
+}
+
+/* Whether it is in the body of a run whose notes went back with the region in which it begins. */
+static bool is_without_head(uintptr_t address)
+{
+    const struct unit *unit = unit_at(address);
+    return NOTE_NOW(unit->kind) == UNIT_RUN_BODY && NOTE_NOW((unit - NOTE_NOW(unit->count))->kind) == UNIT_NEW;
+}
+
+bool retiring_has(uintptr_t address)
+{
+    uint32_t region = region_of(address);
+    if (region == REGIONS)
+        return false;
+    const struct unit *unit = unit_at(address);
+    if (NOTE_NOW(unit->kind) == UNIT_RUN_BODY)
+        unit -= NOTE_NOW(unit->count);
+    return NOTE_NOW(unit->form) >= FORM_RETIRED || NOTE_NOW(heap.retired[region]) == REGION_UNITS
+           || is_without_head(address);
+}
+
+bool retiring_forgot(uintptr_t address)
+{
+    uint32_t region = region_of(address);
+    return region != REGIONS && (NOTE_NOW(heap.forgotten[region]) == REGION_UNITS || is_without_head(address));
+}

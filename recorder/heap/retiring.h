@@ -1,0 +1,38 @@
+/* What becomes of units whose blocks are freed for good (shards.h). */
+#ifndef ASANCOL_RETIRING_H
+#define ASANCOL_RETIRING_H
+
+#include "heap/blocks.h"
+
+/* Nothing of a slab is left, or of a run. It is given back with some others, or at once if the shard is null. */
+void retire(struct shard *shard, uint32_t unit);
+void retire_run(uint32_t unit);
+/* Units that stay unused. Under central. */
+void retiring_leave(uint32_t unit, uint32_t count);
+/* What waits in a shard is given back. */
+void retiring_flush(struct shard *shard);
+
+/* If the system has no memory: units that are retired, which may be used again, as a run or for a slab; or 0. Under
+   central. */
+uint32_t retiring_take_back(uint32_t count);
+
+/* A block of a unit was freed: at some counts it is looked at. */
+void retiring_count(uint32_t unit);
+/* A unit is closed for long: from now on it is looked at. */
+void retiring_begin(uint32_t unit);
+/* The oldest unit of a class whose free slots may be handed out again, which is counted as open; 0: there is none.
+   Under central. */
+uint32_t retiring_take_listed(unsigned class);
+
+/* Whether all that this address is of was freed for good; and whether nothing is noted of it any more. At any time. */
+bool retiring_has(uintptr_t address);
+bool retiring_forgot(uintptr_t address);
+
+/* Whether more is dead than the quarantine may hold. */
+static inline bool dead_are_too_many(void)
+{
+    uint64_t dead = (uint64_t)atomic_load_explicit(&heap.dead, memory_order_relaxed) * PAGE;
+    return dead != 0 && dead > atomic_load_explicit(&heap_bound, memory_order_relaxed);
+}
+
+#endif

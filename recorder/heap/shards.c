@@ -1,0 +1,362 @@
+#define _GNU_SOURCE
+#include "heap/shards.h"
+
+#include <sys/mman.h>
+
+#include "base/system.h"
+#include "calls/library.h"
+#include "heap/central.h"
+#include "heap/placing.h"
+#include "heap/poisoning.h"
+#include "heap/retiring.h"
+#include "shadow/unused.h"
+
+/* How many units a shard takes at a time, and runs: at first as many as there are, within these. */
+enum { LEAST_SPAN = 4, MOST_SPAN = 32 };
+/* Of each region a mapping stays, and the system has a limit of these (65,530). So from 512 GB on what is retired is
+   handed out again first. */
+#ifndef MANY_UNITS
+enum { MANY_UNITS = 1 << 23 };
+#endif
+
+/* Shards. */
+
+/* Of the first thread, whose process may have no other; and of who has all. */
+static struct shard first_shard, common_shard;
+
+struct shard *shards_common(void)
+{
+    return &common_shard;
+}
+
+/* How many are made at a time: they fill whole pages. */
+enum { SHARDS_AT_ONCE = 16 };
+
+static bool make_shards(void)
+{
+    size_t bytes = SHARDS_AT_ONCE * sizeof(struct shard) / PAGE * PAGE + PAGE;
+    long made = system_mmap(NULL, bytes, PROT_READ | PROT_WRITE, MAP_PRIVATE | MAP_ANONYMOUS, -1, 0);
+    struct shard *all = made > 0 ? (struct shard *)made : NULL;
+    for (int i = 0; all != NULL && i < SHARDS_AT_ONCE; i++)
+        shard_give(&all[i]);
+    return all != NULL;
+}
+
+/* Who closes all looks at those in the list. */
+static void add(struct shard *shard)
+{
+    shard->next = atomic_load(&heap.shards);
+    atomic_store(&heap.shards, shard);
+    shard->is_known = true;
+}
+
+struct shard *shard_take(void)
+{
+    if (atomic_load(&heap.shards) == NULL)
+        shard_give(&first_shard);
+    if (heap.free_shards == NULL && !make_shards())
+        return NULL;
+    struct shard *shard = heap.free_shards;
+    heap.free_shards = shard->next_free;
+    if (!shard->is_known)
+        add(shard);
+    return shard;
+}
+
+void shard_give(struct shard *shard)
+{
+    shard->next_free = heap.free_shards;
+    heap.free_shards = shard;
+}
+
+void shards_are_left(struct shard *own)
+{
+    heap.free_shards = NULL;
+    for (struct shard *it = atomic_load(&heap.shards); it != NULL; it = it->next)
+        if (it != own)
+            shard_give(it);
+}
+
+/* Slots. */
+
+static uint32_t span_size(void)
+{
+    if (arena.top < LEAST_SPAN)
+        return LEAST_SPAN;
+    return arena.top < MOST_SPAN ? arena.top : MOST_SPAN;
+}
+
+/* Units that were never used, which are poison from now on. */
+static bool take_units(uint32_t count, struct unit_span *span)
+{
+    uint32_t first = arena_take_unused(count);
+    struct unit_span taken = {first, first + count};
+    if (first == 0)
+        return false;
+    poison_new(UINTPTR_MAX, UINTPTR_MAX);
+    __atomic_store(span, &taken, __ATOMIC_RELAXED);
+    return true;
+}
+
+static void open_unit(struct shard *shard, unsigned class, uint32_t unit, bool is_again)
+{
+    struct unit *at = &arena.units[unit];
+    uint32_t slots = slots_of(at);
+    SET_NOTE(at->turns, at->turns + 1);
+    SET_NOTE(at->form, FORM_OPEN);
+    /* Last the unit: a handler may jump out of the middle. */
+    shard->slabs[class] = (struct slab){0, 0, (uint16_t)slots, is_again};
+    atomic_signal_fence(memory_order_seq_cst);
+    shard->slabs[class].unit = unit;
+}
+
+/* A unit of this span; or one that was used before, if no block is to stay bad; or 0. */
+static uint32_t take_unit(struct shard *shard)
+{
+    struct unit_span *span = &shard->span;
+    if (heap.is_unpainted || span->next == span->end) {
+        uint32_t unit = 0;
+        central_take();
+        if (heap.is_unpainted)
+            unit = arena_take_run(1, true);
+        else if (arena.top >= MANY_UNITS)
+            unit = retiring_take_back(1);
+        if (unit == 0 && !heap.is_unpainted)
+            take_units(span_size(), span);
+        if (unit == 0 && span->next == span->end)
+            unit = retiring_take_back(1);
+        central_give();
+        if (unit != 0 || span->next == span->end)
+            return unit;
+    }
+    return span->next++;
+}
+
+/* A unit becomes a slab. */
+static bool open_new(struct shard *shard, unsigned class, uint32_t slot_size)
+{
+    uint32_t unit = take_unit(shard);
+    if (unit == 0)
+        return false;
+    struct unit slab = slab_of(slot_size);
+    unit_write(unit, slab);
+    arena.units[unit].given = 0;
+    __atomic_store_n(&arena.units[unit].left, slots_of(&slab) + 1, __ATOMIC_RELAXED);
+    open_unit(shard, class, unit, false);
+    return true;
+}
+
+static bool open_again(struct shard *shard, unsigned class)
+{
+    central_take();
+    uint32_t unit = retiring_take_listed(class);
+    central_give();
+    if (unit != 0)
+        open_unit(shard, class, unit, true);
+    return unit != 0;
+}
+
+/* If there is no memory, what is dead is handed out again too. */
+static bool open_some(struct shard *shard, unsigned class, uint32_t slot_size)
+{
+    if (UNLIKELY(dead_are_too_many()) && open_again(shard, class))
+        return true;
+    return open_new(shard, class, slot_size) || open_again(shard, class);
+}
+
+/* The shard has no more slots there. Returns whether all blocks of the unit are freed. */
+static bool count_down(uint32_t unit)
+{
+    uint32_t *left = &arena.units[unit].left;
+    if (library_is_alone()) {
+        __atomic_store_n(left, *left - 1, __ATOMIC_RELAXED);
+        return *left == 0;
+    }
+    return __atomic_sub_fetch(left, 1, __ATOMIC_ACQ_REL) == 0;
+}
+
+static void count_up(uint32_t unit)
+{
+    __atomic_add_fetch(&arena.units[unit].left, 1, __ATOMIC_RELAXED);
+}
+
+/* A unit whose slots are all handed out is looked at once so many others of the shard are: most are retired by then. */
+static void close_slab(struct shard *shard, struct slab *slab)
+{
+    uint32_t unit = slab->unit, *place = &shard->closed[shard->closed_count++ % MOST_CLOSED], before = *place;
+    *place = unit;
+    slab->unit = 0;
+    SET_NOTE(arena.units[unit].form, FORM_CLOSED);
+    if (count_down(unit))
+        retire(shard, unit);
+    if (before != 0)
+        retiring_begin(before);
+}
+
+/* Whether the free of this block is over. */
+static bool is_settled(const struct block *block)
+{
+    struct block now;
+    now.all_bits = __atomic_load_n(&block->all_bits, __ATOMIC_ACQUIRE);
+    return now.state == BLOCK_HELD && __atomic_load_n(&block->settled, __ATOMIC_ACQUIRE) == BLOCK_SETTLED;
+}
+
+/* The next slot of a slab that may be handed out; or null: there is none. */
+static struct block *next_slot(struct slab *slab)
+{
+    if (!slab->is_again)
+        return block_at(slab->unit, slab->next++);
+    while (slab->next < slab->end) {
+        struct block *block = block_at(slab->unit, slab->next++);
+        if (is_settled(block)) {
+            count_up(slab->unit);
+            return block;
+        }
+    }
+    return NULL;
+}
+
+struct block *shard_take_slot(struct shard *shard, unsigned class, uint32_t slot_size)
+{
+    struct slab *slab = &shard->slabs[class];
+    if (shard->free[class] != NULL) {
+        struct block *free = shard->free[class];
+        shard->free[class] = free->next;
+        shard->free_bytes[class] -= slot_size;
+        return free;
+    }
+    for (;;) {
+        if (slab->unit != 0 && slab->next == slab->end)
+            close_slab(shard, slab); /* a handler has jumped out before that was done */
+        if (slab->unit == 0 && !open_some(shard, class, slot_size))
+            return NULL;
+        struct block *block = next_slot(slab);
+        if (block != NULL && !slab->is_again)
+            SET_NOTE(arena.units[slab->unit].used, slab->next);
+        if (slab->next == slab->end)
+            close_slab(shard, slab);
+        if (block != NULL)
+            return block;
+    }
+}
+
+/* Runs. */
+
+static void write_run(uint32_t first, uint32_t count)
+{
+    for (uint32_t i = 0; i < count; i++)
+        unit_write(first + i, (struct unit){.kind = i == 0 ? UNIT_RUN : UNIT_RUN_BODY, .count = i == 0 ? count : i});
+}
+
+/* The rest of the units that there were stays unused. */
+static uint32_t take_small_run(uint32_t count)
+{
+    struct unit_span *runs = &heap.runs;
+    if (runs->end - runs->next < count) {
+        uint32_t rest = runs->next;
+        runs->next = runs->end; /* first: what is left twice would seem to be a region of freed units alone */
+        atomic_signal_fence(memory_order_seq_cst);
+        retiring_leave(rest, runs->end - rest);
+        uint32_t step = span_size() > count ? span_size() : count;
+        if (!take_units(step, runs))
+            return 0;
+    }
+    runs->next += count;
+    return runs->next - count;
+}
+
+/* What was a slab is a run from now on. A run stays as long as it was. */
+static uint32_t take_run_back(uint32_t count)
+{
+    uint32_t first = retiring_take_back(count);
+    if (first != 0 && arena.units[first].kind == UNIT_SLAB)
+        write_run(first, 1);
+    return first;
+}
+
+/* Under central. */
+static uint32_t take_run(uint32_t count)
+{
+    bool is_big = (size_t)count * UNIT > BIG_BYTES;
+    if (heap.is_unpainted)
+        return arena_take_run(count, false);
+    bool are_many = (is_big ? arena.big_top - FIRST_BIG : arena.top) >= MANY_UNITS;
+    uint32_t first = are_many ? take_run_back(count) : 0;
+    if (first != 0)
+        return first;
+    first = is_big ? arena_take_big(count) : take_small_run(count);
+    if (first != 0)
+        write_run(first, count);
+    return first != 0 ? first : take_run_back(count);
+}
+
+struct block *forward_take_run(size_t count)
+{
+    if (count > UNITS - FIRST_BIG)
+        return NULL;
+    central_take();
+    uint32_t first = take_run((uint32_t)count);
+    central_give();
+    return first == 0 ? NULL : block_at(first, 0);
+}
+
+/* Of each class. */
+enum { MOST_FREE_BYTES = 4 * UNIT };
+
+/* Nothing is recorded, so the slot may be the next one that is handed out. */
+static bool is_kept_free(struct shard *shard, struct block *block, uint32_t unit)
+{
+    uint32_t slot_size;
+    unsigned class = class_of(arena.units[unit].slot_size, &slot_size);
+    if (shard == NULL || shard->free_bytes[class] + slot_size > MOST_FREE_BYTES)
+        return false;
+    shard->free_bytes[class] += slot_size;
+    SET_NOTE(block->next, shard->free[class]);
+    shard->free[class] = block;
+    return true;
+}
+
+void forward_bury(struct shard *shard, struct block *block)
+{
+    uint32_t unit = unit_of(block);
+    if (arena.units[unit].kind == UNIT_RUN) {
+        retire_run(unit);
+        return;
+    }
+    if (heap.is_unpainted && is_kept_free(shard, block, unit))
+        return;
+    __atomic_store_n(&block->settled, BLOCK_SETTLED, __ATOMIC_RELEASE);
+    if (count_down(unit))
+        retire(shard, unit);
+    else
+        retiring_count(unit);
+}
+
+bool shards_give_back(void)
+{
+    bool has_any = false;
+    for (struct shard *it = atomic_load(&heap.shards); it != NULL; it = it->next) {
+        has_any |= it->retired_count != 0;
+        retiring_flush(it);
+    }
+    has_any |= common_shard.retired_count != 0;
+    retiring_flush(&common_shard);
+    return has_any;
+}
+
+static void stop(struct shard *shard)
+{
+    for (unsigned class = 0; class < CLASSES; class++) {
+        shard->slabs[class].unit = 0;
+        shard->free[class] = NULL;
+        shard->free_bytes[class] = 0;
+    }
+}
+
+void shards_stop(void)
+{
+    shards_give_back();
+    for (struct shard *it = atomic_load(&heap.shards); it != NULL; it = it->next)
+        stop(it);
+    stop(&common_shard);
+}

@@ -1,0 +1,46 @@
+/* Going forward: each thread has a shard, and no address is handed out twice.
+
+       shard             unit (64 KiB, a slab)
+       slabs[class] ---> [slot|slot|slot|           ]   open: the shard takes its slots in a row
+                         [x   |x   |slot|x   |x   |x]   closed; x is freed for good. Pages without a live block go back
+                         [                          ]   retired: memory and shadow went back; notes and stacks stay
+                                                        forgotten: the notes went back too, the oldest first
+
+   A free marks the block, and counts down what is left of its unit: nobody waits, and nothing is shared but that count.
+   What is freed for good stays bad in the shadow (shadow/unused.h), so each later use is found.
+
+   Pages of freed blocks that can't go back, since live ones lie beside them, are dead. If they are more than the bound
+   of the quarantine, free slots of the oldest such units are handed out again, and the stream says so
+   (side_note_reuse). */
+#ifndef ASANCOL_SHARDS_H
+#define ASANCOL_SHARDS_H
+
+#include "heap/blocks.h"
+
+/* A shard for a thread, or null: there is no memory. And back. The gate is held, or there is one thread. */
+struct shard *shard_take(void);
+void shard_give(struct shard *shard);
+/* After a fork no thread has any other than this one. */
+void shards_are_left(struct shard *own);
+
+/* That of who has all, and no shard. */
+struct shard *shards_common(void);
+
+/* A slot of a class, of whoever is in this shard; or null: there is no memory. */
+struct block *shard_take_slot(struct shard *shard, unsigned class, uint32_t slot_size);
+/* A run of units, which are poison unless it is big; or null. */
+struct block *forward_take_run(size_t count);
+/* The block is freed for good: its shadow says so, and its notes. In this shard, or with all if that is null. */
+void forward_bury(struct shard *shard, struct block *block);
+/* Memory that waits to be given back. With all. False: there is none. */
+bool shards_give_back(void);
+/* No more of it: what shards have open stays as it is. With all. */
+void shards_stop(void);
+
+/* The form of the unit in which a block lies. At any time. */
+static inline enum unit_form form_of(uint32_t unit)
+{
+    return (enum unit_form)NOTE_NOW(arena.units[unit].form);
+}
+
+#endif

@@ -1,0 +1,19 @@
+/* For a signal handler whose thread was interrupted in the allocator: memory that is no block, at addresses that are
+   never given again. */
+#ifndef ASANCOL_SPARE_H
+#define ASANCOL_SPARE_H
+
+#include <stdbool.h>
+#include <stddef.h>
+
+#include "base/platform.h"
+
+enum { SPARE_HEADER = 16, SPARE_PIECE = PAGE - 2 * SPARE_HEADER };
+
+bool is_spare(const void *pointer);
+/* Zeros; null: there is no memory. */
+void *spare_take(size_t size, size_t alignment);
+size_t spare_size(const void *pointer);
+void spare_drop(void *pointer);
+
+#endif

@@ -1,0 +1,18 @@
+/* The shadow of blocks' memory that was not handed out yet, or is freed for good: it says "poison". Its pages are those
+   of one file, so it costs nothing, however much memory it is. What the allocator writes there is the process's own,
+   and the file stays. */
+#ifndef ASANCOL_UNUSED_H
+#define ASANCOL_UNUSED_H
+
+#include <stdbool.h>
+#include <stdint.h>
+
+/* Shows this of SHADOW_OF_FILE bytes from this multiple of that on. False: it can't be, and their shadow is as it was.
+   The allocator's lock is held. */
+bool unused_show(uint64_t address);
+/* Shows it again of whole pages' shadow. False: of a part of them it was never shown. */
+bool unused_show_again(uint64_t address, uint64_t size);
+/* Their shadow is zeros again. */
+void unused_hide(uint64_t address);
+
+#endif
