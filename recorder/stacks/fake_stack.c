@@ -149,13 +149,13 @@ static struct fake_stack *begin(void)
 void fake_stack_start(bool by_default)
 {
     atomic_store(&is_on, true);
-    __asan_option_detect_stack_use_after_return = by_default;
+    __asan_option_detect_stack_use_after_return = by_default ? FRAMES_GIVEN : FRAMES_REFUSED;
 }
 
 void fake_stack_stop(void)
 {
     atomic_store(&is_on, false);
-    __asan_option_detect_stack_use_after_return = 0;
+    __asan_option_detect_stack_use_after_return = FRAMES_NEVER;
     own = NULL;
 }
 

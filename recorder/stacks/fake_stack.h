@@ -20,8 +20,9 @@ enum { FAKE_CLASSES = 11, FAKE_LEAST_SHIFT = 6 };
 #define RETURNED_MAGIC UINT64_C(0x45e0360e)
 enum { WORD_MAGIC, WORD_DESCRIPTION, WORD_FUNCTION, WORD_REAL, WORDS };
 
-/* Whether code that was compiled with `runtime` asks for frames: it reads this first. 0 if nothing is recorded. */
+/* Whether code that was compiled with `runtime` asks for frames: it reads this first, and asks if it is not 0. */
 extern int __asan_option_detect_stack_use_after_return;
+enum { FRAMES_NEVER /* nothing is recorded */, FRAMES_GIVEN, FRAMES_REFUSED /* by a setting */ };
 
 /* From now on threads get frames; if `by_default` is false, those that are compiled with `always` alone. */
 void fake_stack_start(bool by_default);

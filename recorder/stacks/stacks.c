@@ -3,7 +3,6 @@
 
 #include <stdatomic.h>
 #include <stdbool.h>
-#include <string.h>
 #include <sys/mman.h>
 
 #include "base/platform.h"
@@ -43,7 +42,9 @@ static struct {
     _Atomic uint32_t recording;
 } stacks = {.taken = 1};
 
-static _Alignas(PAGE) uint64_t words[STACK_WORDS];
+/* Relaxed: the place in `known` is released once the words of a stack are there. Who has its number from elsewhere may
+   see zeros, or a number that is just given. */
+static _Alignas(PAGE) _Atomic uint64_t words[STACK_WORDS];
 /* The last stack of this thread that has all frames of its own, or 0. Relaxed: no other thread looks at it, and a
    signal handler finds one whose words are there. */
 static _Thread_local _Atomic uint32_t last_whole;
@@ -52,7 +53,7 @@ static _Atomic uint64_t known[STACKS];
 
 void stacks_begin(void)
 {
-    system_madvise(words, sizeof words, MADV_DONTDUMP); /* no debugger wants 32 MB of ours in a core */
+    system_madvise((void *)words, sizeof words, MADV_DONTDUMP); /* no debugger wants 32 MB of ours in a core */
 }
 
 /* What differs in any bit of the hash comes into the upper ones, and from there into the lower ones. */
@@ -62,33 +63,37 @@ static uint64_t mixed(uint64_t hash)
     return hash ^ hash >> 29;
 }
 
-/* Another thread may just give its number. */
-static uint64_t word_of(uint32_t first)
+static uint64_t word_at(uint64_t at)
 {
-    return atomic_load_explicit((_Atomic uint64_t *)&words[first], memory_order_relaxed);
+    return atomic_load_explicit(&words[at], memory_order_relaxed);
+}
+
+static void put_word(uint64_t at, uint64_t word)
+{
+    atomic_store_explicit(&words[at], word, memory_order_relaxed);
 }
 
 static unsigned count_at(uint32_t first)
 {
-    return (unsigned)(word_of(first) >> COUNT_SHIFT);
+    return (unsigned)(word_at(first) >> COUNT_SHIFT);
 }
 
 /* How many stand behind the first word. */
 static unsigned own_at(uint32_t first)
 {
-    return (unsigned)(word_of(first) >> OWN_SHIFT & OWN_MASK);
+    return (unsigned)(word_at(first) >> OWN_SHIFT & OWN_MASK);
 }
 
 /* Where the others stand, if there are any. */
-static const uint64_t *others_at(uint32_t first)
+static uint64_t others_at(uint32_t first)
 {
-    return &words[words[first + 1 + own_at(first)]];
+    return word_at(first + 1 + own_at(first));
 }
 
-static bool are_same(const uint64_t *frames, const uint64_t *others, unsigned count)
+static bool are_same(const uint64_t *frames, uint64_t others, unsigned count)
 {
     for (unsigned i = 0; i < count; i++)
-        if (frames[i] != others[i])
+        if (frames[i] != word_at(others + i))
             return false;
     return true;
 }
@@ -96,7 +101,7 @@ static bool are_same(const uint64_t *frames, const uint64_t *others, unsigned co
 static bool is_stack_at(uint32_t first, const uint64_t *frames, unsigned count)
 {
     unsigned own = own_at(first);
-    if (count_at(first) != count || !are_same(frames, &words[first + 1], own))
+    if (count_at(first) != count || !are_same(frames, first + 1, own))
         return false;
     return own == count || are_same(frames + own, others_at(first), count - own);
 }
@@ -105,8 +110,8 @@ static bool is_stack_at(uint32_t first, const uint64_t *frames, unsigned count)
 static unsigned own_beside(uint32_t whole, const uint64_t *frames, unsigned count)
 {
     unsigned own = count, there = whole != 0 ? count_at(whole) : 0;
-    const uint64_t *end = &words[whole + 1 + there];
-    while (own > 1 && count - own < there && end[-1] == frames[own - 1])
+    uint32_t end = whole + 1 + there;
+    while (own > 1 && count - own < there && word_at(end - 1) == frames[own - 1])
         own--, end--;
     return own * LEAST_PER_OWN <= count ? own : count;
 }
@@ -123,10 +128,11 @@ static uint32_t keep(const uint64_t *frames, unsigned count)
     if (first > STACK_WORDS - (MAX_FRAMES + 1))
         return 0;
     atomic_fetch_add(&stacks.count, 1);
-    words[first] = (uint64_t)count << COUNT_SHIFT | (uint64_t)own << OWN_SHIFT;
-    memcpy(&words[first + 1], frames, own * sizeof *frames);
+    put_word(first, (uint64_t)count << COUNT_SHIFT | (uint64_t)own << OWN_SHIFT);
+    for (unsigned i = 0; i < own; i++)
+        put_word(first + 1 + i, frames[i]);
     if (own < count) {
-        words[first + 1 + own] = whole + 1 + count_at(whole) - (count - own);
+        put_word(first + 1 + own, whole + 1 + count_at(whole) - (count - own));
         return first;
     }
     atomic_signal_fence(memory_order_seq_cst);
@@ -170,19 +176,26 @@ static call_site call_site_of_stack(struct stack *stack, uintptr_t innermost)
     return first != 0 ? IS_STACK | first : innermost & ADDRESS_MASK;
 }
 
-static call_site in_this_thread(call_site of)
+static inline call_site in_this_thread(call_site of)
 {
     return of | (call_site)thread_number() << THREAD_SHIFT;
 }
 
-call_site call_site_from(uintptr_t frame, uintptr_t caller)
+static __attribute__((noinline)) call_site walk_from(uintptr_t own, uintptr_t frame, uintptr_t caller)
 {
     struct stack stack;
-    uintptr_t own = (uintptr_t)__builtin_frame_address(0);
-    unwind_from_call(own, frame != 0 ? frame : own, caller, &stack);
-    call_site place = stack.place != 0 ? stack.place : call_site_of_stack(&stack, caller);
+    unwind_from_call(own, frame, caller, &stack);
+    call_site place = call_site_of_stack(&stack, caller);
     unwind_end(&stack, place);
-    return in_this_thread(place);
+    return place;
+}
+
+call_site call_site_from(uintptr_t frame, uintptr_t caller)
+{
+    uintptr_t own = (uintptr_t)__builtin_frame_address(0);
+    frame = frame != 0 ? frame : own;
+    call_site place = walks_recall(own, frame, caller);
+    return in_this_thread(LIKELY(place != 0) ? place : walk_from(own, frame, caller));
 }
 
 call_site call_site_at(const struct registers *registers)
@@ -194,7 +207,7 @@ call_site call_site_at(const struct registers *registers)
 
 uintptr_t call_site_address(call_site of)
 {
-    return of & IS_STACK ? words[(of & WORD_MASK) + 1] : of & ADDRESS_MASK;
+    return of & IS_STACK ? word_at((of & WORD_MASK) + 1) : of & ADDRESS_MASK;
 }
 
 unsigned call_site_thread(call_site of)
@@ -213,9 +226,10 @@ unsigned call_site_frames(call_site of, uint64_t frames[MAX_FRAMES])
     if (!(of & IS_STACK))
         return 0;
     unsigned count = count_at(first), own = own_at(first);
-    memcpy(frames, &words[first + 1], own * sizeof *frames);
-    if (own < count)
-        memcpy(frames + own, others_at(first), (count - own) * sizeof *frames);
+    for (unsigned i = 0; i < own; i++)
+        frames[i] = word_at(first + 1 + i);
+    for (unsigned i = own; i < count; i++)
+        frames[i] = word_at(others_at(first) + i - own);
     return count;
 }
 
@@ -228,13 +242,13 @@ static uint64_t upper_part(uint64_t word)
 
 uint32_t call_site_number(call_site of)
 {
-    uint64_t word = of & IS_STACK ? word_of(of & WORD_MASK) : 0;
+    uint64_t word = of & IS_STACK ? word_at(of & WORD_MASK) : 0;
     return word >> RECORDING_SHIFT == upper_part(word) >> RECORDING_SHIFT ? (uint32_t)word & NUMBER_MASK : 0;
 }
 
 uint32_t call_site_give_number(call_site of, uint32_t number)
 {
-    _Atomic uint64_t *word = (_Atomic uint64_t *)&words[of & WORD_MASK];
+    _Atomic uint64_t *word = &words[of & WORD_MASK];
     uint64_t seen = atomic_load(word);
     for (;;) {
         if (call_site_number(of) != 0)

@@ -8,10 +8,9 @@
 #include "base/platform.h"
 #include "stacks/cfi.h"
 #include "stacks/own_stack.h"
-#include "stacks/trail.h"
 
 /* Rules that are known. An instruction has its own place, and three more in the same line of the cache. */
-enum { PLACES = 1 << 16, WAYS = 4, PLACE_SHIFT = 2, FAR_SHIFT = 16, GENERATION_SHIFT = 48 };
+enum { PLACES = 1 << 16, WAYS = 4, PLACE_SHIFT = 2, FAR_SHIFT = 16 };
 
 /* The rule is mixed into the key: so if two threads write at once, or one writes while another one reads, no rule is
    taken for that of another instruction. */
@@ -25,12 +24,11 @@ union rule_word {
 };
 
 static _Alignas(64) struct known_rule rules[PLACES];
-/* In the upper bits of the key. */
-static _Atomic uint64_t generation = (uint64_t)1 << GENERATION_SHIFT;
 
+/* The generation is in the upper bits of the key. */
 void unwinding_modules_changed(void)
 {
-    atomic_fetch_add(&generation, (uint64_t)1 << GENERATION_SHIFT);
+    atomic_fetch_add(&rules_generation, (uint64_t)1 << GENERATION_SHIFT);
 }
 
 /* How many bytes an instruction has by its second byte, which says where its operand is; so many are there. */
@@ -109,11 +107,12 @@ static inline struct cfi_rule rule_of(uintptr_t instruction, bool is_after_call,
     return find_rule(instruction, is_after_call, key);
 }
 
-/* A part of the stack that can be read, or none, and of other memory the page that was asked for last; and how many
-   frames were passed over. */
+/* A part of the stack that can be read, or none, and of other memory the page that was asked for last; what is kept of
+   the walk; and how many frames were passed over. */
 struct reach {
     uintptr_t low, size;
     struct known_page page;
+    struct keeping *keeping;
     unsigned unseen;
 };
 
@@ -132,9 +131,13 @@ static inline bool read_word(struct reach *reach, uintptr_t address, uintptr_t *
 {
     if (UNLIKELY(address % sizeof *word != 0))
         return false;
-    if (UNLIKELY(!is_within(reach, address)) && !memory_is_there(&reach->page, address, sizeof *word))
-        return false;
+    if (UNLIKELY(!is_within(reach, address))) {
+        reach->keeping->walks = NULL;
+        if (!memory_is_there(&reach->page, address, sizeof *word))
+            return false;
+    }
     *word = *(const uintptr_t *)address;
+    keep_word(reach->keeping, address, *word);
     return true;
 }
 
@@ -165,6 +168,7 @@ static inline uintptr_t end_of(const struct registers *now, struct cfi_rule rule
     uintptr_t offset = (uintptr_t)(intptr_t)rule.offset, end;
     if (rule.kind == CFI_BY_STACK)
         return now->stack + offset;
+    keep_use(reach->keeping);
     if (rule.kind == CFI_BY_FRAME)
         return now->frame + offset;
     if (rule.kind == CFI_SAVED)
@@ -172,6 +176,23 @@ static inline uintptr_t end_of(const struct registers *now, struct cfi_rule rule
     if (rule.kind == CFI_POINTER || (rule.kind == CFI_UNKNOWN && may_be_frame(now)))
         return now->frame + 2 * sizeof end;
     return 0;
+}
+
+/* To the caller's frame pointer, from the end of the frame. */
+static bool go_on_frame(struct registers *now, unsigned char frame, struct reach *reach)
+{
+    if (frame == CFI_FRAME_KEPT)
+        return true;
+    uintptr_t place = frame == CFI_FRAME_LINKED ? now->frame : now->stack - frame * sizeof place;
+    if (frame == CFI_FRAME_LINKED)
+        keep_use(reach->keeping);
+    keep_loss(reach->keeping);
+    now->frame = 0;
+    if (frame == CFI_FRAME_LOST)
+        return true;
+    bool is_there = read_word(reach, place, &now->frame);
+    keep_pointer(reach->keeping);
+    return is_there;
 }
 
 /* Goes on to the caller, or to what a handler has interrupted. */
@@ -188,119 +209,83 @@ static bool go_on(struct registers *now, struct cfi_rule rule, struct reach *rea
         return false;
     if (rule.kind == CFI_UNKNOWN || rule.kind == CFI_POINTER)
         rule.frame = CFI_FRAME_LINKED;
-    if (rule.frame == CFI_FRAME_LOST)
-        now->frame = 0;
-    else if (rule.frame == CFI_FRAME_LINKED && !read_word(reach, now->frame, &now->frame))
-        return false;
-    else if (rule.frame != CFI_FRAME_KEPT && rule.frame < CFI_FRAME_LINKED
-             && !read_word(reach, end - rule.frame * sizeof end, &now->frame))
-        return false;
     now->stack = end;
-    return read_word(reach, end - sizeof end, &now->instruction);
+    return go_on_frame(now, rule.frame, reach) && read_word(reach, end - sizeof end, &now->instruction);
 }
 
-/* Whether a rule is to follow the frame pointer, to where it can be read at once: most code of the program has
-   these. */
-static inline bool make_link(const struct registers *at, struct cfi_rule rule, const struct reach *reach,
-                             struct link *link)
-{
-    uintptr_t end = at->frame + 2 * sizeof end, saved = 0;
-    if ((rule.flags & ~CFI_MAIN) != CFI_CALLED || at->frame < at->stack || !has_pair(reach, at->frame))
-        return false;
-    if (UNLIKELY(rule.kind != CFI_POINTER)) {
-        saved = at->frame + (uintptr_t)(intptr_t)rule.offset;
-        if (rule.kind != CFI_SAVED || rule.frame != CFI_FRAME_LINKED || !has_pair(reach, saved))
-            return false;
-        end = *(const uintptr_t *)saved;
-        if (end <= at->stack || !has_pair(reach, end - 2 * sizeof end))
-            return false;
-    }
-    *link = (struct link){at->frame, at->instruction, end, saved};
-    return true;
-}
-
-/* Always, so that what it gets by its address is in registers all the same. */
-#define INLINED static inline __attribute__((always_inline))
-
-INLINED void add(struct stack *found, uintptr_t address)
+static inline void add(struct stack *found, uintptr_t address)
 {
     found->frames[found->count++] = address;
     found->hash = stack_hash(found->hash, address);
 }
 
-/* A walk by frame pointers: where it is, and what it has found. */
+/* Rules that most code of the program has: to follow the frame pointer; and those of `main`. */
+static const union rule_word pointer_rule = {{CFI_POINTER, 2, CFI_CALLED, 0, 2 * sizeof(uintptr_t)}};
+static const union rule_word main_rule = {{CFI_POINTER, 2, CFI_CALLED | CFI_MAIN, 0, 2 * sizeof(uintptr_t)}};
+
+/* The rule as one word. Of most instructions it is known which one they have. */
+static inline uint64_t word_of(uintptr_t instruction, uint64_t now, struct walks *walks)
+{
+    uintptr_t *known = walks != NULL ? &walks->pointers[pointer_hash(instruction)] : NULL;
+    if (LIKELY(known != NULL && *known == instruction))
+        return pointer_rule.word;
+    union rule_word found = {.rule = rule_of(instruction, true, now)};
+    if (known != NULL && found.word == pointer_rule.word)
+        *known = instruction;
+    return found.word;
+}
+
+/* A walk by frame pointers: where it is, what it has found, and where to put what it reads. */
 struct walk {
     struct registers at;
     uint64_t hash;
     unsigned count;
-    bool is_over; /* it has come to the caller of `main` */
+    struct pair *pair;
 };
 
-INLINED void step(struct walk *walk, const struct link *from, uint64_t *frames)
+static inline bool can_step(const struct walk *walk, uintptr_t last)
 {
-    frames[walk->count++] = from->instruction;
-    walk->hash = stack_hash(walk->hash, from->instruction);
-    walk->at = (struct registers){link_call(from), from->end, link_frame(from)};
+    uintptr_t frame = walk->at.frame;
+    return walk->count < MAX_FRAMES && frame >= walk->at.stack && frame <= last && frame % sizeof frame == 0;
 }
 
-/* Whether this one was come to before, by the same call. */
-static inline bool is_met(const struct registers *at, const struct link *link)
+/* Always inlined, so that what it gets by its address is in registers all the same. */
+static inline __attribute__((always_inline)) void step(struct walk *walk, uint64_t *frames)
 {
-    return is_link(link, at->frame, at->instruction) && at->frame >= at->stack && link->end > at->stack;
+    uintptr_t frame = walk->at.frame;
+    frames[walk->count++] = walk->at.instruction;
+    walk->hash = stack_hash(walk->hash, walk->at.instruction);
+    walk->at = (struct registers){word_above(frame, 1), frame + 2 * sizeof frame, word_above(frame, 0)};
+    *walk->pair++ = (struct pair){walk->at.frame, walk->at.instruction};
 }
 
-/* From the last of so many links of the trail on. False: one does not lead to where it led any more. */
-INLINED bool follow_trail(struct walk *walk, unsigned left, uint64_t *frames)
+/* Goes on as long as frame pointers lead to where it can be read at once, at most up to the caller of `main`, which is
+   the last that is of use to anybody. True: it has come there. */
+static bool follow_pointers(struct registers *at, uint64_t now, const struct reach *reach, struct stack *found)
 {
-    for (const struct link *link = &trail.links[left - 1];; link--) {
-        if (link->saved != 0 && *(const uintptr_t *)link->saved != link->end)
-            return false;
-        step(walk, link, frames);
-        walk->is_over = link == trail.links && trail.is_whole;
-        if (walk->is_over)
-            return walk->at.instruction == trail.last;
-        if (link == trail.links || walk->count == MAX_FRAMES)
-            return true;
-        if (!is_link(link - 1, walk->at.frame, walk->at.instruction))
-            return false;
-    }
-}
-
-/* Goes on as long as frame pointers lead on, at most up to the caller of `main`, which is the last that is of use to
-   anybody. */
-INLINED bool follow_pointers(struct registers *at, uint64_t now, const struct reach *reach, struct stack *found,
-                             bool by_trail)
-{
-    struct walk walk = {*at, found->hash, found->count, false};
-    struct link links[MAX_FRAMES], here;
-    unsigned left = by_trail ? trail.count : 0, stay = 0, fresh = 0;
-    bool is_new = by_trail;
-    while (walk.count < MAX_FRAMES && !walk.is_over) {
-        left = trail_left(left, walk.at.frame);
-        if (left != 0 && is_met(&walk.at, &trail.links[left - 1])) {
-            bool is_same = follow_trail(&walk, left, found->frames);
-            stay = is_same ? left : 0, fresh = is_same ? fresh : 0;
-            left = 0, is_new = false;
-            continue;
-        }
-        struct cfi_rule rule = rule_of(walk.at.instruction, true, now);
-        if (!make_link(&walk.at, rule, reach, &here))
-            break;
-        walk.is_over = rule.flags & CFI_MAIN;
-        step(&walk, &here, found->frames);
-        if (is_new)
-            links[fresh++] = here;
-    }
-    if (by_trail) {
-        if (stay == 0)
-            trail.is_whole = walk.is_over, trail.last = walk.at.instruction;
-        trail_put(stay, links, fresh);
-    }
+    struct keeping *keeping = reach->keeping;
+    uintptr_t last = reach->low + reach->size - 2 * sizeof last;
+    struct pair unkept[MAX_FRAMES];
+    struct walk walk = {*at, found->hash, found->count, unkept};
+    uint64_t word = pointer_rule.word;
+    if (!is_within(reach, at->stack) || reach->size < 2 * sizeof last)
+        return false;
+    if (keeping->walks != NULL)
+        walk.pair = keep_next(keeping, at->frame);
+    while (can_step(&walk, last) && (word = word_of(walk.at.instruction, now, keeping->walks)) == pointer_rule.word)
+        step(&walk, found->frames);
+    bool is_over = word == main_rule.word;
+    if (is_over)
+        step(&walk, found->frames);
+    if (found->count == 0)
+        found->second = at->frame + sizeof last;
+    if (walk.count != found->count && keeping->walks != NULL)
+        keep_frames(keeping, at->frame, walk.count - found->count);
     at->instruction = walk.at.instruction, at->stack = walk.at.stack, at->frame = walk.at.frame;
     found->count = walk.count, found->hash = walk.hash;
-    if (walk.is_over && found->count < MAX_FRAMES)
+    if (is_over && found->count < MAX_FRAMES)
         add(found, at->instruction);
-    return walk.is_over;
+    return is_over;
 }
 
 /* Goes on by any rule. False: that was the last frame. */
@@ -321,66 +306,90 @@ static bool take(struct registers *at, bool is_after_call, struct cfi_rule rule,
 
 static void unwind(struct registers *at, bool is_after_call, uint64_t now, struct reach *reach, struct stack *found)
 {
-    while (found->count < MAX_FRAMES && reach->unseen <= MAX_FRAMES) {
+    while (reach->unseen <= MAX_FRAMES) {
+        if ((is_after_call && follow_pointers(at, now, reach, found)) || found->count == MAX_FRAMES)
+            break;
         struct cfi_rule rule = rule_of(at->instruction, is_after_call, now);
+        bool is_first = found->count == 0;
         if (!take(at, is_after_call, rule, reach, found))
             break;
         is_after_call = rule.kind != CFI_SIGNAL;
-        if (is_after_call && follow_pointers(at, now, reach, found, false))
-            break;
+        if (is_first)
+            found->second = at->stack - sizeof(uintptr_t);
     }
 }
 
 /* Between here and the call that is looked for lies code of the recorder, which has frame pointers. Each points to the
    one before it, with the address after the call beside it. */
-static inline bool find_call(uintptr_t frame, uintptr_t caller, struct reach *reach, struct registers *found)
+static inline bool find_call(uintptr_t start, uintptr_t caller, struct reach *reach, struct registers *found)
 {
     enum { OWN_FRAMES = 24 };
-    for (unsigned steps = 0; steps < OWN_FRAMES; steps++) {
-        const uintptr_t *pointer = (const uintptr_t *)frame;
+    struct pair unkept[OWN_FRAMES], *pair = reach->keeping->walks != NULL ? keep_next(reach->keeping, start) : unkept;
+    uintptr_t frame = start;
+    for (uint32_t count = 1; count <= OWN_FRAMES; count++) {
         if (!has_pair(reach, frame) && !is_pair_there(reach, frame))
             return false;
-        if (pointer[1] == caller) {
-            *found = (struct registers){caller, frame + 2 * sizeof *pointer, pointer[0]};
+        *pair = (struct pair){word_above(frame, 0), word_above(frame, 1)};
+        if (pair->second == caller) {
+            *found = (struct registers){caller, frame + 2 * sizeof frame, pair->first};
+            if (reach->keeping->walks != NULL)
+                keep_frames(reach->keeping, start, count);
             return true;
         }
-        if (pointer[0] <= frame)
+        if (pair->first <= frame)
             return false;
-        frame = pointer[0];
+        frame = pair++->first;
     }
     return false;
+}
+
+/* Begins a walk of this frame of the recorder's, on the thread's own stack. False: it is on another one, or this is a
+   signal handler, which has interrupted a walk; what is known is left alone. If a walk began further in than this one,
+   it was left by a jump, with what is known in any state. */
+static bool begin(uintptr_t own, bool is_on_own_stack, uint64_t now, struct walks **walks)
+{
+    uintptr_t walker = atomic_load_explicit(&own_walks.walker, memory_order_relaxed);
+    if (!is_on_own_stack || walker > own)
+        return false;
+    atomic_store_explicit(&own_walks.walker, own, memory_order_relaxed);
+    atomic_signal_fence(memory_order_seq_cst);
+    *walks = walks_take();
+    if (*walks != NULL && UNLIKELY(walker != 0 || (*walks)->generation != now))
+        walks_forget(*walks, now);
+    return true;
 }
 
 void unwind_from_call(uintptr_t own, uintptr_t frame, uintptr_t caller, struct stack *found)
 {
     struct registers at;
+    struct walks *walks = NULL;
     uintptr_t top = stack_readable(frame);
-    struct reach reach = {.low = frame, .size = top > frame ? top - frame : 0};
-    uint64_t now = atomic_load_explicit(&generation, memory_order_relaxed);
-    found->count = 0, found->hash = 0, found->place = 0, found->is_on_trail = false;
-    if (!find_call(frame, caller, &reach, &at))
-        return;
-    found->frame = at.frame;
-    found->is_on_trail = trail_begin(own, top, now);
-    if (found->is_on_trail)
-        found->place = trail_place(at.frame, caller, at.stack);
-    if (found->place == 0 && (!found->is_on_trail || !follow_pointers(&at, now, &reach, found, true)))
+    struct reach reach = {.low = frame, .size = top > frame ? top - frame : 0, .keeping = &found->keeping};
+    uint64_t now = atomic_load_explicit(&rules_generation, memory_order_relaxed);
+    found->count = 0, found->hash = 0, found->second = 0;
+    found->is_walker = begin(own, top != 0, now, &walks);
+    keep_walk(&found->keeping, walks, frame, caller);
+    if (find_call(frame, caller, &reach, &at))
         unwind(&at, true, now, &reach, found);
+    else
+        found->keeping.walks = NULL;
 }
 
 void unwind_end(const struct stack *found, uint64_t place)
 {
-    if (!found->is_on_trail)
+    if (!found->is_walker)
         return;
-    if (found->place == 0)
-        trail_know(found->frame, found->frames[0], place);
-    trail_end();
+    if (found->keeping.walks != NULL)
+        keep_place(&found->keeping, found->second, place);
+    atomic_signal_fence(memory_order_seq_cst);
+    atomic_store_explicit(&own_walks.walker, 0, memory_order_relaxed);
 }
 
 void unwind_from_registers(const struct registers *registers, struct stack *found)
 {
     struct registers at = *registers;
-    struct reach reach = {0};
-    found->count = 0, found->hash = 0;
-    unwind(&at, false, atomic_load_explicit(&generation, memory_order_relaxed), &reach, found);
+    struct reach reach = {.keeping = &found->keeping};
+    found->count = 0, found->hash = 0, found->second = 0, found->is_walker = false;
+    found->keeping = (struct keeping){0};
+    unwind(&at, false, atomic_load_explicit(&rules_generation, memory_order_relaxed), &reach, found);
 }

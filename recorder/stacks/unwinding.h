@@ -7,14 +7,15 @@
 #include <stdint.h>
 
 #include "stacks/depth.h"
+#include "stacks/walks.h"
 
 /* The addresses after the calls, the innermost first, and how many there are. The hash depends on all of them. */
 struct stack {
     unsigned count;
-    bool is_on_trail; /* the thread's, which is kept from others until the end (trail.h) */
+    bool is_walker; /* what the thread knows of walks is kept from others until the end */
+    struct keeping keeping;
+    uintptr_t second; /* where the address after the second call is */
     uint64_t hash;
-    uint64_t place;  /* what stood for this stack the last time: then nothing else is said of it; or 0 */
-    uintptr_t frame; /* of the innermost call */
     uint64_t frames[MAX_FRAMES];
 };
 

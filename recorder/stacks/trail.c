@@ -1,3 +1,0 @@
-#include "stacks/trail.h"
-
-_Thread_local struct trail trail;

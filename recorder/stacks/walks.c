@@ -1,0 +1,125 @@
+#include "stacks/walks.h"
+
+#include "stacks/own_stack.h"
+
+_Thread_local struct own_walks own_walks;
+_Atomic uint64_t rules_generation = UINT64_C(1) << GENERATION_SHIFT;
+
+/* More threads at a time know none. What is not used takes no memory. */
+enum { PLACES = 256, AFTER_WALKS = 64 };
+static _Alignas(PAGE) struct walks places[PLACES];
+static _Atomic bool is_taken[PLACES];
+
+/* The address of who is called is there for any walk, and tells nothing. */
+enum { TELLS_NOTHING = 1 };
+
+void walks_empty(struct walks *walks)
+{
+    static const struct telling nothing = {TELLS_NOTHING, TELLS_NOTHING};
+    walks->used = sizeof(struct known_walk) / PAIR_BYTES;
+    for (size_t i = 0; i < sizeof walks->first / sizeof *walks->first; i++)
+        walks->first[i] = 0;
+    for (size_t i = 0; i < sizeof walks->telling / sizeof *walks->telling; i++)
+        walks->telling[i] = nothing;
+}
+
+void walks_forget(struct walks *walks, uint64_t generation)
+{
+    walks_empty(walks);
+    walks->generation = generation;
+    for (size_t i = 0; i < sizeof walks->pointers / sizeof *walks->pointers; i++)
+        walks->pointers[i] = 0;
+}
+
+static struct walks *take(void)
+{
+    for (size_t i = 0; i < PLACES; i++)
+        if (!atomic_load_explicit(&is_taken[i], memory_order_relaxed) && !atomic_exchange(&is_taken[i], true))
+            return &places[i];
+    return NULL;
+}
+
+/* A handler that comes in between has none. */
+struct walks *walks_take(void)
+{
+    struct walks *walks = atomic_load_explicit(&own_walks.walks, memory_order_relaxed);
+    uint32_t count = atomic_load_explicit(&own_walks.count, memory_order_relaxed);
+    if (LIKELY(walks != NULL) || count == UINT32_MAX || own_stack.top == 0)
+        return walks;
+    atomic_store_explicit(&own_walks.count, count + 1, memory_order_relaxed);
+    if (count != AFTER_WALKS || (walks = take()) == NULL)
+        return NULL;
+    walks->low = own_stack.may_grow ? own_stack.top - MAX_STACK_SIZE + 1 : own_stack.low;
+    walks->size = own_stack.top - walks->low;
+    walks_forget(walks, atomic_load_explicit(&rules_generation, memory_order_relaxed));
+    atomic_signal_fence(memory_order_seq_cst);
+    atomic_store_explicit(&own_walks.walks, walks, memory_order_relaxed);
+    return walks;
+}
+
+void walks_give(void)
+{
+    struct walks *walks = atomic_load_explicit(&own_walks.walks, memory_order_relaxed);
+    atomic_store_explicit(&own_walks.count, UINT32_MAX, memory_order_relaxed);
+    atomic_store_explicit(&own_walks.walks, NULL, memory_order_relaxed);
+    atomic_signal_fence(memory_order_seq_cst);
+    if (walks != NULL)
+        atomic_store(&is_taken[walks - places], false);
+}
+
+void walks_are_alone(void)
+{
+    struct walks *walks = atomic_load_explicit(&own_walks.walks, memory_order_relaxed);
+    for (size_t i = 0; i < PLACES; i++)
+        if (&places[i] != walks)
+            atomic_store_explicit(&is_taken[i], false, memory_order_relaxed);
+}
+
+/* Where the first word lies that a walk would find changed, or 0. */
+static uintptr_t changed_word(const struct known_walk *walk)
+{
+    const struct pair *at = (const struct pair *)(walk + 1), *end;
+    for (uint32_t runs = walk->runs; runs > 0; runs--) {
+        const struct run *run = (const struct run *)at++;
+        uintptr_t frame = run->frame;
+        for (end = at + run->frames; at < end; frame = at->first, at++) {
+            if (word_above(frame, 0) != at->first)
+                return frame;
+            if (word_above(frame, 1) != at->second)
+                return frame + sizeof frame;
+        }
+        for (end = at + run->words; at < end; at++)
+            if (word_above(at->first, 0) != at->second)
+                return at->first;
+    }
+    return 0;
+}
+
+/* In words; or what tells nothing, if it is too far. */
+static uint16_t distance_of(const struct walks *walks, uintptr_t start, uintptr_t address)
+{
+    uintptr_t distance = (address - start) / sizeof address;
+    bool is_near = address > start && distance <= UINT16_MAX && address - walks->low < walks->size;
+    return is_near ? (uint16_t)distance : TELLS_NOTHING;
+}
+
+void keep_place(const struct keeping *keeping, uintptr_t second, uint64_t place)
+{
+    struct walks *walks = keeping->walks;
+    struct known_walk *walk = kept_walk(keeping);
+    struct telling *telling = &walks->telling[call_hash(walk->start, walk->caller)];
+    telling->second = distance_of(walks, walk->start, second);
+    if (!can_tell(walks, walk->start, *telling))
+        telling->other = TELLS_NOTHING;
+    uint16_t *first = &walks->first[walk_hash(walk->start, walk->caller, *telling)];
+    const struct known_walk *like = walk_at(walks, *first);
+    if (telling->other == TELLS_NOTHING && like->runs != 0 && like->start == walk->start
+        && like->caller == walk->caller) {
+        telling->other = distance_of(walks, walk->start, changed_word(like));
+        first = &walks->first[walk_hash(walk->start, walk->caller, *telling)];
+    }
+    walk->place = place;
+    walk->next = *first;
+    *first = (uint16_t)walks->used;
+    walks->used = (uint32_t)(keeping->at - walks->pairs);
+}
