@@ -10,15 +10,25 @@ CALLBACK int __asan_option_detect_stack_use_after_return;
 #ifdef IN_SHARED_OBJECT
 void fake_frames_begin(void)
 {
-    __asan_option_detect_stack_use_after_return = HAS_HOOK(takes_frames) && *asancol_hooks.takes_frames;
+    __asan_option_detect_stack_use_after_return = HAS_HOOK(takes_frames) ? *asancol_hooks.takes_frames : FRAMES_NEVER;
 }
 #endif
+
+/* If they are refused, the first that asks says so, and no other of this module. */
+static uintptr_t take_if_given(unsigned class, uintptr_t real)
+{
+    if (LIKELY(__asan_option_detect_stack_use_after_return != FRAMES_REFUSED))
+        return take_frame(class, real);
+    __atomic_store_n(&__asan_option_detect_stack_use_after_return, FRAMES_NEVER, __ATOMIC_RELAXED);
+    note_skipped(SKIPPED_RETURNS);
+    return 0;
+}
 
 #define FRAMES(class)                                                                                                  \
     CALLBACK uintptr_t __asan_stack_malloc_##class(size_t size)                                                        \
     {                                                                                                                  \
         (void)size;                                                                                                    \
-        return take_frame(class, (uintptr_t)__builtin_frame_address(0));                                               \
+        return take_if_given(class, (uintptr_t)__builtin_frame_address(0));                                            \
     }                                                                                                                  \
     CALLBACK uintptr_t __asan_stack_malloc_always_##class(size_t size)                                                 \
     {                                                                                                                  \

@@ -8,6 +8,7 @@
 #include "heap/heap.h"
 #include "leaks/leaks.h"
 #include "leaks/root_regions.h"
+#include "process/given.h"
 #include "process/process.h"
 #include "process/signals.h"
 #include "process/unchecked.h"
@@ -65,6 +66,8 @@ const struct recorder_hooks asancol_hooks = {
     .not_becoming = becoming_take_back,
     .child_becoming = becoming_note_child,
     .child_number = becoming_note_number,
+    .child_killed = becoming_note_killed,
+    .child_forked = side_note_child,
     .library = &library,
     .live_size = heap_live_size,
     .heap_count = heap_count,
@@ -91,4 +94,9 @@ const struct recorder_hooks asancol_hooks = {
     .deeply_bound = unchecked_note_malloc,
     .live_start = heap_start_around,
     .go_full = recorder_go_full,
+    .is_there = given_is_there,
+#ifndef IS_STATIC
+    .instead_of = plain_instead_of,
+#endif
+    .skipped = side_note_skipped,
 };

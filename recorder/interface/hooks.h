@@ -78,6 +78,11 @@ struct recorder_hooks {
     void (*deeply_bound)(void *opened);
     uintptr_t (*live_start)(uintptr_t inside);
     bool (*go_full)(void);
+    bool (*is_there)(uintptr_t start, size_t size);
+    void *(*instead_of)(void *found, const char *name, bool is_new);
+    void (*child_killed)(int child, int number);
+    void (*skipped)(uint64_t what);
+    void (*child_forked)(int child);
 };
 
 /* What is found of the C library (calls/library.h): there if anything is checked. */
@@ -241,6 +246,12 @@ static inline void give_frame(uintptr_t frame, unsigned class)
         asancol_hooks.fake_give(frame, class);
 }
 
+static inline void note_skipped(uint64_t what)
+{
+    if (HAS_HOOK(skipped))
+        asancol_hooks.skipped(what);
+}
+
 static inline bool is_first_crash(void)
 {
     static _Atomic bool is_taken; /* where no recorder is there */
@@ -375,6 +386,11 @@ static inline void give_frame(uintptr_t frame, unsigned class)
     fake_give(frame, class);
 }
 
+static inline void note_skipped(uint64_t what)
+{
+    side_note_skipped(what);
+}
+
 static inline bool is_first_crash(void)
 {
     return halt_is_first_crash();
@@ -388,6 +404,15 @@ static inline void note_each_access(void)
     static bool is_noted;
     if (UNLIKELY(!is_noted))
         is_noted = HAS_HOOK(go_full) && asancol_hooks.go_full();
+}
+
+/* How a child has ended, if a signal has ended it. */
+static inline void note_ended(int child, const int *status)
+{
+    enum { SIGNAL_BITS = 0x7f, STOPPED = 0x7f };
+    int number = child > 0 && status != NULL ? *status & SIGNAL_BITS : 0;
+    if (UNLIKELY(number != 0 && number != STOPPED) && HAS_HOOK(child_killed))
+        asancol_hooks.child_killed(child, number);
 }
 
 static inline void note_thread_name(uintptr_t thread, const char *name)

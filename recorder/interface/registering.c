@@ -18,24 +18,8 @@
 
 #define OF_MODULE __attribute__((visibility("hidden"), weak))
 
-/* What the linker says of the module that this is linked into. */
+/* What the linker says of the module that this is linked into. Its end may be too far away to be named here. */
 extern const Elf64_Ehdr __ehdr_start OF_MODULE;
-extern const char _end OF_MODULE;
-
-struct image image_of_module(void)
-{
-    uintptr_t start = (uintptr_t)&__ehdr_start, end = (uintptr_t)&_end;
-    return start != 0 && start < end ? (struct image){start, end} : (struct image){0, 0};
-}
-
-#if defined IN_SHARED_OBJECT || defined IN_CHECKS
-
-typedef void (*constructor)(void);
-
-struct constructors {
-    const constructor *first;
-    size_t count;
-};
 
 static const Elf64_Phdr *segment(uint32_t i)
 {
@@ -50,6 +34,28 @@ static uintptr_t base_of_module(void)
             return (uintptr_t)&__ehdr_start - segment(i)->p_vaddr;
     return (uintptr_t)&__ehdr_start;
 }
+
+struct image image_of_module(void)
+{
+    struct image image = {(uintptr_t)&__ehdr_start, 0};
+    if (image.start == 0)
+        return image;
+    for (uint32_t i = 0; i < __ehdr_start.e_phnum; i++) {
+        uintptr_t end = base_of_module() + segment(i)->p_vaddr + segment(i)->p_memsz;
+        if (segment(i)->p_type == PT_LOAD && end > image.end)
+            image.end = end;
+    }
+    return image;
+}
+
+#if defined IN_SHARED_OBJECT || defined IN_CHECKS
+
+typedef void (*constructor)(void);
+
+struct constructors {
+    const constructor *first;
+    size_t count;
+};
 
 /* The end of the code that an address is in, or 0. */
 static uintptr_t end_of_code(uintptr_t at)

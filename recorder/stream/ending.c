@@ -24,7 +24,7 @@ static enum finish as_seen(enum finish finish)
         why = "other threads went on while an exec was tried";
     if (why == NULL)
         return finish;
-    if (!locked.said_unseen)
+    if (!locked.said_unseen && !is_hub()) /* which says so itself */
         recorder_say("the trace has no close: ", locked.trace.path, why);
     locked.said_unseen = true;
     return FINISH_OPEN;
@@ -53,11 +53,15 @@ static enum finish finish_of_records(uint64_t end, uint64_t limit, enum finish f
     return locked.goes_on && !is_file() ? FINISH_OPEN : finish;
 }
 
-/* Sends the last bytes. False: they are lost. */
+/* Sends the last bytes. False: they are lost. A hub knows what is missing if the process has closed the descriptor. */
 static bool send_end(uint64_t end)
 {
     const char *why =
         is_file() ? NULL : output_send(&locked.trace, length_to(end), true, plan.settings->patience_ms);
+    if (why == output_closed && is_hub()) {
+        side_note_closed_off();
+        return true;
+    }
     if (why != NULL) {
         side_note_ending(ENDING_LOST, 0, locked.checked_events);
         recorder_say("the end of the recording is lost: ", locked.trace.path, why);

@@ -18,7 +18,8 @@ void fault_list_forget(void)
 {
     /* Memory that the process has locked can't be given back to the system. */
     if (system_madvise((void *)known, sizeof known, MADV_DONTNEED) != 0)
-        memset((void *)known, 0, sizeof known);
+        for (uint64_t i = 0; i < KNOWN; i++) /* others may look there */
+            atomic_store_explicit(&known[i], 0, memory_order_relaxed);
 }
 
 uint64_t fault_list_mix(uint64_t hash, const char *text, size_t room)

@@ -30,7 +30,8 @@ void faults_begin(unsigned char *bytes, unsigned window)
 {
     if (atomic_load(&list_newest()->taken) != 0) {
         fault_list_forget();
-        memset((void *)recent, 0, sizeof recent);
+        for (unsigned i = 0; i < RECENT; i++) /* others may look there */
+            atomic_store_explicit(&recent[i], 0, memory_order_relaxed);
     }
     list_begin(bytes, window);
 }

@@ -1,14 +1,18 @@
 #define _GNU_SOURCE
 #include "stream/holes.h"
 
-#include <string.h>
-
 #include "calls/library.h"
 #include "stream/locked.h"
 #include "stream/writing.h"
 
 /* How many records in a row may be missing. */
 enum { MAX_HOLES = 8 };
+
+/* Its thread may just write it. */
+static unsigned char byte_at(uint64_t offset)
+{
+    return __atomic_load_n(STREAM->bytes + offset, __ATOMIC_RELAXED);
+}
 
 static unsigned char code_at(uint64_t offset)
 {
@@ -22,10 +26,10 @@ static bool looks_sound(uint64_t offset, uint64_t end)
         offset += ACCESS_LENGTH;
     for (int seen = 0; offset < end && seen < 8; seen++) {
         unsigned length = record_length(code_at(offset));
-        const unsigned char *width = STREAM->bytes + offset + 1;
+        unsigned width = length == ACCESS_LENGTH ? byte_at(offset + 1) : 1;
         if (length == 0)
             return seen > 0;
-        if (length == ACCESS_LENGTH && *width != 1 && *width != 2 && *width != 4 && *width != 8)
+        if (width != 1 && width != 2 && width != 4 && width != 8)
             return false;
         offset += length;
     }
@@ -41,15 +45,25 @@ static const struct {
 
 enum { FILLERS = sizeof fillers / sizeof *fillers };
 
+static void fill(unsigned char *at, enum code code, unsigned length)
+{
+    for (unsigned i = 1; i < length; i++)
+        put_byte(at + i, code == CODE_LOAD && i == 1);
+}
+
 void holes_fill(unsigned char *at, unsigned length)
 {
     unsigned i = 0;
     while (fillers[i].length != length)
         i++;
-    memset(at + 1, 0, length - 1); /* the code may stand there already */
-    if (fillers[i].code == CODE_LOAD)
-        at[1] = 1;
-    put_code(at, fillers[i].code);
+    fill(at, fillers[i].code, length);
+    put_code(at, fillers[i].code); /* it may stand there already */
+}
+
+void holes_fill_again(unsigned char *at)
+{
+    unsigned char code = atomic_load_explicit((_Atomic unsigned char *)at, memory_order_acquire);
+    fill(at, code, record_length(code));
 }
 
 /* Takes the place of a record that is missing, unless its thread writes it just now. */

@@ -17,7 +17,8 @@ static void end_early(uint64_t cursor, const char *why)
     side_note_ending(ENDING_LOST, 0, locked.checked_events);
     if ((cursor & CURSOR_ON) || locked.takes_snapshot)
         tail_trim(locked.checked, ENDING_LOST);
-    recorder_say("recording ends: ", locked.trace.path, why);
+    if (!is_hub() || why != output_closed)
+        recorder_say("recording ends: ", locked.trace.path, why);
 }
 
 void losing_give_up(const char *why)

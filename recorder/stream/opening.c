@@ -59,7 +59,9 @@ const char *opening_hub(const struct settings *settings)
         return why;
     memcpy(locked.trace.bytes, HEADER, HEADER_LENGTH);
     bool has_room = windows_of_side(locked.window, &window);
-    const char *why_not = has_room ? output_open_memory(&locked.side, window) : "there is no room for it";
+    const char *why_not = "there is no room for it";
+    if (has_room)
+        why_not = output_open_memory(&locked.side, window, &locked.trace, settings->patience_ms);
     if (why_not != NULL) {
         recorder_say("nothing is kept beside the trace: ", settings->hub, why_not);
         return output_send(&locked.trace, HEADER_LENGTH, true, settings->patience_ms);
@@ -147,6 +149,7 @@ void opening_segment(void)
     atomic_store(&shared.has_missed, false);
     atomic_store(&shared.has_close, false);
     atomic_store(&shared.is_cut, false);
+    atomic_store(&shared.is_closed_off, false);
     atomic_store(&shared.is_side_full, false);
     sending_begin();
     memcpy(locked.trace.bytes, HEADER, HEADER_LENGTH);

@@ -10,10 +10,12 @@
 #include <sys/mman.h>
 #include <sys/un.h>
 
+#include "base/descriptors.h"
 #include "base/digits.h"
 #include "base/disturbance.h"
 #include "base/errors.h"
 #include "common/format.h"
+#include "process/asking.h"
 #include "process/hub_names.h"
 #include "base/platform.h"
 #include "base/system.h"
@@ -64,20 +66,6 @@ static const char *reason(long result)
     return error_text(error);
 }
 
-/* Moves a descriptor that is kept out of the way of those that the process opens. */
-static int moved_up(int descriptor)
-{
-    struct rlimit limit;
-    int least = 512;
-    if (system_getrlimit(RLIMIT_NOFILE, &limit) == 0 && limit.rlim_cur <= 1024)
-        least = (int)(limit.rlim_cur / 4 * 3);
-    int moved = system_fcntl(descriptor, F_DUPFD_CLOEXEC, least);
-    if (moved < 0)
-        return descriptor;
-    system_close(descriptor);
-    return moved;
-}
-
 static bool is_still(const struct output *output, int descriptor)
 {
     struct stat seen;
@@ -103,7 +91,7 @@ static long put_memory(struct window window)
 static const char *take_pieces(struct output *output, int descriptor, struct window window)
 {
     struct stat seen;
-    output->descriptor = moved_up(descriptor);
+    output->descriptor = descriptor_moved_up(descriptor);
     long result = system_fstat(output->descriptor, &seen);
     if (result < 0)
         return reason(result);
@@ -182,26 +170,6 @@ const char *output_open_file(struct output *output, const char *path, enum namin
     return NULL;
 }
 
-/* Waits for a place in a queue that is full (EAGAIN): as long as there is patience. */
-static int connect_patiently(int descriptor, const struct sockaddr_un *address, socklen_t length, int *patience_ms)
-{
-    int result;
-    while ((result = system_connect(descriptor, address, length)) == -EAGAIN && *patience_ms > 0) {
-        *patience_ms -= 10;
-        system_poll(NULL, 0, 10);
-    }
-    return result;
-}
-
-/* An abstract name is anybody's who takes it, and may be another user's by now. */
-static bool is_trusted(int descriptor)
-{
-    struct ucred listener;
-    socklen_t size = sizeof listener;
-    return system_getsockopt(descriptor, SOL_SOCKET, SO_PEERCRED, &listener, &size) == 0
-           && (listener.uid == 0 || listener.uid == system_geteuid());
-}
-
 const char *output_connect(struct output *output, const char *path, bool has_abstract, struct window window,
                            int patience_ms)
 {
@@ -211,7 +179,7 @@ const char *output_connect(struct output *output, const char *path, bool has_abs
     if (strlen(path) >= sizeof address.sun_path)
         return error_text(ENAMETOOLONG);
     strcpy(output->path, path);
-    int descriptor = system_socket(AF_UNIX, SOCK_STREAM | SOCK_CLOEXEC | SOCK_NONBLOCK, 0);
+    int descriptor = descriptor_of_socket(SOCK_STREAM | SOCK_CLOEXEC | SOCK_NONBLOCK);
     if (descriptor < 0)
         return reason(descriptor);
     socklen_t length = hub_socket(&address, path, false);
@@ -229,24 +197,60 @@ const char *output_connect(struct output *output, const char *path, bool has_abs
     return why;
 }
 
-const char *output_open_memory(struct output *output, struct window window)
+/* The seals of what nobody can make smaller, so that another process can map it. */
+enum { SIDE_SEALS = F_SEAL_SHRINK | F_SEAL_GROW | F_SEAL_SEAL };
+
+/* Answers the descriptor, or an error. */
+static int make_sealed(uint64_t room)
+{
+    int descriptor = descriptor_of_memory(SIDE_MEMORY, MFD_CLOEXEC | MFD_ALLOW_SEALING);
+    if (descriptor < 0)
+        return descriptor;
+    int result = system_ftruncate(descriptor, (off_t)room);
+    if (result == 0)
+        result = system_fcntl(descriptor, F_ADD_SEALS, SIDE_SEALS);
+    if (result == 0)
+        return descriptor;
+    system_close(descriptor);
+    return result;
+}
+
+/* A memory of the hub's. Not every limit and filter of this process is the hub's too. Answers the descriptor, or -1. */
+static int ask_for_sealed(int hub, uint64_t room, int error, int patience_ms)
+{
+    unsigned char question[SIDE_QUESTION] = {SIDE_ASKS, (unsigned char)error};
+    struct pollfd answer = {hub, POLLIN, 0};
+    struct stat seen;
+    if (system_send(hub, question, sizeof question, MSG_NOSIGNAL | MSG_DONTWAIT) != sizeof question
+        || system_poll(&answer, 1, patience_ms) != 1)
+        return -1;
+    int descriptor = descriptor_of_message(hub);
+    if (descriptor < 0)
+        return -1;
+    int seals = system_fcntl(descriptor, F_GET_SEALS, 0);
+    if (seals >= 0 && (seals & F_SEAL_SHRINK) && system_fstat(descriptor, &seen) == 0 && (uint64_t)seen.st_size >= room)
+        return descriptor;
+    system_close(descriptor);
+    return -1;
+}
+
+const char *output_open_memory(struct output *output, struct window window, const struct output *hub, int patience_ms)
 {
     clear(output, window.room);
     output->path[0] = 0;
-    int descriptor = system_memfd_create(SIDE_MEMORY, MFD_CLOEXEC | MFD_ALLOW_SEALING);
-    if (descriptor < 0)
-        return reason(descriptor);
-    long result = system_ftruncate(descriptor, (off_t)window.room);
-    if (result == 0)
-        result = system_fcntl(descriptor, F_ADD_SEALS, F_SEAL_SHRINK | F_SEAL_GROW | F_SEAL_SEAL);
-    if (result == 0)
-        result = map(window, MAP_SHARED, descriptor);
+    int made = make_sealed(window.room);
+    const char *why = made < 0 ? reason(made) : NULL;
+    if (made < 0)
+        made = ask_for_sealed(hub->descriptor, window.room, -made, patience_ms);
+    if (made < 0)
+        return why;
+    long result = map(window, MAP_SHARED, made);
     if (result < 0) {
-        system_close(descriptor);
+        system_close(made);
         return reason(result);
     }
     output->bytes = window.bytes;
-    output->descriptor = descriptor;
+    output->descriptor = made;
     return NULL;
 }
 
@@ -363,6 +367,13 @@ static int wait_for_room(int descriptor, int patience_ms)
     return system_poll(&wait, 1, span) == 0 ? span : 0;
 }
 
+const char output_closed[] = "the process has closed the descriptor";
+
+bool output_is_closed(const struct output *output)
+{
+    return !output->is_mapped && !is_still(output, output->descriptor);
+}
+
 const char *output_send(struct output *output, uint64_t length, bool all, int patience_ms)
 {
     enum { PIECE = 1 << 14 }; /* the system gives room back for what was read whole */
@@ -371,8 +382,8 @@ const char *output_send(struct output *output, uint64_t length, bool all, int pa
     const char *why = NULL;
     if (output->sent == length)
         return NULL;
-    if (!is_still(output, output->descriptor))
-        return "the process has closed the descriptor";
+    if (output_is_closed(output))
+        return output_closed;
     while (output->sent < length && why == NULL) {
         const unsigned char *next = output->bytes + output->sent;
         size_t rest = length - output->sent;

@@ -41,8 +41,9 @@ const char *output_open_file(struct output *output, const char *path, enum namin
 /* To a socket: by its path, or else, where `has_abstract`, by the abstract name of the same text without its secret. */
 const char *output_connect(struct output *output, const char *path, bool has_abstract, struct window window,
                            int patience_ms);
-/* Memory of zeros that another process can map. Nobody can change its size. */
-const char *output_open_memory(struct output *output, struct window window);
+/* Memory of zeros that another process can map. Nobody can change its size. If this process can't make it, the hub to
+   which it is connected is asked for it. */
+const char *output_open_memory(struct output *output, struct window window, const struct output *hub, int patience_ms);
 /* Sends the first bytes of a socket, and with them the descriptor of that memory, which is closed here, and those of
    files, as long as there is room for them. */
 const char *output_send_first(struct output *output, uint64_t length, struct output *memory, const int *files,
@@ -55,6 +56,9 @@ const char *output_back(struct output *output, uint64_t offset, uint64_t length)
 void output_leave(struct output *output);
 /* Cuts a mapped file to this length. */
 void output_trim(struct output *output, uint64_t length);
+/* Whether the process has closed the descriptor, or has another file there. What is sent then answers this text. */
+bool output_is_closed(const struct output *output);
+extern const char output_closed[];
 /* Sends what is not sent yet of the first bytes: at once what a socket takes, or all of it, with patience. */
 const char *output_send(struct output *output, uint64_t length, bool all, int patience_ms);
 /* Whether the address lies in a mapped file. Then the file is gone, and plain memory takes its place. */

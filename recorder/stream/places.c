@@ -5,6 +5,7 @@
 #include "base/self.h"
 #include "stream/ending.h"
 #include "stream/growing.h"
+#include "stream/holes.h"
 #include "stream/left_out.h"
 #include "stream/locked.h"
 #include "stream/side.h"
@@ -104,13 +105,18 @@ static void stop_at(uint64_t count)
     __asm__ volatile("int3"); /* also if SIGTRAP is blocked */
 }
 
+/* A handler may have interrupted the allocator, so that there can be no snapshot of the heap just now. What a child of
+   vfork connects to is no connection of its parent's. */
+static bool may_switch(bool is_of_heap)
+{
+    return (is_of_heap || !above.is_in_heap()) && (!is_hub() || recorder_is_own_process());
+}
+
 /* The cursor is past the limit. */
 static enum room pass_limit(uint64_t cursor, bool is_of_heap)
 {
     if (has_segments()) {
-        /* A handler may have interrupted the allocator, so that there can be no snapshot of the heap just now. What a
-           child of vfork connects to is no connection of its parent's. */
-        if ((is_of_heap || !above.is_in_heap()) && (!is_hub() || recorder_is_own_process())) {
+        if (may_switch(is_of_heap)) {
             if (!switching_go_on())
                 stream_rest(0);
             return ROOM_IN_ANOTHER;
@@ -158,6 +164,11 @@ static enum room make_room(uint64_t cursor, unsigned length, bool is_of_heap)
         return ROOM_IN_ANOTHER;
     if (!has_room(end))
         return NO_ROOM;
+    if (atomic_load(&shared.is_closed_off) && may_switch(is_of_heap)) {
+        holes_fill(STREAM->bytes + (uint32_t)cursor, length);
+        switching_go_on();
+        return ROOM_IN_ANOTHER;
+    }
     if (has_close)
         tail_follow(end - CLOSE_LENGTH);
     return ROOM_HERE;

@@ -12,6 +12,7 @@
 #include "shadow/shadow.h"
 #include "stream/places.h"
 #include "stream/regions.h"
+#include "stream/side.h"
 #include "stream/state.h"
 #include "stream/stated.h"
 #include "stream/watched.h"
@@ -39,8 +40,10 @@ static inline void record_piece_of(enum code code, unsigned width, uint64_t addr
     if (UNLIKELY(address > ADDRESS_END - width))
         return; /* it can't be spelled, and would end the stream */
     bool is_in_frame = is_frame_in_block(address, width);
-    if (UNLIKELY(is_in_frame) && !above.has_frame((uintptr_t)__builtin_frame_address(0), address))
+    if (UNLIKELY(is_in_frame) && !above.has_frame((uintptr_t)__builtin_frame_address(0), address)) {
+        side_note_skipped(SKIPPED_FRAMES);
         return;
+    }
     if (UNLIKELY(!(atomic_load_explicit(&stream->cursor, memory_order_relaxed) & CURSOR_ON)) && !stream_wake()) {
         record_too_late(shadow_is_bad(address, width));
         halt_if_bad(code, width, address, caller, whole);

@@ -16,7 +16,7 @@
 #include "stream/state.h"
 
 /* After so many nanoseconds a socket gets what there is; and at once, as after a fault, so often in this time. */
-enum { SEND_AFTER = 4000000, MAX_AT_ONCE = 4 };
+enum { SEND_AFTER = 4000000, MAX_AT_ONCE = 64 };
 
 /* In nanoseconds, as often as the system looks at it. */
 static uint64_t coarse_clock(void)
@@ -32,11 +32,37 @@ void sending_begin(void)
     atomic_store(&shared.sent_at_once, 0);
 }
 
+/* The next record is unusual, and begins a segment, with a connection of its own. What was not sent stays here. */
+static const char *stay_for_next(const char *why)
+{
+    if (why != output_closed)
+        return why;
+    side_note_closed_off();
+    if (!is_hub() || !has_segments())
+        return why;
+    atomic_store(&shared.is_closed_off, true);
+    atomic_store_explicit(&STREAM->events_end, 0, memory_order_relaxed);
+    return NULL;
+}
+
 const char *sending_push(bool all)
 {
     uint64_t reserved = (uint32_t)atomic_load(&STREAM->cursor), ready = atomic_load(&STREAM->ready);
     holes_check(reserved < ready ? reserved : ready, EVENT_LIMIT, NONE);
-    return output_send(&locked.trace, length_to(locked.checked), all, plan.settings->patience_ms);
+    return stay_for_next(output_send(&locked.trace, length_to(locked.checked), all, plan.settings->patience_ms));
+}
+
+bool sending_is_cut(bool is_of_heap)
+{
+    if (!is_hub() || !has_segments() || (above.is_in_heap() && !is_of_heap))
+        return false;
+    _Atomic uint64_t *calls = side_begin_calls(false);
+    bool is_free = recorder_is_own_process() && stream_lock_at_once();
+    bool is_cut = is_free && is_on() && output_is_closed(&locked.trace);
+    if (is_free)
+        stream_unlock();
+    side_end_calls(calls);
+    return is_cut;
 }
 
 /* They do nothing, and take no time: a process that is ended from elsewhere is hardly ever in one of them. */

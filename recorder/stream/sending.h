@@ -8,6 +8,9 @@
 void sending_begin(void);
 /* Gives it what is whole, as far as it takes it, or all. Answers null, or what went wrong. The lock is held. */
 const char *sending_push(bool all);
+/* Whether the process has closed the descriptor, so that it is better to go on in another segment now; for a
+   free, with the allocator in order, or for an access. */
+bool sending_is_cut(bool is_of_heap);
 /* Makes the calls that a send makes, with nothing to do: a sandbox may end the process at one of them, and then it is
    known that the recorder made it. */
 void sending_try(void);

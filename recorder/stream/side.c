@@ -8,6 +8,7 @@
 #include <string.h>
 #include <time.h>
 
+#include "base/descriptors.h"
 #include "base/memory.h"
 #include "base/say.h"
 #include "base/self.h"
@@ -49,7 +50,7 @@ static size_t read_file(const char *path, char *to, size_t room)
 {
     size_t length = 0;
     ssize_t count;
-    int file = system_open(path, O_RDONLY | O_CLOEXEC, 0);
+    int file = descriptor_of_file(path, O_RDONLY | O_CLOEXEC);
     if (file < 0)
         return 0;
     while (length < room && (count = system_read(file, to + length, room - length)) > 0)
@@ -115,6 +116,37 @@ void side_forget(void)
     atomic_store(&current, NULL);
 }
 
+/* What this process has skipped so far. Whoever adds to it looks for the side memory then, and who begins one makes it
+   known before it reads this. */
+static _Atomic uint64_t skipped;
+
+void side_note_skipped(uint64_t what)
+{
+    atomic_fetch_or(&skipped, what);
+    struct side *side = side_now();
+    if (side != NULL)
+        atomic_fetch_or((_Atomic uint64_t *)&progress_in(side)->skipped, what);
+}
+
+/* Likewise, what this process has noted of memory that was used again: in a forked child that of its parent. */
+static _Atomic uint64_t used_again;
+
+static void put_used_again(void)
+{
+    struct side *side = side_now();
+    uint64_t bytes = atomic_load(&used_again);
+    if (side != NULL && bytes != 0)
+        atomic_store((_Atomic uint64_t *)&progress_in(side)->used_again, bytes);
+}
+
+void side_note_reuse(uint64_t bytes)
+{
+    uint64_t none = 0;
+    if (atomic_load_explicit(&used_again, memory_order_relaxed) == 0
+        && atomic_compare_exchange_strong(&used_again, &none, bytes))
+        put_used_again();
+}
+
 static void note_settings(struct side *side, const struct settings *settings)
 {
     struct side_settings *noted = (struct side_settings *)((unsigned char *)side + SIDE_SETTINGS);
@@ -134,7 +166,10 @@ void side_begin(unsigned char *bytes, uint64_t segment, const struct settings *s
     read_argv(side);
     atomic_store_explicit(needed_in(side), 1, memory_order_relaxed);
     memcpy(side->header, SIDE_HEADER, sizeof side->header);
-    atomic_store_explicit(&current, side, memory_order_release);
+    atomic_store(&current, side);
+    side_note_skipped(atomic_load(&skipped) | (settings->mismatches ? 0 : SKIPPED_FAMILIES)
+                      | (settings->with_leaks ? 0 : SKIPPED_LEAKS));
+    put_used_again();
     side_note_first_name();
     side_write_modules();
 }
@@ -162,13 +197,15 @@ static bool find_build_id(struct side_build *build, uint64_t start)
     return true;
 }
 
-/* Whether the line of a file need not be kept: the file, or memory of no file, lies there now. If another file does,
-   who reads both lines sees that nobody knows which of them an address meant. */
+/* Whether the line of a file need not be kept: the file, or code of no file, lies there now. Where data lies, nobody
+   takes an address of code for one of it. If the code of another file does, who reads both lines sees that it is not
+   known which of them an address meant. */
 static bool is_taken(const char *maps, const struct map_line *old)
 {
     struct map_line line;
     for (const char *at = maps; maps_take_line(at, &line); at = line.next)
-        if (line.start < old->end && old->start < line.end && (!line.has_file || maps_is_same_file(&line, old)))
+        if (line.start < old->end && old->start < line.end
+            && (line.has_file ? maps_is_same_file(&line, old) : line.is_code))
             return true;
     return false;
 }
@@ -176,7 +213,15 @@ static bool is_taken(const char *maps, const struct map_line *old)
 /* Of two maps with more bytes than this the lines are not compared. */
 enum { MAX_COMPARED = 1 << 16 };
 
-/* A library that was closed keeps its lines, as long as nothing else lies there: its faults are not gone. */
+/* Code, and where its file begins. A file of data is one part, or is no matter. */
+static bool has_names(const struct map_line *line)
+{
+    struct map_line next;
+    return line->is_code
+           || (line->is_first && maps_take_line(line->next, &next) && next.has_file && maps_is_same_file(line, &next));
+}
+
+/* A library that was closed keeps its lines, as long as no other code lies there: its faults are not gone. */
 static size_t keep_closed(char *maps, size_t length, size_t room, const char *before)
 {
     struct map_line line;
@@ -185,7 +230,7 @@ static size_t keep_closed(char *maps, size_t length, size_t room, const char *be
         return length;
     for (const char *at = before; maps_take_line(at, &line); at = line.next) {
         size_t size = (size_t)(line.next - line.text);
-        if (!line.has_file || size >= room - length || is_taken(maps, &line))
+        if (!line.has_file || !has_names(&line) || size >= room - length || is_taken(maps, &line))
             continue;
         memcpy(maps + length, line.text, size);
         length += size;
@@ -370,6 +415,13 @@ void side_note_left_good(void)
         count_up(&progress_in(side)->left_good);
 }
 
+void side_add_left_good(uint64_t count)
+{
+    struct side *side = side_now();
+    if (side != NULL)
+        atomic_fetch_add_explicit((_Atomic uint64_t *)&progress_in(side)->left_good, count, memory_order_relaxed);
+}
+
 void side_note_stated(void)
 {
     struct side *side = side_now();
@@ -382,6 +434,15 @@ void side_note_fork(void)
     struct side *side = side_now();
     if (side != NULL)
         atomic_fetch_add((_Atomic uint64_t *)&progress_in(side)->forks, 1);
+}
+
+void side_note_child(int child)
+{
+    struct side *side = side_now();
+    if (side == NULL)
+        return;
+    uint64_t place = atomic_fetch_add((_Atomic uint64_t *)&progress_in(side)->noted_children, 1);
+    atomic_store((_Atomic uint32_t *)&progress_in(side)->children[place % SIDE_CHILDREN], (uint32_t)child);
 }
 
 bool side_note_becoming(bool becomes)
@@ -397,6 +458,27 @@ void side_note_leaks_missed(bool were_missed)
     struct side *side = side_now();
     if (side != NULL)
         atomic_store((_Atomic uint64_t *)&progress_in(side)->leaks_missed, were_missed);
+}
+
+void side_note_closed_off(void)
+{
+    struct side *side = side_now();
+    if (side != NULL)
+        atomic_store((_Atomic uint64_t *)&progress_in(side)->closed_off, 1);
+}
+
+void side_note_sender(int sender)
+{
+    struct side *side = side_now();
+    if (side != NULL && sender > 0)
+        put_long(&progress_in(side)->sender, (uint64_t)sender);
+}
+
+void side_note_finding_lost(void)
+{
+    struct side *side = side_now();
+    if (side != NULL)
+        atomic_fetch_add((_Atomic uint64_t *)&progress_in(side)->findings_lost, 1);
 }
 
 _Atomic uint64_t *side_begin_calls(bool for_start)
@@ -469,6 +551,16 @@ void side_note_first_name(void)
             atomic_store(&words[i], note.name[i]);
         again = thread_note(0);
     } while (memcmp(note.name, again.name, sizeof note.name) != 0);
+}
+
+void side_note_inside(int number)
+{
+    struct side *side = side_now();
+    if (side == NULL)
+        return;
+    put_long(&progress_in(side)->inside, (uint64_t)number);
+    if (word_at(&side->ending) != ENDING_LOST)
+        write_ending(side, ENDING_SIGNAL, number);
 }
 
 void side_note_late_signal(int number)

@@ -7,6 +7,7 @@
 #include <stdbool.h>
 #include <stdint.h>
 
+#include "base/platform.h"
 #include "common/format.h"
 #include "process/settings.h"
 
@@ -19,13 +20,24 @@ bool side_is_there(void);
 void side_note_snapshot(uint64_t events);
 /* In lean recording: a good malloc or free is left out, or poison in a block; or an event states what stands. */
 void side_note_left_good(void);
+/* Likewise so many at once. */
+void side_add_left_good(uint64_t count);
 void side_note_stated(void);
+/* Memory of freed blocks is handed out again, once so many bytes were handed out: the first time counts, in this
+   segment and in all that follow. It takes no lock. */
+void side_note_reuse(uint64_t bytes);
 /* That it has forked a child, which is to be recorded. */
 void side_note_fork(void);
+/* The number of a child that was made so. */
+void side_note_child(int child);
 /* That it becomes a program that is to connect, or does not. False: there is no side memory. */
 bool side_note_becoming(bool becomes);
 /* Whether leaks were to be looked for, the last time, and could not be. */
 void side_note_leaks_missed(bool were_missed);
+/* What is not looked at (enum side_skipped), in this segment and in all that follow. At any time. */
+void side_note_skipped(uint64_t what) OWN_NAME(side_note_skipped);
+/* That there was no room for what may have been one. */
+void side_note_finding_lost(void);
 /* A sandbox may end the process for the calls of the system that come now: what the recorder tries in the middle of the
    program, or does for a program that is about to be started. They are over with what this answers. */
 _Atomic uint64_t *side_begin_calls(bool for_start);
@@ -58,6 +70,8 @@ void side_note_main(void);
 void side_note_needed(uint64_t event);
 /* An event finds no room. */
 void side_note_left_out(void);
+/* The process has closed the descriptor of the stream. */
+void side_note_closed_off(void);
 /* How the process ends, with so many events in the stream: ENDING_NONE takes an exec back. What is lost stays lost. */
 void side_note_ending(enum ending ending, int number, uint64_t events);
 /* Where a signal has met it: the call site, with its stack and its thread as of a fault; the address that could not be
@@ -69,6 +83,10 @@ struct side_last {
 void side_note_last(const struct side_last *last);
 /* The first thread was given the name that stands in its notes (thread_notes.h). */
 void side_note_first_name(void);
+/* The recorder's own code has met a fault, by this signal, of which the process dies. */
+void side_note_inside(int number);
+/* Another process has sent the signal that ends this one. */
+void side_note_sender(int sender);
 /* A signal after the stream has ended. */
 void side_note_late_signal(int number);
 

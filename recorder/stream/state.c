@@ -125,7 +125,10 @@ static struct disturbance before; /* of who has it */
 
 /* How often to look again at a record that another thread has not written yet, or at a lock; and then, if there is
    time, how often again after a nap of so many nanoseconds. */
-enum { LOOKS = 1000, NAPS = 1000, NAP = 100000 };
+#ifndef IS_PATIENT /* in tests in which no thread is to be given up */
+#define IS_PATIENT 0
+#endif
+enum { LOOKS = 1000, NAPS = IS_PATIENT ? 100000 : 1000, NAP = 100000 };
 
 void stream_lock(void)
 {
@@ -165,7 +168,7 @@ void stream_rest(int looks)
 
 bool stream_waits_again(int looks, enum patience patience)
 {
-    bool is_enough = patience == NONE || looks >= LOOKS + (patience == LONG ? NAPS : 0);
+    bool is_enough = patience == NONE || looks >= LOOKS + (patience == LONG || IS_PATIENT ? NAPS : 0);
     if (!is_enough)
         stream_rest(looks);
     return !is_enough;

@@ -108,6 +108,7 @@ extern struct shared {
     _Atomic bool is_closing;       /* an exit has begun: the stream may end after any record from now on, */
     _Atomic bool has_close;        /* so each has the close after it, in a file */
     _Atomic bool is_late;          /* something bad came after the close */
+    _Atomic bool is_closed_off;    /* the process has closed the descriptor: the next record begins a segment */
 } shared;
 
 /* What came of stating the blocks at a bad access or free: the stream states them; or the redzone of a frame, which is
@@ -140,8 +141,10 @@ struct above {
     void (*say_child)(void);
     /* Adds to a list what this map of modules has that was not checked. The lock is held. */
     void (*list_unchecked)(char *list, const char *maps);
-    /* Whether an address in a block is in this frame or above it, on a stack on which this thread is known to be. */
+    /* Whether an address in a block is in this frame or above it, on the same stack. */
     bool (*has_frame)(uintptr_t frame, uintptr_t address);
+    /* Whether it is on the thread's own stack, and on no other that lies in an array there. */
+    bool (*is_own_frame)(uintptr_t frame);
     /* Ends the recording and the process, unless another thread is doing so: then it returns. */
     void (*halt_at)(enum code code, unsigned width, uint64_t address, uintptr_t caller, struct access *whole);
 };

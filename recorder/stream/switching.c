@@ -10,6 +10,7 @@
 #include "base/self.h"
 #include "stream/ending.h"
 #include "stream/growing.h"
+#include "stream/holes.h"
 #include "stream/locked.h"
 #include "stream/losing.h"
 #include "stream/opening.h"
@@ -97,11 +98,23 @@ static bool leave_file(uint64_t cursor, unsigned window)
     return true;
 }
 
+/* Of a connection that is closed: there can be no close, and what was not sent is missing. */
+static bool leave_closed(uint64_t cursor)
+{
+    growing_to((uint32_t)cursor);
+    holes_check((uint32_t)cursor, plan.settings->limit, LONG);
+    side_note_closed_off();
+    side_note_ending(ENDING_SEGMENT, 0, locked.checked_events);
+    tail_trim(locked.checked, ENDING_SEGMENT);
+    return true;
+}
+
 /* Likewise. A hub may take no more than so many connections at a time, so this one ends first. What it has at its end
    says that there has to be a next one. */
 static bool leave_connection(uint64_t cursor, unsigned window)
 {
-    bool has_ended = finish_segment(cursor);
+    bool was_closed = output_is_closed(&locked.trace),
+         has_ended = was_closed ? leave_closed(cursor) : finish_segment(cursor);
     tail_leave();
     locked.has_side = false;
     locked.window = window;
@@ -112,7 +125,7 @@ static bool leave_connection(uint64_t cursor, unsigned window)
     opening_take_back();
     atomic_store_explicit(&STREAM->has_side, false, memory_order_relaxed);
     state_go(STATE_OFF);
-    if (why != NULL)
+    if (why != NULL && !was_closed) /* else the hub says so */
         recorder_say("recording ends: ", plan.settings->hub, why);
     return false;
 }
@@ -164,7 +177,9 @@ bool switching_go_on(void)
         above.lock_heap();
     stream_lock();
     uint64_t cursor = atomic_load(&STREAM->cursor);
-    bool is_past = (cursor & CURSOR_ON) && (cursor - CURSOR_ON) >> 32 > plan.settings->limit;
+    bool is_past = (cursor & CURSOR_ON)
+                   && ((cursor - CURSOR_ON) >> 32 > plan.settings->limit
+                       || (is_hub() && output_is_closed(&locked.trace)));
     cursor = is_past ? state_leave(STATE_SWITCHING) : 0;
     if (cursor & CURSOR_ON)
         switch_segment(cursor);

@@ -12,6 +12,7 @@
 #include "stream/stated.h"
 #include "stream/stating.h"
 #include "stream/state.h"
+#include "stream/switching.h"
 #include "stream/windows.h"
 #include "stream/writing.h"
 
@@ -55,21 +56,25 @@ static bool is_in_time(unsigned char *at)
     return seen == CODE_NONE || seen == CODE_CLOSE;
 }
 
-/* Writes the code of a record whose other bytes are there, likewise. */
+/* Writes the code of a record whose other bytes are there, likewise. If it comes too late, the other record says
+   nothing again. */
 static bool put_code_in_time(unsigned char *at, enum code code)
 {
     unsigned char seen = CODE_NONE;
     _Atomic unsigned char *place = (_Atomic unsigned char *)at;
-    return atomic_compare_exchange_strong(place, &seen, (unsigned char)code)
-           || (seen == CODE_CLOSE && atomic_compare_exchange_strong(place, &seen, (unsigned char)code));
+    bool is_put = atomic_compare_exchange_strong(place, &seen, (unsigned char)code)
+                  || (seen == CODE_CLOSE && atomic_compare_exchange_strong(place, &seen, (unsigned char)code));
+    if (!is_put)
+        holes_fill_again(at);
+    return is_put;
 }
 
 static bool put_access_in_time(unsigned char *at, unsigned code_and_width, uint64_t address)
 {
     if (!is_in_time(at))
         return false;
-    at[1] = (unsigned char)(code_and_width >> 8);
-    put_number(at + 2, address);
+    put_byte(at + 1, (unsigned char)(code_and_width >> 8));
+    put_number_by_bytes(at + 2, address);
     return put_code_in_time(at, code_and_width & 0xff);
 }
 
@@ -77,7 +82,7 @@ static bool put_free_in_time(unsigned char *at, uint64_t address)
 {
     if (!is_in_time(at))
         return false;
-    put_number(at + 1, address);
+    put_number_by_bytes(at + 1, address);
     return put_code_in_time(at, CODE_FREE);
 }
 
@@ -124,6 +129,13 @@ static bool record_stated(uint32_t entry, struct moment moment, unsigned code_an
     return is_done;
 }
 
+/* Before something bad is looked at: what is not sent of a segment is lost with its connection. */
+static void stay_connected(bool is_of_heap)
+{
+    if (sending_is_cut(is_of_heap))
+        switching_go_on();
+}
+
 static bool has_side(void)
 {
     return atomic_load_explicit(&STREAM->has_side, memory_order_relaxed);
@@ -145,6 +157,8 @@ void record_watched_access(unsigned code_and_width, uint64_t address, uintptr_t 
     unsigned char *at;
     bool is_bad, is_done, is_of_block = is_lean() && is_in_arena(address);
     bool is_in_frame = !is_of_block && is_frame_in_block(address, width);
+    if (shadow_is_bad(address, width))
+        stay_connected(false);
     do {
         struct moment now = moment_now();
         is_bad = shadow_is_bad(address, width);
@@ -186,6 +200,7 @@ void record_bad_free(uint64_t address, uintptr_t caller, const char *call)
     }
     unsigned char *at;
     bool is_noted, is_done;
+    stay_connected(true);
     do {
         struct moment now = moment_now();
         is_noted = has_side();

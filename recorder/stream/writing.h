@@ -40,6 +40,19 @@ static inline bool stream_is_unusual(uint64_t cursor, unsigned length)
            || (uint32_t)cursor + length > atomic_load_explicit(&stream->ready, memory_order_acquire);
 }
 
+/* Of a record in whose place another thread may put one that says nothing, since this one has slept for so long: both
+   write the same bytes. The code says which of them counts, so their order is of no matter. */
+static inline void put_byte(unsigned char *at, unsigned char byte)
+{
+    __atomic_store_n(at, byte, __ATOMIC_RELAXED);
+}
+
+static inline void put_number_by_bytes(unsigned char *at, uint64_t number)
+{
+    for (unsigned i = 0; i < sizeof number; i++)
+        put_byte(at + i, (unsigned char)(number >> 8 * i));
+}
+
 static inline void put_number(unsigned char *at, uint64_t number)
 {
     __builtin_memcpy(at, &number, sizeof number);
