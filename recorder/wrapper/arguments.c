@@ -333,6 +333,7 @@ static const struct option *option_of(const char *word)
 static void take_option(struct arguments *arguments, const char *word)
 {
     const struct option *option = option_of(word);
+    left_out_take(&arguments->request->left_out, CHECK_OPTION, word);
     if (option == NULL)
         return;
     size_t length = strlen(option->word);

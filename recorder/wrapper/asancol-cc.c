@@ -46,7 +46,7 @@ static void warn_of_unrecorded(const struct job *job)
     else if (request->refusal != NULL)
         warn(request->refusal, "what is compiled with this is not recorded");
     else if (job->compiler != NULL)
-        left_out_warn(&request->left_out, job->compiler->check_place);
+        left_out_warn(&request->left_out, job->compiler->checks_of);
 }
 
 int main(int count, char **argv)

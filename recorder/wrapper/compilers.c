@@ -1,7 +1,6 @@
 #define _GNU_SOURCE
 #include "wrapper/compilers.h"
 
-#include <elf.h>
 #include <fcntl.h>
 #include <stdlib.h>
 #include <string.h>
@@ -9,6 +8,7 @@
 #include <unistd.h>
 
 #include "common/array.h"
+#include "plugin/plugin.h"
 #include "wrapper/linked.h"
 #include "wrapper/view.h"
 
@@ -41,6 +41,9 @@
    register that the function has to save at each of its starts. The cost is that of one run in 2^14 of them. */
 #define CLANG_COLD FLAGS("-mllvm", "-regalloc-csr-first-time-cost=16384", "-fno-addrsig")
 
+/* Of a comparison of constant size GCC makes loads once its checks are there. Its plugin sees those of headers, too. */
+#define GCC_CALLS FLAGS("-fno-builtin-memcmp", "-fno-builtin-bcmp")
+
 /* Without this GCC ends the process after a bad access if the caller has -fno-sanitize-recover=all. */
 #define GCC_LAST FLAGS("-fsanitize-recover=kernel-address")
 
@@ -60,8 +63,10 @@ static const struct compiler compilers[] = {
         .use_after_return = {GCC_USE_AFTER_RETURN("0"), GCC_USE_AFTER_RETURN("1"), GCC_USE_AFTER_RETURN("1")},
         .last = GCC_LAST,
         .own_number = "asan-instrumentation-with-call-threshold=",
-        .check_place = CHECK_PARAMETER,
+        .checks_of = CHECKS_OF_GCC,
         .compiles_at_link = true,
+        .plugin = PLUGIN_FILE,
+        .without_plugin = GCC_CALLS,
     },
     {
         .says = "clang version",
@@ -72,14 +77,15 @@ static const struct compiler compilers[] = {
                              CLANG_USE_AFTER_RETURN("always")},
         .after = CLANG_COLD,
         .last = CLANG_LAST,
-        .check_place = CHECK_LLVM,
+        .checks_of = CHECKS_OF_CLANG,
         .has_driver = true,
         .header = "cold_reports.h",
+        .intrinsics = "clang_intrinsics.h",
     },
 };
 
-/* In the child: runs the command with --version, which reads nothing and whose errors nobody wants. */
-static _Noreturn void ask(const char *const *command, size_t count, int output)
+/* In the child: runs the command with an option of which it reads nothing. All that it says goes there. */
+static _Noreturn void ask(const char *const *command, size_t count, const char *option, int output)
 {
     const char **argv = calloc(count + 2, sizeof *argv);
     int nothing = open("/dev/null", O_RDWR);
@@ -87,16 +93,15 @@ static _Noreturn void ask(const char *const *command, size_t count, int output)
         _exit(127);
     for (size_t i = 0; i < count; i++)
         argv[i] = command[i];
-    argv[count] = "--version";
+    argv[count] = option;
     dup2(nothing, STDIN_FILENO);
-    dup2(nothing, STDERR_FILENO);
+    dup2(output, STDERR_FILENO);
     dup2(output, STDOUT_FILENO);
     execv(argv[0], (char *const *)argv);
     _exit(127);
 }
 
-/* The start of what the command says of its version. */
-static void read_version(const char *const *command, size_t count, char *text, size_t room)
+void compiler_say(const char *const *command, size_t count, const char *option, char *text, size_t room)
 {
     int ends[2];
     size_t length = 0;
@@ -105,7 +110,7 @@ static void read_version(const char *const *command, size_t count, char *text, s
         return;
     pid_t child = fork();
     if (child == 0)
-        ask(command, count, ends[1]);
+        ask(command, count, option, ends[1]);
     close(ends[1]);
     for (ssize_t more; length < room - 1; length += (size_t)more)
         if ((more = read(ends[0], text + length, room - 1 - length)) <= 0)
@@ -116,31 +121,15 @@ static void read_version(const char *const *command, size_t count, char *text, s
         waitpid(child, NULL, 0);
 }
 
-/* Whether a section is read as it is in the file, and not run: texts and names of libraries are in such. */
-static bool has_texts(const Elf64_Shdr *section)
-{
-    const Elf64_Xword flags = section->sh_flags & (SHF_ALLOC | SHF_WRITE | SHF_EXECINSTR);
-    return flags == SHF_ALLOC && (section->sh_type == SHT_PROGBITS || section->sh_type == SHT_STRTAB);
-}
-
-static const struct compiler *compiler_with_text_in(struct view texts)
-{
-    for (size_t i = 0; i < COUNT(compilers); i++)
-        if (compilers[i].has_text != NULL && view_has_text(texts, compilers[i].has_text))
-            return &compilers[i];
-    return NULL;
-}
-
 /* By a text of its program: to ask it takes a process, which counts beside a small source. */
 static const struct compiler *compiler_of_program(const char *path)
 {
     const struct compiler *found = NULL;
     struct view view = view_map(path);
-    size_t count = view_section_count(view);
-    for (size_t i = 0; i < count && found == NULL; i++) {
-        Elf64_Shdr section = view_section(view, i);
-        if (has_texts(&section))
-            found = compiler_with_text_in(view_of_section(view, &section));
+    for (size_t i = 0; i < COUNT(compilers) && found == NULL; i++) {
+        const char *text = compilers[i].has_text;
+        if (text != NULL && view_has_constant(view, text, strlen(text)))
+            found = &compilers[i];
     }
     view_unmap(view);
     return found;
@@ -152,7 +141,7 @@ const struct compiler *compiler_of(const char *const *command, size_t count)
     const struct compiler *found = compiler_of_program(command[0]);
     if (found != NULL)
         return found;
-    read_version(command, count, text, sizeof text);
+    compiler_say(command, count, "--version", text, sizeof text);
     for (size_t i = 0; i < COUNT(compilers); i++)
         if (strstr(text, compilers[i].says) != NULL)
             return &compilers[i];

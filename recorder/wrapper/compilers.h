@@ -23,9 +23,12 @@ struct compiler {
     struct flags after;     /* after the caller's arguments, with inline checks */
     struct flags last;      /* after them in any case, for what is compiled: none of them takes these back */
     const char *header;     /* a file of the recorder's that it includes after the caller's, likewise; or null */
+    const char *intrinsics; /* and one in any case, which makes accesses of what its checks do not know; or null */
     const char *own_number; /* before a number that makes the noted switches of each object its own, or null */
+    const char *plugin;     /* a file of the recorder's that may be there, and adds checks (plugin.c); or null */
+    struct flags without_plugin; /* what C and C++ are compiled with if it is not */
     bool has_driver;        /* a program that runs it, and hands it arguments after -Xclang without a look at them */
-    enum check_place check_place; /* where arguments stand that take some of its checks away */
+    enum check_compiler checks_of; /* which arguments take some of its checks away */
     bool compiles_at_link;  /* what it made with -flto is compiled with the settings that are given to the link */
 };
 
@@ -35,5 +38,7 @@ struct compiler {
 /* The compiler that a command runs, of which the first word is a path. It asks the compiler: a name says little, as
    that of a script, of ccache, or of a link. Null: it is none of these. */
 const struct compiler *compiler_of(const char *const *command, size_t count);
+/* The start of what a command says of itself by such an option. */
+void compiler_say(const char *const *command, size_t count, const char *option, char *text, size_t room);
 
 #endif

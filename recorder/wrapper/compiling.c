@@ -5,9 +5,12 @@
 #include <string.h>
 #include <sys/stat.h>
 
+#include "common/array.h"
 #include "common/hash.h"
 #include "common/must.h"
+#include "common/text.h"
 #include "wrapper/arguments.h"
+#include "wrapper/plugin.h"
 #include "wrapper/say.h"
 #include "wrapper/self.h"
 
@@ -28,6 +31,34 @@ static void add_own_number(struct strings *line, const struct job *job)
     if (asprintf(&word, "%s%u", job->compiler->own_number, LARGE + hash_of(name, strlen(name)) % LARGE) < 0)
         no_memory();
     strings_add(line, "--param");
+    strings_add(line, word);
+}
+
+/* Whether all sources are in C or C++: GCC warns of an option that is not for the language. */
+static bool is_of_c(const struct names *sources)
+{
+    static const char *const ends[] = {".c", ".i", ".cc", ".ii", ".cp", ".cxx", ".cpp", ".c++", ".C"};
+    for (size_t i = 0; i < sources->count; i++) {
+        bool is_one = false;
+        for (size_t j = 0; j < COUNT(ends); j++)
+            is_one |= ends_with(sources->names[i], ends[j]);
+        if (!is_one)
+            return false;
+    }
+    return sources->count != 0;
+}
+
+static void add_plugin(struct strings *line, const struct job *job)
+{
+    const struct flags *without = &job->compiler->without_plugin;
+    const char *path = plugin_of(job);
+    char *word;
+    if (path == NULL && is_of_c(&job->request.inputs.sources))
+        strings_add_all(line, without->items, without->count);
+    if (path == NULL)
+        return;
+    if (asprintf(&word, "-fplugin=%s", path) < 0)
+        no_memory();
     strings_add(line, word);
 }
 
@@ -52,6 +83,7 @@ static void add_checks(struct strings *line, const struct job *job)
     const struct flags *returns = &compiler->use_after_return[job->request.use_after_return];
     strings_add_all(line, returns->items, returns->count);
     add_own_number(line, job);
+    add_plugin(line, job);
     for (size_t i = 0; compiler->has_driver && i < job->request.kept.count; i++) {
         strings_add(line, "-Xclang");
         strings_add(line, job->request.kept.names[i]);
@@ -129,10 +161,13 @@ void compiling_add_after(struct strings *line, const struct job *job)
     if (!request->inputs.has_source)
         return;
     strings_add(line, NOTE_SWITCHES); /* whatever the caller's arguments say of it */
+    bool has_headers = request->inputs.has_text && !request->is_shown;
+    if (compiler->intrinsics != NULL && has_headers)
+        add_file(line, "-include", compiler->intrinsics);
     if (request->is_all || !request->inputs.has_compiled)
         return;
     strings_add_all(line, compiler->after.items, compiler->after.count);
-    if (compiler->header != NULL && request->inputs.has_text && !request->is_shown)
+    if (compiler->header != NULL && has_headers)
         add_file(line, "-include", compiler->header);
 }
 

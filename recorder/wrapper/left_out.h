@@ -4,10 +4,13 @@
 
 #include <stdbool.h>
 
-/* Where such a word stands: after GCC's --param, or after Clang's -mllvm. Neither means anything to the other. */
-enum check_place { CHECK_PARAMETER, CHECK_LLVM };
+/* Where such a word stands: after GCC's --param; after Clang's -mllvm or -Xclang; or it is an option by itself. */
+enum check_place { CHECK_PARAMETER, CHECK_LLVM, CHECK_OPTION };
 
-enum { CHECKS_LEFT_OUT = 13 };
+/* What it means something to. To the other one it is nothing, or an error. */
+enum check_compiler { CHECKS_OF_GCC, CHECKS_OF_CLANG };
+
+enum { CHECKS_LEFT_OUT = 23 };
 
 /* The words by which each of the checks is left out, or null. Zeros before the first word. */
 struct left_out {
@@ -16,10 +19,10 @@ struct left_out {
 
 /* Takes a word that stands there. Of those for one check the last holds. */
 void left_out_take(struct left_out *left_out, enum check_place place, const char *word);
-/* Whether one that stands there leaves a check out. */
-bool left_out_any(const struct left_out *left_out, enum check_place place);
-/* Warns of each that stands there. */
-void left_out_warn(const struct left_out *left_out, enum check_place place);
+/* Whether one leaves a check of this compiler out. */
+bool left_out_any(const struct left_out *left_out, enum check_compiler compiler);
+/* Warns of each that does. */
+void left_out_warn(const struct left_out *left_out, enum check_compiler compiler);
 void left_out_free(struct left_out *left_out);
 
 #endif

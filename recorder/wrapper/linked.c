@@ -78,20 +78,24 @@ static bool next_word(struct view *rest, char *word, size_t room)
     return length != 0;
 }
 
-/* Whether noted switches take a check away. GCC's have their parameters in one form, Clang's are as they were given. */
+/* Whether noted switches take a check away. GCC's begin with its name, and have parameters in one form; Clang's are as
+   they were given. */
 static bool lacks_checks(struct view switches)
 {
-    static const char parameter[] = "--param=", llvm[] = "-mllvm", to_inner[] = "-Xclang";
+    static const char gcc[] = "GNU", parameter[] = "--param=", llvm[] = "-mllvm", to_inner[] = "-Xclang";
     struct left_out left_out = {0};
     char word[64];
+    bool is_gcc = next_word(&switches, word, sizeof word) && strcmp(word, gcc) == 0;
     for (bool is_llvm = false; next_word(&switches, word, sizeof word);) {
         if (is_llvm)
             left_out_take(&left_out, CHECK_LLVM, word);
         else if (begins_with(word, parameter))
             left_out_take(&left_out, CHECK_PARAMETER, word + strlen(parameter));
-        is_llvm = strcmp(word, llvm) == 0 || (is_llvm && strcmp(word, to_inner) == 0);
+        else
+            left_out_take(&left_out, CHECK_OPTION, word);
+        is_llvm = strcmp(word, llvm) == 0 || strcmp(word, to_inner) == 0;
     }
-    bool lacks = left_out_any(&left_out, CHECK_PARAMETER) || left_out_any(&left_out, CHECK_LLVM);
+    bool lacks = left_out_any(&left_out, is_gcc ? CHECKS_OF_GCC : CHECKS_OF_CLANG);
     left_out_free(&left_out);
     return lacks;
 }
@@ -204,10 +208,7 @@ static struct parts parts_of(struct view view)
 {
     struct parts parts = {0};
     size_t count = view_section_count(view);
-    Elf64_Ehdr header;
-    memcpy(&header, view.bytes, sizeof header);
-    bool has_many = count != 0 && header.e_shstrndx == SHN_XINDEX;
-    struct view names = view_texts(view, has_many ? view_section(view, 0).sh_link : header.e_shstrndx);
+    struct view names = view_names(view);
     for (size_t i = 0; i < count; i++) {
         Elf64_Shdr section = view_section(view, i);
         struct view bytes = view_of_section(view, &section);

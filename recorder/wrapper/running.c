@@ -221,7 +221,7 @@ static int end_link(const struct job *job, struct link *link, int status, const 
     const struct request *request = &job->request;
     const struct names *assembly = &request->inputs.assembly, *sources = &request->inputs.sources;
     bool lacks_checks = request->refusal != NULL
-                        || (job->compiler != NULL && left_out_any(&request->left_out, job->compiler->check_place));
+                        || (job->compiler != NULL && left_out_any(&request->left_out, job->compiler->checks_of));
     if (linking_is_static(&request->link) && !request->link.is_bare)
         names_add(&link->taken.own, "calls of the C library (-static)");
     for (size_t i = 0; i < assembly->count; i++)

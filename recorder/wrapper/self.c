@@ -20,7 +20,7 @@ const char *self_path(void)
     return path;
 }
 
-char *self_file(const char *name)
+char *self_find_file(const char *name)
 {
     static const char *const places[] = {"", "../lib/asancol/"};
     const char *self = self_path();
@@ -30,5 +30,13 @@ char *self_file(const char *name)
         if (access(path, R_OK) == 0)
             return must(strdup(path));
     }
-    fail(name, "not found beside the wrapper");
+    return NULL;
+}
+
+char *self_file(const char *name)
+{
+    char *path = self_find_file(name);
+    if (path == NULL)
+        fail(name, "not found beside the wrapper");
+    return path;
 }

@@ -6,5 +6,7 @@
 const char *self_path(void);
 /* A file of the recorder's: beside the wrapper, or in ../lib/asancol if it is installed. Fails if it is not there. */
 char *self_file(const char *name);
+/* Or null, if there is none. */
+char *self_find_file(const char *name);
 
 #endif

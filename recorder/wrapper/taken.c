@@ -236,8 +236,22 @@ static size_t find_note(const char *path)
     return found;
 }
 
-void taken_write(const struct taken *taken, const char *output)
+/* What objects say of themselves, which is kept in what is made of them. */
+static void take_said(struct taken *taken, const char *output)
 {
+    struct view view = view_map(output), said = view_find(view, LINK_NOTE_LINES);
+    for (size_t length; said.size != 0; said = (struct view){said.bytes + length, said.size - length}) {
+        length = strnlen(said.bytes, said.size);
+        if (length != said.size && length != 0)
+            names_add(&taken->own, said.bytes);
+        length += length < said.size;
+    }
+    view_unmap(view);
+}
+
+void taken_write(struct taken *taken, const char *output)
+{
+    take_said(taken, output);
     struct text *text = calloc(1, sizeof *text);
     size_t at = text != NULL ? find_note(output) : 0;
     int file = at != 0 ? open(output, O_WRONLY | O_CLOEXEC) : -1;

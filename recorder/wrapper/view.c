@@ -75,6 +75,24 @@ struct view view_of_section(struct view view, const Elf64_Shdr *section)
     return (struct view){view.bytes + section->sh_offset, section->sh_size};
 }
 
+static bool is_constant(const Elf64_Shdr *section)
+{
+    const Elf64_Xword flags = section->sh_flags & (SHF_ALLOC | SHF_WRITE | SHF_EXECINSTR);
+    return flags == SHF_ALLOC && (section->sh_type == SHT_PROGBITS || section->sh_type == SHT_STRTAB);
+}
+
+bool view_has_constant(struct view view, const char *bytes, size_t size)
+{
+    size_t count = view_section_count(view);
+    for (size_t i = 0; i < count; i++) {
+        Elf64_Shdr section = view_section(view, i);
+        struct view inside = is_constant(&section) ? view_of_section(view, &section) : (struct view){NULL, 0};
+        if (inside.size != 0 && memmem(inside.bytes, inside.size, bytes, size) != NULL)
+            return true;
+    }
+    return false;
+}
+
 struct view view_texts(struct view view, size_t number)
 {
     struct view texts = {NULL, 0};
@@ -83,4 +101,26 @@ struct view view_texts(struct view view, size_t number)
         texts = view_of_section(view, &section);
     }
     return texts.size != 0 && texts.bytes[texts.size - 1] == 0 ? texts : (struct view){NULL, 0};
+}
+
+/* Where there are too many sections for the header, the first has the number of that with their names. */
+struct view view_names(struct view view)
+{
+    Elf64_Ehdr header;
+    if (view_section_count(view) == 0)
+        return (struct view){NULL, 0};
+    memcpy(&header, view.bytes, sizeof header);
+    return view_texts(view, header.e_shstrndx == SHN_XINDEX ? view_section(view, 0).sh_link : header.e_shstrndx);
+}
+
+struct view view_find(struct view view, const char *name)
+{
+    struct view names = view_names(view);
+    size_t count = names.size != 0 ? view_section_count(view) : 0;
+    for (size_t i = 0; i < count; i++) {
+        Elf64_Shdr section = view_section(view, i);
+        if (section.sh_name < names.size && strcmp(names.bytes + section.sh_name, name) == 0)
+            return view_of_section(view, &section);
+    }
+    return (struct view){NULL, 0};
 }

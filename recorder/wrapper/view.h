@@ -18,6 +18,9 @@ void view_unmap(struct view view);
 
 bool view_begins(struct view view, const char *front);
 bool view_has_text(struct view view, const char *text);
+/* Whether bytes are in a section that is read as it is in the file, and not run: texts and names of libraries are in
+   such. */
+bool view_has_constant(struct view view, const char *bytes, size_t size);
 /* Whether these bytes lie in it. */
 bool view_is_inside(struct view view, uint64_t offset, uint64_t size);
 /* How many sections it has, as a file of ELF for 64 bits. */
@@ -26,6 +29,10 @@ size_t view_section_count(struct view view);
 Elf64_Shdr view_section(struct view view, size_t number);
 /* The bytes of a section; none, if it has none in the file. */
 struct view view_of_section(struct view view, const Elf64_Shdr *section);
+/* The names of its sections. */
+struct view view_names(struct view view);
+/* The bytes of the first section of this name, or none. */
+struct view view_find(struct view view, const char *name);
 /* The texts of names, which end with a zero; none, if there are no such. */
 struct view view_texts(struct view view, size_t number);
 

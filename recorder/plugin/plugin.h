@@ -1,0 +1,11 @@
+/* What the plugin of GCC's shares with the wrapper. */
+#ifndef ASANCOL_PLUGIN_H
+#define ASANCOL_PLUGIN_H
+
+#define PLUGIN_FILE "libasancol_gcc.so"
+
+/* In it, and after it the version of the compiler for which it was made, and how that was configured. Each ends with a
+   zero, and is one of the compiler's own texts, too. */
+#define PLUGIN_MADE_FOR "asancol's plugin for GCC"
+
+#endif

@@ -1,0 +1,10 @@
+/* The plugin that GCC is given, which adds the checks that GCC leaves out (plugin/gcc.cpp). */
+#ifndef ASANCOL_WRAPPER_PLUGIN_H
+#define ASANCOL_WRAPPER_PLUGIN_H
+
+#include "wrapper/job.h"
+
+/* Its path, or null: it is not there, or was not made for this very compiler, which then would refuse it. */
+const char *plugin_of(const struct job *job);
+
+#endif
