@@ -14,6 +14,7 @@ program bug
   implicit none
   integer, allocatable :: row(:)
   integer, pointer :: block(:)
+  complex(8), allocatable :: waves(:)
   character(9) :: wanted
   call get_command_argument(1, wanted)
   allocate(row(5), block(3))
@@ -25,6 +26,7 @@ program bug
   case ('local');     call past_local(element(row, 1) * 5)
   case ('block');     print *, element(block, 4) == 0
   case ('freed');     call after_its_end(block)
+  case ('complex');   allocate(waves(3)); call past_waves(waves, element(block, 1))
   case default;       print *, sum(row), sum(table), sum(block)
   end select
   deallocate(row)
@@ -41,6 +43,13 @@ contains
     integer :: local(4)
     local = 4
     print *, element(local, at) == 0
+  end subroutine
+  subroutine past_waves(it, n)
+    complex(8) :: it(:)
+    integer, intent(in) :: n
+    integer :: i
+    do i = 1, n; it(i) = cmplx(i, 2, 8); end do
+    print *, real(it(n + 1)) < 0
   end subroutine
   subroutine after_its_end(it)
     integer, pointer :: it(:), also(:)

@@ -111,6 +111,7 @@ LACKING = {
         "--param asan-instrument-writes=0",
         "--param asan-instrument-allocas=0",
         "--param asan-memintrin=0",
+        "-fno-sanitize-address-use-after-scope",
     ],
     "clang": [
         "-mllvm -asan-stack=0",
@@ -122,6 +123,7 @@ LACKING = {
         "-mllvm -asan-instrument-byval=0",
         "-mllvm -asan-instrument-dynamic-allocas=0",
         "-Xclang -mllvm -Xclang -asan-instrument-reads=0",
+        "-mllvm -asan-redzone-byval-args=0",
     ],
 }
 
@@ -191,11 +193,24 @@ def check_new(suite, folder, compiler):
         made.cc("-Werror", *argv)
 
 
+# Likewise, and nothing takes these back. GCC says of some what it leaves out.
+LACKING_FOR_GOOD = {
+    "gcc": ["-fdisable-tree-asan -O1", "-fdisable-tree-asan0"],
+    "clang": [
+        "-mllvm -asan-max-ins-per-bb=1",
+        "-Xclang -disable-llvm-passes",
+        "-Xclang -fsanitize-ignorelist=list.txt",
+        "-fsanitize-ignorelist=list.txt",
+        "-fsanitize-blacklist=list.txt",
+    ],
+}
+
+
 def check_lacking_checks(suite, folder, compiler):
     """Words that take some of the checks away are let through, and said: of what is compiled with them the verdict does
     not say that it was checked. The last one holds."""
     made = Builder(suite, folder, compiler)
-    write(folder, words_rsp=f"{LACKING[compiler.name][0]}\n")
+    write(folder, words_rsp=f"{LACKING[compiler.name][0]}\n", list_txt="fun:helper\n")
     text = "what is compiled with this lacks checks: what they would find is not recorded"
     for words in LACKING[compiler.name]:
         named = words.replace("--param=", "--param ").replace("-Xclang ", "")
@@ -204,9 +219,15 @@ def check_lacking_checks(suite, folder, compiler):
         expect(noted(f"{folder}/program"), ["helper.o"], f"an object with {words}")
         made.cc("-DVALUE=1", "main.c", "helper.c", *words.split(), "-o", "program", warning=f"{named}: {text}")
         expect(noted(f"{folder}/program"), ["main.c", "helper.c"], f"sources with {words}")
-        again = words.replace("=0", "=1").replace("false", "true")
+        again = words.replace("=0", "=1").replace("false", "true").replace("-fno-", "-f")
         made.link("-DVALUE=1", "main.c", "helper.c", *again.split())
         expect(noted(f"{folder}/program"), [], again)
+    for words in LACKING_FOR_GOOD[compiler.name]:
+        argv = ["-c", "-DVALUE=1", "helper.c", *words.split()]
+        said = run([CC, *argv], folder, ASANCOL_CC=compiler.name).stderr.decode()
+        expect(f"asancol-cc: warning: {words.replace(' -O1', '')}: {text}" in said.splitlines(), True, said)
+        made.cc("main.c", "helper.o", "-o", "program")
+        expect(noted(f"{folder}/program"), ["helper.o"], f"an object with {words}")
     made.cc("-c", "-DVALUE=1", f"-DTEXT=\"a {LACKING[compiler.name][0]}\"", "helper.c")
     made.link("main.c", "helper.o")
     expect(noted(f"{folder}/program"), [], "a macro with such words")
@@ -408,6 +429,32 @@ def check_own_options(suite, folder, compiler):
     expect("__asan_store1_noabort" in made.text_of("helper.s"), True, "a call before each access")
 
 
+BIG = """#include <stdio.h>
+#include <stdlib.h>
+char big[3000000000];
+int main(int argc, char **argv)
+{
+    big[2999999999] = 5;
+    char *volatile q = malloc(5);
+    q[big[2999999999]] = 1;
+    big[2999999999ul + argc] = **argv;
+    free(q);
+    return 0;
+}
+"""
+
+
+def check_code_models(suite, folder, compiler):
+    """More variables than the small code model reaches over, before the recorder's own or behind them."""
+    write(folder, big_c=BIG)
+    for model in ("medium", "large"):
+        compiler.c(folder, ["big.c"], f"{folder}/big", f"-mcmodel={model}")
+        ran = run(["./big"], folder, ASANCOL_TRACE=f"{model}.trace")
+        expect((ran.returncode, ran.stderr), (0, b""), model)
+        found = [it.split()[-1] for it in reports(suite.asancol, f"{folder}/{model}.trace")[1]]
+        expect(found, ["heap-buffer-overflow", "global-buffer-overflow"], model)
+
+
 def check_ccache(suite, folder, compiler):
     """Before the compiler it sees all, and before the wrapper the wrapper's options: each gives another object."""
     made = Builder(suite, folder, compiler)
@@ -438,6 +485,7 @@ def tests(suite, compiler):
     suite.test(f"{compiler} builds: names", check_names, compiler)
     suite.test(f"{compiler} builds: own wrap", check_own_wrap, compiler)
     suite.test(f"{compiler} builds: own options", check_own_options, compiler)
+    suite.test(f"{compiler} builds: code models", check_code_models, compiler)
     suite.test(f"{compiler} builds: objects", check_objects, compiler)
     suite.test(f"{compiler} builds: texts", check_texts, compiler)
     suite.test(f"{compiler} builds: inputs", check_inputs, compiler)

@@ -1,5 +1,6 @@
 /* What the programs of calls.py share: files, sockets and memory that calls get beside the block that is tried. */
 #define _GNU_SOURCE
+#include <aio.h>
 #include <arpa/inet.h>
 #include <dirent.h>
 #include <err.h>
@@ -7,6 +8,8 @@
 #include <error.h>
 #include <execinfo.h>
 #include <fcntl.h>
+#include <ftw.h>
+#include <getopt.h>
 #include <glob.h>
 #include <grp.h>
 #include <iconv.h>
@@ -16,6 +19,7 @@
 #include <linux/capability.h>
 #include <locale.h>
 #include <mntent.h>
+#include <mqueue.h>
 #include <net/if.h>
 #include <netdb.h>
 #include <netinet/ether.h>
@@ -27,6 +31,7 @@
 #include <semaphore.h>
 #include <setjmp.h>
 #include <signal.h>
+#include <spawn.h>
 #include <stdarg.h>
 #include <stdint.h>
 #include <stdio.h>
@@ -37,6 +42,7 @@
 #include <sys/ioctl.h>
 #include <sys/msg.h>
 #include <sys/prctl.h>
+#include <sys/ptrace.h>
 #include <sys/resource.h>
 #include <sys/sem.h>
 #include <sys/shm.h>
@@ -49,6 +55,7 @@
 #include <sys/timeb.h>
 #include <sys/timerfd.h>
 #include <sys/times.h>
+#include <sys/timex.h>
 #include <sys/uio.h>
 #include <sys/un.h>
 #include <sys/utsname.h>
@@ -56,6 +63,7 @@
 #include <sys/xattr.h>
 #include <syslog.h>
 #include <termios.h>
+#include <threads.h>
 #include <time.h>
 #include <unistd.h>
 #include <utime.h>
@@ -416,6 +424,109 @@ static int queue(void)
         atexit(remove_queue);
     needed(queue_made >= 0 ? msgsnd(queue_made, &message, 8, 0) : -1);
     return queue_made;
+}
+
+/* Likewise, of the other kind. */
+static mqd_t message_queue(void)
+{
+    struct mq_attr settings = {.mq_maxmsg = 1, .mq_msgsize = 8};
+    char name[32];
+    snprintf(name, sizeof name, "/asancol.%d", (int)getpid());
+    mqd_t made = mq_open(name, O_RDWR | O_CREAT | O_NONBLOCK, 0600, &settings);
+    if (needed(made) >= 0 && mq_unlink(name) == 0)
+        mq_send(made, "1234567", 8, 0);
+    return made;
+}
+
+/* A folder with two entries. */
+static int empty_folder(void)
+{
+    mkdir("empty", 0700);
+    return needed(open("empty", O_RDONLY | O_DIRECTORY));
+}
+
+static struct aiocb *request_of(int file, void *with, size_t size)
+{
+    static struct aiocb made;
+    made = (struct aiocb){.aio_fildes = file, .aio_buf = with, .aio_nbytes = size};
+    made.aio_sigevent.sigev_notify = SIGEV_NONE;
+    return &made;
+}
+
+static struct aiocb *read_request(int file, void *to, size_t size)
+{
+    struct aiocb *made = request_of(file, to, size);
+    needed(aio_read(made));
+    while (aio_error(made) == EINPROGRESS)
+        sched_yield();
+    return made;
+}
+
+static timer_t made_timer(void)
+{
+    static timer_t made;
+    struct sigevent nobody = {.sigev_notify = SIGEV_NONE};
+    needed(timer_create(CLOCK_MONOTONIC, &nobody, &made));
+    return made;
+}
+
+static char **words_with(const char *word)
+{
+    static char *words[3] = {"program"};
+    words[1] = (char *)word;
+    return words;
+}
+
+static int from_first(int count)
+{
+    optind = 0;
+    return count;
+}
+
+static struct option *options_with(const char *name)
+{
+    static struct option options[2];
+    options[0] = (struct option){.name = name};
+    return options;
+}
+
+/* Whose last row has no name. */
+static struct option *options_in(char *p)
+{
+    ((struct option *)p)->name = "of";
+    return (struct option *)p;
+}
+
+static void does_nothing(void)
+{
+}
+
+/* Nobody waits for a condition with it who does not have it. */
+static pthread_mutex_t *refusing(void)
+{
+    static pthread_mutex_t made;
+    made = (pthread_mutex_t)PTHREAD_ERRORCHECK_MUTEX_INITIALIZER_NP;
+    return &made;
+}
+
+static struct timespec *past_time(void)
+{
+    static struct timespec past;
+    return &past;
+}
+
+static sem_t *one_permit(void)
+{
+    static sem_t made;
+    sem_init(&made, 0, 1);
+    return &made;
+}
+
+static regmatch_t *match_of(int from, int to)
+{
+    static regmatch_t made;
+    made = (regmatch_t){from, to};
+    return &made;
 }
 
 /* A socket to which somebody has connected. */

@@ -11,7 +11,7 @@ from support import RECORDER, TESTS, Compiler, Suite, Trace, expect, leave_out, 
 from testing.programs import NO_SETTINGS
 from testing.side import GLOBAL, NO_VARIABLE, OF_STACK
 
-ROW = re.compile(r"^(CALL|NO_RESULT|(?:WIDE_)?(?:PRINT|SCAN)|LOG|MESSAGE)\((.*?)\)(?=\n(?! )|\Z)", re.M | re.S)
+ROW = re.compile(r"^(CALL|NO_RESULT|LOCK|(?:WIDE_)?(?:PRINT|SCAN)|LOG|MESSAGE)\((.*?)\)(?=\n(?! )|\Z)", re.M | re.S)
 
 
 class Row(NamedTuple):
@@ -22,7 +22,7 @@ class Row(NamedTuple):
     rest: List[str]
 
     def parameters(self) -> str:
-        return self.rest[0] if self.word in ("NO_RESULT", "MESSAGE") else self.rest[1]
+        return self.rest[0] if self.word in ("NO_RESULT", "LOCK", "MESSAGE") else self.rest[1]
 
     def result(self) -> str:
         if self.word in ("NO_RESULT", "LOG", "MESSAGE"):
@@ -30,7 +30,7 @@ class Row(NamedTuple):
         return self.rest[0] if self.word == "CALL" else "int"
 
     def has_format(self) -> bool:
-        return self.word not in ("CALL", "NO_RESULT")
+        return self.word not in ("CALL", "NO_RESULT", "LOCK")
 
     def has_list(self) -> bool:
         """Whether there is a function with a va_list beside it: the first of the rest."""
@@ -73,6 +73,9 @@ def wide(text: str) -> bytes:
 Use = Tuple[Union[str, bytes, int], str]
 
 ADDRESS = "(struct sockaddr *)p"
+# A lock that a thread has to have before it waits for a condition, so that nothing waits; a semaphore to pass once.
+REFUSING = bytes(16) + b"\2" + bytes(23)
+ONE_PERMIT = b"\1" + bytes(31)
 # As the C library keeps the line of root, with a zero at its end.
 LENGTH_OF_ROOT = len(":".join(map(str, pwd.getpwuid(0)))) + 1
 # Likewise the line of its group, and after that, at a multiple of 8, the addresses of its members.
@@ -117,7 +120,11 @@ USES: Dict[str, Sequence[Use]] = {
     "strncmp": [("abcdefg", 'p, "abcdefg", 20'), ("abcdefg", '"abcdefg", p, 8')],
     "strcasecmp": [("abcdefg", 'p, "ABCDEFG"'), ("abcdefg", '"ABCDEFG", p')],
     "strncasecmp": [("abcdefg", 'p, "ABCDEFG", 20'), ("abcdefg", '"ABCDEFG", p, 8')],
+    "strcasecmp_l": [("abcdefg", 'p, "ABCDEFG", latin_locale()'), ("abcdefg", '"ABCDEFG", p, latin_locale()')],
+    "strncasecmp_l": [("abcdefg", 'p, "ABCDEFG", 20, latin_locale()')],
+    "strverscmp": [("abcdefg", 'p, "abcdefg"'), ("abcdefg", '"abcdefg", p')],
     "strcoll": [("abcdefg", "p, text"), ("abcdefg", "text, p")],
+    "strcoll_l": [("abcdefg", "p, text, latin_locale()"), ("abcdefg", "text, p, latin_locale()")],
     "strxfrm": [("abcdefg", "room, p, 20"), (8, 'p, "abcdefg", 8')],
     "strxfrm_l": [("abcdefg", "room, p, 20, latin_locale()"), (8, 'p, "abcdefg", 8, latin_locale()')],
     "strchr": [("abcdefg", "p, 'z'"), ("abcdefg", "p, 0")],
@@ -135,15 +142,26 @@ USES: Dict[str, Sequence[Use]] = {
     "strndup": [("abcdefg", "p, 20")],
     "strerror_r": [(8, "12345, p, 8")],
     "__xpg_strerror_r": [("No such file or directory", "ENOENT, p, 26")],
+    "basename": [("/a/b/cd", "p")],
+    "gettext": [("abcdefg", "p")],
+    "dgettext": [("abcdefg", "p, text"), ("abcdefg", '"name", p')],
+    "dcgettext": [("abcdefg", "p, text, LC_MESSAGES"), ("abcdefg", '"name", p, LC_MESSAGES')],
+    "ngettext": [("abcdefg", "p, text, 1"), ("abcdefg", "text, p, 2")],
     # Numbers.
     "strtol": [("1234567", "p, NULL, 10"), (8, '"12", (char **)p, 10'), ("  -", "p, NULL, 10")],
     "strtoul": [("1234567", "p, NULL, 10"), (8, '"12", (char **)p, 10')],
     "strtod": [("1234.67", "p, NULL"), (8, '"12", (char **)p')],
     "strtof": [("1234.67", "p, NULL"), (8, '"12", (char **)p')],
     "strtold": [("1234.67", "p, NULL"), (8, '"12", (char **)p')],
+    "strtol_l": [("1234567", "p, NULL, 10, latin_locale()"), (8, '"12", (char **)p, 10, latin_locale()')],
+    "strtoul_l": [("1234567", "p, NULL, 10, latin_locale()"), (8, '"12", (char **)p, 10, latin_locale()')],
+    "strtod_l": [("1234.67", "p, NULL, latin_locale()"), (8, '"12", (char **)p, latin_locale()')],
+    "strtof_l": [("1234.67", "p, NULL, latin_locale()"), (8, '"12", (char **)p, latin_locale()')],
+    "strtold_l": [("1234.67", "p, NULL, latin_locale()"), (8, '"12", (char **)p, latin_locale()')],
     "atoi": [("1234567", "p"), (" +", "p")],
     "atol": [("1234567", "p")],
     "atof": [("1234.67", "p")],
+    "gcvt": [(4, "1.5, 9, p")],
     # Random numbers.
     "rand_r": [(4, "(unsigned *)p")],
     "random_r": [(4, "random_state(), (int32_t *)p")],
@@ -180,6 +198,13 @@ USES: Dict[str, Sequence[Use]] = {
                       (16, 'WIDE(clear(p)), L"abcdef", 3, ANY')],
     "wcscmp": [(wide("abc"), 'WIDE(p), L"abc"'), (wide("abc"), 'L"abc", WIDE(p)')],
     "wcsncmp": [(wide("abc"), 'WIDE(p), L"abc", 20'), (wide("abc"), 'L"abc", WIDE(p), 4')],
+    "wcscasecmp": [(wide("abc"), 'WIDE(p), L"ABC"'), (wide("abc"), 'L"ABC", WIDE(p)')],
+    "wcsncasecmp": [(wide("abc"), 'WIDE(p), L"ABC", 20'), (wide("abc"), 'L"ABC", WIDE(p), 4')],
+    "wcscoll": [(wide("abc"), 'WIDE(p), L"abc"'), (wide("abc"), 'L"abc", WIDE(p)')],
+    "wcswidth": [(wide("abc"), "WIDE(p), 20")],
+    "wcstok": [(wide("abc"), 'WIDE(p), L",", (wchar_t **)room'),
+               (wide("xyz"), "WIDE(clear(room)), WIDE(p), (wchar_t **)room"),
+               (8, 'WIDE(clear(room)), L",", (wchar_t **)p')],
     "wcschr": [(wide("abc"), "WIDE(p), 'z'")],
     "wcsrchr": [(wide("abc"), "WIDE(p), 'a'")],
     "wcsstr": [(wide("abc"), 'WIDE(p), L"z"'), (wide("abc"), 'L"abcdef", WIDE(p)')],
@@ -201,6 +226,8 @@ USES: Dict[str, Sequence[Use]] = {
     "wcstol": [(wide("123"), "WIDE(p), NULL, 10"), (8, 'L"12", (wchar_t **)p, 10')],
     "wcstoul": [(wide("123"), "WIDE(p), NULL, 10"), (8, 'L"12", (wchar_t **)p, 10')],
     "wcstod": [(wide("123"), "WIDE(p), NULL"), (8, 'L"12", (wchar_t **)p')],
+    "wcstof": [(wide("123"), "WIDE(p), NULL"), (8, 'L"12", (wchar_t **)p')],
+    "wcstold": [(wide("123"), "WIDE(p), NULL"), (8, 'L"12", (wchar_t **)p')],
     "mbstowcs": [(16, 'WIDE(p), "abc", 20')],
     "__mbstowcs_chk": [(16, 'WIDE(p), "abc", 20, ANY')],
     "wcstombs": [(4, 'p, L"abc", 20')],
@@ -229,6 +256,8 @@ USES: Dict[str, Sequence[Use]] = {
     "mbtowc": [(4, 'WIDE(p), "abc", 3')],
     "mbrtowc": [(4, 'WIDE(p), "abc", 3, state()'),
                (8, 'WIDE(room), "abc", 3, p')],
+    "mblen": [(b"ab", "p + 1, 1")],
+    "mbrlen": [(b"ab", "p + 1, 1, state()"), (8, "text, 3, p")],
     "wctomb": [(2, "p + 1, 'a'")],
     "__wctomb_chk": [(2, "p + 1, 'a', ANY")],
     "wcrtomb": [(2, "p + 1, 'a', state()"),
@@ -278,6 +307,22 @@ USES: Dict[str, Sequence[Use]] = {
     "timerfd_gettime": [(32, "timerfd_create(CLOCK_MONOTONIC, 0), (struct itimerspec *)p")],
     "tcgetattr": [(60, "terminal(), (struct termios *)p")],
     "tcsetattr": [(60, "null, 0, (struct termios *)p")],
+    "fcntl": [(32, "null, F_GETLK, p"), (32, "-1, F_SETLK, p"), (8, "null, F_GETOWN_EX, p")],
+    "splice": [(8, "-1, (off_t *)p, -1, NULL, 0, 0"), (8, "-1, NULL, -1, (off_t *)p, 0, 0")],
+    "sendfile": [(8, "-1, -1, (off_t *)p, 1")],
+    "vmsplice": [(32, "-1, (struct iovec *)p, 2, 0")],
+    "getdents64": [(48, "empty_folder(), p, 48")],
+    "getdirentries": [(48, "empty_folder(), p, 48, (off_t *)room"), (8, "empty_folder(), room, 48, (off_t *)p")],
+    "epoll_pwait2": [(16, "epoll_of(pair[1]), (struct epoll_event *)room, 1, (struct timespec *)p, NULL")],
+    "signalfd": [(128, "-1, (sigset_t *)p, 0")],
+    "aio_read": [(168, "(struct aiocb *)p")],
+    "aio_write": [(168, "(struct aiocb *)p"), (8, "request_of(null, p, 8)")],
+    "aio_error": [(168, "(struct aiocb *)p")],
+    "aio_fsync": [(168, "O_SYNC, (struct aiocb *)p")],
+    "aio_cancel": [(168, "null, (struct aiocb *)p")],
+    "aio_return": [(168, "(struct aiocb *)p"), (8, "read_request(zero, p, 8)")],
+    "aio_suspend": [(8, "(const struct aiocb **)p, 1, zeros()"), (16, "zeros(), 1, (struct timespec *)p")],
+    "lio_listio": [(8, "LIO_WAIT, (struct aiocb **)p, 1, NULL")],
     # Sockets and messages.
     "recv": [(8, "filled(), p, 8, 0")],
     "__recv_chk": [(8, "filled(), p, 8, ANY, 0")],
@@ -302,6 +347,13 @@ USES: Dict[str, Sequence[Use]] = {
                    (4, "pair[0], SOL_SOCKET, SO_TYPE, room, (socklen_t *)memset(p, 1, 3)")],
     "msgrcv": [(16, "queue(), p, 8, 0, 0")],
     "msgsnd": [(16, "-1, p, 8, 0")],
+    "shm_open": [("/no such", "p, 0, 0")],
+    "memfd_create": [("name", "p, 0")],
+    "mq_open": [("/no such", "p, 0, 0, NULL")],
+    "shm_unlink": [("/no such", "p")],
+    "mq_send": [(8, "-1, p, 8, 0")],
+    "mq_receive": [(8, "message_queue(), p, 8, NULL"), (4, "message_queue(), room, 8, (unsigned *)p")],
+    "mq_getattr": [(64, "message_queue(), (struct mq_attr *)p")],
     "semop": [(6, "-1, (struct sembuf *)p, 1")],
     "shmctl": [(112, "shared_memory(), IPC_STAT, (struct shmid_ds *)p"), (112, "-1, IPC_SET, (struct shmid_ds *)p")],
     # Streams.
@@ -322,7 +374,7 @@ USES: Dict[str, Sequence[Use]] = {
     "freopen": [("/dev/null", 'p, "r", stream(text)'), ("r", '"/dev/null", p, stream(text)')],
     "fdopen": [("r", "dup(null), p")],
     "popen": [("true", 'p, "r"'), ("r", '"true", p')],
-    "fmemopen": [("r", "room, 8, p")],
+    "fmemopen": [("r", "room, 8, p"), (8, 'p, 8, "r"'), (8, 'p, 8, "w"'), (8, 'p, 8, "rb+"')],
     "open_memstream": [(8, "(char **)p, (size_t *)room"), (8, "(char **)room, (size_t *)p")],
     "open_wmemstream": [(8, "(wchar_t **)p, (size_t *)room")],
     "getmntent_r": [(40, 'stream("a b c d 0 0\\n"), (struct mntent *)p, room, 99'),
@@ -330,6 +382,8 @@ USES: Dict[str, Sequence[Use]] = {
     "setbuf": [(8192, "fdopen(dup(null), \"r\"), p")],
     "setbuffer": [(64, "fdopen(dup(null), \"r\"), p, 64")],
     "setvbuf": [(64, "fdopen(dup(null), \"r\"), p, _IOFBF, 64")],
+    "fgetpos": [(16, "nowhere, (fpos_t *)p")],
+    "fsetpos": [(16, "nowhere, (fpos_t *)p")],
     # Files and directories.
     "open": [("/dev/null", "p, 0, 0")],
     "__open_2": [("/dev/null", "p, 0")],
@@ -341,11 +395,20 @@ USES: Dict[str, Sequence[Use]] = {
     "chown": [("/no/such", "p, 0, 0")],
     "truncate": [("/no/such", "p, 0")],
     "access": [("/dev/null", "p, 0")],
+    "pathconf": [("/dev", "p, _PC_NAME_MAX")],
+    "ftok": [("/dev", "p, 1")],
+    "mknod": [("/no/such", "p, 0, 0")],
+    "mknodat": [("/no/such", "0, p, 0, 0")],
     "faccessat": [("/dev/null", "0, p, 0, 0")],
     "chdir": [("/no/such", "p")],
     "unlinkat": [("/no/such", "0, p, 0")],
     "rename": [("/no/such", 'p, "/no/such"'), ("/no/such", '"/no/such", p')],
     "renameat": [("/no/such", '0, p, 0, "/no/such"')],
+    "renameat2": [("/no/such", '0, p, 0, "/no/such", 0'), ("/no/such", '0, "/no/such", 0, p, 0')],
+    "mount": [("/no", 'p, "/no/such", "", 0, NULL'), ("/no", '"", p, "", 0, NULL'), ("abc", '"", "/no", p, 0, NULL')],
+    "umount": [("/no/such", "p")],
+    "umount2": [("/no/such", "p, 0")],
+    "inotify_add_watch": [("/no/such", "-1, p, 1")],
     "symlinkat": [("/no/such", 'p, 0, "/no/such/folder"')],
     "readlink": [("/proc/self/cwd", "p, room, 99"), (13, '"/dev/fd", p, 99')],
     "__readlink_chk": [("/proc/self/cwd", "p, room, 99, ANY")],
@@ -370,11 +433,14 @@ USES: Dict[str, Sequence[Use]] = {
     "utimes": [("/no/such", "p, NULL"), (32, '"/no/such", (struct timeval *)p')],
     "utimensat": [("/no/such", "0, p, NULL, 0"), (32, '0, "/no/such", (struct timespec *)p, 0')],
     "futimens": [(32, "-1, (struct timespec *)p")],
+    "futimes": [(32, "-1, (struct timeval *)p")],
     "opendir": [("/dev", "p")],
     "readdir_r": [(8, 'opendir("/"), (struct dirent *)room, (struct dirent **)p')],
     "scandir": [("/no/such", "p, (struct dirent ***)room, NULL, NULL")],
     "glob": [("/no/such", "p, 0, NULL, (glob_t *)room"), (72, '"/", 0, NULL, (glob_t *)p')],
     "fnmatch": [("abc", 'p, "abc", 0'), ("abc", '"*", p, 0')],
+    "ftw": [("/no/such", "p, NULL, 1")],
+    "nftw": [("/no/such", "p, NULL, 1, 0")],
     "mkstemp": [("/no/such/XXXXXX", "p")],
     "mkostemp": [("/no/such/XXXXXX", "p, 0")],
     "mkdtemp": [("/no/such/XXXXXX", "p")],
@@ -390,6 +456,7 @@ USES: Dict[str, Sequence[Use]] = {
     "setxattr": [("/no", 'p, "user.a", room, 9, 0'), ("user.a", '"/no", p, room, 9, 0'),
                  (9, '"/no", "user.a", p, 9, 0')],
     "fsetxattr": [("user.a", "-1, p, room, 9, 0"), (9, '-1, "user.a", p, 9, 0')],
+    "removexattr": [("/no", 'p, "user.a"'), ("user.a", '"/no", p')],
     "name_to_handle_at": [("/no", "0, p, zeros(), (int *)room, 0"), (4, '0, "/no", (struct file_handle *)p, NULL, 0')],
     "open_by_handle_at": [(8, "-1, (struct file_handle *)p, 0")],
     # Time.
@@ -397,6 +464,12 @@ USES: Dict[str, Sequence[Use]] = {
     "gettimeofday": [(16, "(struct timeval *)p, NULL")],
     "clock_gettime": [(16, "CLOCK_MONOTONIC, (struct timespec *)p")],
     "clock_settime": [(16, "-1, (struct timespec *)p")],
+    "timespec_get": [(16, "(struct timespec *)p, TIME_UTC")],
+    "timer_create": [(8, "CLOCK_MONOTONIC, NULL, (timer_t *)p"), (64, "-1, (struct sigevent *)p, (timer_t *)room")],
+    "timer_settime": [(32, "made_timer(), 0, (struct itimerspec *)p, NULL"),
+                      (32, "made_timer(), 0, zeros(), (struct itimerspec *)p")],
+    "timer_gettime": [(32, "made_timer(), (struct itimerspec *)p")],
+    "adjtimex": [(208, "(struct timex *)p")],
     "nanosleep": [(16, "(struct timespec *)p, NULL")],
     "clock_nanosleep": [(16, "CLOCK_MONOTONIC, 0, (struct timespec *)p, NULL")],
     "getitimer": [(32, "ITIMER_REAL, (struct itimerval *)p")],
@@ -414,6 +487,7 @@ USES: Dict[str, Sequence[Use]] = {
     "mktime": [(56, "(struct tm *)p")],
     "strftime": [("%Y", "room, 20, p, zeros()"), (56, 'room, 20, "%Y", (struct tm *)p'),
                  (5, 'p, 20, "%Y", zeros()')],
+    "strftime_l": [("%Y", "room, 20, p, zeros(), latin_locale()"), (5, 'p, 20, "%Y", zeros(), latin_locale()')],
     "wcsftime": [(wide("%Y"), "WIDE(room), 20, WIDE(p), zeros()")],
     "strptime": [("%Y", '"2000", p, (struct tm *)room'), (56, '"2000", "%Y", (struct tm *)p')],
     # Processes, users and the system.
@@ -434,13 +508,23 @@ USES: Dict[str, Sequence[Use]] = {
     "sigemptyset": [(128, "(sigset_t *)p")],
     "sigandset": [(128, "(sigset_t *)p, zeros(), zeros()"), (128, "(sigset_t *)room, (sigset_t *)p, zeros()"),
                   (128, "(sigset_t *)room, zeros(), (sigset_t *)p")],
+    "sigaddset": [(128, "(sigset_t *)p, SIGUSR2")],
+    "sigismember": [(128, "(sigset_t *)p, SIGUSR2")],
     "sigprocmask": [(128, "SIG_BLOCK, (sigset_t *)p, NULL"), (128, "SIG_BLOCK, NULL, (sigset_t *)p")],
     "system": [("true", "p")],
     "posix_spawn": [("/no", "(pid_t *)room, p, NULL, NULL, nothing, nothing"),
                     (4, '(pid_t *)p, "/bin/true", NULL, NULL, nothing, nothing'),
                    (8, '(pid_t *)room, "/bin/true", NULL, NULL, (char **)p, nothing'),
                    (8, '(pid_t *)room, "/bin/true", NULL, NULL, nothing, (char **)p'),
+                   (80, '(pid_t *)room, "/bin/true", (void *)p, NULL, nothing, nothing'),
+                   (336, '(pid_t *)room, "/bin/true", NULL, (void *)p, nothing, nothing'),
                    ("abc", '(pid_t *)room, "/bin/true", NULL, NULL, (char *[]){p, NULL}, nothing')],
+    "posix_spawn_file_actions_init": [(80, "(posix_spawn_file_actions_t *)p")],
+    "posix_spawn_file_actions_addopen": [(80, '(posix_spawn_file_actions_t *)p, 0, "/", 0, 0'),
+                                         ("/dev/null", "zeros(), 0, p, 0, 0")],
+    "posix_spawn_file_actions_adddup2": [(80, "(posix_spawn_file_actions_t *)p, 0, 1")],
+    "posix_spawn_file_actions_addclose": [(80, "(posix_spawn_file_actions_t *)p, 3")],
+    "posix_spawnattr_init": [(336, "(posix_spawnattr_t *)p")],
     "getenv": [("HOME", "p")],
     "setenv": [("HOME", 'p, "/", 0'), ("/", '"HOME", p, 0')],
     "unsetenv": [("NOTHING", "p")],
@@ -451,6 +535,16 @@ USES: Dict[str, Sequence[Use]] = {
     "getrusage": [(144, "RUSAGE_SELF, (struct rusage *)p")],
     "getrlimit": [(16, "RLIMIT_CORE, (struct rlimit *)p")],
     "setrlimit": [(16, "RLIMIT_CORE, (struct rlimit *)p")],
+    "prlimit": [(16, "0, RLIMIT_CORE, (struct rlimit *)p, NULL"), (16, "0, RLIMIT_CORE, NULL, (struct rlimit *)p")],
+    "getopt": [(8, 'from_first(1), (char **)p, "a"'), ("abc", "from_first(1), nothing, p"),
+               ("-a", 'from_first(2), words_with(p), "a"')],
+    "getopt_long": [(8, 'from_first(1), (char **)p, "a", NULL, NULL'), ("abc", "from_first(1), nothing, p, NULL, NULL"),
+                    ("--of", 'from_first(2), words_with(p), "", options_with("of"), NULL'),
+                    (32, 'from_first(2), words_with("--of"), "a", (struct option *)p, NULL'),
+                    (64, 'from_first(2), words_with("--of"), "a", options_in(p), NULL'),
+                    ("of", 'from_first(2), words_with("--of"), "a", options_with(p), NULL'),
+                    (4, 'from_first(2), words_with("--of"), "", options_with("of"), (int *)p')],
+    "setgroups": [(4, "1, (gid_t *)p")],
     "gethostname": [(64, "before_end_of_host(p, gethostname), 64")],
     "__gethostname_chk": [(64, "before_end_of_host(p, gethostname), 64, ANY")],
     "getdomainname": [(64, "before_end_of_host(p, getdomainname), 64")],
@@ -475,6 +569,12 @@ USES: Dict[str, Sequence[Use]] = {
     "fgetpwent_r": [(48, 'fopen("/etc/passwd", "r"), (struct passwd *)p, room + 99, 999, (struct passwd **)room')],
     "getpass": [("abcdefg", "after_input(\"secret\\n\", p)")],
     "textdomain": [("name", "p")],
+    "bindtextdomain": [("name", "p, NULL"), ("name", '"name", p')],
+    "newlocale": [("C", "LC_ALL_MASK, p, NULL")],
+    "openlog": [("name", "p, 0, 0")],
+    "ptrace": [(216, "PTRACE_SETREGS, -1, NULL, p"), (512, "PTRACE_SETFPREGS, -1, NULL, p"),
+               (16, "PTRACE_GETREGSET, -1, NULL, p")],
+    "backtrace": [(8, "(void **)p, 1")],
     "prctl": [("name", "PR_SET_NAME, p, 0, 0, 0"), (16, "PR_GET_NAME, p, 0, 0, 0")],
     "capget": [(8, "(struct __user_cap_header_struct *)p, NULL"),
                (24, "capability_head(), (struct __user_cap_data_struct *)p")],
@@ -500,15 +600,76 @@ USES: Dict[str, Sequence[Use]] = {
     "sched_getparam": [(4, "0, (struct sched_param *)p")],
     "sched_getaffinity": [(128, "0, 128, p")],
     "pthread_getaffinity_np": [(128, "pthread_self(), 128, p")],
+    "sched_setaffinity": [(128, "-1, 128, p")],
+    "pthread_setaffinity_np": [(128, "pthread_self(), 128, p")],
+    "sched_setparam": [(4, "-1, (struct sched_param *)p")],
+    "sched_setscheduler": [(4, "-1, 0, (struct sched_param *)p")],
+    "pthread_setschedparam": [(4, "pthread_self(), 0, (struct sched_param *)p")],
+    "sched_rr_get_interval": [(16, "0, (struct timespec *)p")],
+    "pthread_key_create": [(4, "(pthread_key_t *)p, NULL")],
+    "pthread_attr_init": [(56, "(pthread_attr_t *)p")],
+    "pthread_attr_setdetachstate": [(56, "(pthread_attr_t *)p, 0")],
+    "pthread_attr_setguardsize": [(56, "(pthread_attr_t *)p, 4096")],
+    "pthread_attr_setschedparam": [(56, "(pthread_attr_t *)p, zeros()"),
+                                   (4, "own_settings(), (struct sched_param *)p")],
+    "pthread_attr_setstack": [(56, "(pthread_attr_t *)p, room, sizeof room")],
+    "pthread_attr_setaffinity_np": [(56, "(pthread_attr_t *)p, 128, zeros()"), (128, "own_settings(), 128, p")],
     "pthread_attr_getdetachstate": [(4, "zeros(), (int *)p")],
     "pthread_attr_getguardsize": [(8, "zeros(), (size_t *)p")],
     "pthread_attr_getschedparam": [(4, "zeros(), (struct sched_param *)p")],
     "pthread_attr_getstack": [(8, "own_settings(), (void **)p, (size_t *)room"),
                               (8, "own_settings(), (void **)room, (size_t *)p")],
     "pthread_attr_getaffinity_np": [(128, "own_settings(), 128, p")],
-    "sem_getvalue": [(4, "zeros(), (int *)p")],
+    # Locks.
+    "pthread_mutex_lock": [(40, "(pthread_mutex_t *)p")],
+    "pthread_mutex_init": [(40, "(pthread_mutex_t *)p, NULL"),
+                           (4, "(pthread_mutex_t *)room, (pthread_mutexattr_t *)p")],
+    "pthread_mutex_timedlock": [(40, "(pthread_mutex_t *)p, zeros()"), (16, "zeros(), (struct timespec *)p")],
+    "pthread_mutex_clocklock": [(40, "(pthread_mutex_t *)p, CLOCK_REALTIME, zeros()"),
+                                (16, "zeros(), CLOCK_REALTIME, (struct timespec *)p")],
+    "pthread_cond_signal": [(48, "(pthread_cond_t *)p")],
+    "pthread_cond_init": [(48, "(pthread_cond_t *)p, NULL"), (4, "(pthread_cond_t *)room, (pthread_condattr_t *)p")],
+    "pthread_cond_wait": [(48, "(pthread_cond_t *)p, refusing()"), (REFUSING, "zeros(), (pthread_mutex_t *)p")],
+    "pthread_cond_timedwait": [(48, "(pthread_cond_t *)p, refusing(), zeros()"),
+                               (REFUSING, "zeros(), (pthread_mutex_t *)p, past_time()"),
+                               (16, "zeros(), refusing(), (struct timespec *)p")],
+    "pthread_cond_clockwait": [(48, "(pthread_cond_t *)p, refusing(), CLOCK_REALTIME, zeros()"),
+                               (REFUSING, "zeros(), (pthread_mutex_t *)p, CLOCK_REALTIME, past_time()"),
+                               (16, "zeros(), refusing(), CLOCK_REALTIME, (struct timespec *)p")],
+    "pthread_rwlock_rdlock": [(56, "(pthread_rwlock_t *)p")],
+    "pthread_rwlock_init": [(56, "(pthread_rwlock_t *)p, NULL"),
+                            (8, "(pthread_rwlock_t *)room, (pthread_rwlockattr_t *)p")],
+    "pthread_rwlock_timedrdlock": [(56, "(pthread_rwlock_t *)p, zeros()"), (16, "zeros(), (struct timespec *)p")],
+    "pthread_rwlock_clockrdlock": [(56, "(pthread_rwlock_t *)p, CLOCK_REALTIME, zeros()"),
+                                   (16, "zeros(), CLOCK_REALTIME, (struct timespec *)p")],
+    "pthread_spin_lock": [(b"\1\0\0\0", "(pthread_spinlock_t *)p")],
+    "pthread_spin_init": [(4, "(pthread_spinlock_t *)p, 0")],
+    "pthread_barrier_wait": [(bytes(8) + b"\1" + bytes(23), "(pthread_barrier_t *)p")],
+    "pthread_barrier_init": [(32, "(pthread_barrier_t *)p, NULL, 1"),
+                             (4, "(pthread_barrier_t *)room, (pthread_barrierattr_t *)p, 1")],
+    "pthread_once": [(4, "(pthread_once_t *)p, does_nothing")],
+    "pthread_mutexattr_init": [(4, "(pthread_mutexattr_t *)p")],
+    "pthread_mutexattr_setprioceiling": [(4, "(pthread_mutexattr_t *)p, 0")],
+    "pthread_condattr_init": [(4, "(pthread_condattr_t *)p")],
+    "pthread_condattr_setclock": [(4, "(pthread_condattr_t *)p, 0")],
+    "sem_post": [(ONE_PERMIT, "(sem_t *)p")],
+    "sem_init": [(32, "(sem_t *)p, 0, 1")],
+    "sem_timedwait": [(ONE_PERMIT, "(sem_t *)p, zeros()"), (16, "one_permit(), (struct timespec *)p")],
+    "sem_clockwait": [(ONE_PERMIT, "(sem_t *)p, CLOCK_REALTIME, zeros()"),
+                      (16, "one_permit(), CLOCK_REALTIME, (struct timespec *)p")],
+    "sem_getvalue": [(4, "zeros(), (int *)p"), (32, "(sem_t *)p, (int *)room")],
     "sem_open": [("/no/such", "p, 0, 0, 0")],
     "sem_unlink": [("/no/such", "p")],
+    "mtx_lock": [(40, "(mtx_t *)p")],
+    "mtx_init": [(40, "(mtx_t *)p, mtx_plain")],
+    "mtx_timedlock": [(40, "(mtx_t *)p, zeros()"), (16, "zeros(), (struct timespec *)p")],
+    "mtx_destroy": [(40, "(mtx_t *)p")],
+    "cnd_init": [(48, "(cnd_t *)p")],
+    "cnd_wait": [(48, "(cnd_t *)p, (mtx_t *)refusing()"), (REFUSING, "zeros(), (mtx_t *)p")],
+    "cnd_timedwait": [(48, "(cnd_t *)p, (mtx_t *)refusing(), zeros()"),
+                      (16, "zeros(), (mtx_t *)refusing(), (void *)p")],
+    "cnd_destroy": [(48, "(cnd_t *)p")],
+    "call_once": [(4, "(once_flag *)p, does_nothing")],
     # Hosts and networks.
     "inet_ntop": [(4, "AF_INET, p, room, 99"), (16, "AF_INET6, p, room, 99"),
                   ("0.0.0.0", "AF_INET, clear(room), p, 99")],
@@ -566,7 +727,8 @@ USES: Dict[str, Sequence[Use]] = {
                    ("abc", '"1:2:3:4:5:6 abc", (struct ether_addr *)room, p')],
     # Patterns and arrays.
     "regcomp": [("a*", "(regex_t *)room, p, 0"), (64, '(regex_t *)p, "a*", 0')],
-    "regexec": [("abc", "pattern(), p, 0, NULL, 0"), (16, 'pattern(), "abc", 2, (regmatch_t *)p, 0')],
+    "regexec": [("abc", "pattern(), p, 0, NULL, 0"), (16, 'pattern(), "abc", 2, (regmatch_t *)p, 0'),
+                (b"xxabc", "pattern(), p, 1, match_of(2, 5), REG_STARTEND")],
     "regerror": [(5, "1, NULL, p, 5")],
     "regfree": [(64, "(regex_t *)p")],
     "wordexp": [("abc", "p, (wordexp_t *)room, 0"), (24, '"abc", (wordexp_t *)p, 0')],
@@ -824,8 +986,8 @@ def check_all_tried(suite: Suite, folder: str) -> None:
 BUG = re.compile(r"^static void bug_(\w+)\(void\)", re.M)
 
 
-# What AddressSanitizer does not find: it looks at no input of sscanf, and at no name that `open` gets.
-FOUND_HERE_ALONE = {"scanned", "open"}
+# What AddressSanitizer does not find: it looks at no input of sscanf, no name that `open` gets, no lock and no exec.
+FOUND_HERE_ALONE = {"scanned", "open", "locked", "posted", "program", "word"}
 
 
 def innermost(module: str, places: Sequence[int]) -> List[str]:
@@ -938,7 +1100,7 @@ def check_good_calls(suite: Suite, folder: str, compiler: Compiler, flags: Seque
 def check_own_names(suite: Suite, folder: str, compiler: Compiler) -> None:
     """Functions and variables of a program that have names of the C library's, in one object and in a shared one."""
     source = f"{TESTS}/own_calls.c"
-    wanted = b"5 8 abc 16 3.5 1 2 3 4 5 6 7 8 9\n"
+    wanted = b"5 8 abc 16 3.5 1 2 3 4 5 6 7 8 9 1 1 1 1 1 1\n"
     for flags in ((), ["-s"], ["-fvisibility=hidden"], ["-O2"], ["-no-pie", "-fno-pie"]):
         compiler.c(folder, ["-c", source], f"{folder}/own.o", "-w", "-DOWN", "-fno-builtin", *flags[:1])
         compiler.c(folder, [source, "own.o"], f"{folder}/own", "-w", "-fno-builtin", *flags)

@@ -32,9 +32,9 @@ it is searched or compared, or has a number (`strtol`, `atoi`), only what is rea
 stored. Of formats that is not looked at which follows a position (`%1$s`) or a conversion that the program has
 registered, `%ls` with a precision, and a `%n` of `scanf` after its last value and other text than blanks.
 
-Functions that are not here are not recorded, as `fcntl`, `wcstok` and `strverscmp`. Of these AddressSanitizer looks at
-XDR, `crypt`, `tmpnam`, `tempnam`, `ptrace`, `backtrace`, requests of `ioctl` beside the common ones, and `memcpy` that
-`dlsym` has found.
+Functions that are not here are not recorded. Of these AddressSanitizer looks at XDR, `crypt`, `tmpnam`, `tempnam`, and
+requests of `ioctl` beside the common ones. `exec` and its like are not here: what they read is recorded, the path, the
+words and the environment.
 """
 
 CONDITIONS = {
@@ -52,6 +52,8 @@ MEANINGS = {
     "READS_FIRST": "reads the first byte of {0}",
     "READS_STRING": "reads the string {0}",
     "WRITES_STRING": "writes the string {0}",
+    "GIVES_STRING": "reads the string {0}",
+    "GIVES_LIST": "reads the strings {0}",
     "READS_WIDE": "reads the wide string {0}",
     "WRITES_WIDE": "writes the wide string {0}",
     "READS_ARRAY": "reads {1} elements of {0}",
@@ -68,11 +70,13 @@ MEANINGS = {
     "COMPARES": "reads both strings up to the first difference, at most {2} bytes",
     "COMPARES_FOLDED": "reads both strings up to the first difference, at most {2} bytes",
     "WIDE_COMPARES": "reads both strings up to the first difference, at most {2} letters",
+    "WIDE_COMPARES_FOLDED": "reads both strings up to the first difference, at most {2} letters",
     "READS_NUMBER": "reads the number and what follows it; writes {2}",
     "READS_WIDE_NUMBER": "reads the number and what follows it; writes {2}",
     "READS_DIGITS": "reads the number and the byte after it",
     "READS_REAL": "reads the number and the byte after it",
     "READS_MESSAGE": "reads the head of the message, its list of pieces, its address and its control data",
+    "READS_MESSAGES": "reads {0}, and of each the list of pieces, the address and the control data",
     "SENT_MESSAGES": "has read the pieces of the first {1} messages, up to one with a bad byte",
     "WRITES_MESSAGE": "writes the pieces, the address and the control data of the message",
     "ROOM": "reads `*{0}`",
@@ -83,7 +87,6 @@ MEANINGS = {
     "READS_DATE": "reads the date {0}",
     "READS_STATE": "reads `*{0}`",
     "READS_TO": "reads `*{1}`, as far as the call has come",
-    "READS_LIST": "reads the strings {0}",
     "WRITES_MOUNT": "writes {0} and its strings",
     "WRITES_FOUND": "writes {1}, and {0}, its name and aliases if something was found",
     "WRITES_GROUP": "writes {1}, and {0} and its strings if something was found",
@@ -91,21 +94,30 @@ MEANINGS = {
     "WRITES_USER": "writes {1}, and {0} and its strings if something was found",
     "READS_REQUEST": "reads what the request takes, of the requests that are in words.h",
     "WRITES_REQUEST": "writes what the request gives, of these",
+    "READS_CONTROL": "reads the lock or the owner of a file that the command takes",
+    "WRITES_CONTROL": "writes the one that it gives",
+    "READS_TRACED": "reads what the request takes, of the requests that are in words.h",
+    "WRITES_TRACED": "writes what the request gives, of these",
+    "OPENS_MEMORY": "writes {1} bytes of {0}, or reads them if the stream can only be read",
+    "READS_MATCHED": "reads the string {0}, or with `REG_STARTEND` what the first of {1} says",
+    "BEGINS_WORDS": "reads the list {0}",
+    "READS_WORDS": "has read those of {0} that it has come past",
+    "READS_OPTIONS": "for a long option reads {1} and their names",
 }
 SILENT = """
-ALLOCATES BEGINS BEGINS_LINE ENDS_LINE FITS FITS_ARRAY HAS_BEGUN NAMES_THREAD PRINTS_WITHIN SENDS SENDS_MESSAGES
-SENDS_PIECES
+ALLOCATES BEGINS BEGINS_CALLERS BEGINS_LINE ENDS_LINE FITS FITS_ARRAY GIVES_CALLERS HAS_BEGUN NAMES_THREAD PRINTS_WITHIN
+SENDS SENDS_MESSAGES SENDS_PIECES
 """.split()
 
 
 def code(text: str) -> str:
     if text.isidentifier() and text != "SIZE_MAX":
         return f"`{text}`"
-    within = re.fullmatch(r"(?:WIDE_)?LENGTH_WITHIN\((.*)\)", text)
+    within = re.fullmatch(r"(?:(?:WIDE_)?LENGTH|GIVEN)_WITHIN\((.*)\)", text)
     if within:
         return f"at most `{split(within.group(1))[1]}`"
     text = re.sub(r"\(size_t\)|\(const char \*\)", "", text)
-    return f"`{text.replace('LEAST(', 'least(')}`"
+    return f"`{text.replace('LEAST(', 'least(').replace('head.', 'message->')}`"
 
 
 def bytes_of(verb: str, start: str, size: str) -> str:
@@ -129,7 +141,7 @@ def statement(text: str) -> str:
     text = text.strip()
     word, _, rest = text.partition("(")
     arguments = split(rest[:-1]) if rest else []
-    if word in SILENT or re.match(r"(size_t|(const )?(char|wchar_t) \*|socklen_t)", text):
+    if word in SILENT or re.match(r"(size_t|(const )?(char|wchar_t) \*|socklen_t|struct msghdr head)", text):
         return ""
     if word == "MOVES":
         to, start, size = arguments
@@ -162,6 +174,8 @@ def statements(text: str) -> List[str]:
 
 
 def condition(text: str) -> str:
+    if text.startswith("IS_THERE("):
+        return ""
     return CONDITIONS.get(text, f"if `{text.replace('GOT', 'result > 0').replace('DONE', 'result == 0')}`")
 
 
@@ -172,7 +186,8 @@ def meaning(text: str) -> str:
         before, rest = "", part
         while rest.startswith(("if (", "for (")):
             end = closing(rest, rest.index("("))
-            before += "for each message, " if rest.startswith("for") else condition(rest[4:end]) + ", "
+            words = "for each message" if rest.startswith("for") else condition(rest[4:end])
+            before += f"{words}, " if words else ""
             rest = rest[end + 1 :].strip()
         inside = statements(rest[1:-1]) if rest.startswith("{") else [rest]
         words = " and ".join(word for word in map(statement, inside) if word)
@@ -207,6 +222,8 @@ def line(row: Row) -> str:
             after = "writes what the format says, as many values as the result"
         else:
             before = "; ".join(filter(None, ["reads the format and what it says of its arguments", before]))
+    elif row.word == "LOCK":
+        before, after = "writes `*lock`", ""
     else:
         before, after = row.rest[-2:]
         before, after = meaning(with_values(before)), meaning(after)

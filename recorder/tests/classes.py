@@ -7,6 +7,7 @@ from typing import List, Set
 from beside.tables import CRASHES, UNCLAIMED
 from support import Compiler, Suite, expect, leave_out
 from testing.classes import THE_SAME, table_of_classes
+from testing.programs import call
 
 # The archive of the runtime, and which of its members name classes; or a shared object.
 RUNTIMES = {"clang": ("libclang_rt.asan-x86_64.a", ["asan_errors.cpp.o", "asan_report.cpp.o",
@@ -24,10 +25,10 @@ WORDS = {"CHECK": ["CHECK failed"], "does not build": ()}
 
 def runtime_of(compiler: Compiler) -> bytes:
     name, members = RUNTIMES[compiler.name]
-    path = subprocess.run([compiler.name, f"-print-file-name={name}"], stdout=subprocess.PIPE, text=True,
-                          check=True).stdout.strip()
+    path = call([compiler.name, f"-print-file-name={name}"], stdout=subprocess.PIPE, text=True,
+                check=True).stdout.strip()
     if members:
-        return subprocess.run(["ar", "p", path, *members], stdout=subprocess.PIPE, check=True).stdout
+        return call(["ar", "p", path, *members], stdout=subprocess.PIPE, check=True).stdout
     with open(path, "rb") as file:
         return file.read()
 

@@ -3,8 +3,10 @@
 #include <fcntl.h>
 #include <netdb.h>
 #include <poll.h>
+#include <pthread.h>
 #include <pwd.h>
 #include <regex.h>
+#include <semaphore.h>
 #include <stdio.h>
 #include <stdlib.h>
 #include <string.h>
@@ -107,6 +109,10 @@ static void bug_uname(void) { number = uname((struct utsname *)block); }
 static void bug_getitimer(void) { number = getitimer(ITIMER_REAL, (struct itimerval *)block); }
 static void bug_qsort(void) { qsort(block, nine, 1, same); }
 static void bug_regcomp(void) { number = regcomp(&pattern, gone, 0); }
+static void bug_locked(void) { number = pthread_mutex_trylock((pthread_mutex_t *)gone); }
+static void bug_posted(void) { number = sem_post((sem_t *)gone); }
+static void bug_program(void) { number = execl(gone, "program", NULL); }
+static void bug_word(void) { number = execv("/no/such", (char *[]){gone, NULL}); }
 
 static const struct {
     const char *name;
@@ -122,7 +128,7 @@ static const struct {
     BUG(fscanf), BUG(scanned_long), BUG(fopen), BUG(readlink), BUG(realpath), BUG(pread), BUG(readv), BUG(writev),
     BUG(recvfrom), BUG(poll), BUG(getsockname), BUG(inet_pton), BUG(inet_ntop), BUG(getaddrinfo), BUG(getpwnam),
     BUG(time), BUG(clock_gettime), BUG(gmtime_r), BUG(ctime_r), BUG(mktime), BUG(uname), BUG(getitimer), BUG(qsort),
-    BUG(regcomp),
+    BUG(regcomp), BUG(locked), BUG(posted), BUG(program), BUG(word),
 };
 
 int main(int count, char **argv)

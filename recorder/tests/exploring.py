@@ -18,6 +18,8 @@ from typing import List
 sys.path.insert(0, f"{os.path.dirname(os.path.realpath(__file__))}/../..")  # where `testing` is
 
 from support import RECORDER, TESTS, Compiler, Suite, expect
+from testing.programs import Started, call
+from testing.watch import LONGEST
 
 # The sources that threads run at once, and the explorer.
 SOURCES = [f"{RECORDER}/stream/{it}.c" for it in ("state", "record", "regions", "places", "watched", "stated",
@@ -40,13 +42,13 @@ def build_explorer(compiler: str, folder: str) -> str:
     objects = []
     for source, flags in [(WORLD, POINTS + WARNINGS), (EXPLORER, WARNINGS), *((it, POINTS + ["-w"]) for it in SOURCES)]:
         objects.append(f"{folder}/{os.path.basename(source)}.o")
-        subprocess.run([compiler, *FLAGS, *flags, "-c", source, "-o", objects[-1]], check=True)
-    subprocess.run([compiler, *objects, "-o", f"{folder}/explore"], check=True)
+        call([compiler, *FLAGS, *flags, "-c", source, "-o", objects[-1]], check=True)
+    call([compiler, *objects, "-o", f"{folder}/explore"], check=True)
     return f"{folder}/explore"
 
 
 def explore(program: str, argv: List[str]) -> None:
-    ran = subprocess.run([program, *argv], stdout=subprocess.PIPE, stderr=subprocess.STDOUT, check=False)
+    ran = call([program, *argv], stdout=subprocess.PIPE, stderr=subprocess.STDOUT, timeout=LONGEST)
     expect((ran.returncode, b"WRONG" in ran.stdout), (0, False), ran.stdout.decode()[-6000:])
 
 
@@ -73,7 +75,8 @@ def main() -> int:
         print(__doc__)
         return 0
     with tempfile.TemporaryDirectory(prefix="asancol-explore-") as folder:
-        return subprocess.run([build_explorer(compiler, folder), *argv], check=False).returncode
+        with Started([build_explorer(compiler, folder), *argv]) as explorer:
+            return explorer.wait(None)
 
 
 if __name__ == "__main__":

@@ -2,11 +2,13 @@
 its modules, and its faults with the block or the variable that is nearest."""
 
 import array
+import errno
 import fcntl
 import glob
 import itertools
 import os
 import re
+import resource
 import select
 import shutil
 import signal
@@ -22,28 +24,49 @@ from support import (
     TESTS, Compiler, Failure, Suite, Trace, environment, expect, leave_out, limited, placed, reports, run, side_of,
     write,
 )
-from testing.programs import NO_SETTINGS, PATIENCE
+from asancol_report.side import MAX_STACK_WORDS, STACKS_AT, WORD
+from testing import LeftOut, wait_until
+from testing.programs import NO_SETTINGS, PATIENCE, Started, accept, call, join
 from testing.side import EXEC, EXIT, GLOBAL, LOST, NO_ENDING, NO_VARIABLE, OF_STACK, SIGNAL, Calls, Fault, Side
 
 # No call becomes a jump, so each has its place.
 FLAGS = ("-w", "-pthread", "-fno-optimize-sibling-calls")
-F_GET_SEALS = 1034
+F_ADD_SEALS, F_GET_SEALS, F_SEAL_SHRINK = 1033, 1034, 2
+# What comes first of a process that asks for a side memory, before the number of its error.
+ASKS = b"\0"
 # A name that is free again may still be held by a child that another test has just forked.
 NUMBERS = itertools.count()
+ROOM = STACKS_AT + MAX_STACK_WORDS * WORD.size
+FD_SETSIZE = 1024
+# Room for the memory alone. The system closes the files of the program that come with it: CMSG_SPACE has room for one.
+ONE_DESCRIPTOR = socket.CMSG_LEN(4)
 
 
 class Peer:
     """A process that has connected."""
 
-    def __init__(self, connection: socket.socket) -> None:
-        self.connection = connection
+    def __init__(self, connection: socket.socket, gives: bool) -> None:
+        self.connection, self.gives, self.asked = connection, gives, 0
         self.data = bytearray()
         self.memory: Optional[int] = None
-        self.reader = threading.Thread(target=self.read)
+        self.reader = threading.Thread(target=self.read, daemon=True)
         self.reader.start()
 
+    def answer(self, text: bytes) -> None:
+        """Answers a process that could not make its memory."""
+        self.asked = text[1]
+        memory = os.memfd_create("given", os.MFD_ALLOW_SEALING)
+        os.ftruncate(memory, ROOM)
+        fcntl.fcntl(memory, F_ADD_SEALS, F_SEAL_SHRINK)
+        rights = (socket.SOL_SOCKET, socket.SCM_RIGHTS, array.array("i", [memory]))
+        self.connection.sendmsg([b"\0"], [rights] if self.gives else [])
+        os.close(memory)
+
     def read(self) -> None:
-        first, ancillary, _, _ = self.connection.recvmsg(8, socket.CMSG_SPACE(4))
+        first, ancillary, _, _ = self.connection.recvmsg(8, ONE_DESCRIPTOR)
+        if first[:1] == ASKS:
+            self.answer(first)
+            first, ancillary, _, _ = self.connection.recvmsg(8, ONE_DESCRIPTOR)
         self.data += first
         for level, kind, content in ancillary:
             if (level, kind) == (socket.SOL_SOCKET, socket.SCM_RIGHTS):
@@ -65,10 +88,11 @@ class Peer:
 
 
 class Hub:
-    """Accepts processes under a path, under the abstract name of the same text, or under both."""
+    """Accepts processes under a path, under the abstract name of the same text, or under both. It stops at the end of
+    its `with`, or once it is closed."""
 
-    def __init__(self, path: str, has_path: bool = True, has_abstract: bool = True) -> None:
-        self.path = path
+    def __init__(self, path: str, has_path: bool = True, has_abstract: bool = True, gives: bool = True) -> None:
+        self.path, self.gives = path, gives
         self.peers: List[Peer] = []
         self.is_stopping = False
         self.listening = []
@@ -77,39 +101,55 @@ class Hub:
             listener.bind(name)
             listener.listen(100)
             self.listening.append(listener)
-        self.accepter = threading.Thread(target=self.accept)
+        self.accepter = threading.Thread(target=self.accept, daemon=True)
         self.accepter.start()
 
+    def __enter__(self) -> "Hub":
+        return self
+
+    def __exit__(self, *_: object) -> None:
+        self.stop()
+
     def accept(self) -> None:
-        """Until it is to stop and nobody waits."""
+        """Until it is to stop and nobody waits. Tests may have so many files open that select takes none of these."""
+        looking = select.poll()
+        for listener in self.listening:
+            looking.register(listener, select.POLLIN)
+        by_number = {it.fileno(): it for it in self.listening}
         while True:
             is_last = self.is_stopping
-            ready, _, _ = select.select(self.listening, [], [], 0.01)
-            for listener in ready:
-                self.peers.append(Peer(listener.accept()[0]))
+            ready = looking.poll(10)
+            for number, _ in ready:
+                self.peers.append(Peer(accept(by_number[number]), self.gives))
             if is_last and not ready:
                 return
 
-    def close(self) -> List[Peer]:
-        """Waits for the ends of all that have connected, in the order in which they have."""
+    def stop(self) -> None:
         self.is_stopping = True
-        self.accepter.join(timeout=PATIENCE)
-        for peer in self.peers:
-            peer.reader.join(timeout=PATIENCE)
+        join(self.accepter, "the hub")
         for listener in self.listening:
             listener.close()
+
+    def close(self) -> List[Peer]:
+        """Waits for the ends of all that have connected, in the order in which they have."""
+        self.stop()
+        for peer in self.peers:
+            join(peer.reader, "the end of a process")
         return self.peers
 
+    def wait_for_memory(self) -> Peer:
+        """Returns the first process once its memory is there."""
+        wait_until(lambda: bool(self.peers) and self.peers[0].memory is not None, "a process")
+        return self.peers[0]
 
-def run_under(folder: str, argv: List[str], status: int = 0, **settings: str) -> Tuple[List[Peer], bytes]:
-    """Runs a command under a hub. What has connected, and what was said."""
-    hub = Hub(f"{folder}/hub{next(NUMBERS)}")
-    try:
+
+def run_under(folder: str, argv: List[str], status: int = 0, gives: bool = True,
+              **settings: str) -> Tuple[List[Peer], bytes]:
+    """Runs a command under a hub, which gives a memory to who asks, or none. What has connected, and what was said."""
+    with Hub(f"{folder}/hub{next(NUMBERS)}", gives=gives) as hub:
         ran = run(argv, folder, ASANCOL_HUB=hub.path, **settings)
         expect(ran.returncode, status, f"status of {argv}: {ran.stderr.decode()}")
-    finally:
-        peers = hub.close()
-    return peers, ran.stderr
+        return hub.close(), ran.stderr
 
 
 def one(folder: str, argv: List[str], status: int = 0, **settings: str) -> Peer:
@@ -353,7 +393,7 @@ def check_no_checks(suite: Suite, folder: str, compiler: Compiler) -> None:
     shared = ["-fPIC", "-shared"]
     compiler.c(folder, [f"{TESTS}/hub_library.c"], f"{folder}/libhub.so", *shared)
     peers, said = run_under(folder, ["./program"])
-    expect((peers[0].side().has_checks, b"no access was recorded" in said), (0, True), said)
+    expect((peers[0].side().has_checks, said), (0, b""), "without one: the hub says it")
     peers, said = run_under(folder, ["./program", "./libhub.so"])
     expect((peers[0].side().has_checks, peers[0].trace().is_closed, said), (1, True, b""), "with a library")
     # One that its own compiler has linked calls the program.
@@ -364,7 +404,7 @@ def check_no_checks(suite: Suite, folder: str, compiler: Compiler) -> None:
 
 
 def build_id(path: str) -> str:
-    said = subprocess.run(["readelf", "-n", path], stdout=subprocess.PIPE, check=True).stdout.decode()
+    said = call(["readelf", "-n", path], stdout=subprocess.PIPE, check=True).stdout.decode()
     return matched(said, r"Build ID: (\w+)")[1]
 
 
@@ -399,13 +439,41 @@ def check_modules(suite: Suite, folder: str, program: str, compiler: Compiler) -
 def check_names(suite: Suite, folder: str, program: str) -> None:
     """By the path alone, and by the abstract name alone; and a trace wins over both."""
     for has_path in (True, False):
-        hub = Hub(f"{folder}/hub{has_path}", has_path, not has_path)
-        ran = run([program, "behind"], folder, ASANCOL_HUB=hub.path)
-        expect((ran.returncode, ran.stderr), (0, b""), "the program")
-        expect([len(faults_of(peer)) for peer in hub.close()], [1], f"path {has_path}")
-    hub = Hub(f"{folder}/hub")
-    ran = run([program, "behind"], folder, ASANCOL_HUB=hub.path, ASANCOL_TRACE="t.trace")
-    expect((ran.stderr, hub.close(), os.path.exists(f"{folder}/t.trace")), (b"", [], True), "with a trace")
+        with Hub(f"{folder}/hub{has_path}", has_path, not has_path) as hub:
+            ran = run([program, "behind"], folder, ASANCOL_HUB=hub.path)
+            expect((ran.returncode, ran.stderr), (0, b""), "the program")
+            expect([len(faults_of(peer)) for peer in hub.close()], [1], f"path {has_path}")
+    with Hub(f"{folder}/hub") as hub:
+        ran = run([program, "behind"], folder, ASANCOL_HUB=hub.path, ASANCOL_TRACE="t.trace")
+        expect((ran.stderr, hub.close(), os.path.exists(f"{folder}/t.trace")), (b"", [], True), "with a trace")
+
+
+def files_open() -> List[str]:
+    paths = []
+    for number in os.listdir("/proc/self/fd"):
+        try:
+            paths.append(os.readlink(f"/proc/self/fd/{number}"))
+        except OSError:  # another test has closed it
+            continue
+    return paths
+
+
+def check_many_files(suite: Suite, folder: str, program: str) -> None:
+    """Other tests may have more files open than `select` has room for."""
+    most, _ = resource.getrlimit(resource.RLIMIT_NOFILE)
+    if most < 2 * FD_SETSIZE:
+        raise LeftOut(f"no more than {most} files may be open")
+    held = [os.open(os.devnull, os.O_RDONLY | os.O_CLOEXEC)]
+    try:
+        while held[-1] < FD_SETSIZE:
+            held.append(os.dup(held[0]))
+        os.link(program, f"{folder}/program")  # what was just written can't be run while another test forks
+        peer = one(folder, ["./program", "behind"])
+        expect(len(faults_of(peer)), 1, "faults")
+        expect([it for it in files_open() if it.startswith(folder)], [], "what was sent and is still open")
+    finally:
+        for each in held:
+            os.close(each)
 
 
 def check_root(suite: Suite, folder: str, program: str) -> None:
@@ -564,7 +632,7 @@ def marks(folder: str) -> List[Tuple[str, str]]:
 
 
 def check_word(suite: Suite, folder: str, program: str, lives: str) -> None:
-    """A process that is not recorded leaves word, or connects and sends nothing."""
+    """A process that is not recorded leaves word, or sends it."""
     room = "address space is limited (ulimit -v, or vm.overcommit_memory=2)"
     run_under(folder, ["sh", "-c", f"ulimit -v 1000000; exec {program} behind"], 127)
     expect(marks(folder), [(program, room)], "without room for the shadow")
@@ -572,10 +640,16 @@ def check_word(suite: Suite, folder: str, program: str, lives: str) -> None:
     expect((peers, [it for it, _ in marks(folder)]), ([], [program]), "with a trace that goes elsewhere")
     peers, _ = run_under(folder, [lives, "forks_quietly"])
     expect(marks(folder), [(lives, "it was not made by fork, but by _Fork or clone")], "a fork that nothing announces")
-    hub = Hub("/dev/null/hub" + str(next(NUMBERS)), has_path=False)
-    ran = run([program, "behind"], folder, ASANCOL_HUB=hub.path, ASANCOL_TRACE=f"{folder}/elsewhere")
-    peers = hub.close()
-    expect((ran.returncode, [bytes(it.data) for it in peers]), (0, [b""]), "without a folder for word")
+    name = f"/dev/null/{next(NUMBERS)}"
+    with socket.socket(socket.AF_UNIX) as asked:
+        asked.bind(f"\0{name}/ask")
+        asked.listen()
+        settings = environment(ASANCOL_HUB=f"{name}/hub", ASANCOL_TRACE=f"{folder}/elsewhere")
+        with Started([program, "behind"], env=settings) as process:
+            with accept(asked) as peer:
+                word = peer.recv(1 << 10).decode().split("\n")
+        why = "ASANCOL_TRACE is set for it, so its trace is there"
+        expect((process.returncode, word), (0, ["unseen", program, why]), "without a folder for word")
 
 
 def check_files(suite: Suite, folder: str, program: str) -> None:
@@ -594,20 +668,24 @@ def check_files(suite: Suite, folder: str, program: str) -> None:
 
 
 def check_small_files(suite: Suite, folder: str, program: str) -> None:
-    """Under a limit on the size of files there is no room for faults: a line says so, and the trace is whole."""
+    """Under a limit on the size of files there is no room for faults, unless the hub has it: a line says so, and the
+    trace is whole."""
     small = ["sh", "-c", f"ulimit -f 4096; exec {program} loops"]
     ran = run(small, folder, ASANCOL_TRACE="t.trace", ASANCOL_WHERE="1")
     expect((ran.returncode, len(ran.stderr.splitlines())), (0, 1), ran.stderr)
     expect(len(reports(suite.asancol, f"{folder}/t.trace")[1]), 100, "reports")
-    peers, said = run_under(folder, small)
-    expect((peers[0].memory, len(said.splitlines())), (None, 1), said)
-    expect(len(check(suite, folder, peers[0])[1]), 100, "reports of the hub")
+    for gives, lines in ((False, 1), (True, 0)):
+        peers, said = run_under(folder, small, gives=gives)
+        seen = (peers[0].asked, peers[0].memory is not None, len(said.splitlines()))
+        expect(seen, (errno.EFBIG, gives, lines), said)
+        expect(len(check(suite, folder, peers[0])[1]), 100, "reports of the hub")
+    expect(len(faults_of(peers[0])), 100, "faults in the memory of the hub")
 
 
 def check_closed(suite: Suite, folder: str, program: str) -> None:
-    """A process that closes all descriptors is lost, and says so."""
+    """A process that closes all descriptors is silent, and its ending is seen."""
     peers, said = run_under(folder, [program, "closes_all"])
-    expect((peers[0].side().ending, len(said.splitlines())), (LOST, 1), said)
+    expect((peers[0].side().ending, said), (EXIT, b""), "its ending")
     expect([fault.block_size for fault in faults_of(peers[0])], [8], "what it had sent")
     for name in ("keeps_descriptors", "keeps_errno"):
         one(folder, [program, name])
@@ -615,16 +693,14 @@ def check_closed(suite: Suite, folder: str, program: str) -> None:
 
 def check_gone(suite: Suite, folder: str, program: str) -> None:
     """A hub that is gone: the program runs on, and what is lost is noted."""
-    hub = Hub(f"{folder}/hub")
-    argv = [program, "many_faults"]
-    with subprocess.Popen(argv, env=environment(ASANCOL_HUB=hub.path), stderr=subprocess.PIPE) as process:
-        while not (hub.peers and hub.peers[0].memory):
-            time.sleep(0.01)
-        hub.peers[0].connection.shutdown(socket.SHUT_RD)
+    argv, path = [program, "many_faults"], f"{folder}/hub"
+    with Hub(path) as hub, Started(argv, env=environment(ASANCOL_HUB=path), stderr=subprocess.PIPE) as process:
+        peer = hub.wait_for_memory()
+        peer.connection.shutdown(socket.SHUT_RD)
         said = process.communicate(timeout=PATIENCE)[1]
-    hub.close()
+        hub.close()
     expect((process.returncode, len(said.splitlines())), (0, 1), said)
-    expect(hub.peers[0].side().ending, LOST, "its ending")
+    expect(peer.side().ending, LOST, "its ending")
 
 
 def check_sent(suite: Suite, folder: str, program: str) -> None:
@@ -634,14 +710,12 @@ def check_sent(suite: Suite, folder: str, program: str) -> None:
     peer = one(folder, [program, "is_killed_after_a_while"], -9, ASANCOL_FULL="1")
     expect(peer.trace().count(3), 2, "mallocs")
     # It is there while the process still runs.
-    hub = Hub(f"{folder}/running")
-    with subprocess.Popen([program, "sleeps"], env=environment(ASANCOL_HUB=hub.path)) as process:
-        deadline = time.monotonic() + PATIENCE
-        while not (hub.peers and hub.peers[0].memory and faults_of(hub.peers[0])) and time.monotonic() < deadline:
-            time.sleep(0.01)
-        expect(len(faults_of(hub.peers[0])), 1, "a fault of a process that runs")
+    path = f"{folder}/running"
+    with Hub(path) as hub, Started([program, "sleeps"], env=environment(ASANCOL_HUB=path)) as process:
+        peer = hub.wait_for_memory()
+        wait_until(lambda: len(faults_of(peer)) == 1, "a fault of a process that runs", PATIENCE)
         process.send_signal(signal.SIGTERM)
-    (peer,) = hub.close()
+        hub.close()
     expect((peer.side().ending, peer.side().signal), (SIGNAL, 15), "its end")
 
 
@@ -704,6 +778,7 @@ def process_tests(suite: Suite, compiler: Compiler) -> None:
     suite.test(f"{compiler} hub no checks", check_no_checks, compiler)
     suite.test(f"{compiler} hub modules", check_modules, program, compiler)
     suite.test(f"{compiler} hub names", check_names, program)
+    suite.test(f"{compiler} hub beside many files", check_many_files, program)
     suite.test(f"{compiler} hub root", check_root, program)
     suite.test(f"{compiler} hub stacks", check_stacks, program)
     suite.test(f"{compiler} hub stacks through libraries", check_through_libraries, program, list(THROUGH_LIBRARIES))

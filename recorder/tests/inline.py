@@ -296,6 +296,7 @@ SWITCHES = {
     "fault_in_chief": 1,
     "fault_after_jump_in_coroutine": 1,
     "fault_in_own_switch": 1,
+    "fault_in_own_coroutine": 2,
 }
 
 

@@ -1,10 +1,12 @@
 /* What lean recording has to state in the middle of something: a number of rounds and the name are the arguments. */
 #define _GNU_SOURCE
 #include <pthread.h>
+#include <setjmp.h>
 #include <signal.h>
 #include <stdio.h>
 #include <stdlib.h>
 #include <string.h>
+#include <sys/resource.h>
 #include <sys/time.h>
 #include <sys/wait.h>
 #include <unistd.h>
@@ -43,6 +45,91 @@ static void handlers(int rounds)
     printf("%d\n", (int)ticks);
 }
 
+/* A timer's handler frees many blocks, whatever it interrupts: mostly the allocator. Each is freed again later. */
+
+enum { MANY = 100 };
+static void **batch;
+
+static void free_batch(int number)
+{
+    (void)number;
+    for (int i = 0; batch != NULL && i < MANY; i++)
+        free(batch[i]);
+    batch = NULL;
+    ticks++;
+}
+
+static void frees(int rounds)
+{
+    struct itimerval soon = {{0, 0}, {0, 500}};
+    void *blocks[MANY];
+    signal(SIGALRM, free_batch);
+    for (int round = 0; round < rounds; round++) {
+        for (int i = 0; i < MANY; i++)
+            blocks[i] = hide(malloc((size_t)i));
+        batch = blocks;
+        setitimer(ITIMER_REAL, &soon, NULL);
+        while (ticks <= round)
+            free(hide(malloc(40)));
+        for (int i = 0; i < MANY; i++)
+            free(hide(blocks[i]));
+    }
+}
+
+/* A timer's handler jumps out of whatever it interrupts: mostly the allocator. */
+
+static sigjmp_buf out;
+
+static void jump_out(int number)
+{
+    (void)number;
+    siglongjmp(out, 1);
+}
+
+static void jumps(int rounds)
+{
+    struct itimerval soon = {{0, 0}, {0, 300}};
+    signal(SIGALRM, jump_out);
+    for (volatile int i = 0; i < rounds; i++) {
+        if (!sigsetjmp(out, 1)) {
+            setitimer(ITIMER_REAL, &soon, NULL);
+            for (;;)
+                free(hide(malloc(40)));
+        }
+        char *block = hide(malloc(8));
+        store(block + 8);
+        free(block);
+        free(hide(block));
+    }
+}
+
+/* A timer's handler ends the process in the middle of the allocator, and what is called at exit goes wrong. */
+
+static char *volatile freed_twice;
+
+static void free_again(void)
+{
+    free(freed_twice);
+}
+
+static void end(int number)
+{
+    (void)number;
+    exit(0);
+}
+
+static void exits(int rounds)
+{
+    struct itimerval soon = {{0, 0}, {0, 300 * rounds}};
+    freed_twice = malloc(8);
+    free(freed_twice);
+    atexit(free_again);
+    signal(SIGALRM, end);
+    setitimer(ITIMER_REAL, &soon, NULL);
+    for (;;)
+        free(hide(malloc(40)));
+}
+
 /* Each round frees two blocks, of which nothing is known, and uses one once the next round has its memory, or none. */
 static void turns(int rounds)
 {
@@ -72,6 +159,25 @@ static void vforks(int rounds)
     }
 }
 
+/* A child of vfork frees a block again: one that is known to be live, and has left a small quarantine since. */
+static void vfork_frees(int rounds)
+{
+    for (int i = 0; i < rounds; i++) {
+        char *freed = hide(malloc(100));
+        store(freed + 100);
+        free(freed);
+        for (int others = 0; others < 100; others++)
+            free(hide(malloc(200)));
+        pid_t child = vfork();
+        if (child == 0) {
+            free(hide(freed));
+            _exit(0);
+        }
+        waitpid(child, NULL, 0);
+        store(freed + 101);
+    }
+}
+
 enum { STACK = 1 << 18 };
 
 static void *go_wrong_on_stack(void *rounds)
@@ -97,16 +203,80 @@ static void stacks(int rounds)
     pthread_join(thread, NULL);
 }
 
+enum { STEP = 50 };
+
+/* Of small blocks one in fifty stays, so the pages of those that are freed can't go back to the system. */
+static char **scatter(int rounds)
+{
+    char **kept = calloc((size_t)rounds / STEP + 1, sizeof *kept);
+    for (int i = 0; i < rounds; i++) {
+        char *one = hide(malloc(40));
+        if (i % STEP == 0)
+            kept[i / STEP] = one;
+        else
+            free(one);
+    }
+    return kept;
+}
+
+static void scattered(int rounds)
+{
+    free(scatter(rounds));
+}
+
+/* After that a child and its parent go wrong at some blocks that have stayed. */
+static void wrong_after(int rounds)
+{
+    char **kept = scatter(rounds);
+    pid_t child = fork();
+    for (int i = 0; i < 20; i++)
+        store(kept[i] + 40);
+    if (child == 0)
+        _exit(0);
+    waitpid(child, NULL, 0);
+}
+
+/* Lets the process have so many MB more, and says how many blocks it then gets in memory of smaller ones that were
+   freed. */
+static void limited(int rounds)
+{
+    enum { LARGE = 40000 };
+    struct rlimit limit = {0, RLIM_INFINITY};
+    char line[256], *last = NULL;
+    long kilobytes = 0;
+    FILE *status = fopen("/proc/self/status", "r");
+    while (fgets(line, sizeof line, status) != NULL)
+        sscanf(line, "VmData: %ld", &kilobytes);
+    fclose(status);
+    limit.rlim_cur = ((rlim_t)kilobytes << 10) + ((rlim_t)rounds << 20);
+    setrlimit(RLIMIT_DATA, &limit);
+    for (int i = 0; i < rounds * 2000; i++)
+        free(hide(malloc(1000)));
+    int count = 0;
+    for (char *one; (one = hide(malloc(LARGE))) != NULL; last = one, count++) {
+        memset(one, 1, LARGE);
+        memcpy(one, &last, sizeof last);
+    }
+    for (char *before; last != NULL; last = before) {
+        memcpy(&before, last, sizeof before);
+        free(last);
+    }
+    printf("%d\n", count);
+}
+
+static const struct {
+    const char *name;
+    void (*run)(int rounds);
+} programs[] = {
+    {"handlers", handlers}, {"frees", frees}, {"turns", turns}, {"vforks", vforks},       {"vfork_frees", vfork_frees},
+    {"stacks", stacks},     {"jumps", jumps}, {"exits", exits}, {"scattered", scattered}, {"wrong_after", wrong_after},
+    {"limited", limited}};
+
 int main(int count, char **argv)
 {
     int rounds = count == 3 ? atoi(argv[2]) : 0;
-    if (rounds > 0 && strcmp(argv[1], "handlers") == 0)
-        handlers(rounds);
-    if (rounds > 0 && strcmp(argv[1], "turns") == 0)
-        turns(rounds);
-    if (rounds > 0 && strcmp(argv[1], "vforks") == 0)
-        vforks(rounds);
-    if (rounds > 0 && strcmp(argv[1], "stacks") == 0)
-        stacks(rounds);
+    for (size_t i = 0; rounds > 0 && i < sizeof programs / sizeof *programs; i++)
+        if (strcmp(argv[1], programs[i].name) == 0)
+            programs[i].run(rounds);
     return rounds > 0 ? 0 : 2;
 }

@@ -6,7 +6,7 @@ import hub
 from drawn import expect_same, recorded
 from inline import make
 from segments import kinds_of, record, segments_of
-from support import TESTS, Compiler, Suite, Trace, expect, run, traces
+from support import TESTS, Compiler, Suite, Trace, expect, run, side_of, traces
 from testing.side import EXIT, SEGMENT
 
 ONE = 1 << 24
@@ -55,6 +55,28 @@ def check_handlers(suite: Suite, folder: str, program: str) -> None:
     expect(kinds, {"store heap-buffer-overflow": int(ran.stdout)}, "faults")
 
 
+def check_frees(suite: Suite, folder: str, program: str) -> None:
+    """Each free of a handler is seen, however many it makes in the middle of the allocator."""
+    for full in ("0", "1"):
+        kinds = kinds_of(record(suite, folder, [program, "frees", "20"], ONE, ASANCOL_FULL=full))
+        expect(kinds, {"free at": 2000}, f"faults with ASANCOL_FULL={full}")
+
+
+def check_jumps(suite: Suite, folder: str, program: str) -> None:
+    """After a handler has jumped out of the allocator all goes on, and what comes after an exit from there is seen.
+    Little memory is taken anew: nobody can go on from the middle of that."""
+    wanted = {"jumps 20": {"store heap-buffer-overflow": 20, "free double-free": 20},
+              "exits 10": {"free double-free": 1}}
+    for words in wanted:
+        ran = run(["sh", "-c", f"rm -f t.*; {program} {words}"], folder, ASANCOL_TRACE="t.trace", ASANCOL_FULL="0",
+                  ASANCOL_QUARANTINE="1000")
+        expect((ran.returncode, ran.stderr), (0, b""), words)
+        found = kinds_under(suite, folder, "1000")
+        if words == "exits 10":  # the block may have left the quarantine
+            found = {kind.replace("bad-free", "double-free"): number for kind, number in found.items()}
+        expect(found, wanted[words], words)
+
+
 def check_stacks(suite: Suite, folder: str, program: str) -> None:
     """Redzones of frames in a block, and that of the block."""
     for limit in (ONE, 100):
@@ -62,15 +84,50 @@ def check_stacks(suite: Suite, folder: str, program: str) -> None:
         expect(kinds, {"store stack-buffer-overflow": 30, "store heap-buffer-overflow": 60}, f"with {limit}")
 
 
+def kinds_of_turns(suite: Suite, folder: str, program: str, full: str, quarantine: str) -> Dict[str, int]:
+    settings = {"ASANCOL_TRACE": "t.trace", "ASANCOL_QUARANTINE": quarantine, "ASANCOL_FULL": full}
+    run(["sh", "-c", f"rm -f t.*; {program} turns 500"], folder, **settings)
+    return kinds_under(suite, folder, quarantine)
+
+
 def check_turns(suite: Suite, folder: str, program: str) -> None:
-    """Blocks whose memory is given again and again are stated anew, with any quarantine."""
-    for quarantine in ("0", "72", "200", "2000", "268435456"):
-        settings = {"ASANCOL_TRACE": "t.trace", "ASANCOL_QUARANTINE": quarantine}
-        kinds: Dict[str, Dict[str, int]] = {}
-        for full in ("1", "0"):
-            run(["sh", "-c", f"rm -f t.*; {program} turns 500"], folder, ASANCOL_FULL=full, **settings)
-            kinds[full] = kinds_under(suite, folder, quarantine)
-        expect(kinds["0"], kinds["1"], f"with a quarantine of {quarantine}")
+    """Each use of a freed block is one, as if all was held, also if the checker can hold hardly any; and each fault is
+    there if it can hold none."""
+    wanted = kinds_of_turns(suite, folder, program, "1", "268435456")
+    for quarantine in ("200", "2000", "268435456"):
+        kinds = kinds_of_turns(suite, folder, program, "0", quarantine)
+        expect(kinds, wanted, f"with a quarantine of {quarantine}")
+    for quarantine in ("0", "72"):
+        kinds = kinds_of_turns(suite, folder, program, "0", quarantine)
+        expect(sum(kinds.values()), 1500, f"faults with a quarantine of {quarantine}")
+
+
+def check_used_again(suite: Suite, folder: str, program: str) -> None:
+    """That freed memory was handed out again is noted once there is too much of it: in all segments of the process that
+    follow, and in those of its child."""
+    blocks = "200000"
+    for words, quarantine, has_come in (("scattered", "1000000", True), ("scattered", "", False),
+                                        ("wrong_after", "1000000", True), ("wrong_after", "", False)):
+        settings = {"ASANCOL_TRACE": "%p.trace", "ASANCOL_WHERE": "1", "ASANCOL_FULL": "0", "ASANCOL_LIMIT": "16"}
+        ran = run(["sh", "-c", f"rm -f *.trace*; {program} {words} {blocks}"], folder, ASANCOL_QUARANTINE=quarantine,
+                  **settings)
+        expect((ran.returncode, ran.stderr), (0, b""), words)
+        paths = run(["sh", "-c", "ls *.trace"], folder).stdout.decode().split()
+        expect(len(paths) > 2 if words == "wrong_after" else len(paths) == 1, True, f"traces: {paths}")
+        noted = {side_of(f"{folder}/{it}").used_again() for it in paths}
+        expect(len(noted), 1, f"{words} {quarantine}: numbers of bytes: {noted}")
+        expect(1 << 20 < noted.pop() < 40 * int(blocks) * 3, has_come, f"{words} {quarantine}: it has come again")
+    ran = run([program, "scattered", blocks], folder, ASANCOL_QUARANTINE="1000000", ASANCOL_TRACE="t.trace",
+              ASANCOL_WHERE="1", ASANCOL_FULL="1")
+    expect(side_of(f"{folder}/t.trace").used_again(), 0, "in a full recording")
+
+
+def check_limited(suite: Suite, folder: str, program: str) -> None:
+    """If the system has no more memory, that of freed blocks is taken, also of smaller ones, and that is noted."""
+    ran = run([program, "limited", "20"], folder, ASANCOL_TRACE="t.trace", ASANCOL_WHERE="1", ASANCOL_FULL="0")
+    expect((ran.returncode, ran.stderr, int(ran.stdout) > 100), (0, b"", True), f"{ran.stdout!r} blocks")
+    expect(kinds_of(segments_of(suite, f"{folder}/t.trace")), {}, "faults")
+    expect(side_of(f"{folder}/t.trace").used_again() > 0, True, "that freed memory came again")
 
 
 def check_hub(suite: Suite, folder: str, program: str) -> None:
@@ -124,7 +181,10 @@ def tests(suite: Suite, compiler: Compiler) -> None:
     lean = suite.built(compiler.c, [f"{TESTS}/lean.c"], f"lean-{compiler}", *flags)
     for name, check, program in (("nothing", check_nothing, segments), ("same", check_same, segments),
                                  ("children", check_children, segments), ("handlers", check_handlers, lean),
+                                 ("frees", check_frees, lean),
+                                 ("jumps", check_jumps, lean),
                                  ("turns", check_turns, lean), ("vforks", check_vforks, lean),
+                                 ("used again", check_used_again, lean), ("limited", check_limited, lean),
                                  ("stacks", check_stacks, lean), ("hub", check_hub, lean)):
         suite.test(f"{compiler} lean {name}", check, program)
     suite.test(f"{compiler} lean every access", check_every, compiler)

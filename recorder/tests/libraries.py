@@ -3,7 +3,7 @@
 import os
 from typing import Dict, List, Sequence, Tuple
 
-from support import TESTS, Compiler, Suite, expect, reports, run, side_of, write
+from support import TESTS, Compiler, Suite, expect, placed, reports, run, side_of, write
 from testing.programs import NO_SETTINGS
 from unchecked import LINKERS
 
@@ -316,7 +316,50 @@ def check_ends(suite: Suite, folder: str, compiler: Compiler) -> None:
             os.unlink(f"{folder}/t.trace")
 
 
+CLOSED = """#define _GNU_SOURCE
+#include <stdlib.h>
+#ifdef LIBRARY
+void bug(void) { char *volatile p = malloc(5); p[5] = 1; free(p); }
+#else
+#include <dlfcn.h>
+#include <fcntl.h>
+#include <string.h>
+#include <sys/mman.h>
+int main(int argc, char **argv)
+{
+    void *library = dlopen("./libclosed.so", RTLD_NOW);
+    char *start = (char *)dlsym(library, "bug");
+    ((void (*)(void))start)();
+    dlclose(library);
+    start -= (unsigned long)start % 4096;
+    int rights = strcmp(argv[1], "code") == 0 ? PROT_READ | PROT_EXEC : PROT_READ | PROT_WRITE;
+    int file = strcmp(argv[1], "file") == 0 ? open(argv[0], O_RDONLY) : -1;
+    mmap(start, 8192, rights, MAP_PRIVATE | MAP_FIXED | (file < 0 ? MAP_ANONYMOUS : 0), file, 0);
+    dlopen("libm.so.6", RTLD_NOW); /* the modules are listed again */
+    return 0;
+}
+#endif
+"""
+
+
+def check_closed(suite: Suite, folder: str, compiler: Compiler) -> None:
+    """A library that was closed keeps its names if data lies at its addresses then, and not if that is code."""
+    write(folder, closed_c=CLOSED)
+    compiler.c(folder, ["closed.c"], f"{folder}/libclosed.so", "-shared", "-fPIC", "-DLIBRARY")
+    compiler.c(folder, ["closed.c"], f"{folder}/closed", "-ldl", "-w")
+    for what, is_known in (("memory", True), ("file", True), ("code", False)):
+        trace = f"{folder}/{what}.trace"
+        ran = run(["./closed", what], folder, ASANCOL_TRACE=trace, ASANCOL_WHERE="1")
+        expect((ran.returncode, ran.stderr), (0, b""), what)
+        side = side_of(trace)
+        paths = [side.path(it.place[0]) for it in side.faults()]
+        expect(paths, [f"{folder}/libclosed.so" if is_known else ""], what)
+        seen = [(it.function, it.line) for it in placed(suite.asancol, trace)[0]] if is_known else []
+        expect(seen, [("bug", "closed.c:4")] if is_known else [], what)
+
+
 def tests(suite: Suite, compiler: Compiler) -> None:
+    suite.test(f"{compiler} libraries that were closed", check_closed, compiler)
     for link in LINKS:
         suite.test(f"{compiler} plain libraries, {link}", check_calls, compiler, link)
     suite.test(f"{compiler} plain libraries, their slots", check_slots, compiler)

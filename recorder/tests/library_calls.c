@@ -4,15 +4,18 @@
 #include <err.h>
 #include <errno.h>
 #include <error.h>
+#include <execinfo.h>
 #include <fcntl.h>
 #include <limits.h>
 #include <pthread.h>
+#include <semaphore.h>
 #include <signal.h>
 #include <stddef.h>
 #include <stdint.h>
 #include <stdio.h>
 #include <stdlib.h>
 #include <string.h>
+#include <sys/sendfile.h>
 #include <sys/socket.h>
 #include <sys/stat.h>
 #include <sys/time.h>
@@ -226,6 +229,68 @@ static void sends_its_own(void)
     pthread_join(thread, NULL);
 }
 
+/* What the caller waits for frees a semaphore before the call that has let it pass returns. */
+static void *posts(void *semaphore)
+{
+    sem_post(semaphore);
+    return NULL;
+}
+
+static void does_nothing(void)
+{
+}
+
+static void locks(void)
+{
+    pthread_mutex_t *lock = malloc(sizeof *lock);
+    struct timespec past = {0, 0};
+    pthread_once_t once = PTHREAD_ONCE_INIT;
+    printf("%d ", pthread_mutex_init(lock, NULL));
+    printf("%d ", pthread_mutex_lock(lock));
+    printf("%d ", pthread_mutex_trylock(lock));
+    printf("%d ", pthread_mutex_timedlock(lock, &past));
+    printf("%d ", pthread_mutex_unlock(lock));
+    printf("%d ", pthread_mutex_destroy(lock));
+    printf("%d\n", pthread_once(&once, does_nothing));
+    free(lock);
+    for (int i = 0; i < 100; i++) {
+        pthread_t thread;
+        sem_t *semaphore = malloc(sizeof *semaphore);
+        sem_init(semaphore, 0, 0);
+        if (pthread_create(&thread, NULL, posts, semaphore) != 0)
+            return;
+        while (sem_wait(semaphore) != 0)
+            puts("not passed");
+        free(semaphore);
+        pthread_join(thread, NULL);
+    }
+}
+
+#define REFUSED(call)                                                                                                  \
+    errno = 0;                                                                                                         \
+    printf("%d ", (call) < 0 ? errno : 0)
+
+/* The system answers EFAULT, and nothing reads what is not there. */
+static void refused(void)
+{
+    char *nowhere = (char *)8, *words[2] = {nowhere, NULL};
+    REFUSED(execv(nowhere, words));
+    REFUSED(execv("/bin/true", words));
+    REFUSED(execve("/bin/true", (char **)nowhere, words));
+    REFUSED(fcntl(0, F_GETLK, nowhere));
+    REFUSED(sendfile(1, 0, (off_t *)nowhere, 1));
+    puts("");
+}
+
+/* The addresses of callers, with that of none between. */
+__attribute__((noinline)) static void callers(void)
+{
+    void *all[400], *few[2];
+    int there = backtrace(all, 64), more = backtrace(all, 400), two = backtrace(few, 2);
+    printf("%d %d %d %d %d\n", there > 2, there == more, two, few[1] == all[1],
+           (char *)few[0] > (char *)callers && (char *)few[0] < (char *)callers + 4096);
+}
+
 int main(void)
 {
     setvbuf(stdout, NULL, _IOLBF, 0);
@@ -239,5 +304,8 @@ int main(void)
     interrupted();
     cancelled();
     sends_its_own();
+    locks();
+    refused();
+    callers();
     return 0;
 }

@@ -3,13 +3,12 @@
 import os
 import shutil
 import signal
-import subprocess
 import time
 from functools import partial
 from typing import Dict, List, Tuple
 
 from support import MARK, TESTS, Trace, environment, expect, limited, reports, run, write
-from testing.programs import PATIENCE
+from testing.programs import PATIENCE, call
 
 
 # What becomes of processes: the status (or minus the signal), the fate of the trace, and its reports.
@@ -146,7 +145,7 @@ def check_no_errors(suite, folder, program):
     os.close(reading)
     settings = environment(ASANCOL_TRACE="t.trace", **limited(100))
     argv = [program, "many_events"]
-    ran = subprocess.run(argv, cwd=folder, stderr=writing, env=settings, timeout=PATIENCE, check=False)
+    ran = call(argv, cwd=folder, stderr=writing, env=settings, timeout=PATIENCE, check=False)
     os.close(writing)
     expect(ran.returncode, 0, "status of the program")
 

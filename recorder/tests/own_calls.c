@@ -20,12 +20,18 @@ double read(double one, double other)
 {
     return one + other;
 }
+/* No address of a lock: among them what is past the last one, and what reads as one below it. */
+long sem_post(long number, double other)
+{
+    return number + (long)other;
+}
 int index = 4, link[100] = {1, 2, 3};
 const char *access = "abc";
 #else
 struct nine send(long a, double b, long c, long d, long e, long f, long g, long h, long i);
 int getline(char *line, int size);
 double read(double one, double other);
+long sem_post(long number, double other);
 int printf(const char *format, ...);
 extern int index, link[100];
 extern const char *access;
@@ -38,6 +44,9 @@ int main(void)
     printf("%d %d %s %d %g", index, link[2] + link[99], access, getline(line, 8), read(1.5, 2));
     for (int i = 0; i < 9; i++)
         printf(" %ld", sent.numbers[i]);
+    static const long numbers[] = {0, -8, 1, 0x7ffffffffff8, 0x800000000000, -0x7fffffffffffffff - 1};
+    for (unsigned i = 0; i < sizeof numbers / sizeof *numbers; i++)
+        printf(" %d", sem_post(numbers[i], 2) == numbers[i] + 2);
     printf("\n");
     return 0;
 }

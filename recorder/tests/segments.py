@@ -3,12 +3,13 @@
 import glob
 import os
 import random
-import subprocess
 import time
 from typing import Dict, List, NamedTuple, Tuple
 
 import hub
 from support import TESTS, Compiler, Suite, Trace, environment, expect, leave_out, reports, run, side_of, traces
+from testing import wait_until
+from testing.programs import Started
 from testing.side import EXIT, SEGMENT
 
 
@@ -198,11 +199,13 @@ def check_killed_anywhere(suite: Suite, folder: str, program: str) -> None:
         for old in glob.glob(f"{folder}/t.*"):
             os.unlink(old)
         settings = environment(ASANCOL_TRACE="t.trace", ASANCOL_LIMIT="200", ASANCOL_SEGMENTS="50")
-        with subprocess.Popen([program, "threads", "100000000", "-1"], cwd=folder, env=settings) as process:
-            while not os.path.exists(f"{folder}/t.trace"):
-                time.sleep(0.001)
-            time.sleep(draws.random() / 5)
-            process.kill()
+        with Started([program, "threads", "100000000", "-1"], cwd=folder, env=settings) as process:
+            try:
+                # The first may be gone again before it is seen: the newest are kept.
+                wait_until(lambda: bool(glob.glob(f"{folder}/t.*")), "a trace")
+                time.sleep(draws.random() / 5)
+            finally:
+                process.kill()
         segments = segments_of(suite, f"{folder}/t.trace")
         expect(segments[-1].is_closed(), False, f"a close of the last of {len(segments)}")
 
@@ -284,10 +287,10 @@ def check_hub(suite: Suite, folder: str, program: str) -> None:
 
 def check_hub_that_leaves(suite: Suite, folder: str, program: str) -> None:
     """The hub is gone at a switch: the process goes on, and a line says that the recording ends."""
-    listening = hub.Hub(f"{folder}/hub", has_abstract=False)
     argv = [program, "removes_hub", "8000", "-1"]
-    ran = run(argv, folder, ASANCOL_HUB=listening.path, ASANCOL_LIMIT="3000", ASANCOL_FULL="1")
-    peers = listening.close()
+    with hub.Hub(f"{folder}/hub", has_abstract=False) as listening:
+        ran = run(argv, folder, ASANCOL_HUB=listening.path, ASANCOL_LIMIT="3000", ASANCOL_FULL="1")
+        peers = listening.close()
     expect((ran.returncode, len(peers), len(ran.stderr.splitlines())), (0, 1, 1), ran.stderr)
     side = peers[0].side()
     expect((side.ending, peers[0].trace().is_closed), (SEGMENT, True), "its ending")

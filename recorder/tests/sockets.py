@@ -7,17 +7,16 @@ import time
 
 from lives import every_of, lives_of
 from support import Failure, environment, expect, run
-from testing.programs import PATIENCE
+from testing.programs import PATIENCE, Started, accept, wait_until
 
 
 def serve(suite, folder, count):
     ready = f"{folder}/ready"
     argv = [suite.asancol, "serve", "--count", str(count), "--ready", ready, "t.sock"]
-    server = subprocess.Popen(argv, cwd=folder, stdout=subprocess.PIPE, env=environment())
-    while not os.path.exists(ready):
-        if server.poll() is not None:
-            raise Failure("the collector ended")
-        time.sleep(0.01)
+    server = Started(argv, cwd=folder, stdout=subprocess.PIPE, env=environment())
+    wait_until(lambda: os.path.exists(ready) or server.poll() is not None, "the collector")
+    if server.poll() is not None:
+        raise Failure("the collector ended")
     return server
 
 
@@ -37,7 +36,7 @@ def check_socket(suite, folder, program, name, status, fate, lines):
 def check_two_at_a_socket(suite, folder, program):
     """The first sends more than a socket holds before the second is there, and is not held up."""
     server = serve(suite, folder, 2)
-    first = subprocess.Popen([program, "many_events"], cwd=folder, env=environment(ASANCOL_SOCKET="t.sock"))
+    first = Started([program, "many_events"], cwd=folder, env=environment(ASANCOL_SOCKET="t.sock"))
     second = run([program, "ends_normally"], folder, ASANCOL_SOCKET="t.sock")
     expect((first.wait(timeout=PATIENCE), second.returncode), (0, 0))
     said, _ = server.communicate(timeout=PATIENCE)
@@ -66,14 +65,14 @@ def check_stranger(suite, folder, program, closes):
     listening = socket.socket(socket.AF_UNIX)
     listening.bind(f"{folder}/t.sock")
     listening.listen(1)
-    ran = subprocess.Popen(
+    ran = Started(
         [program, "many_events"],
         cwd=folder,
         stderr=subprocess.PIPE,
         env=environment(ASANCOL_SOCKET="t.sock", ASANCOL_PATIENCE="1"),
     )
     if closes:
-        listening.accept()[0].close()
+        accept(listening).close()
     _, said = ran.communicate(timeout=PATIENCE)
     listening.close()
     expect(ran.returncode, 0, "status of the program")
@@ -87,8 +86,8 @@ def check_slow_reader(suite, folder, program):
     listening.bind(f"{folder}/t.sock")
     listening.listen(1)
     where = environment(ASANCOL_SOCKET="t.sock", ASANCOL_PATIENCE="2")
-    ran = subprocess.Popen([program, "many_events"], cwd=folder, stderr=subprocess.PIPE, env=where)
-    peer, trace, begun = listening.accept()[0], b"", time.monotonic()
+    ran = Started([program, "many_events"], cwd=folder, stderr=subprocess.PIPE, env=where)
+    peer, trace, begun = accept(listening), b"", time.monotonic()
     while piece := peer.recv(4096):
         trace += piece
         time.sleep(0.1 if time.monotonic() < begun + 6 else 0)

@@ -8,15 +8,17 @@ import subprocess
 from typing import Dict, Iterator, List, Set
 
 from support import RECORDER, Compiler, Suite, build, expect, write
+from testing.programs import call
 
 OUT = f"{RECORDER}/out/program"
 # Where the names of headers begin.
 ROOTS = ("-iquote", RECORDER, "-iquote", os.path.dirname(RECORDER))
 
 # What is no function, or the program's.
-CONSTANT = set("_GLOBAL_OFFSET_TABLE_ _DYNAMIC __ehdr_start _end main asancol_checks asancol_register_early "
+CONSTANT = set("_GLOBAL_OFFSET_TABLE_ _DYNAMIC __ehdr_start main asancol_checks asancol_register_early "
                "__lsan_is_turned_off asancol_every_call asancol_every_memcpy asancol_every_memmove "
-               "asancol_every_memset".split())
+               "asancol_every_memset __start_asancol_own_text __stop_asancol_own_text "
+               "__start_asancol_helper_text __stop_asancol_helper_text".split())
 
 # Of the C library, which is called by address: variables, what only looks something up, and a call of the system's.
 SAFE = {"__libc_single_threaded", "__libc_stack_end", "environment", "_dl_find_object", "clock_gettime", "sigaction"}
@@ -35,14 +37,14 @@ AT_THE_START_OR_END = {
 
 def names(object_file: str, *which: str) -> Set[str]:
     """Returns names of an object's table. Those of wrapped functions are as the program has them."""
-    ran = subprocess.run(["nm", *which, object_file], stdout=subprocess.PIPE, check=True)
+    ran = call(["nm", *which, object_file], stdout=subprocess.PIPE, check=True)
     return {re.sub(r"^__real_", "", line.split()[-1]) for line in ran.stdout.decode().splitlines()}
 
 
 def own_names(object_file: str) -> Set[str]:
     """Returns what an object defines, but for the weak names that are the program's: the recorder must not allocate
     for itself, nor start a thread."""
-    ran = subprocess.run(["nm", "--defined-only", "--extern-only", object_file], stdout=subprocess.PIPE, check=True)
+    ran = call(["nm", "--defined-only", "--extern-only", object_file], stdout=subprocess.PIPE, check=True)
     lines = [line.split() for line in ran.stdout.decode().splitlines()]
     return {words[-1] for words in lines if words[1] != "W" or words[-1].startswith(("__asan_", "asancol_", "__wrap_"))}
 
@@ -106,7 +108,8 @@ def check_layers(suite: Suite, folder: str) -> None:
 def check_headers(suite: Suite, folder: str, compiler: Compiler) -> None:
     headers = [os.path.relpath(it, RECORDER) for it in glob.glob(f"{RECORDER}/**/*.h", recursive=True)]
     headers += [os.path.relpath(it, f"{RECORDER}/..") for it in glob.glob(f"{RECORDER}/../common/*.h")]
-    headers = [it for it in headers if not it.startswith(("tests/", "out/", "cold_reports", "cxx/"))]
+    others = ("tests/", "out/", "cold_reports", "clang_intrinsics", "cxx/")
+    headers = [it for it in headers if not it.startswith(others)]
     expect(len(headers) > 30, True, "headers")
     for header in headers:
         write(folder, alone_c=f'#define _GNU_SOURCE\n#include "{header}"\n')

@@ -4,7 +4,6 @@ from the library."""
 
 import os
 import signal
-import subprocess
 import time
 from typing import Set
 
@@ -12,6 +11,7 @@ from support import (
     CC, CXX, RECORDER, TESTS, Compiler, Failure, Suite, build, by_sanitizer, environment, expect, leave_out, noted,
     one_mark, reports, run, write,
 )
+from testing.programs import Started
 from unchecked import LINKERS
 
 # By the library: the flags, and a header of it.
@@ -280,7 +280,7 @@ def check_unfinished(suite: Suite, folder: str, compiler: Compiler) -> None:
     os.unlink(f"{folder}/freed.o")
     write(folder, slow_cpp=f"#include <regex>\n#include <filesystem>\n#include <iostream>\n{FREED}")
     settings = environment(ASANCOL_CXX=compiler.cxx)
-    child = subprocess.Popen([CXX, "-O1", "-g", "-c", "slow.cpp"], cwd=folder, env=settings)
+    child = Started([CXX, "-O1", "-g", "-c", "slow.cpp"], cwd=folder, env=settings)
     time.sleep(0.2)
     child.terminate()
     expect((child.wait(), os.path.exists(f"{folder}/slow.o")), (-signal.SIGTERM, False), "ended")

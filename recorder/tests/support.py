@@ -208,6 +208,12 @@ def compilers():
     return found
 
 
+def has_plugin(front):
+    """Whether a wrapper has a plugin for the GCC that it runs."""
+    name = {"ASANCOL_CC": "gcc"} if front == CC else {}
+    return b"-fplugin=" in run([front, "-###", "-c", "any.c"], ".", **name).stderr
+
+
 # The report of a program that stores a byte past a block of 8.
 MARK = "store 1 +8 heap-buffer-overflow"
 

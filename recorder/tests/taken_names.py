@@ -7,6 +7,7 @@ import subprocess
 from typing import Dict, List, Sequence, Set, Tuple
 
 from support import RECORDER, Compiler, Suite, expect, reports, run, write
+from testing.programs import call
 
 # What a program has as a program: made by the linker, or its start.
 LINKED = set("_DYNAMIC _GLOBAL_OFFSET_TABLE_ __ehdr_start _end __init_array_start __init_array_end main".split())
@@ -18,12 +19,14 @@ __libc_single_threaded __libc_stack_end __register_atfork __sigaction _dl_find_o
 """.split()
 
 # In a shared object: the allocator that the program has, whichever it is; and in a program without a recorder the name
-# of the object.
-SHARED = ["aligned_alloc", "dladdr"]
+# of the object, and what the system says of the process.
+SHARED = ["aligned_alloc", "dladdr", "getauxval"]
 
 # Before the program is relocated nothing can be looked up yet.
 RECORD = ["__libc_stack_end", "__start_asancol_stubs", "__stop_asancol_stubs"]
-ARCHIVES: Dict[str, List[str]] = {"record": RECORD, "static": STATIC, "shared": SHARED}
+# Where the recorder's own code begins and ends, as the linker says it.
+OWN_CODE = [f"__{end}_asancol_{part}_text" for end in ("start", "stop") for part in ("helper", "own")]
+ARCHIVES: Dict[str, List[str]] = {"record": RECORD + OWN_CODE, "static": STATIC + OWN_CODE, "shared": SHARED}
 
 # The allocator, which has to be whole; and what begins and ends a program.
 NOT_OWN = """
@@ -42,7 +45,7 @@ int main(void)
 
 def names_of(words: List[str]) -> Set[Tuple[str, str]]:
     """Returns the kinds and the names that nm lists."""
-    ran = subprocess.run(["nm", *words], stdout=subprocess.PIPE, stderr=subprocess.DEVNULL, check=True)
+    ran = call(["nm", *words], stdout=subprocess.PIPE, stderr=subprocess.DEVNULL, check=True)
     lines = [line.split() for line in ran.stdout.decode().splitlines()]
     return {(words[-2], words[-1]) for words in lines if len(words) >= 2 and len(words[-2]) == 1}
 

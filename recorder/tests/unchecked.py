@@ -4,7 +4,7 @@ import os
 import shutil
 
 from builds import LINKERS
-from support import CC, CXX, HELPER, PAST_THE_END, Failure, build, expect, noted, run, side_of, write
+from support import CC, CXX, HELPER, PAST_THE_END, Failure, build, expect, has_plugin, noted, run, side_of, write
 
 STATIC = "calls of the C library (-static)"
 
@@ -283,13 +283,118 @@ def check_apart(suite, folder, compiler):
             expect(sorted(found), ["libown.so", "malloc of libown.so"], f"has its own {with_words}")
 
 
+SKIPS = """
+#include <pthread.h>
+#include <stdlib.h>
+#include <string.h>
+#include <unistd.h>
+static char *volatile past;
+static volatile int is_over;
+static void *lend(void *none)
+{
+    char local[8];
+    past = local + 8;
+    while (!is_over)
+        usleep(100);
+    return none;
+}
+static void store_from_elsewhere(void)
+{
+    enum { STACK = 1 << 18 };
+    void *stack = aligned_alloc(4096, STACK);
+    pthread_attr_t with;
+    pthread_t thread;
+    pthread_attr_init(&with);
+    pthread_attr_setstack(&with, stack, STACK);
+    pthread_create(&thread, &with, lend, 0);
+    while (!past)
+        usleep(100);
+    *past = 1;
+    is_over = 1;
+    pthread_join(thread, 0);
+}
+__attribute__((noinline)) static char *ask(char *buffer) { return strcpy(buffer, "text"); }
+int main(int count, char **argv)
+{
+    char buffer[16];
+    if (count > 1 && argv[1][0] == 'f')
+        store_from_elsewhere();
+    return ask(buffer)[0] != 't';
+}
+"""
+FAMILIES, RETURNS, NO_LEAKS, FRAMES = 1, 2, 4, 8
+
+
+def check_skipped(suite, folder, compiler):
+    """What settings have turned off, if it would be looked at; and accesses to a stack in a block from elsewhere."""
+    write(folder, skips_c=SKIPS)
+    make(folder, compiler, "-pthread", "skips.c", "-o", "plain")
+    make(folder, compiler, "-pthread", "-fsanitize-address-use-after-return=runtime", "skips.c", "-o", "asks")
+    usual = {"ASANCOL_TRACE": "t.trace", "ASANCOL_WHERE": "1", "ASANCOL_LEAKS": "1"}
+    off = {"ASANCOL_MISMATCHES": "0", "ASANCOL_USE_AFTER_RETURN": "0"}
+    for argv, settings, wanted in ((["plain"], {}, 0), (["plain"], off, FAMILIES), (["asks"], {}, 0),
+                                   (["asks"], off, FAMILIES + RETURNS), (["plain", "frames"], {}, FRAMES),
+                                   (["plain"], {"ASANCOL_LEAKS": "0"}, NO_LEAKS)):
+        ran = run([f"./{argv[0]}", *argv[1:]], folder, **{**usual, **settings})
+        expect((ran.returncode, ran.stderr), (0, b""), f"{argv} with {settings}")
+        expect(side_of(f"{folder}/t.trace").skipped(), wanted, f"{argv} with {settings}")
+        os.unlink(f"{folder}/t.trace")
+
+
+ATTRIBUTES = """
+#pragma GCC system_header
+static __attribute__((no_sanitize_address, unused, noinline)) int of_system(char *p) { return p[0]; }
+"""
+ATTRIBUTED = """
+#include "system.h"
+#include "own.h"
+__attribute__((no_sanitize("address"), noinline)) int one(char *p) { return p[0]; }
+__attribute__((no_sanitize_address, noinline)) int two(char *p) { return one(p + 1); }
+__attribute__((used)) int with_checks(char *p) { return two(p) + of_system(p) + of_own(p); }
+"""
+STORES_TO_SHADOW_STACK = """
+#include <immintrin.h>
+__attribute__((target("shstk"))) void store(unsigned *p) { _wrssd(1, p); }
+"""
+
+
+def check_attributes(suite, folder, compiler):
+    """Functions that an attribute leaves without checks are counted, by their files, in each kind of link; those of the
+    system's headers are not. So is an intrinsic named of which the plugin does not know what it accesses."""
+    objects(folder, compiler)
+    own = "static __attribute__((no_sanitize_address, noinline)) int of_own(char *p) { return p[1]; }\n"
+    write(folder, system_h=ATTRIBUTES, own_h=own, some_c=ATTRIBUTED, stack_c=STORES_TO_SHADOW_STACK)
+    said = ["1 function of own.h (no_sanitize)", "2 functions of some.c (no_sanitize)"]
+    for level in ("-O0", "-O2"):
+        make(folder, compiler, level, "-c", "some.c")
+        archive(folder, "libsome.a", "some.o")
+        build(["ld", "-r", "some.o", "ours.o", "-o", "both.o"], folder)
+        for words in (["some.o", "ours.o"], ["some.c", "ours.o"], ["-flto", "some.c", "ours.o"], ["both.o"],
+                      ["-s", "some.o", "ours.o"], ["ours.o", "-Wl,--undefined=one", "libsome.a"],
+                      ["some.o", "ours.o", "-Wl,--gc-sections"]):
+            make(folder, compiler, level, "main.o", *words, "-o", "program")
+            expect(sorted(noted(f"{folder}/program")), said, f"{level} {words}")
+    for linker in LINKERS:
+        make(folder, compiler, f"-fuse-ld={linker}", "main.o", "some.o", "ours.o", "-o", "program")
+        expect(sorted(noted(f"{folder}/program")), said, linker)
+    make(folder, compiler, "-fPIC", "-shared", "some.c", "-o", "libsome.so")
+    expect(sorted(noted(f"{folder}/libsome.so")), said, "a shared object")
+    make(folder, compiler, "main.o", "ours.o", "-o", "program")
+    expect(noted(f"{folder}/program"), [], "without such functions")
+    make(folder, compiler, "main.o", "ours.o", "stack.c", "-o", "program")
+    expect(noted(f"{folder}/program"), ["accesses of __builtin_ia32_wrssd in stack.c"], "an intrinsic")
+
+
 def tests(suite, compiler):
+    suite.test(f"{compiler} unchecked: skipped", check_skipped, compiler)
     suite.test(f"{compiler} unchecked: links", check_links, compiler)
     suite.test(f"{compiler} unchecked: descriptors", check_descriptors, compiler)
     suite.test(f"{compiler} unchecked: mathematics", check_mathematics, compiler)
     suite.test(f"{compiler} unchecked: parts", check_parts, compiler)
     suite.test(f"{compiler} unchecked: words for the linker", check_linker_words, compiler)
     suite.test(f"{compiler} unchecked: many", check_many, compiler)
+    if compiler.name == "gcc" and has_plugin(CC):
+        suite.test(f"{compiler} unchecked: attributes", check_attributes, compiler)
     suite.test(f"{compiler} unchecked: loaded", check_loaded, compiler)
     suite.test(f"{compiler} unchecked: mallocs", check_mallocs, compiler)
     suite.test(f"{compiler} unchecked: mallocs apart", check_apart, compiler)

@@ -15,6 +15,7 @@
 #include "explorer.h"
 #include "heap/blocks.h"
 #include "heap/heap.h"
+#include "heap/quarantine.h"
 #include "base/disturbance.h"
 #include "base/errors.h"
 #include "base/lock.h"
@@ -176,6 +177,8 @@ void faults_begin(unsigned char *bytes, unsigned window)
 void side_forget(void) {}
 void side_note_snapshot(uint64_t events) { (void)events; }
 void side_note_left_good(void) {}
+void side_note_finding_lost(void) {}
+void side_note_skipped(uint64_t what) { (void)what; }
 void side_note_stated(void) {}
 uint64_t side_length(void) { return 0; }
 void side_note_ending(enum ending ending, int number, uint64_t events)
@@ -186,6 +189,7 @@ void side_note_ending(enum ending ending, int number, uint64_t events)
 void side_note_late_signal(int number) { (void)number; }
 void side_note_left_out(void) { world.has_left_out = true; }
 void side_note_needed(uint64_t event) { (void)event; }
+void side_note_closed_off(void) {}
 void side_write_modules(void) {}
 _Atomic uint64_t *side_begin_calls(bool for_start) { return for_start ? NULL : NULL; }
 void side_end_calls(_Atomic uint64_t *calls) { (void)calls; }
@@ -247,7 +251,7 @@ static struct block blocks[LINES + MAX_HELD];
 /* They are in the slots of unit 1, from the second on: the notes on all first slots lie elsewhere. */
 struct arena arena = {.bytes = (unsigned char *)(BLOCK_AT - APART - UNIT),
                       .units = units,
-                      .blocks = blocks - (UNITS + SLOTS - 1),
+                      .blocks = blocks - (UNITS + SLOTS + 1),
                       .top = 2};
 struct heap heap;
 static void heap_begin(void)
@@ -267,7 +271,9 @@ void heap_for_each(void (*visit)(const struct block *block, void *with), void *w
     for (unsigned i = 0; i < LINES + MAX_HELD; i++)
         visit(&blocks[i], with);
 }
-void heap_release_oldest(void)
+/* In order from the first on. */
+void heap_order(void) {}
+void quarantine_release_oldest(void)
 {
     heap.oldest->state = BLOCK_FREE;
     heap.oldest = heap.oldest->next;
@@ -356,9 +362,9 @@ const char *output_connect(struct output *output, const char *path, bool has_abs
     (void)output, (void)path, (void)has_abstract, (void)window, (void)patience_ms;
     return "none listens";
 }
-const char *output_open_memory(struct output *output, struct window window)
+const char *output_open_memory(struct output *output, struct window window, const struct output *hub, int patience_ms)
 {
-    (void)output, (void)window;
+    (void)output, (void)window, (void)hub, (void)patience_ms;
     return "there is none";
 }
 const char *output_send_first(struct output *output, uint64_t length, struct output *memory, const int *files,
@@ -366,6 +372,12 @@ const char *output_send_first(struct output *output, uint64_t length, struct out
 {
     (void)output, (void)length, (void)memory, (void)files, (void)count, (void)patience_ms;
     return NULL;
+}
+const char output_closed[] = "";
+bool output_is_closed(const struct output *output)
+{
+    (void)output;
+    return false;
 }
 const char *output_send(struct output *output, uint64_t length, bool all, int patience_ms)
 {

@@ -29,6 +29,7 @@ static void expect(bool holds, const char *what)
 
 _Thread_local struct own_stack own_stack;
 uintptr_t heap_end_around(uintptr_t address) { return address; }
+uintptr_t heap_start_around(uintptr_t address) { return address; }
 void fake_frames_left(uintptr_t low, uintptr_t top) { (void)low, (void)top; }
 void fake_context_begins(uintptr_t low, uintptr_t top) { (void)low, (void)top; }
 bool recorder_is_own_process(void) { return true; }

@@ -71,7 +71,10 @@ _Atomic uint64_t *side_begin_calls(bool for_start) { return for_start ? NULL : N
 void side_end_calls(_Atomic uint64_t *calls) { (void)calls; }
 void side_forget(void) {}
 void side_note_snapshot(uint64_t events) { (void)events; }
+void side_note_closed_off(void) {}
 void side_note_left_good(void) {}
+void side_note_finding_lost(void) {}
+void side_note_skipped(uint64_t what) { (void)what; }
 void side_note_stated(void) {}
 uint64_t side_length(void) { return 0; }
 void side_note_ending(enum ending ending, int number, uint64_t events) { (void)ending, (void)number, (void)events; }

@@ -488,6 +488,29 @@ static void fault_in_own_switch(void)
     __asan_unpoison_memory_region(memory, STACK);
 }
 
+/* Redzones of its frame, and a variable whose scope has ended. */
+static void run_own_fault(void)
+{
+    int local[4], *volatile kept;
+    deep(3, switch_back);
+    put(local, four);
+    {
+        int inner[4];
+        kept = inner;
+        put(inner, 0);
+    }
+    put(kept, 0);
+    switch_back();
+    abort();
+}
+
+static void fault_in_own_coroutine(void)
+{
+    start_own(run_own_fault);
+    switch_to(&main_stack, own_stack);
+    __asan_unpoison_memory_region(memory, STACK);
+}
+
 static const struct {
     const char *name;
     void (*run)(void);
@@ -498,6 +521,7 @@ static const struct {
     RUN(handler_jumps_by_builtin), RUN(handler_jumps_to_coroutine), RUN(thread_returns), RUN(thread_exits),
     RUN(thread_is_cancelled), RUN(switches_by_itself), RUN(fault_in_coroutine), RUN(fault_in_handler),
     RUN(fault_in_thread), RUN(fault_in_chief), RUN(fault_after_jump_in_coroutine), RUN(fault_in_own_switch),
+    RUN(fault_in_own_coroutine),
 };
 
 __attribute__((noinline)) static void run_with_array(void run(void))
